@@ -1,0 +1,3 @@
+pub mod Padded
+pub mod PaddedText
+pub mod RowKey

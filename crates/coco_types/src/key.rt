@@ -1,0 +1,21 @@
+use std::marker::Model;
+
+/// A row's key, ordered by table and then by row. Row numbers are below 2^63.
+#[derive(Clone, Copy, Debug, PartialEq, Eq, PartialOrd, Ord, Hash)]
+pub struct Key {
+    pub table: u16,
+    pub row: u64,
+}
+
+impl Model for Key {
+    ghost use Rattle.std.specs.Prelude.{◌<◌, ◌^◌};
+    ghost use Rattle.coco_types.specs.RowKey.{RowKey};
+
+    ghost Value = { RowKey };
+
+    ghost view = { λ k. record { table = k.table; row = k.row } };
+
+    ghost invariant = { λ k. k.row < 2 ^ 63 };
+
+    ghost inverse = { λ k. record { table = k.table; row = k.row } };
+}

@@ -1,0 +1,19 @@
+//! The types that every layer speaks of: values and keys, calls and their replies, and the trait of machines.
+#![tactic(auto)]
+
+pub mod call;
+pub mod error;
+pub mod key;
+pub mod machine;
+pub mod sequence;
+pub mod text;
+pub mod value;
+
+pub use call::{Args, AttemptId, Call, Cause, Done, Piece, Reply, Request, Write};
+pub use call::{Dones, MapRows, Pieces, Writes};
+pub use error::{Failed, NoMemory, OutFault};
+pub use key::Key;
+pub use machine::Machine;
+pub use sequence::{Bytes, Sequence};
+pub use text::Text;
+pub use value::Value;
