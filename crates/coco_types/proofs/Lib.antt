@@ -1,1 +1,2 @@
+pub mod KeyMaps
 pub mod PaddedLemmas

@@ -1,6 +1,12 @@
 use Rattle.std.specs.Prelude.{ℕ}
+use Rattle.std.specs.declared.cmp.Ordering.{Ordering}
+use Rattle.std.specs.Ordering.{nat_cmp, ordering_then}
 
 -- the number of a table, and of a row in it
 pub record RowKey : Type 0 where
   pub table : ℕ
   pub row : ℕ
+
+-- by table, and then by row
+abbrev pub key_cmp : RowKey → RowKey → Ordering
+key_cmp a b = ordering_then (nat_cmp a.table b.table) (nat_cmp a.row b.row)

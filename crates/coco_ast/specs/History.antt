@@ -1,0 +1,179 @@
+-- Histories of committed requests: epochs over a base, which kept replies are held, and what it is for a history to be ordered and serial.
+use Rattle.std.specs.Prelude.{◌≡◌, ◌≢◌, ◌⊎◌, ⊤, ℕ, ◌+◌, ◌<◌, ◌≤◌, Bool, true, false, ◌&&◌, ◌||◌, not, if◌then◌else◌, nat_eq, nat_lt, nat_le, max, List, [], ◌∷◌, ◌++◌, length, map, Option, None, Some}
+use Rattle.std.specs.List.{filter}
+use Rattle.std.specs.FinMap.{empty}
+use Rattle.coco_types.specs.declared.call.Done.{Done}
+use Rattle.coco_types.specs.declared.call.Call.{Call}
+use Rattle.coco_types.specs.declared.call.Request.{Request}
+use Rattle.coco_ast.specs.Tree.{Procedures}
+use Rattle.coco_ast.specs.Keyed.{Rows}
+use Rattle.coco_ast.specs.Meaning.{run}
+
+-- ---- histories
+
+pub record Epoch : Type 0 where
+  pub number : ℕ
+  pub dones : List Done
+
+-- what a history goes on from: its last epoch's number, its rows, the replies still kept, and the greatest id that was forgotten
+pub record Base : Type 0 where
+  pub epoch : ℕ
+  pub rows : Rows
+  pub kept : List Done
+  pub floor : Option ℕ
+
+-- the keep number says of how many of the last epochs the replies are kept; without one all are
+pub record History : Type 0 where
+  pub base : Base
+  pub epochs : List Epoch
+  pub keep : Option ℕ
+
+abbrev pub no_base : Base
+no_base = record { epoch = 0; rows = empty; kept = []; floor = None }
+
+abbrev pub no_history : History
+no_history = record { base = no_base; epochs = []; keep = None }
+
+abbrev pub followed_by : History → Epoch → History
+followed_by h e = record h { epochs = h.epochs ++ e ∷ [] }
+
+-- one base, one keep number, and the first epochs
+abbrev pub IsPrefixOf : History → History → Type 0
+IsPrefixOf g h = (g.base ≡ h.base) × (g.keep ≡ h.keep) × ((rest : List Epoch) × (h.epochs ≡ g.epochs ++ rest))
+
+-- ---- Dones
+
+abbrev pub dones_in : List Epoch → List Done
+dones_in [] = []
+dones_in (e ∷ es) = e.dones ++ dones_in es
+
+-- those of its epochs, in order
+abbrev pub epoch_dones : History → List Done
+epoch_dones h = dones_in h.epochs
+
+abbrev pub all_dones : History → List Done
+all_dones h = h.base.kept ++ epoch_dones h
+
+abbrev pub ids_of : List Done → List ℕ
+ids_of = map (λ d. d.id)
+
+abbrev pub is_in : ℕ → List ℕ → Bool
+is_in n [] = false
+is_in n (x ∷ xs) = nat_eq n x || is_in n xs
+
+-- each number once
+abbrev pub distinct : List ℕ → List ℕ
+distinct [] = []
+distinct (x ∷ xs) = if is_in x xs then distinct xs else x ∷ distinct xs
+
+-- how many epochs with Dones among these are above this one
+abbrev pub epochs_above : ℕ → List Done → ℕ
+epochs_above n ds = length (distinct (filter (λ m. nat_lt n m) (map (λ d. d.epoch) ds)))
+
+abbrev pub is_held : Option ℕ → List Done → Done → Bool
+is_held None ds d = true
+is_held (Some k) ds d = nat_lt (epochs_above d.epoch ds) k
+
+-- the Dones whose replies are kept
+abbrev pub kept : History → List Done
+kept h = filter (is_held h.keep (all_dones h)) (all_dones h)
+
+abbrev pub forgotten : History → List Done
+forgotten h = filter (λ d. not (is_held h.keep (all_dones h) d)) (all_dones h)
+
+abbrev pub greatest_with : Option ℕ → List ℕ → Option ℕ
+greatest_with n [] = n
+greatest_with None (x ∷ xs) = greatest_with (Some x) xs
+greatest_with (Some n) (x ∷ xs) = greatest_with (Some (max n x)) xs
+
+-- the greatest id that is no longer kept
+abbrev pub floor : History → Option ℕ
+floor h = greatest_with h.base.floor (ids_of (forgotten h))
+
+-- the Done of an id
+abbrev pub done_of : ℕ → List Done → Option Done
+done_of id [] = None
+done_of id (d ∷ ds) = if nat_eq id d.id then Some d else done_of id ds
+
+-- ---- ordered
+
+-- numbers that rise, all above this one
+abbrev pub RisesAbove : ℕ → List ℕ → Type 0
+RisesAbove n [] = ⊤
+RisesAbove n (x ∷ xs) = (n < x) × RisesAbove x xs
+
+-- by epoch, then time, then id
+abbrev pub IsBefore : Done → Done → Type 0
+IsBefore d e = (d.epoch < e.epoch) ⊎ (d.epoch ≡ e.epoch) × ((d.time < e.time) ⊎ (d.time ≡ e.time) × (d.id < e.id))
+
+abbrev pub EachBefore : Done → List Done → Type 0
+EachBefore d [] = ⊤
+EachBefore d (e ∷ es) = IsBefore d e × EachBefore d es
+
+abbrev pub IsRising : List Done → Type 0
+IsRising [] = ⊤
+IsRising (d ∷ ds) = EachBefore d ds × IsRising ds
+
+abbrev pub IsNew : ℕ → List ℕ → Type 0
+IsNew n [] = ⊤
+IsNew n (x ∷ xs) = (n ≢ x) × IsNew n xs
+
+abbrev pub AreDistinct : List ℕ → Type 0
+AreDistinct [] = ⊤
+AreDistinct (x ∷ xs) = IsNew x xs × AreDistinct xs
+
+abbrev pub AreOf : ℕ → List Done → Type 0
+AreOf n [] = ⊤
+AreOf n (d ∷ ds) = (d.epoch ≡ n) × AreOf n ds
+
+abbrev pub HaveTheirNumbers : List Epoch → Type 0
+HaveTheirNumbers [] = ⊤
+HaveTheirNumbers (e ∷ es) = AreOf e.number e.dones × HaveTheirNumbers es
+
+abbrev pub AreAbove : Option ℕ → List ℕ → Type 0
+AreAbove None ids = ⊤
+AreAbove (Some n) [] = ⊤
+AreAbove (Some n) (x ∷ xs) = (n < x) × AreAbove (Some n) xs
+
+-- by epoch and logical time, each id once
+pub record IsOrdered (h : History) : Type 0 where
+  pub epochs_rise : RisesAbove h.base.epoch (map (λ e. e.number) h.epochs)
+  pub numbered : HaveTheirNumbers h.epochs
+  pub rising : IsRising (epoch_dones h)
+  pub once : AreDistinct (ids_of (all_dones h))
+  pub above_floor : AreAbove h.base.floor (ids_of (epoch_dones h))
+
+-- ---- serial
+
+-- the map after the calls, in order
+abbrev pub rows_after : Procedures → Rows → List Done → Rows
+rows_after ps m [] = m
+rows_after ps m (d ∷ ds) = rows_after ps (run ps d.call m).rows ds
+
+-- each reply is that of its call on the map so far
+abbrev pub RepliesAreRuns : Procedures → Rows → List Done → Type 0
+RepliesAreRuns ps m [] = ⊤
+RepliesAreRuns ps m (d ∷ ds) = (d.reply ≡ (run ps d.call m).reply) × RepliesAreRuns ps (run ps d.call m).rows ds
+
+-- a snapshot call has time 0, and every other call a time of at least 1
+abbrev pub is_timed : Bool → ℕ → Bool
+is_timed true t = nat_eq t 0
+is_timed false t = nat_lt 0 t
+
+abbrev pub AreTimed : List Done → Type 0
+AreTimed [] = ⊤
+AreTimed (d ∷ ds) = (is_timed d.call.snapshot d.time ≡ true) × AreTimed ds
+
+-- one executor on one map gives every reply, in the order of the history
+pub record IsSerial (ps : Procedures) (h : History) : Type 0 where
+  pub replies : RepliesAreRuns ps h.base.rows (epoch_dones h)
+  pub times : AreTimed (epoch_dones h)
+
+abbrev pub map_of : Procedures → History → Rows
+map_of ps h = rows_after ps h.base.rows (epoch_dones h)
+
+-- ---- growth
+
+-- what a Done answers
+abbrev pub request_of : Done → Request
+request_of d = record { id = d.id; call = d.call }

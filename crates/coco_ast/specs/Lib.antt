@@ -1,0 +1,5 @@
+pub mod Builtins
+pub mod History
+pub mod Keyed
+pub mod Meaning
+pub mod Tree
