@@ -1,1 +1,2 @@
+pub mod BuiltinCalls
 pub mod BuiltinRuns

@@ -1,4 +1,5 @@
 pub mod Builtins
+pub mod Fitting
 pub mod History
 pub mod Keyed
 pub mod Meaning

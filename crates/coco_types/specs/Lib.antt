@@ -1,3 +1,4 @@
+pub mod Codes
 pub mod Padded
 pub mod PaddedText
 pub mod RowKey
