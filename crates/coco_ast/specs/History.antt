@@ -1,6 +1,6 @@
 -- Histories of committed requests: epochs over a base, which kept replies are held, and what it is for a history to be ordered and serial.
 use Rattle.std.specs.Prelude.{◌≡◌, ◌≢◌, ◌⊎◌, ⊤, ℕ, ◌+◌, ◌<◌, ◌≤◌, Bool, true, false, ◌&&◌, ◌||◌, not, if◌then◌else◌, nat_eq, nat_lt, nat_le, max, List, [], ◌∷◌, ◌++◌, length, map, Option, None, Some}
-use Rattle.std.specs.List.{filter}
+use Rattle.std.specs.List.{filter, find, AllByRecursion, IsDistinct}
 use Rattle.std.specs.FinMap.{empty}
 use Rattle.coco_types.specs.declared.call.Done.{Done}
 use Rattle.coco_types.specs.declared.call.Call.{Call}
@@ -92,8 +92,7 @@ floor h = greatest_with h.base.floor (ids_of (forgotten h))
 
 -- the Done of an id
 abbrev pub done_of : ℕ → List Done → Option Done
-done_of id [] = None
-done_of id (d ∷ ds) = if nat_eq id d.id then Some d else done_of id ds
+done_of id ds = find (λ d. nat_eq id d.id) ds
 
 -- ---- ordered
 
@@ -106,41 +105,23 @@ RisesAbove n (x ∷ xs) = (n < x) × RisesAbove x xs
 abbrev pub IsBefore : Done → Done → Type 0
 IsBefore d e = (d.epoch < e.epoch) ⊎ (d.epoch ≡ e.epoch) × ((d.time < e.time) ⊎ (d.time ≡ e.time) × (d.id < e.id))
 
-abbrev pub EachBefore : Done → List Done → Type 0
-EachBefore d [] = ⊤
-EachBefore d (e ∷ es) = IsBefore d e × EachBefore d es
-
 abbrev pub IsRising : List Done → Type 0
 IsRising [] = ⊤
-IsRising (d ∷ ds) = EachBefore d ds × IsRising ds
-
-abbrev pub IsNew : ℕ → List ℕ → Type 0
-IsNew n [] = ⊤
-IsNew n (x ∷ xs) = (n ≢ x) × IsNew n xs
-
-abbrev pub AreDistinct : List ℕ → Type 0
-AreDistinct [] = ⊤
-AreDistinct (x ∷ xs) = IsNew x xs × AreDistinct xs
-
-abbrev pub AreOf : ℕ → List Done → Type 0
-AreOf n [] = ⊤
-AreOf n (d ∷ ds) = (d.epoch ≡ n) × AreOf n ds
+IsRising (d ∷ ds) = AllByRecursion (λ e. IsBefore d e) ds × IsRising ds
 
 abbrev pub HaveTheirNumbers : List Epoch → Type 0
-HaveTheirNumbers [] = ⊤
-HaveTheirNumbers (e ∷ es) = AreOf e.number e.dones × HaveTheirNumbers es
+HaveTheirNumbers = AllByRecursion (λ e. AllByRecursion (λ d. d.epoch ≡ e.number) e.dones)
 
 abbrev pub AreAbove : Option ℕ → List ℕ → Type 0
 AreAbove None ids = ⊤
-AreAbove (Some n) [] = ⊤
-AreAbove (Some n) (x ∷ xs) = (n < x) × AreAbove (Some n) xs
+AreAbove (Some n) ids = AllByRecursion (λ id. n < id) ids
 
 -- by epoch and logical time, each id once
 pub record IsOrdered (h : History) : Type 0 where
   pub epochs_rise : RisesAbove h.base.epoch (map (λ e. e.number) h.epochs)
   pub numbered : HaveTheirNumbers h.epochs
   pub rising : IsRising (epoch_dones h)
-  pub once : AreDistinct (ids_of (all_dones h))
+  pub once : IsDistinct nat_eq (ids_of (all_dones h))
   pub above_floor : AreAbove h.base.floor (ids_of (epoch_dones h))
 
 -- ---- serial
@@ -161,8 +142,7 @@ is_timed true t = nat_eq t 0
 is_timed false t = nat_lt 0 t
 
 abbrev pub AreTimed : List Done → Type 0
-AreTimed [] = ⊤
-AreTimed (d ∷ ds) = (is_timed d.call.snapshot d.time ≡ true) × AreTimed ds
+AreTimed = AllByRecursion (λ d. is_timed d.call.snapshot d.time ≡ true)
 
 -- one executor on one map gives every reply, in the order of the history
 pub record IsSerial (ps : Procedures) (h : History) : Type 0 where
