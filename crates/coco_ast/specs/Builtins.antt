@@ -27,9 +27,9 @@ add_proc = record {
   name = codes "add";
   params = codes "r" ∷ codes "n" ∷ [];
   body =
-    Then (Get (codes "v") main_row) (Then (If (Two Equals (Variable (codes "v")) Nothing) (Then (Let (codes "v") (Number (pos 0))) End))
-    (Then (Let (codes "v") (Two Plus (Variable (codes "v")) (Variable (codes "n")))) (Then (Put main_row (Variable (codes "v")))
-    (Then (Reply (Variable (codes "v"))) End))));
+      Then (Get (codes "v") main_row) (Then (If (Two Equals (Variable (codes "v")) Nothing) (Then (Let (codes "v") (Number (pos 0))) End))
+      (Then (Let (codes "v") (Two Plus (Variable (codes "v")) (Variable (codes "n")))) (Then (Put main_row (Variable (codes "v")))
+      (Then (Reply (Variable (codes "v"))) End))));
 }
 
 abbrev pub builtins : Procedures

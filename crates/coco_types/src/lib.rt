@@ -9,8 +9,10 @@ pub mod sequence;
 pub mod text;
 pub mod value;
 
-pub use call::{Args, AttemptId, Call, Cause, Done, Piece, Reply, Request, Write};
-pub use call::{Dones, MapRows, Pieces, Writes};
+pub use call::{
+    Args, AttemptId, Call, Cause, Done, Dones, MapRows, Piece, Pieces, Reply, Request, Write,
+    Writes,
+};
 pub use error::{Failed, NoMemory, OutFault};
 pub use key::Key;
 pub use machine::Machine;

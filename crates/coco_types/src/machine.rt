@@ -5,6 +5,7 @@ use crate::NoMemory;
 /// A deterministic object: what `apply` answers and leaves are functions of the state before and the ask.
 pub trait Machine {
     type Ask: Copy;
+
     type Answer: Copy;
 
     /// The answer to an ask at a state.
