@@ -25,6 +25,7 @@ impl Model for Args {
 }
 
 impl Args {
+    /// No arguments.
     pub fn new(alloc: Global) -> Self
         ensures { result ≡ [] }
     {
@@ -43,6 +44,7 @@ impl Args {
         Ok(())
     }
 
+    /// The arguments in order.
     pub fn as_slice(&self) -> &[Option<Value>]
         ensures value { result.now ≡ self.now }
         ensures len { length result.now ≤ 16 }

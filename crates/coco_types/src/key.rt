@@ -1,3 +1,7 @@
+ghost use Rattle.std.specs.Prelude.{◌≡◌};
+ghost use Rattle.coco_types.specs.RowKey.{key_cmp};
+
+use std::cmp::Ordering;
 use std::marker::Model;
 
 /// A row's key, ordered by table and then by row. Row numbers are below 2^63.
@@ -18,4 +22,13 @@ impl Model for Key {
     ghost invariant = { λ k. k.row < 2 ^ 63 };
 
     ghost inverse = { λ k. record { table = k.table; row = k.row } };
+}
+
+impl Key {
+    /// The order of two keys, which is also that of `<`.
+    pub fn compare(&self, other: &Key) -> Ordering
+        ensures { result ≡ key_cmp self.now other.now }
+    {
+        self.cmp(other)
+    }
 }

@@ -19,3 +19,6 @@ pub use machine::Machine;
 pub use sequence::{Bytes, Sequence};
 pub use text::Text;
 pub use value::Value;
+
+#[cfg(test)]
+mod tests;

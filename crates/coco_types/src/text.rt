@@ -44,6 +44,7 @@ impl Text {
         Some(Text { len, bytes })
     }
 
+    /// Its bytes, in UTF-8.
     pub fn as_bytes(&self) -> &[u8]
         ensures value { result.now ≡ self.now }
         ensures len { length result.now ≤ 256 }
@@ -52,6 +53,7 @@ impl Text {
         &self.bytes[..self.len]
     }
 
+    /// The text itself.
     pub fn as_str(&self) -> &str
         ensures value { result.now ≡ self.now }
         ensures len { length result.now ≤ 256 }

@@ -1,0 +1,5 @@
+pub mod Sums
+pub mod Counts
+pub mod Keeping
+pub mod Making
+pub mod Closing

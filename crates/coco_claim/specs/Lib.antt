@@ -1,0 +1,4 @@
+pub mod Numbers
+pub mod Seats
+pub mod Drawing
+pub mod Sitting

@@ -1,0 +1,11 @@
+//! Places at which a worker may be held, so that a test can make two workers meet.
+#![tactic(auto)]
+
+pub mod gate;
+pub mod hold;
+
+pub use gate::{Gate, OpenGate};
+pub use hold::HoldGate;
+
+#[cfg(test)]
+mod tests;

@@ -1,0 +1,2 @@
+pub mod CountsLemmas
+pub mod KnownLemmas

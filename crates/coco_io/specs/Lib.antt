@@ -1,0 +1,4 @@
+pub mod Counts
+pub mod Plan
+pub mod SinkState
+pub mod SourceState

@@ -1,0 +1,3 @@
+pub mod CallEq
+pub mod CallerLemmas
+pub mod Entries

@@ -1,0 +1,6 @@
+//! The kept replies: one record for each request id, looked up by id, in order of commit.
+#![tactic(auto)]
+
+pub mod kept;
+
+pub use kept::{Found, Kept, MOST_DONES};

@@ -1,0 +1,5 @@
+pub mod Bytes
+pub mod Gap
+pub mod Lexeme
+pub mod Tokens
+pub mod Refusal

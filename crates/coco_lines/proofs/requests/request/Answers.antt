@@ -1,0 +1,24 @@
+use Rattle.std.proofs.Common.{◌≡◌, ◌∙◌, sym, Err, ap}
+use Rattle.std.proofs.lemmas.Result.{IfOk-weaker, err_from_is_err_and}
+use Rattle.coco_lines.specs.declared.error.RequestFault.TheVariants.{Line}
+use Rattle.coco_lines.specs.Signature.{builtins}
+use Rattle.coco_lines.proofs.ReadingLemmas.{read_line-some, read_line-none}
+use Rattle.serde_json.specs.View.{view}
+use Rattle.coco_lines.proofs.FitLemmas.{answers_fit}
+use Rattle.coco_lines.proofs.requests.request.Goals as goal
+
+pub returns-in_err-value-clause-line : goal.returns-in_err-value-clause-line
+returns-in_err-value-clause-line c = λ e is.
+    let p = err_from_is_err_and c.from_residual.result c.from_residual.ensures.1 in
+    let same : c.in_err-value.field-0.0 ≡ Line e = cc (p.1, p.2) in
+    let refused = c.in_err-value.ensures.line e (ap Err same) in
+    read_line-none builtins c.args.line.now refused.1 ∙ ap Err (sym refused.0)
+
+pub returns-clause-ok : goal.returns-clause-ok
+returns-clause-ok c = IfOk-weaker c.request_of.result _ _ (λ request is. read_line-some builtins c.args.line.now _ c.in_ok-value.ensures.ok ∙ is) c.request_of.ensures.ok
+
+pub returns-clause-line : goal.returns-clause-line
+returns-clause-line c = λ e is. read_line-some builtins c.args.line.now _ c.in_ok-value.ensures.ok ∙ c.request_of.ensures.line e is
+
+pub returns-clause-fits : goal.returns-clause-fits
+returns-clause-fits c = answers_fit (view c.in_ok-value.value) c.request_of.result c.request_of.ensures.ok

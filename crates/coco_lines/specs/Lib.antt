@@ -1,0 +1,7 @@
+pub mod Gathering
+pub mod Lines
+pub mod ReaderState
+pub mod Reading
+pub mod Reads
+pub mod Signature
+pub mod Texts

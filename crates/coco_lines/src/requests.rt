@@ -1,0 +1,208 @@
+ghost use Rattle.std.specs.Prelude.{◌≡◌, ◌≤◌, ℕ, Bool, Option, Some, None, Ok, Err, length, option_map, option_and_then, string_bytes, IfOk};
+ghost use Rattle.std.specs.BTreeMap.{keys};
+ghost use Rattle.std.specs.List.{list_all};
+ghost use Rattle.serde_json.specs.Find.{get, as_array, as_number, as_str, as_u64};
+ghost use Rattle.serde_json.specs.View.{view, items_view, members_view};
+ghost use Rattle.coco_lines.specs.Signature.{Signature, builtins, find_named};
+ghost use Rattle.coco_lines.specs.Reading.{json_of, is_member, only_members, snapshot_of, asked_of, arg_of, args_of, fitting_args, request_of, read_line};
+ghost use Rattle.coco_ast.specs.Builtins.{builtins as procedures};
+ghost use Rattle.coco_ast.specs.Fitting.{Fits};
+
+use crate::{LineError, RequestFault};
+use coco_types::{Args, Call, NoMemory, Request, Text, Value};
+use serde_json::{Category, Map, Value as Json};
+use std::alloc::Global;
+
+/// The request that a line asks for. A line that is no request is refused by the first class that it falls into.
+pub fn request(alloc: Global, line: &[u8]) -> Result<Request, RequestFault>
+    ensures ok { IfOk result (λ request. read_line builtins line.now ≡ Ok request) }
+    ensures fits { IfOk result (λ request. Fits procedures request.call) }
+    ensures line { (e : LineError) → result ≡ Err (RequestFault.Line e) → read_line builtins line.now ≡ Err e }
+{
+    let value = json_of(alloc, line)?;
+    request_of(alloc, &value)
+}
+
+fn json_of(alloc: Global, line: &[u8]) -> Result<Json, RequestFault>
+    ensures ok { IfOk result (λ value. json_of line.now ≡ Some (view value)) }
+    ensures line { (e : LineError) → result ≡ Err (RequestFault.Line e) → (e ≡ LineError.Json) × (json_of line.now ≡ None) }
+{
+    match Json::from_slice(alloc, line) {
+        Ok(value) => Ok(value),
+        Err(error) => match error.classify() {
+            Category::Memory => Err(RequestFault::NoMemory),
+            _ => Err(RequestFault::Line(LineError::Json)),
+        },
+    }
+}
+
+fn request_of(alloc: Global, value: &Json) -> Result<Request, RequestFault>
+    ensures ok { IfOk result (λ request. request_of builtins (view value.now) ≡ Ok request) }
+    ensures line { (e : LineError) → result ≡ Err (RequestFault.Line e) → request_of builtins (view value.now) ≡ Err e }
+{
+    let Some(asked) = asked_of(value) else {
+        return Err(RequestFault::Line(LineError::Shape));
+    };
+    let Some(found) = builtin(asked.call) else {
+        return Err(RequestFault::Line(LineError::Name));
+    };
+    let Some(args) = fitting_args(alloc, found.params, asked.args)? else {
+        return Err(RequestFault::Line(LineError::Args));
+    };
+    if asked.snapshot && found.writes {
+        return Err(RequestFault::Line(LineError::Snapshot));
+    }
+    Ok(Request {
+        id: asked.id,
+        call: Call {
+            proc_no: found.proc_no,
+            args,
+            snapshot: asked.snapshot,
+        },
+    })
+}
+
+// The members of a request.
+#[derive(Clone, Copy)]
+struct Asked<'a> {
+    args: &'a [Json],
+    call: &'a str,
+    id: u64,
+    snapshot: bool,
+}
+
+fn asked_of(value: &Json) -> Option<Asked<'_>>
+    ensures { option_map (λ asked. record { args = items_view asked.args.now; call = asked.call.now; id = asked.id; snapshot = asked.snapshot }) result
+        ≡ asked_of (view value.now) }
+{
+    let members = value.as_object()?;
+    if !only_members(members) {
+        return None;
+    }
+    let args = array_at(value, "args")?;
+    let call = text_at(value, "call")?;
+    let id = number_at(value, "id")?;
+    let snapshot = snapshot_of(value.get("snapshot"))?;
+    Some(Asked {
+        args: args.as_slice(),
+        call,
+        id,
+        snapshot,
+    })
+}
+
+fn array_at<'a>(value: &'a Json, name: &str) -> Option<&'a Vec<Json>>
+    ensures { option_map (λ v. items_view v.now.items) result
+        ≡ option_and_then as_array (get name.now (view value.now)) }
+{
+    value.get(name).and_then(Json::as_array)
+}
+
+fn text_at<'a>(value: &'a Json, name: &str) -> Option<&'a str>
+    ensures { option_map (λ s. s.now) result
+        ≡ option_and_then as_str (get name.now (view value.now)) }
+{
+    value.get(name).and_then(Json::as_str)
+}
+
+fn number_at(value: &Json, name: &str) -> Option<u64>
+    ensures { result
+        ≡ option_and_then as_u64 (option_and_then as_number (get name.now (view value.now))) }
+{
+    value.get(name).and_then(Json::as_u64)
+}
+
+fn only_members(members: &Map<String, Json>) -> bool
+    ensures { result ≡ list_all (λ key. is_member (string_bytes key)) (keys members.now) }
+{
+    members.keys().all(|key| is_member(key.as_str()))
+}
+
+fn is_member(key: &str) -> bool
+    ensures { result ≡ is_member key.now }
+{
+    key == "args" || key == "call" || key == "id" || key == "snapshot"
+}
+
+fn snapshot_of(member: Option<&Json>) -> Option<bool>
+    ensures { result ≡ snapshot_of (option_map (λ v. view v.now) member.entry) }
+{
+    match member {
+        None => Some(false),
+        Some(value) => value.as_bool(),
+    }
+}
+
+// A procedure by its name, where there is one.
+#[derive(Clone, Copy)]
+struct Known {
+    proc_no: u16,
+    params: usize,
+    writes: bool,
+}
+
+fn builtin(name: &str) -> Option<Known>
+    ensures value { option_map (λ b. b.proc_no) result ≡ option_map (λ f. f.0) (find_named builtins name.now) }
+    ensures params { option_map (λ b. b.params) result ≡ option_map (λ f. f.1.params) (find_named builtins name.now) }
+    ensures writes { option_map (λ b. b.writes) result ≡ option_map (λ f. f.1.writes) (find_named builtins name.now) }
+{
+    match name {
+        "get" => Some(Known {
+            proc_no: 0,
+            params: 1,
+            writes: false,
+        }),
+        "put" => Some(Known {
+            proc_no: 1,
+            params: 2,
+            writes: true,
+        }),
+        "add" => Some(Known {
+            proc_no: 2,
+            params: 2,
+            writes: true,
+        }),
+        _ => None,
+    }
+}
+
+fn fitting_args(alloc: Global, params: usize, items: &[Json]) -> Result<Option<Args>, NoMemory>
+    requires { params ≤ 16 }
+    ensures { IfOk result (λ args. args ≡ fitting_args params (items_view items.now)) }
+{
+    if items.len() != params {
+        return Ok(None);
+    }
+    args_of(alloc, items)
+}
+
+fn args_of(alloc: Global, items: &[Json]) -> Result<Option<Args>, NoMemory>
+    requires { length items.now ≤ 16 }
+    ensures { IfOk result (λ args. args ≡ args_of (items_view items.now)) }
+{
+    let mut args = Args::new(alloc);
+    for item in items {
+        let Some(arg) = arg_of(item) else {
+            return Ok(None);
+        };
+        args.push(arg)?;
+    }
+    Ok(Some(args))
+}
+
+fn arg_of(item: &Json) -> Option<Option<Value>>
+    ensures { result ≡ arg_of (view item.now) }
+{
+    match item {
+        Json::Null => Some(None),
+        Json::Number(number) => match number.as_i64() {
+            Some(n) => Some(Some(Value::Int(n))),
+            None => None,
+        },
+        Json::String(text) => match Text::of(text.as_str()) {
+            Some(text) => Some(Some(Value::Text(text))),
+            None => None,
+        },
+        Json::Bool(_) | Json::Array(_) | Json::Object(_) => None,
+    }
+}

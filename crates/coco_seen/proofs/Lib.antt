@@ -1,0 +1,5 @@
+pub mod Lists
+pub mod Keeping
+pub mod Noted
+pub mod Dealt
+pub mod Closing

@@ -1,0 +1,4 @@
+pub mod Closes
+pub mod Notes
+pub mod Rules
+pub mod Steps

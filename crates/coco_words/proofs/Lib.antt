@@ -1,0 +1,3 @@
+pub mod ClapOptions
+pub mod ClapReads
+pub mod RunWords

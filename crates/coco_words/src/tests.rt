@@ -1,0 +1,61 @@
+use super::*;
+use std::test::Fail;
+
+// The command of a line whose words stand between single spaces.
+fn asked(alloc: Global, line: &str) -> Result<Command, WordsFault> {
+    let mut list = Vec::new(alloc);
+    for word in line.split(' ') {
+        let word = word.to_string(alloc).map_err(|_| WordsFault::NoMemory)?;
+        list.push(word).map_err(|_| WordsFault::NoMemory)?;
+    }
+    words(alloc, list.as_slice())
+}
+
+#[test]
+fn run_has_the_epoch_that_is_given_or_100(rt: HostRuntime) -> Result<(), Fail> {
+    let cases = [
+        ("run", 100),
+        ("run --epoch 7", 7),
+        ("run --epoch=007", 7),
+        ("run --epoch 1024", 1024),
+        ("run --epoch=1", 1),
+        ("run --epoch 0000000000000000001", 1),
+    ];
+    for (line, epoch) in cases {
+        let command = Command::Run(RunOptions { epoch });
+        assert_eq!(rt; asked(rt.alloc(), line), Ok(command), "{line}");
+    }
+    Ok(())
+}
+
+#[test]
+fn other_words_are_no_command(rt: HostRuntime) -> Result<(), Fail> {
+    let cases = [
+        "",
+        "help",
+        "--help",
+        "--version",
+        "Run",
+        "run x",
+        "run help",
+        "run --help",
+        "run -h",
+        "run ",
+        "run --",
+        "run --epoch 5 --",
+        "run --epoch",
+        "run --epoch=",
+        "run --epoch 0",
+        "run --epoch 1025",
+        "run --epoch 00000000000000000001",
+        "run --epoch=1 --epoch=2",
+        "run --epoch +5",
+        "run --epoch 5 5",
+        "run --epo 5",
+    ];
+    for line in cases {
+        assert_eq!(rt; asked(rt.alloc(), line), Err(WordsFault::Usage), "{line}");
+    }
+    assert_eq!(rt; words(rt.alloc(), &[]), Err(WordsFault::Usage));
+    Ok(())
+}
