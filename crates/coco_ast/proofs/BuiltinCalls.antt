@@ -1,6 +1,6 @@
 -- Which calls the built-in procedures take, case by case.
 use Rattle.std.proofs.lemmas.Bool.Decides.{nat_tests}
-use Rattle.std.proofs.Common.{◌<◌, ◌&&◌, nat_eq, ◌≡◌, refl, ℕ, zero, suc, Bool, true, false, List, [], ◌∷◌, length, Option, ap, sym, arith}
+use Rattle.std.proofs.Common.{◌<◌, ◌&&◌, nat_eq, ◌≡◌, ℕ, zero, suc, Bool, true, false, List, [], ◌∷◌, length, Option, arith}
 use Rattle.coco_types.specs.declared.value.Value.{Value}
 use Rattle.coco_types.specs.declared.call.Call.{Call}
 use Rattle.coco_ast.specs.Fitting.{Fits}

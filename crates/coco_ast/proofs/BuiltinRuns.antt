@@ -1,10 +1,8 @@
 -- What the runs of the built-in procedures come to.
-use Rattle.std.proofs.Common.{◌≡◌, refl, ℕ, Bool, List, [], ◌∷◌, Option, None, Some, Ok, Err, ℤ, pos, ◌+ℤ◌, true, false}
-use Rattle.coco_types.specs.declared.value.Value.{Value}
+use Rattle.std.proofs.Common.{◌≡◌, refl, ℕ, Bool, [], ◌∷◌, None, Some, Ok, Err, ℤ, pos, ◌+ℤ◌, true, false}
 use Rattle.coco_types.specs.declared.value.Value.TheVariants.{Int, Text}
 use Rattle.coco_types.specs.RowKey.{RowKey}
 use Rattle.coco_types.specs.declared.call.Reply.TheVariants.{Ok as Answers, Refused}
-use Rattle.coco_types.specs.declared.call.Write.{Write}
 use Rattle.coco_ast.specs.Keyed.{Rows, value_at, write_at}
 use Rattle.coco_ast.specs.Meaning.{Datum, Computed, Run, run, row_key, combined, fits}
 use Rattle.coco_ast.specs.Tree.{Plus}

@@ -1,2 +1,5 @@
 pub mod BuiltinCalls
+pub mod BuiltinLaws
 pub mod BuiltinRuns
+pub mod WordTexts
+pub mod WorkedExamples

@@ -1,8 +1,8 @@
 -- The three procedures that every store has, and its table `main`.
-use Rattle.std.specs.Prelude.{ℕ, [], ◌∷◌, List, pos, codes}
-use Rattle.coco_ast.specs.Tree.{Expression, Number, Nothing, Variable, Two, Plus, Equals, RowPlace, Statement, Let, Get, Put, If, Reply, Statements, End, Then, Procedure, Procedures}
+use Rattle.std.specs.Prelude.{[], ◌∷◌, pos, codes}
+use Rattle.coco_ast.specs.Tree.{Number, Nothing, Variable, Two, Plus, Equals, RowPlace, Let, Get, Put, If, Reply, End, Then, Procedure, Procedures}
 
-abbrev main_row : RowPlace
+abbrev pub main_row : RowPlace
 main_row = record { table = codes "main"; row = Variable (codes "r") }
 
 -- proc get(r) { let v = get main[r]; reply v; }

@@ -1,5 +1,5 @@
 -- Which calls a list of procedures takes.
-use Rattle.std.specs.Prelude.{◌≡◌, ℕ, Bool, true, false, not, ◌&&◌, ◌||◌, nat_eq, List, length, Option, None, Some}
+use Rattle.std.specs.Prelude.{◌≡◌, Bool, true, false, not, ◌&&◌, ◌||◌, nat_eq, length, Option, None, Some}
 use Rattle.coco_types.specs.declared.call.Call.{Call}
 use Rattle.coco_ast.specs.Tree.{Statement, Let, Get, Put, Delete, If, IfElse, Repeat, Refuse, Reply, Statements, End, Then, Procedure, Procedures}
 use Rattle.coco_ast.specs.Meaning.{procedure_at}

@@ -1,9 +1,8 @@
 -- Histories of committed requests: epochs over a base, which kept replies are held, and what it is for a history to be ordered and serial.
-use Rattle.std.specs.Prelude.{◌≡◌, ◌≢◌, ◌⊎◌, ⊤, ℕ, ◌+◌, ◌<◌, ◌≤◌, Bool, true, false, ◌&&◌, ◌||◌, not, if◌then◌else◌, nat_eq, nat_lt, nat_le, max, List, [], ◌∷◌, ◌++◌, length, map, Option, None, Some}
+use Rattle.std.specs.Prelude.{◌≡◌, ◌⊎◌, ⊤, ℕ, ◌<◌, Bool, true, false, ◌||◌, not, if◌then◌else◌, nat_eq, nat_lt, max, List, [], ◌∷◌, ◌++◌, length, map, Option, None, Some}
 use Rattle.std.specs.List.{filter, find, AllByRecursion, IsDistinct}
 use Rattle.std.specs.FinMap.{empty}
 use Rattle.coco_types.specs.declared.call.Done.{Done}
-use Rattle.coco_types.specs.declared.call.Call.{Call}
 use Rattle.coco_types.specs.declared.call.Request.{Request}
 use Rattle.coco_ast.specs.Tree.{Procedures}
 use Rattle.coco_ast.specs.Keyed.{Rows}

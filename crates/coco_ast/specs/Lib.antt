@@ -1,6 +1,12 @@
+pub mod BuiltinForms
 pub mod Builtins
+pub mod Examples
 pub mod Fitting
 pub mod History
 pub mod Keyed
 pub mod Meaning
+pub mod NameView
+pub mod Short
 pub mod Tree
+pub mod Views
+pub mod Words

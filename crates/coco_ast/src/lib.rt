@@ -1,13 +1,14 @@
 //! Procedures and their meaning, and histories of committed requests.
 #![tactic(auto)]
 
-ghost use Rattle.std.specs.Prelude.{◌≡◌};
-ghost use Rattle.coco_ast.specs.Builtins.{builtins};
-ghost use Rattle.coco_ast.specs.Meaning.{run};
+pub mod builtin;
+pub mod laws;
+pub mod name;
+pub mod tree;
 
-/// How many built-in procedures there are.
-pub fn builtin_count() -> u16
-    ensures { result ≡ 3 }
-{
-    3
-}
+pub use builtin::builtins;
+pub use name::{MOST_NAME_BYTES, Name};
+pub use tree::{Block, Expr, Names, Place, Proc, ProcList, Procs, Stmt, TwoOp};
+
+#[cfg(test)]
+mod tests;

@@ -1,9 +1,9 @@
 -- At the front of a rest stands one token, or one thing is wrong, and never both.
-use Rattle.std.proofs.Common.{◌≡◌, ◌≢◌, ℕ, zero, suc, ◌+◌, ◌<◌, ◌≤◌, ◌⊎◌, ⊎_elim, List, [], ◌∷◌, length, take, drop, get_or, Contains, sym, refl, ap, ◌∙◌, subst, arith, add-one, length-take-le}
+use Rattle.std.proofs.Common.{◌≡◌, ℕ, zero, suc, ◌+◌, ◌<◌, ◌≤◌, ⊎_elim, List, [], ◌∷◌, length, take, get_or, sym, refl, ap, ◌∙◌, subst, arith, add-one, length-take-le}
 use Rattle.std.specs.Str.Parse.{digits_value}
 use Rattle.std.proofs.lemmas.Bool.{cases_order}
-use Rattle.coco_lex.specs.Bytes.{quote, backslash}
-use Rattle.coco_lex.specs.Lexeme.{IsWord, IsDigits, IsText, IsQuoted, IsSymbol, IsLexeme, IsLongest, keywords}
+use Rattle.coco_lex.specs.Bytes.{quote}
+use Rattle.coco_lex.specs.Lexeme.{IsWord, IsDigits, IsQuoted, IsSymbol, IsLexeme, IsLongest}
 use Rattle.coco_lex.specs.Tokens.{IsFront, IsOfKind, KeepsLimits}
 use Rattle.coco_lex.specs.Refusal.{IsFault, IsClosed, IsBadAt, Opens}
 use Rattle.coco_lex.specs.declared.token.TokenKind.{TokenKind}

@@ -1,8 +1,8 @@
 -- What stands at the front, from what the small functions found there.
-use Rattle.std.proofs.Common.{◌≡◌, ℕ, zero, suc, ◌+◌, ◌<◌, ◌≤◌, Bool, true, false, ◌↔◌, List, [], ◌∷◌, length, take, map, min, get_or, Bor, Contains, codes, sym, refl, ap, ◌∙◌, subst, arith, rules, ⊎_elim, length-take}
+use Rattle.std.proofs.Common.{◌≡◌, ℕ, zero, suc, ◌<◌, ◌≤◌, true, false, ◌↔◌, List, [], ◌∷◌, length, take, map, min, get_or, Bor, Contains, codes, sym, refl, subst, arith, ⊎_elim, length-take}
 use Rattle.std.specs.Cmp.Lexicographic.{pointwise}
-use Rattle.std.specs.Prelude.{nat_eq, IsTrue}
-use Rattle.std.specs.List.{list_any, prefix_len, AllPass, list_all}
+use Rattle.std.specs.Prelude.{nat_eq}
+use Rattle.std.specs.List.{list_any, prefix_len}
 use Rattle.std.proofs.lemmas.Bool.{or_cases}
 use Rattle.std.proofs.Math.Bool.{or-true}
 use Rattle.std.proofs.lemmas.Slice.Eq.{bytes_eq-Decides}
@@ -16,10 +16,10 @@ use Rattle.coco_lex.specs.Bytes.{quote, is_word_start, is_word_byte}
 use Rattle.coco_lex.specs.Lexeme.{IsWord, IsDigits, IsQuoted, IsSymbol, IsLexeme, IsLongest, of_symbol, keywords}
 use Rattle.coco_lex.specs.Tokens.{IsFront, KeepsLimits}
 use Rattle.coco_lex.specs.Refusal.{IsFault}
-use Rattle.coco_lex.specs.declared.token.TokenKind.TheVariants.{Keyword, Name, Number, Text, Symbol}
-use Rattle.coco_lex.specs.declared.error.LexKind.TheVariants.{Stray, LongName, WideNumber, OpenText, BadText, LongText}
+use Rattle.coco_lex.specs.declared.token.TokenKind.TheVariants.{Keyword, Name, Number, Symbol}
+use Rattle.coco_lex.specs.declared.error.LexKind.TheVariants.{Stray, LongName, WideNumber}
 use Rattle.coco_lex.proofs.Heads.{class_of, word_class, digit_class, quote_class, symbol_class, class_of_start, class_of_digits, class_of_text, class_of_symbol, only_symbol, no_empty}
-use Rattle.coco_lex.proofs.Runs.{word_longest, word_is, word_len_positive, digits_longest, digits_are}
+use Rattle.coco_lex.proofs.Runs.{word_longest, word_is, digits_longest, digits_are}
 
 -- a word is neither a number nor a text
 pub word_class_of : (bytes : List ℕ) → IsWord bytes → class_of (get_or bytes 0 0) ≡ word_class

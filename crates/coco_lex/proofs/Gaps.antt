@@ -1,8 +1,9 @@
 -- How a gap grows by blanks and comments, and that a place begins one gap alone.
-use Rattle.std.proofs.Common.{◌≡◌, ℕ, ◌+◌, ◌-◌, ◌<◌, ◌≤◌, ◌⊎◌, inl, inr, ⊎_elim, List, length, drop, get_or, IsTrue, sym, refl, ap, ◌∙◌, subst, arith, add-zero, length-drop, get_or-drop}
-use Rattle.std.proofs.lemmas.Bool.{cases_lt, cases_eq, cases_order}
+use Rattle.std.proofs.Common.{◌≡◌, ℕ, ◌+◌, ◌-◌, ◌<◌, ◌≤◌, inl, inr, ⊎_elim, List, length, drop, get_or, IsTrue, sym, ap, ◌∙◌, subst, arith, add-zero, length-drop, get_or-drop}
+use Rattle.std.proofs.lemmas.Bool.{cases_lt, cases_order}
 use Rattle.coco_lex.specs.Bytes.{is_blank, number_sign, line_feed}
-use Rattle.coco_lex.specs.Gap.{IsCommented, Separates, IsGap, IsComment, IsSeparator}
+use Rattle.coco_lex.specs.Gap.{Separates, IsGap}
+use Rattle.coco_lex.specs.Steps.{IsComment, IsSeparator}
 
 -- separators from one place up to another, and the second isn't in a comment unless the text ends
 pub record GapTo (text : List ℕ) (from at' : ℕ) : Type 0 where

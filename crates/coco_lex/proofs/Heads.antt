@@ -1,14 +1,13 @@
 -- The first byte of a lexeme tells what lexeme it is.
-use Rattle.std.proofs.Common.{◌≡◌, ℕ, zero, suc, ◌<◌, ◌≤◌, Bool, true, false, not, ◌&&◌, ◌||◌, ◌==◌, if◌then◌else◌, List, [], ◌∷◌, length, take, get_or, codes, Contains, sym, refl, ap, ◌∙◌, subst, arith, rules}
-use Rattle.std.specs.List.{AllPass, list_all}
+use Rattle.std.proofs.Common.{◌≡◌, ℕ, zero, suc, Bool, true, false, not, ◌&&◌, ◌==◌, if◌then◌else◌, List, [], ◌∷◌, take, get_or, codes, sym, refl, subst, arith}
 use Rattle.std.specs.Char.{is_ascii_digit}
 use Rattle.std.specs.Int.{IsInRange}
-use Rattle.std.proofs.lemmas.Bool.{and_parts, not-true, eqb-false, and_from, le-leb}
+use Rattle.std.proofs.lemmas.Bool.{and_parts, not-true}
 use Rattle.std.proofs.lemmas.Bool.Decides.{nat_tests}
 use Rattle.std.proofs.lemmas.List.Elements.{All-contains}
 use Rattle.std.proofs.lemmas.List.Sums.{AllPass-from_list_all}
 use Rattle.std.proofs.lemmas.Str.Parse.{digit_from_value}
-use Rattle.coco_lex.specs.Bytes.{quote, is_word_start, is_word_byte}
+use Rattle.coco_lex.specs.Bytes.{quote, is_word_start}
 use Rattle.coco_lex.specs.Lexeme.{IsWord, IsDigits, IsText, IsSymbol, IsLexeme, of_word, of_digits, of_text, of_symbol}
 
 pub data Class : Type 0 where

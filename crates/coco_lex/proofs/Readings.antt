@@ -1,11 +1,11 @@
 -- A text is read in one way.
-use Rattle.std.proofs.Common.{◌≡◌, ℕ, ◌+◌, ◌-◌, ◌<◌, ◌≤◌, ◌⊎◌, inl, inr, ⊎_elim, List, [], ◌∷◌, ◌++◌, length, take, drop, IsUtf8, Result, Ok, Err, IfOk, IfErr, IsErrAnd, MatchResult, sym, refl, ap, ◌∙◌, subst, arith, length-drop, take_all}
+use Rattle.std.proofs.Common.{◌≡◌, ℕ, ◌+◌, ◌-◌, ◌⊎◌, inl, inr, ⊎_elim, List, [], ◌∷◌, ◌++◌, length, take, drop, IsUtf8, Result, Ok, Err, IfOk, IfErr, IsErrAnd, MatchResult, sym, refl, ap, ◌∙◌, subst, arith, length-drop, take_all}
 use Rattle.std.specs.Str.{IsValidUpTo}
 use Rattle.std.proofs.lemmas.Str.{utf8_valid_len-IsValidUpTo}
 use Rattle.std.proofs.lemmas.List.{take_rest}
 use Rattle.coco_lex.specs.Gap.{IsGap}
 use Rattle.coco_lex.specs.Tokens.{IsToken, IsFront, Follow, AreTokens}
-use Rattle.coco_lex.specs.Refusal.{IsFault, IsFaultAt, IsFirstFault, IsFirstBadByte, IsRefused, ReadsAs, OnRefused}
+use Rattle.coco_lex.specs.Refusal.{IsFaultAt, IsFirstFault, IsFirstBadByte, IsRefused, ReadsAs, OnRefused}
 use Rattle.coco_lex.specs.declared.token.Token.{Token}
 use Rattle.coco_lex.specs.declared.token.TokenKind.{TokenKind}
 use Rattle.coco_lex.specs.declared.error.LexError.{LexError}

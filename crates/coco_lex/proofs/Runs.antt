@@ -1,7 +1,7 @@
 -- The longest word, and the longest run of digits, at the front.
-use Rattle.std.proofs.Common.{◌≡◌, ℕ, zero, suc, ◌+◌, ◌-◌, ◌<◌, ◌≤◌, Bool, true, false, ◌||◌, List, [], ◌∷◌, length, take, get_or, sym, refl, ap, ◌∙◌, subst, arith, rules, length-take, get_or-take}
-use Rattle.std.specs.List.{AllPass, prefix_len}
-use Rattle.std.specs.Char.{is_ascii_digit, digit_value}
+use Rattle.std.proofs.Common.{◌≡◌, ℕ, zero, suc, ◌<◌, ◌≤◌, Bool, true, List, [], ◌∷◌, length, take, get_or, sym, refl, ap, ◌∙◌, arith, length-take, get_or-take}
+use Rattle.std.specs.List.{prefix_len}
+use Rattle.std.specs.Char.{is_ascii_digit}
 use Rattle.std.specs.Int.{IsInRange}
 use Rattle.std.specs.Str.Parse.{AllDigits}
 use Rattle.std.proofs.lemmas.Bool.{and_parts, leb-true}
@@ -11,8 +11,8 @@ use Rattle.std.proofs.lemmas.List.Sums.{prefix_len_passes, prefix_len_stops, pre
 use Rattle.std.proofs.lemmas.Str.{digit_value_digit}
 use Rattle.std.proofs.lemmas.Str.Parse.{digit_at}
 use Rattle.coco_lex.specs.Bytes.{is_word_start, is_word_byte}
-use Rattle.coco_lex.specs.Lexeme.{IsWord, IsDigits, IsLexeme, IsLongest, of_word, of_digits}
-use Rattle.coco_lex.proofs.Heads.{class_of, word_class, digit_class, class_of_start, class_of_digit, only_word, only_digits}
+use Rattle.coco_lex.specs.Lexeme.{IsWord, IsDigits, IsLongest, of_word, of_digits}
+use Rattle.coco_lex.proofs.Heads.{class_of_start, class_of_digit, only_word, only_digits}
 
 word_front : (rest : List ℕ) (n : ℕ) → 0 < n → n ≤ length rest → is_word_start (get_or rest 0 0) ≡ true → ((k : ℕ) → k < n → is_word_byte (get_or rest k 0) ≡ true) → IsWord (take n rest)
 word_front rest zero p w s all = absurd (omega arith)

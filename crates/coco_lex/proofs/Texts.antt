@@ -1,18 +1,19 @@
 -- What a text's content is, and where its closing quote stands, are fixed by its bytes.
-use Rattle.std.proofs.Common.{◌≡◌, ℕ, zero, suc, ◌+◌, ◌-◌, ◌%◌, ◌<◌, ◌≤◌, Bool, true, false, not, ◌&&◌, ◌||◌, ◌==◌, nat_eq, ◌⊎◌, inl, inr, ⊎_elim, List, [], ◌∷◌, ◌++◌, length, take, drop, reverse, get_or, sym, refl, ap, ◌∙◌, subst, arith, rules, add-one, add-zero, add_comm, append_assoc, append-nil, length-append, length-take, length-take-le, length-drop, take-append-drop, get_or-take, get_or-drop, take-take, take_all}
+use Rattle.std.proofs.Common.{◌≡◌, ℕ, zero, suc, ◌+◌, ◌-◌, ◌%◌, ◌<◌, ◌≤◌, Bool, true, false, not, ◌&&◌, ◌||◌, ◌==◌, nat_eq, ◌⊎◌, inl, inr, ⊎_elim, List, [], ◌∷◌, ◌++◌, length, take, drop, get_or, sym, refl, ap, ◌∙◌, subst, arith, add-one, add-zero, add_comm, append_assoc, append-nil, length-append, length-take, length-take-le, length-drop, take-append-drop, get_or-take, get_or-drop, take-take, take_all}
 use Rattle.std.specs.Prelude.{All}
-use Rattle.std.specs.List.{flat_map, suffix_len, prefix_len}
+use Rattle.std.specs.List.{suffix_len}
 use Rattle.std.proofs.lemmas.Bool.{cases_Bool, or_cases, eqb-true, ne_eqb, eq-eqb, cases_lt, cases_eq}
-use Rattle.std.proofs.lemmas.List.{take_more, same_from_push, reverse-append, get_or_append_left, get_or-append_right, take-append-le, get_or_at, take_at, flat_map_more}
+use Rattle.std.proofs.lemmas.List.{take_more, same_from_push, reverse-append, get_or_append_left, take-append-le, get_or_at, take_at, flat_map_more}
 use Rattle.std.proofs.lemmas.List.Elements.{All-head, All-tail, All-nil, All-push}
 use Rattle.coco_lex.specs.Bytes.{quote, backslash, is_backslash}
 use Rattle.coco_lex.specs.Lexeme.{escaped, spelled, IsQuoted, IsLongest, of_text}
-use Rattle.coco_lex.specs.declared.error.LexKind.TheVariants.{OpenText, BadText, LongText}
+use Rattle.coco_lex.specs.declared.error.LexKind.TheVariants.{BadText, LongText}
 use Rattle.coco_lex.proofs.Heads.{class_of, quote_class, only_text}
 use Rattle.coco_lex.proofs.Fronts.{word_class_of, digits_class_of, text_class_of}
 use Rattle.coco_lex.specs.Tokens.{IsFront, KeepsLimits}
 use Rattle.coco_lex.specs.declared.token.TokenKind.TheVariants.{Text}
-use Rattle.coco_lex.specs.Refusal.{Opens, IsBadAt, ClosesAt, IsClosed, IsPart, IsContent, IsFault, backslashes_before}
+use Rattle.coco_lex.specs.Refusal.{Opens, IsBadAt, ClosesAt, IsClosed, IsFault, backslashes_before}
+use Rattle.coco_lex.specs.Steps.{IsPart, IsContent}
 
 -- a byte that is written behind a backslash
 abbrev special : ℕ → Bool

@@ -1,5 +1,5 @@
 -- what separates tokens
-use Rattle.std.specs.Prelude.{◌≡◌, ◌≢◌, ℕ, ◌+◌, ◌-◌, ◌<◌, ◌≤◌, ◌⊎◌, List, length, slice_index, IsTrue}
+use Rattle.std.specs.Prelude.{◌≡◌, ◌≢◌, ℕ, ◌<◌, ◌≤◌, ◌⊎◌, List, length, slice_index, IsTrue}
 use Rattle.coco_lex.specs.Bytes.{is_blank, number_sign, line_feed}
 
 -- byte i belongs to a comment: a number sign stands at or before it, no earlier than `from`, and no line feed between
@@ -15,16 +15,3 @@ pub record IsGap (text : List ℕ) (from to : ℕ) : Type 0 where
   pub within : to ≤ length text
   pub separates : (i : ℕ) → from ≤ i → i < to → Separates text from i
   pub ends : to < length text → ¬ (Separates text from to)
-
--- a comment of n bytes, up to its line feed or the end of the text
-pub record IsComment (rest : List ℕ) (n : ℕ) : Type 0 where
-  pub positive : 0 < n
-  pub within : n ≤ length rest
-  pub inside : (k : ℕ) → k + 1 < n → slice_index rest k ≢ line_feed
-  pub ended : n < length rest → slice_index rest (n - 1) ≡ line_feed
-
--- a blank or a comment of n bytes at the front, or neither where n is 0
-pub record IsSeparator (rest : List ℕ) (n : ℕ) : Type 0 where
-  pub within : n ≤ length rest
-  pub none : n ≡ 0 → (¬ (IsTrue (is_blank (slice_index rest 0)))) × (slice_index rest 0 ≢ number_sign)
-  pub some : 0 < n → ((n ≡ 1) × IsTrue (is_blank (slice_index rest 0))) ⊎ ((slice_index rest 0 ≡ number_sign) × IsComment rest n)

@@ -3,3 +3,5 @@ pub mod Gap
 pub mod Lexeme
 pub mod Tokens
 pub mod Refusal
+pub mod Steps
+pub mod Messages

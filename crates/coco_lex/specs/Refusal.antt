@@ -1,10 +1,10 @@
 -- where and why a procedure text has no tokens
-use Rattle.std.specs.Prelude.{◌≡◌, ◌≢◌, ℕ, ◌+◌, ◌%◌, ◌<◌, ◌≤◌, ◌⊎◌, List, ◌∷◌, ◌++◌, length, take, drop, slice_index, All, IsUtf8, Result, Ok, Err}
+use Rattle.std.specs.Prelude.{◌≡◌, ◌≢◌, ℕ, ◌+◌, ◌%◌, ◌<◌, ◌≤◌, ◌⊎◌, List, ◌∷◌, length, take, drop, slice_index, All, IsUtf8, Result, Ok, Err}
 use Rattle.std.specs.List.{suffix_len}
 use Rattle.std.specs.Str.{IsValidUpTo}
 use Rattle.std.specs.Str.Parse.{digits_value}
 use Rattle.coco_lex.specs.Bytes.{quote, backslash, is_backslash}
-use Rattle.coco_lex.specs.Lexeme.{IsWord, IsDigits, IsQuoted, IsLexeme, IsLongest, escaped, spelled}
+use Rattle.coco_lex.specs.Lexeme.{IsWord, IsDigits, IsQuoted, IsLexeme, IsLongest, spelled}
 use Rattle.coco_lex.specs.Tokens.{AreTokens, Follow}
 use Rattle.coco_lex.specs.declared.token.Token.{Token}
 use Rattle.coco_lex.specs.declared.error.LexError.{LexError}
@@ -78,20 +78,3 @@ ReadsAs text (Err e) = IsRefused text e
 abbrev pub OnRefused : LexFault → (LexError → Type 0) → Type 0
 OnRefused (Refused e) P = P e
 OnRefused NoMemory P = Unit {0}
-
--- where a text's content stops: at the end of the rest, at a quote, or at what is bad
-abbrev pub Stops : List ℕ → ℕ → Type 0
-Stops rest n = n < length rest → (slice_index rest n ≡ quote) ⊎ IsBadAt rest n
-
--- the next part of a text's content is n bytes long, or the content stops where n is 0
-pub record IsPart (rest : List ℕ) (at n : ℕ) : Type 0 where
-  pub within : at + n ≤ length rest
-  pub stops : n ≡ 0 → Stops rest at
-  pub part : 0 < n → (b : ℕ) × (32 ≤ b) × (take (at + n) rest ≡ take at rest ++ escaped b)
-
--- a text's content up to where it stops, with how many bytes it has
-pub record IsContent (rest : List ℕ) (end count : ℕ) : Type 0 where
-  pub content : List ℕ
-  pub opens : Opens rest end content
-  pub counts : length content ≡ count
-  pub stops : Stops rest end

@@ -1,5 +1,5 @@
 -- the tokens of a procedure text
-use Rattle.std.specs.Prelude.{◌≡◌, ℕ, ◌-◌, ◌<◌, ◌≤◌, List, [], ◌∷◌, length, take, drop, Contains, IsUtf8}
+use Rattle.std.specs.Prelude.{ℕ, ◌-◌, ◌<◌, ◌≤◌, List, [], ◌∷◌, length, take, drop, Contains, IsUtf8}
 use Rattle.std.specs.Str.Parse.{digits_value}
 use Rattle.coco_lex.specs.Gap.{IsGap}
 use Rattle.coco_lex.specs.Lexeme.{IsWord, IsDigits, IsText, IsQuoted, IsSymbol, IsLongest, keywords}

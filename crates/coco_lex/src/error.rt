@@ -36,20 +36,30 @@ pub enum LexFault {
 }
 
 impl fmt::Display for LexKind {
+    ghost use Rattle.std.specs.Prelude.{Some};
+    ghost use Rattle.coco_lex.specs.Messages.{kind_text};
+
+    ghost output = { λ x. Some (kind_text x) };
+
     fn fmt<W: fmt::Write>(&self, f: &mut fmt::Formatter<W>) -> fmt::Result {
-        f.write_str(match self {
-            LexKind::Utf8 => "utf8",
-            LexKind::Stray => "stray",
-            LexKind::LongName => "long name",
-            LexKind::WideNumber => "wide number",
-            LexKind::OpenText => "open text",
-            LexKind::BadText => "bad text",
-            LexKind::LongText => "long text",
-        })
+        match self {
+            LexKind::Utf8 => f.write_str("utf8"),
+            LexKind::Stray => f.write_str("stray"),
+            LexKind::LongName => f.write_str("long name"),
+            LexKind::WideNumber => f.write_str("wide number"),
+            LexKind::OpenText => f.write_str("open text"),
+            LexKind::BadText => f.write_str("bad text"),
+            LexKind::LongText => f.write_str("long text"),
+        }
     }
 }
 
 impl fmt::Display for LexError {
+    ghost use Rattle.std.specs.Prelude.{Some};
+    ghost use Rattle.coco_lex.specs.Messages.{error_text};
+
+    ghost output = { λ x. Some (error_text x) };
+
     fn fmt<W: fmt::Write>(&self, f: &mut fmt::Formatter<W>) -> fmt::Result {
         let kind = self.kind;
         let at = self.at;
@@ -58,6 +68,11 @@ impl fmt::Display for LexError {
 }
 
 impl fmt::Display for LexFault {
+    ghost use Rattle.std.specs.Prelude.{Some};
+    ghost use Rattle.coco_lex.specs.Messages.{fault_text};
+
+    ghost output = { λ x. Some (fault_text x) };
+
     fn fmt<W: fmt::Write>(&self, f: &mut fmt::Formatter<W>) -> fmt::Result {
         match self {
             LexFault::Refused(error) => write!(f, "{error}"),

@@ -1,5 +1,6 @@
 ghost use Rattle.std.specs.Prelude.{◌<◌, ◌≤◌, length};
-ghost use Rattle.coco_lex.specs.Gap.{IsGap, IsSeparator, IsComment};
+ghost use Rattle.coco_lex.specs.Gap.{IsGap};
+ghost use Rattle.coco_lex.specs.Steps.{IsSeparator, IsComment};
 
 // Where the separators that begin at `from` end.
 pub(crate) fn gap_end(text: &[u8], from: usize) -> usize

@@ -1,7 +1,8 @@
 ghost use Rattle.std.specs.Prelude.{◌≡◌, ◌<◌, ◌↔◌, length, slice_index, IsTrue, MatchResult};
 ghost use Rattle.coco_lex.specs.Bytes.{quote, backslash};
 ghost use Rattle.coco_lex.specs.Tokens.{IsFront};
-ghost use Rattle.coco_lex.specs.Refusal.{IsFault, IsClosed, IsContent, IsPart};
+ghost use Rattle.coco_lex.specs.Refusal.{IsFault, IsClosed};
+ghost use Rattle.coco_lex.specs.Steps.{IsContent, IsPart};
 
 use crate::error::LexKind;
 use crate::front::{Fault, Front};

@@ -5,3 +5,6 @@ mod executor;
 mod steps;
 
 pub use executor::Executor;
+
+#[cfg(test)]
+mod tests;

@@ -1,4 +1,3 @@
-use Rattle.std.proofs.Common.{arith}
 use Rattle.std.proofs.lemmas.Bool.{iff_false}
 use Rattle.coco_lex.proofs.Fronts.{wide_number, number_front, digits_front}
 use Rattle.coco_lex.proofs.front.number.Goals as goal

@@ -1,5 +1,4 @@
-use Rattle.std.proofs.Common.{arith, ◌<◌, ◌≤◌, ℕ, length, take}
-use Rattle.coco_lex.specs.Lexeme.{IsSymbol}
+use Rattle.std.proofs.Common.{arith}
 use Rattle.coco_lex.proofs.Fronts.{stray, symbol_front, symbol_class_of}
 use Rattle.coco_lex.proofs.front.symbol.Goals as goal
 

@@ -1,7 +1,7 @@
 use Rattle.std.proofs.Common.{arith, subst}
 use Rattle.std.proofs.lemmas.List.{take_rest}
-use Rattle.coco_lex.specs.Gap.{IsSeparator}
-use Rattle.coco_lex.proofs.Gaps.{gap_begins, gap_more, gap_stops, gap_ends}
+use Rattle.coco_lex.specs.Steps.{IsSeparator}
+use Rattle.coco_lex.proofs.Gaps.{gap_begins, gap_more}
 use Rattle.coco_lex.proofs.gap.gap_end.Goals as goal
 
 pub loop-at-init : goal.loop-at-init

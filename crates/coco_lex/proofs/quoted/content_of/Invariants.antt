@@ -1,5 +1,4 @@
-use Rattle.std.proofs.Common.{length, ◌-◌, ◌≡◌, ℕ, List}
-use Rattle.coco_lex.specs.Refusal.{Opens}
+use Rattle.std.proofs.Common.{length, ◌-◌}
 use Rattle.coco_lex.proofs.Texts.{OpensCounted}
 use Rattle.coco_lex.proofs.quoted.content_of.Given as goal
 

@@ -1,4 +1,4 @@
-use Rattle.std.proofs.Common.{◌≡◌, ◌+◌, ℕ, List, drop}
+use Rattle.std.proofs.Common.{◌+◌}
 use Rattle.coco_lex.proofs.Texts.{SearchedTo}
 use Rattle.coco_lex.proofs.quoted.is_closed.Given as goal
 

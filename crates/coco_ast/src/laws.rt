@@ -1,0 +1,17 @@
+//! What holds of the meaning of procedures, whatever the program does.
+
+ghost use Rattle.std.specs.Prelude.{Bool};
+ghost use Rattle.coco_ast.specs.BuiltinForms.{BuiltinForms};
+ghost use Rattle.coco_ast.specs.Examples.{Examples};
+ghost use Rattle.coco_ast.specs.Keyed.{Rows};
+ghost use Rattle.coco_ast.specs.Meaning.{Datum};
+
+/// What the runs of the built-in procedures come to, on any map and by any arguments.
+pub fn builtin_runs()
+    ensures { (m : Rows) (snapshot : Bool) (a : Datum) → BuiltinForms m snapshot a }
+{}
+
+/// The meaning gives each example the answer beside it.
+pub fn examples()
+    ensures { Examples }
+{}

@@ -1,0 +1,138 @@
+ghost use Rattle.std.specs.Prelude.{◌≡◌, List, ℕ, false, true, ◌<◌, ◌≤◌, ◌++◌, length, drop, MatchOption};
+ghost use Rattle.std.specs.List.{list_all};
+ghost use Rattle.coco_ast.specs.Short.{in_place};
+ghost use Rattle.coco_ast.specs.Words.{is_word_start, is_word_byte, is_spelled_as_word, is_word};
+
+use std::fmt;
+use std::marker::Model;
+
+/// How many bytes a name may have.
+pub const MOST_NAME_BYTES: usize = 32;
+
+/// A name: an ASCII letter or `_`, and then letters, digits and `_`, at most 32 bytes in all, held
+/// in place. Contracts see its bytes.
+#[derive(Clone, Copy)]
+pub struct Name {
+    len: u8,
+    bytes: [u8; MOST_NAME_BYTES],
+}
+
+impl Model for Name {
+    ghost use Rattle.std.specs.Prelude.{◌≡◌, List, ℕ, true, length, take};
+    ghost use Rattle.coco_ast.specs.Short.{in_place, IsInPlace};
+    ghost use Rattle.coco_ast.specs.Words.{is_word};
+    ghost use Rattle.coco_ast.specs.NameView.{name-view};
+
+    ghost Value = { List ℕ };
+
+    ghost view = { λ t. take t.len t.bytes };
+
+    ghost invariant = { λ t. IsInPlace t.len t.bytes × (is_word (take t.len t.bytes) ≡ true) };
+
+    ghost inverse = { λ xs. record { len = length xs; bytes = in_place xs } };
+
+    ghost inverse_ok = { λ t h. name-view t h.0 };
+}
+
+impl Name {
+    /// The name of these bytes, or None exactly where they are no word.
+    pub fn of(bytes: &[u8]) -> Option<Name>
+        ensures { MatchOption result (is_word bytes.now ≡ false) (λ n. n ≡ bytes.now) }
+    {
+        let len = bytes.len();
+        if len > MOST_NAME_BYTES || !is_word_spelling(bytes) {
+            return None;
+        }
+        let bytes = copied_in_place(bytes);
+        let len = len as u8;
+        Some(Name { len, bytes })
+    }
+
+    pub fn as_bytes(&self) -> &[u8]
+        ensures value { result.now ≡ self.now }
+        ensures word { is_word result.now ≡ true }
+    {
+        &self.bytes[..self.len as usize]
+    }
+
+    pub fn as_str(&self) -> &str
+        ensures value { result.now ≡ self.now }
+        ensures word { is_word result.now ≡ true }
+    {
+        let bytes = self.as_bytes();
+        unsafe { std::str::from_utf8_unchecked(bytes) }
+    }
+}
+
+// Whether the bytes are a word, however long.
+fn is_word_spelling(bytes: &[u8]) -> bool
+    ensures { result ≡ is_spelled_as_word bytes.now }
+{
+    match bytes.split_first() {
+        None => false,
+        Some((first, others)) => starts_word(*first) && all_continue_word(others),
+    }
+}
+
+fn all_continue_word(bytes: &[u8]) -> bool
+    ensures { result ≡ list_all is_word_byte bytes.now }
+{
+    bytes.iter().all(|b| continues_word(*b))
+}
+
+fn starts_word(b: u8) -> bool
+    ensures { result ≡ is_word_start b }
+{
+    b.is_ascii_alphabetic() || b == b'_'
+}
+
+fn continues_word(b: u8) -> bool
+    ensures { result ≡ is_word_byte b }
+{
+    starts_word(b) || b.is_ascii_digit()
+}
+
+// The bytes, with zeros behind them.
+fn copied_in_place(from: &[u8]) -> [u8; MOST_NAME_BYTES]
+    requires { length from.now ≤ 32 }
+    ensures { result ≡ in_place from.now }
+{
+    let mut bytes = [0u8; MOST_NAME_BYTES];
+    put_front(&mut bytes, from);
+    bytes
+}
+
+// Writes over the first bytes, and leaves the others.
+fn put_front(into: &mut [u8], from: &[u8])
+    requires { length from.now ≤ length into.old }
+    ensures { into.new ≡ from.now ++ drop (length from.now) into.old }
+{
+    let (front, _) = into.split_at_mut(from.len());
+    front.copy_from_slice(from);
+}
+
+impl PartialEq for Name {
+    ghost use Rattle.std.specs.Prelude.{nat_eq};
+    ghost use Rattle.std.specs.Cmp.{partial_equiv_from_equiv};
+    ghost use Rattle.std.specs.Cmp.Lexicographic.{nat_list_eq_equiv, pointwise};
+
+    ghost eq = { λ s t. pointwise nat_eq s t };
+
+    ghost laws = { partial_equiv_from_equiv nat_list_eq_equiv };
+
+    fn eq(&self, other: &Self) -> bool {
+        self.as_bytes() == other.as_bytes()
+    }
+}
+
+impl Eq for Name {
+    ghost use Rattle.std.specs.Cmp.Lexicographic.{nat_list_eq_equiv, pointwise};
+
+    ghost laws = { nat_list_eq_equiv };
+}
+
+impl fmt::Debug for Name {
+    fn fmt<W: fmt::Write>(&self, f: &mut fmt::Formatter<W>) -> fmt::Result {
+        fmt::Debug::fmt(self.as_str(), f)
+    }
+}

@@ -1,0 +1,40 @@
+use crate::{Expr, Name, TwoOp, builtins};
+use std::test::Fail;
+
+#[test]
+fn a_name_is_a_word_of_up_to_32_bytes(rt: HostRuntime) {
+    for (text, is_name) in [
+        ("a", true),
+        ("_1", true),
+        ("get", true),
+        ("Zz09_", true),
+        ("", false),
+        ("1a", false),
+        ("a-b", false),
+        ("a23456789012345678901234567890_2", true),
+        ("a23456789012345678901234567890_23", false),
+    ] {
+        assert_eq!(rt; Name::of(text.as_bytes()).is_some(), is_name);
+    }
+}
+
+#[test]
+fn built_in_procedures_stand_in_their_order(rt: HostRuntime) -> Result<(), Fail> {
+    let made = builtins(rt.alloc())?;
+    let procs = made.procs.as_slice();
+    assert_eq!(rt; procs.len(), 3);
+    for (proc, name) in procs.iter().zip(["get", "put", "add"]) {
+        assert_eq!(rt; proc.name.as_str(), name);
+    }
+    Ok(())
+}
+
+#[test]
+fn expressions_are_made_of_operands(rt: HostRuntime) -> Result<(), Fail> {
+    let alloc = rt.alloc();
+    let left = Expr::minus(alloc, Expr::Number(1))?;
+    let right = Expr::not(alloc, Expr::Nothing)?;
+    let sum = Expr::two(alloc, TwoOp::Plus, left, right)?;
+    assert!(rt; matches!(&sum, Expr::Two { .. }));
+    Ok(())
+}
