@@ -1,5 +1,5 @@
 -- The steps of the first seat, and the marks that it deals out.
-use Rattle.std.proofs.Common.{◌≡◌, ◌≢◌, ℕ, zero, suc, ◌+◌, ◌-◌, ◌<◌, ◌≤◌, List, [], ◌∷◌, ◌++◌, map, length, Bool, true, false, Option, Some, None, refl, sym, ap, ◌∙◌, subst, arith, eqb}
+use Rattle.std.proofs.Common.{◌≡◌, ◌≢◌, ℕ, zero, suc, ◌+◌, ◌-◌, ◌<◌, List, [], ◌∷◌, ◌++◌, map, length, true, false, Option, Some, None, refl, sym, ap, ◌∙◌, subst, arith, eqb}
 use Rattle.std.specs.Prelude.{slice_get}
 use mathlib.Core.Option as opt
 use prog.Atomic.{either}
@@ -7,7 +7,7 @@ use Rattle.std.proofs.lemmas.List.{map-append}
 use Rattle.atomic_table.specs.Seated.{TableId}
 use Rattle.atomic_table.specs.Table.{Me, Step, step, Allows, Splits, rest}
 use Rattle.coco_seen.specs.declared.view.View.{View}
-use Rattle.coco_seen.specs.Notes.{Known, fresh, known, ComesFrom, IsSeatOf}
+use Rattle.coco_seen.specs.Notes.{Known, fresh, known, IsSeatOf}
 use Rattle.coco_seen.specs.Rules.{Kept, numbers, beginner}
 use Rattle.coco_seen.specs.Steps.{head_of, tail_of, without_first, only_first, started, filled, gave}
 use Rattle.coco_seen.proofs.Lists.{length_numbers}

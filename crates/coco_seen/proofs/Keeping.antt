@@ -1,5 +1,5 @@
 -- Each kind of step keeps the rule.
-use Rattle.std.proofs.Common.{◌≡◌, ◌≢◌, ℕ, zero, suc, ◌+◌, ◌%◌, ◌^◌, ◌<◌, ◌≤◌, ◌⊎◌, List, [], ◌∷◌, ◌++◌, map, length, set, Bool, true, false, true≢false, Option, Some, None, refl, sym, ap, ◌∙◌, subst, inl, inr, ⊎_elim, arith, length-append, eqb, All}
+use Rattle.std.proofs.Common.{◌≡◌, ◌≢◌, ℕ, zero, suc, ◌+◌, ◌%◌, ◌^◌, ◌<◌, ◌⊎◌, List, [], ◌∷◌, ◌++◌, map, length, set, true, false, true≢false, Option, Some, None, refl, sym, ap, ◌∙◌, subst, inl, inr, ⊎_elim, arith, length-append, eqb, All}
 use Rattle.std.specs.Prelude.{slice_get, slice_index, slice_index_or, slice_set, sum_by}
 use mathlib.Core.Option as opt
 use mathlib.Core.List.{IsPrefix}
@@ -7,13 +7,13 @@ use lib.ListN.{get_elem?}
 use prog.Atomic.{either}
 use Rattle.std.proofs.lemmas.List.{map-append}
 use Rattle.std.proofs.lemmas.List.Elements.{All-push, All-append, All-nil, All-cons}
-use Rattle.atomic_table.specs.Table.{State, Me, Step, step, Act, keeps, takes, gives, Valid, Allows, Splits, Joins, stepped, carried_after, homes_after, Final, Seen}
+use Rattle.atomic_table.specs.Table.{State, Me, Step, Act, keeps, takes, gives, Valid, Allows, Splits, Joins, stepped, carried_after, Final, Seen}
 use Rattle.atomic_table.proofs.Lists.{set_again, exchanged, at_set, at_snoc}
 use Rattle.std.proofs.lemmas.List.Sums.{sum_by_push}
 use Rattle.coco_seen.specs.declared.view.View.{View}
 use Rattle.coco_seen.specs.Rules.{how_often, once_below, numbers, as_one, places, beginner, Fits, ToFill, AtHome, Held, Kept}
-use Rattle.coco_seen.specs.Steps.{head_of, tail_of, longer, without_first, only_first, joined, spent, with_entry, filled, taken, appended, gave}
-use Rattle.coco_seen.proofs.Lists.{each_set, sum_set, sum_same, at_most, two_at_most, only_one, prefix_self, prefix_trans, prefix_length, get_front, get_last, longer_begins, empty_if, often_push, often_append, often_split, length_split, once_more, often_first, none_below, length_numbers}
+use Rattle.coco_seen.specs.Steps.{tail_of, without_first, only_first, joined, spent, with_entry, filled, taken, appended, gave}
+use Rattle.coco_seen.proofs.Lists.{each_set, sum_set, sum_same, at_most, two_at_most, only_one, prefix_self, prefix_trans, get_front, get_last, longer_begins, empty_if, often_push, often_append, often_split, length_split, once_more, often_first, none_below, length_numbers}
 
 module _ {S E R : Type 0} (entries : S → List E) (comes : R → S → Type 0) where
   abbrev Here : Type 0

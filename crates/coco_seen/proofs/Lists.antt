@@ -1,12 +1,11 @@
 -- Lists of views of which one changed, sums over them, and beginnings of one list.
-use Rattle.std.proofs.Common.{◌≡◌, ◌≢◌, ℕ, zero, suc, ◌+◌, ◌<◌, ◌≤◌, ◌⊎◌, List, [], ◌∷◌, ◌++◌, map, length, set, Some, true, false, cond, refl, sym, ap, ◌∙◌, subst, ⊎_elim, arith, append_assoc, length-append, eqb, ltb}
+use Rattle.std.proofs.Common.{◌≡◌, ◌≢◌, ℕ, zero, suc, ◌+◌, ◌≤◌, List, [], ◌∷◌, ◌++◌, length, set, Some, cond, refl, sym, ap, ◌∙◌, subst, ⊎_elim, arith, append_assoc, length-append, eqb, ltb}
 use Rattle.std.specs.Prelude.{slice_get, sum_by}
 use mathlib.Core.Option.{some, some-injective, some-ne-none}
 use mathlib.Core.List.{IsPrefix}
 use lib.ListN.{get_elem?}
-use Rattle.std.proofs.lemmas.List.{map-append}
 use Rattle.std.proofs.lemmas.List.Sums.{sum_by-cons, sum_by_push, sum_by-append}
-use Rattle.std.proofs.lemmas.Bool.{cond_both, eqb-true, eqb-false, ltb-true, ltb-false}
+use Rattle.std.proofs.lemmas.Bool.{cond_both}
 use Rattle.std.proofs.lemmas.Bool.Decides.{nat_tests}
 use Rattle.atomic_table.proofs.Lists.{at_set}
 use Rattle.coco_seen.specs.Rules.{how_often, once_below, numbers, as_one}

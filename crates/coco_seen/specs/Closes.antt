@@ -1,5 +1,5 @@
 -- What the one seat at the end stands for.
-use Rattle.std.specs.Prelude.{◌≡◌, ◌≢◌, ℕ, List, [], map, length, Bool, false, All, Option, Some, slice_get, sum_by}
+use Rattle.std.specs.Prelude.{◌≡◌, ◌≢◌, ℕ, List, [], map, length, false, All, Some, slice_get, sum_by}
 use Rattle.coco_seen.specs.declared.view.View.{View}
 use Rattle.coco_seen.specs.Notes.{Known}
 use Rattle.coco_seen.specs.Rules.{how_often, places}

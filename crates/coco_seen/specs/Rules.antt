@@ -1,6 +1,6 @@
 -- The rule of the lock's table.
 -- Word 1 is the length of the log, and word 2 says where the value is: 0 where it has still to be put into its slot, 2 where it is at home, 1 where a seat holds it.
-use Rattle.std.specs.Prelude.{◌≡◌, ◌≢◌, ◌⊎◌, ℕ, zero, suc, ◌+◌, ◌==◌, nat_lt, if◌then◌else◌, List, [], ◌∷◌, map, length, Bool, true, false, All, Option, Some, None, slice_get, sum_by, count_by}
+use Rattle.std.specs.Prelude.{◌≡◌, ◌⊎◌, ℕ, zero, suc, ◌==◌, nat_lt, if◌then◌else◌, List, [], ◌∷◌, map, length, Bool, true, false, All, Option, Some, None, slice_get, sum_by, count_by}
 use mathlib.Core.Option as opt
 use mathlib.Core.List.{IsPrefix}
 use lib.ListN.{get_elem?}

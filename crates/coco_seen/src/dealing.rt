@@ -1,6 +1,6 @@
 //! How a lock is made, and its notes dealt out.
-ghost use Rattle.std.specs.Prelude.{◌≡◌, ℕ, ◌+◌, ◌-◌, ◌<◌, ◌≤◌, List, [], ◌∷◌, ◌++◌, map, length, true, false, Some, slice_get, IfOk, IfErr, vec_len, vec_capacity};
-ghost use Rattle.coco_seen.specs.Notes.{ComesFrom, fresh};
+ghost use Rattle.std.specs.Prelude.{◌≡◌, ◌-◌, ◌<◌, ◌≤◌, [], map, Some, slice_get, IfOk, IfErr, vec_len, vec_capacity};
+ghost use Rattle.coco_seen.specs.Notes.{fresh};
 ghost use Rattle.coco_seen.specs.Rules.{numbers, beginner};
 ghost use Rattle.coco_seen.specs.Steps.{started};
 

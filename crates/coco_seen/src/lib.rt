@@ -8,7 +8,7 @@ pub mod seen;
 pub mod stores;
 pub mod view;
 
-pub use note::Note;
+pub use note::{HoldsNote, Note};
 pub use seen::Seen;
 pub use stores::Stores;
 

@@ -25,6 +25,31 @@ impl<S: Stores> Model for Note<S> {
     ghost invariant = { λ n. IsSeatOf n.number n.seat.me };
 }
 
+/// What holds a note, and gives it up when the lock is closed.
+pub trait HoldsNote<S: Stores> {
+    ghost use Rattle.coco_seen.specs.Notes.{Known};
+
+    /// The note that it holds.
+    ghost note: { Self → Known S.Entry S.Root };
+
+    /// What is true of it beside that.
+    ghost fact: { Self → Type 0 };
+
+    fn into_note(self) -> Note<S>
+        ensures note { result ≡ note self }
+        ensures fact { fact self };
+}
+
+impl<S: Stores> HoldsNote<S> for Note<S> {
+    ghost note = { λ n. n };
+
+    ghost fact = { λ _. Unit {0} };
+
+    fn into_note(self) -> Note<S> {
+        self
+    }
+}
+
 impl<S: Stores> Drop for Note<S> {
     fn drop(self) {
         let Note { number: _, seat: _ } = self;
@@ -32,6 +57,12 @@ impl<S: Stores> Drop for Note<S> {
 }
 
 impl<S: Stores> Note<S> {
+    pub fn number(&self) -> u32
+        ensures { result ≡ self.now.number }
+    {
+        self.number
+    }
+
     pub(crate) fn into_seat(self) -> SeatOf<S>
         ensures lock { result.table_id ≡ self.lock }
         ensures seat { IsSeatOf self.number result.me }

@@ -1,10 +1,10 @@
-ghost use Rattle.std.specs.Prelude.{◌≡◌, ℕ, ◌+◌, ◌-◌, ◌<◌, ◌^◌, List, [], ◌∷◌, ◌++◌, map, length, true, false, All, Some, slice_get, IfOk, IfErr, MatchOption, sum_by, vec_len};
+ghost use Rattle.std.specs.Prelude.{◌≡◌, ℕ, ◌-◌, ◌<◌, ◌^◌, [], ◌∷◌, ◌++◌, map, length, true, false, All, Some, slice_get, MatchOption, sum_by, vec_len};
 ghost use mathlib.Core.List.{IsPrefix};
 ghost use Rattle.coco_seen.specs.Closes.{StandsFor};
 ghost use Rattle.coco_seen.specs.Notes.{ComesFrom};
 ghost use Rattle.coco_seen.specs.Rules.{how_often, once_below};
 
-use crate::note::{Note, SeatOf};
+use crate::note::{HoldsNote, Note, SeatOf};
 use crate::plays::{Append, Give, OneMark, Said, Take};
 use crate::stores::Stores;
 use crate::view::{HELD, HOME, LENGTH, OneHolder, VALUE, View, WHERE};
@@ -142,7 +142,21 @@ impl<S: Stores> Seen<S> {
         ensures once { (place : ℕ) → sum_by (λ note. how_often place (map (λ call. call.0) note.calls)) notes.items ≡ once_below place (length (S.entries result)) }
         ensures sized { length (S.entries result) ≡ sum_by (λ note. length note.calls) notes.items }
     {
-        let seat = self.gather(notes);
+        self.close_of(notes)
+    }
+
+    /// The same with what holds the notes.
+    pub fn close_of<H: HoldsNote<S>>(self, holders: Vec<H>) -> S
+        requires lock { All (λ h. (H.note h).lock ≡ self.id) holders.items }
+        requires free { All (λ h. (H.note h).holds ≡ false) holders.items }
+        requires all { vec_len holders ≡ self.notes }
+        ensures from { All (λ h. ComesFrom S.comes_from (H.note h).root result) holders.items }
+        ensures placed { All (λ h. All (λ call. slice_get (S.entries result) call.0 ≡ Some call.1) (H.note h).calls) holders.items }
+        ensures once { (place : ℕ) → sum_by (λ h. how_often place (map (λ call. call.0) (H.note h).calls)) holders.items ≡ once_below place (length (S.entries result)) }
+        ensures sized { length (S.entries result) ≡ sum_by (λ h. length (H.note h).calls) holders.items }
+        ensures facts { All H.fact holders.items }
+    {
+        let seat = self.gather(holders);
         let Seen { table, sleepers: _ } = self;
         let mut closed = table.close_with(seat);
         let value = closed.take(0);
@@ -154,23 +168,23 @@ impl<S: Stores> Seen<S> {
     }
 
     // One seat that stands for all notes.
-    fn gather(&self, mut notes: Vec<Note<S>>) -> SeatOf<S>
-        requires lock { All (λ note. note.lock ≡ self.now.id) notes.items }
-        requires free { All (λ note. note.holds ≡ false) notes.items }
-        requires some { 0 < vec_len notes }
+    fn gather<H: HoldsNote<S>>(&self, mut holders: Vec<H>) -> SeatOf<S>
+        requires lock { All (λ h. (H.note h).lock ≡ self.now.id) holders.items }
+        requires free { All (λ h. (H.note h).holds ≡ false) holders.items }
+        requires some { 0 < vec_len holders }
         ensures lock { result.table_id ≡ self.now.id }
-        ensures notes { StandsFor notes.items result.me.0 }
+        ensures notes { StandsFor (map H.note holders.items) result.me.0 }
+        ensures facts { All H.fact holders.items }
     {
-        let Some(first) = notes.pop() else {
+        let Some(first) = holders.pop() else {
             unreachable!()
         };
-        let mut seat = first.into_seat();
-        while let Some(note) = notes.pop() {
-            self.table
-                .shared
-                .join_seat::<OneMark>(&mut seat, note.into_seat());
+        let mut seat = first.into_note().into_seat();
+        while let Some(holder) = holders.pop() {
+            let other = holder.into_note().into_seat();
+            self.table.shared.join_seat::<OneMark>(&mut seat, other);
         }
-        notes.destroy_empty();
+        holders.destroy_empty();
         seat
     }
 }

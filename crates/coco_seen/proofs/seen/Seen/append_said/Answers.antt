@@ -1,4 +1,4 @@
-use Rattle.std.proofs.Common.{rules, ap, sym, length, ◌∙◌}
+use Rattle.std.proofs.Common.{rules, ap, length, ◌∙◌}
 use Rattle.coco_seen.proofs.Noted.{note_appends, seat_appended}
 use Rattle.coco_seen.proofs.seen.Seen.append_said.Goals as goal
 

@@ -1,4 +1,4 @@
-use Rattle.std.proofs.Common.{rules, ap, sym, Some, None, refl, ◌∙◌}
+use Rattle.std.proofs.Common.{rules, ap, sym, Some, None, refl}
 use Rattle.coco_seen.proofs.Noted.{took}
 use Rattle.coco_seen.proofs.Dealt.{first_fills, first_gives, after_fill, after_put, after_give, not_both}
 use Rattle.coco_seen.proofs.seen.Seen.fill.Goals as goal

@@ -1,5 +1,4 @@
-use Rattle.std.proofs.Common.{rules, ap, sym, ◌∙◌, subst}
-use Rattle.coco_seen.specs.Notes.{ComesFrom}
+use Rattle.std.proofs.Common.{rules, ap, sym, ◌∙◌}
 use Rattle.coco_seen.proofs.Noted.{note_gives}
 use Rattle.coco_seen.proofs.seen.Seen.give.Goals as goal
 

@@ -1,4 +1,3 @@
-use Rattle.std.proofs.Common.{rules, arith, ap, sym, Some, None, refl, ◌∙◌}
 use Rattle.coco_seen.proofs.Keeping.{begins_so}
 use Rattle.coco_seen.proofs.seen.Seen.make.Goals as goal
 

@@ -1,4 +1,4 @@
-use Rattle.std.proofs.Common.{rules, ap, sym, Some, ◌∙◌}
+use Rattle.std.proofs.Common.{rules, ap, Some, ◌∙◌}
 use Rattle.coco_seen.proofs.Noted.{note_takes, took}
 use Rattle.coco_seen.proofs.seen.Seen.try_take.Goals as goal
 

@@ -1,0 +1,43 @@
+#!/usr/bin/env bash
+# 1,000,000 put and add lines over 1,000 rows through the built program: requests per second, processor time
+# per request, peak memory, and the cost of the last hundred thousand beside that of the first.
+set -eu
+cd "$(dirname "$0")/.."
+program=${1:-$PWD/crates/coco/out/coco}
+work=$(mktemp -d)
+trap 'rm -rf "$work"' EXIT
+
+# Each row is put once and then added to.
+awk 'BEGIN {
+    for (id = 1; id <= 1000000; id++) {
+        row = id % 1000
+        if (id <= 1000) printf "{\"args\":[%d,%d],\"call\":\"put\",\"id\":%d}\n", row, id, id
+        else printf "{\"args\":[%d,%d],\"call\":\"add\",\"id\":%d}\n", row, id % 7, id
+    }
+}' >"$work/lines"
+
+# measure LINES: runs the first so many lines; gives seconds of the clock and of the processor, and KiB at most.
+measure() {
+    head -n "$1" "$work/lines" >"$work/input"
+    python3 - "$program" "$work" <<'P'
+import resource, subprocess, sys, time
+program, work = sys.argv[1:]
+began = time.monotonic()
+with open(f"{work}/input") as source, open(f"{work}/said", "w") as said:
+    subprocess.run([program, work, "run"], stdin=source, stdout=said, check=True)
+used = resource.getrusage(resource.RUSAGE_CHILDREN)
+print(time.monotonic() - began, used.ru_utime + used.ru_stime, used.ru_maxrss)
+P
+}
+
+read -r _ first _ < <(measure 100000)
+read -r _ before _ < <(measure 900000)
+read -r clock processor memory < <(measure 1000000)
+[ "$(grep -c '"ok"' "$work/said")" -eq 1000000 ]
+awk -v first="$first" -v before="$before" -v clock="$clock" -v processor="$processor" -v memory="$memory" 'BEGIN {
+    printf "requests per second                  %10.0f\n", 1000000 / clock
+    printf "processor microseconds per request   %10.2f\n", processor
+    printf "  of the first hundred thousand      %10.2f\n", first * 10
+    printf "  of the last hundred thousand       %10.2f\n", (processor - before) * 10
+    printf "peak memory, MiB                     %10.1f\n", memory / 1024
+}'

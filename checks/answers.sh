@@ -1,0 +1,73 @@
+#!/usr/bin/env bash
+# The built program on real files: its answers, statuses and lines on the error stream.
+set -u
+cd "$(dirname "$0")/.." || exit 2
+program=$PWD/crates/coco/out/coco
+work=$(mktemp -d) || exit 2
+trap 'rm -rf "$work"' EXIT
+failed=0
+
+# expect NAME STATUS ERROR_LINE: compares the last run with what is wanted; the answers wanted are in $work/wanted.
+expect() {
+    if [ "$status" -ne "$2" ]; then
+        echo "$1: status $status, wanted $2"
+        failed=1
+    fi
+    if ! cmp -s "$work/said" "$work/wanted"; then
+        echo "$1: the answers differ"
+        diff "$work/said" "$work/wanted" | head -5
+        failed=1
+    fi
+    if [ "$(cat "$work/errors")" != "$3" ]; then
+        echo "$1: wrong line on the error stream"
+        failed=1
+    fi
+}
+
+# run INPUT WORD..: runs the program on a file.
+run() {
+    local input=$1
+    shift
+    "$program" "$work" "$@" <"$input" >"$work/said" 2>"$work/errors"
+    status=$?
+}
+
+if [ ! -x "$program" ]; then
+    echo "$program isn't built: run rt ci first"
+    exit 2
+fi
+
+cp examples/replies.jsonl "$work/wanted"
+run examples/requests.jsonl run --epoch 4
+expect 'the example' 0 ''
+
+: >"$work/wanted"
+run /dev/null run
+expect 'no input' 0 ''
+run examples/requests.jsonl
+expect 'no command' 1 'coco: bad command line'
+run examples/requests.jsonl run --epoch 1025
+expect 'an epoch of 1,025 lines' 1 'coco: bad command line'
+run examples/requests.jsonl run $'\xff'
+expect 'a word that is no text' 1 'coco: bad command line'
+run "$work" run
+expect 'an input that can not be read' 2 'coco: read fault'
+
+"$program" "$work" run <examples/requests.jsonl 2>"$work/errors" >/dev/full
+status=$?
+: >"$work/said"
+expect 'an output that is full' 3 'coco: reply stream fault'
+
+{
+    head -c 65537 /dev/zero | tr '\0' x
+    echo
+    head -c 65536 /dev/zero | tr '\0' x
+    echo
+    printf '{"args":[5,70],"call":"put","id":1}'
+} >"$work/lines"
+printf '%s\n' '{"error":"long","line":1}' '{"error":"json","line":2}' '{"epoch":1,"id":1,"ok":70,"time":1}' >"$work/wanted"
+run "$work/lines" run
+expect 'long lines, and a last line without its end' 0 ''
+
+[ "$failed" -eq 0 ] && echo 'all as wanted'
+exit "$failed"

@@ -1,0 +1,11 @@
+pub mod BatchLemmas
+pub mod Batching
+pub mod ClassLemmas
+pub mod CommitLemmas
+pub mod FreshLemmas
+pub mod Growing
+pub mod JoinLemmas
+pub mod KeepingLemmas
+pub mod RunningLemmas
+pub mod ServingLemmas
+pub mod StatusLemmas

@@ -1,0 +1,13 @@
+pub mod Allowing
+pub mod Answering
+pub mod Asking
+pub mod BatchReading
+pub mod Batches
+pub mod Classes
+pub mod CommitOrder
+pub mod Growth
+pub mod Running
+pub mod SayingPart
+pub mod Serving
+pub mod Standing
+pub mod Statuses

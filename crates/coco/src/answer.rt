@@ -1,0 +1,35 @@
+ghost use Rattle.std.specs.Prelude.{◌≡◌, ◌++◌, ℕ, length, OnOk, OnErr, take, ◌≤◌};
+ghost use Rattle.coco.specs.Answering.{texts_of, text_of_answer};
+
+use coco_kept::Kept;
+use coco_lines::{LineError, write_done, write_error};
+use coco_types::NoMemory;
+
+/// What a line is answered with: that it is refused, or the reply that is kept under its id.
+#[derive(Clone, Copy, Debug, PartialEq, Eq)]
+pub enum Answer {
+    Error { error: LineError, number: u64 },
+    Reply(u64),
+}
+
+/// Puts the texts of the answers at the end of a buffer.
+pub fn write_answers(out: &mut Vec<u8>, kept: &Kept, answers: &[Answer]) -> Result<(), NoMemory>
+    ensures { OnOk result (out.new.items ≡ out.old.items ++ texts_of kept.now.dones answers.now) }
+{
+    for answer in answers {
+        write_answer(out, kept, *answer)?;
+    }
+    Ok(())
+}
+
+fn write_answer(out: &mut Vec<u8>, kept: &Kept, answer: Answer) -> Result<(), NoMemory>
+    ensures { OnOk result (out.new.items ≡ out.old.items ++ text_of_answer kept.now.dones answer) }
+{
+    match answer {
+        Answer::Error { error, number } => write_error(out, error, number),
+        Answer::Reply(id) => match kept.get(id) {
+            Some(done) => write_done(out, done),
+            None => Ok(()),
+        },
+    }
+}

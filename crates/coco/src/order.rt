@@ -1,0 +1,43 @@
+ghost use Rattle.std.specs.Prelude.{◌≡◌, ◌+◌, ◌<◌, ◌^◌, [], ◌++◌, length, IfOk, OnOk};
+ghost use Rattle.std.specs.List.Sorted.{IsPermutation, IsNonDecreasingBy};
+ghost use Rattle.coco_types.specs.declared.call.Request.{Request as Asked};
+ghost use Rattle.coco.specs.CommitOrder.{at_start, numbered};
+
+use coco_types::{NoMemory, Request};
+use std::alloc::Global;
+
+/// A request with its logical time in its epoch.
+#[derive(Debug, Drop)]
+pub struct TimedRequest {
+    pub time: u64,
+    pub request: Request,
+}
+
+/// The requests rising by id.
+pub fn by_id(mut requests: Vec<Request>) -> Result<Vec<Request>, NoMemory>
+    ensures same { IfOk result (λ sorted. IsPermutation requests.items sorted.items) }
+    ensures rising { IfOk result (λ sorted. IsNonDecreasingBy (λ (r : Asked). r.id) sorted.items) }
+{
+    requests.sort_by_key(|request| request.id)?;
+    Ok(requests)
+}
+
+/// The snapshot calls at time 0, and then the others at times from 1 on.
+pub fn timed(
+    alloc: Global,
+    snapshots: Vec<Request>,
+    others: Vec<Request>,
+) -> Result<Vec<TimedRequest>, NoMemory>
+    ensures { IfOk result (λ order. order.items ≡ at_start snapshots.items ++ numbered 1 others.items) }
+{
+    let mut order = Vec::new(alloc);
+    for request in snapshots {
+        order.push(TimedRequest { time: 0, request })?;
+    }
+    let mut time = 0;
+    for request in others {
+        time += 1;
+        order.push(TimedRequest { time, request })?;
+    }
+    Ok(order)
+}

@@ -1,0 +1,55 @@
+ghost use Rattle.std.specs.Prelude.{◌≡◌, ◌+◌, ◌<◌, ◌^◌, [], ◌++◌, length, map, IfOk, OnOk};
+ghost use Rattle.std.specs.List.{AllByRecursion};
+ghost use Rattle.coco_types.specs.declared.call.Done.{Done as Record};
+ghost use Rattle.coco_ast.specs.Builtins.{builtins};
+ghost use Rattle.coco_ast.specs.Fitting.{Fits};
+ghost use Rattle.coco_ast.specs.History.{RepliesAreRuns, rows_after};
+ghost use Rattle.coco_ast.specs.Meaning.{run};
+ghost use Rattle.coco.specs.CommitOrder.{timed_request_of};
+ghost use Rattle.coco.specs.Running.{FitsAll};
+
+use crate::order::TimedRequest;
+use coco_serial::Executor;
+use coco_types::{Done, NoMemory, Request};
+use std::alloc::Global;
+
+/// Runs the requests of one epoch in this order, each on what the one before left, and gives their records.
+pub fn run_all(
+    alloc: Global,
+    executor: &mut Executor,
+    epoch: u64,
+    order: Vec<TimedRequest>,
+) -> Result<Vec<Done>, NoMemory>
+    requires fit { FitsAll order.items }
+    ensures replies { IfOk result (λ dones. RepliesAreRuns builtins executor.old dones.items) }
+    ensures rows { IfOk result (λ dones. executor.new ≡ rows_after builtins executor.old dones.items) }
+    ensures order { IfOk result (λ dones. map timed_request_of dones.items ≡ order.items) }
+    ensures epoch { IfOk result (λ dones. AllByRecursion (λ (d : Record). d.epoch ≡ epoch) dones.items) }
+{
+    let mut dones = Vec::new(alloc);
+    for timed in order {
+        dones.push(run_one(executor, epoch, timed)?)?;
+    }
+    Ok(dones)
+}
+
+fn run_one(executor: &mut Executor, epoch: u64, timed: TimedRequest) -> Result<Done, NoMemory>
+    requires fits { Fits builtins timed.request.call }
+    ensures reply { IfOk result (λ done. done.reply ≡ (run builtins done.call executor.old).reply) }
+    ensures rows { IfOk result (λ done. executor.new ≡ (run builtins done.call executor.old).rows) }
+    ensures request { IfOk result (λ done. timed_request_of done ≡ timed) }
+    ensures epoch { IfOk result (λ done. done.epoch ≡ epoch) }
+{
+    let TimedRequest {
+        time,
+        request: Request { id, call },
+    } = timed;
+    let reply = executor.apply(&call)?;
+    Ok(Done {
+        id,
+        call,
+        epoch,
+        time,
+        reply,
+    })
+}

@@ -1,0 +1,177 @@
+ghost use Rattle.std.specs.Prelude.{◌≡◌, ℕ, ◌<◌, ◌≤◌, [], ◌∷◌, ◌++◌, map, length, true, false, All, Some, slice_get, IfOk, IfErr, sum_by, vec_len, vec_capacity};
+ghost use Rattle.coco_seen.specs.Rules.{numbers, how_often, once_below};
+ghost use Rattle.coco_journaled.specs.Passes.{placed, entry_of, places, Rises, new_pass, pass_at, Steps, Looks};
+ghost use Rattle.coco_journaled.specs.Replay.{Replays};
+
+use crate::entry::{Closed, Entry, Placed};
+use crate::guarded::Guarded;
+use crate::pass::Pass;
+use coco_seen::{Note, Seen};
+use coco_types::{Machine, NoMemory, Sequence};
+use std::alloc::Global;
+use std::marker::Model;
+use std::sync::Wait;
+
+/// A machine behind a lock that keeps a journal of its calls. To a contract it is its identity and the number of its passes.
+#[derive(Drop)]
+pub struct Journaled<M: Machine> {
+    seen: Seen<Guarded<M>>,
+}
+
+impl<M: Machine> Model for Journaled<M> {
+    ghost use Rattle.coco_seen.specs.Notes.{Lock};
+
+    ghost Value = { Lock };
+
+    ghost view = { λ j. j.seen };
+}
+
+impl<M: Machine> Journaled<M> {
+    /// A machine behind a lock, and `passes` passes for it. Out of memory, the machine comes back.
+    pub fn start(
+        alloc: Global,
+        machine: M,
+        passes: u32,
+    ) -> Result<(Journaled<M>, Vec<Pass<M>>), (M, NoMemory)>
+        requires { 0 < passes }
+        ensures lock { IfOk result (λ r. r.0.notes ≡ passes) }
+        ensures count { IfOk result (λ r. vec_len r.1 ≡ passes) }
+        ensures passes { IfOk result (λ r. r.1.items ≡ map (new_pass r.0.id machine) (numbers 0 passes)) }
+        ensures err { IfErr result (λ e. e.0 ≡ machine) }
+    {
+        let Ok(list) = Vec::with_capacity(alloc, passes as usize) else {
+            return Err((machine, NoMemory));
+        };
+        let guarded = Guarded {
+            machine,
+            journal: Vec::new(alloc),
+        };
+        match Seen::make(alloc, guarded, passes) {
+            Ok((seen, notes)) => {
+                let list = passes_of(alloc, notes, list);
+                Ok((Journaled { seen }, list))
+            }
+            Err((guarded, NoMemory)) => {
+                let Guarded {
+                    machine,
+                    journal: _,
+                } = guarded;
+                Err((machine, NoMemory))
+            }
+        }
+    }
+
+    /// Asks the machine, and answers what it answered. Out of memory, nothing is entered, and the machine is as it was found.
+    pub fn step(
+        &self,
+        rt: &impl Wait,
+        pass: &mut Pass<M>,
+        ask: M::Ask,
+    ) -> Result<M::Answer, NoMemory>
+        requires { pass.old.lock ≡ self.now.id }
+        ensures ok { IfOk result (λ answer. Steps M.answer_to M.state_after pass.old ask answer pass.new) }
+        ensures err { IfErr result (λ _. Looks pass.old pass.new) }
+    {
+        let mut guarded = self.seen.take(rt, &mut pass.note);
+        match apply(&mut guarded, &mut pass.calls, ask) {
+            Ok(answer) => {
+                let entry = Entry {
+                    pass: pass.number,
+                    ask,
+                    answer,
+                };
+                self.enter(&mut pass.note, &mut pass.calls, guarded, entry);
+                Ok(answer)
+            }
+            Err(NoMemory) => {
+                self.seen.give(&mut pass.note, guarded);
+                Err(NoMemory)
+            }
+        }
+    }
+
+    /// Ends the lock, once all its passes are back. The journal has each call of each pass at its place, and no other entry, and the machine is the one at the start after the journal's asks. It takes no memory.
+    pub fn close(self, passes: Vec<Pass<M>>) -> Closed<M>
+        requires lock { All (λ pass. pass.lock ≡ self.id) passes.items }
+        requires all { vec_len passes ≡ self.notes }
+        ensures machine { All (λ pass. (root : M) × (pass.root ≡ Some root) × Replays M.answer_to M.state_after root result.journal result.machine) passes.items }
+        ensures placed { All (λ pass. All (λ call. slice_get result.journal call.place ≡ Some (entry_of pass.number call)) pass.calls) passes.items }
+        ensures rises { All (λ pass. Rises pass.calls) passes.items }
+        ensures once { (place : ℕ) → sum_by (λ pass. how_often place (places pass.calls)) passes.items ≡ once_below place (length result.journal) }
+        ensures sized { length result.journal ≡ sum_by (λ pass. length pass.calls) passes.items }
+    {
+        let Journaled { seen } = self;
+        let Guarded { machine, journal } = seen.close_of(passes);
+        Closed {
+            machine,
+            journal: Sequence::from_vec(journal),
+        }
+    }
+
+    // Enters the entry, and gives the machine back. There is room in the journal and among the calls.
+    fn enter(
+        &self,
+        note: &mut Note<Guarded<M>>,
+        calls: &mut Vec<Placed<M::Ask, M::Answer>>,
+        mut guarded: Guarded<M>,
+        entry: Entry<M::Ask, M::Answer>,
+    )
+        requires lock { note.old.lock ≡ self.now.id }
+        requires holds { note.old.holds ≡ true }
+        requires list { guarded.journal.items ≡ note.old.list }
+        requires from { (root : M) × (note.old.root ≡ Some root) × Replays M.answer_to M.state_after root (guarded.journal.items ++ entry ∷ []) guarded.machine }
+        requires journal_room { vec_len guarded.journal < vec_capacity guarded.journal }
+        requires calls_room { vec_len calls.old < vec_capacity calls.old }
+        ensures note { note.new ≡ record note.old { list = note.old.list ++ entry ∷ []; calls = note.old.calls ++ (length note.old.list, entry) ∷ []; holds = false } }
+        ensures calls { calls.new.items ≡ calls.old.items ++ placed (length note.old.list) entry.ask entry.answer ∷ [] }
+    {
+        guarded.journal.push_reserved(entry);
+        let place = self.seen.append(note, entry);
+        calls.push_reserved(Placed {
+            place,
+            ask: entry.ask,
+            answer: entry.answer,
+        });
+        self.seen.give(note, guarded);
+    }
+}
+
+// Takes the room for one more call in the journal and in the calls, and asks the machine.
+fn apply<M: Machine>(
+    guarded: &mut Guarded<M>,
+    calls: &mut Vec<Placed<M::Ask, M::Answer>>,
+    ask: M::Ask,
+) -> Result<M::Answer, NoMemory>
+    ensures journal { guarded.new.journal.items ≡ guarded.old.journal.items }
+    ensures calls { calls.new.items ≡ calls.old.items }
+    ensures answer { IfOk result (λ answer. answer ≡ M.answer_to guarded.old.machine ask) }
+    ensures machine { IfOk result (λ _. guarded.new.machine ≡ M.state_after guarded.old.machine ask) }
+    ensures room { IfOk result (λ _. (vec_len guarded.new.journal < vec_capacity guarded.new.journal) × (vec_len calls.new < vec_capacity calls.new)) }
+    ensures err { IfErr result (λ _. guarded.new.machine ≡ guarded.old.machine) }
+{
+    guarded.journal.reserve(1)?;
+    calls.reserve(1)?;
+    guarded.machine.apply(ask)
+}
+
+// A pass for each note, in their order. There is room for them.
+fn passes_of<M: Machine>(
+    alloc: Global,
+    notes: Vec<Note<Guarded<M>>>,
+    mut list: Vec<Pass<M>>,
+) -> Vec<Pass<M>>
+    requires empty { list.items ≡ [] }
+    requires room { vec_len notes ≤ vec_capacity list }
+    requires new { All (λ note. (note.calls ≡ []) × (note.holds ≡ false)) notes.items }
+    ensures count { vec_len result ≡ vec_len notes }
+    ensures passes { result.items ≡ map pass_at notes.items }
+{
+    for note in notes {
+        list.push_reserved(Pass {
+            number: note.number(),
+            note,
+            calls: Vec::new(alloc),
+        });
+    }
+    list
+}

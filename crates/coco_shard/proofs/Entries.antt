@@ -1,0 +1,148 @@
+-- A shard's entries, and the state that contracts see.
+use Rattle.std.proofs.Common.{◌≡◌, ℕ, Bool, true, false, cond, ◌==◌, List, [], ◌∷◌, Option, None, Some, refl, sym, ap, ◌∙◌, map, OnOk, OnErr, Result, Ok, Err}
+use Rattle.std.specs.Option.{option_map, unwrap_or, is_some}
+use Rattle.std.specs.Map.{lookup, set_value}
+use Rattle.std.specs.BTreeMap.{is_at}
+use Rattle.std.specs.FinMap.{get, insert}
+use Rattle.std.proofs.lemmas.Map.{lookup-set_value}
+use Rattle.std.proofs.lemmas.Cmp.{eq_by_cmp_equiv}
+use Rattle.coco_types.specs.RowKey.{RowKey, key_cmp}
+use Rattle.coco_shard.specs.declared.kept.Kept.{Kept}
+use Rattle.coco_shard.specs.declared.kept.Acted.{Acted}
+use Rattle.coco_types.specs.declared.call.AttemptId.{AttemptId}
+use Rattle.coco_shard.specs.declared.ops.Ask.{Ask}
+use Rattle.coco_shard.specs.declared.ops.Op.{Op}
+use Rattle.coco_shard.specs.declared.ops.Op.TheVariants.{Read, Lock, Extend, Install, Release, Past}
+use Rattle.coco_shard.specs.declared.ops.Answer.{Answer}
+use Rattle.coco_shard.specs.declared.ops.Answer.TheVariants.{Got, Locked, Marked, Changed, Extended, Installed, Released, NotMine, Stood}
+use Rattle.coco_shard.specs.RowState.{RowState, resting, row_at, with_row}
+use Rattle.coco_shard.specs.Table.{answer_in, answer_at, after_ask, left_by, key_of, leaves_row}
+use Rattle.coco_shard.specs.Kept.{state_of, kept_at, shown, view_of, ActsAt}
+use Rattle.coco_shard.proofs.Keys.{get_key, get_put, same_keyed, is_key, one_key, keys_total}
+
+-- what a row says, where there is one
+abbrev pub state_in : Option Kept → Option RowState
+state_in kept = option_map (λ k. state_of k.row) kept
+
+shown_at : (es : List (RowKey × Kept)) (q : RowKey) → lookup (is_at (key_cmp q)) (map shown es) ≡ state_in (kept_at es q)
+shown_at [] q = refl
+shown_at (e ∷ es) q =
+    elim (is_at (key_cmp q) e.0) as (λ b. cond b (Some (state_of e.1.row)) (lookup (is_at (key_cmp q)) (map shown es)) ≡ state_in (cond b (Some e.1) (kept_at es q))) [
+      | true ↦ refl
+      | false ↦ shown_at es q
+    ]
+
+pub get_view : (es : List (RowKey × Kept)) (q : RowKey) → get (view_of es) q ≡ state_in (kept_at es q)
+get_view es q = get_key (map shown es) q ∙ shown_at es q
+
+pub same_view : (es fs : List (RowKey × Kept)) → ((q : RowKey) → state_in (kept_at fs q) ≡ state_in (kept_at es q)) → view_of fs ≡ view_of es
+same_view es fs h = same_keyed _ _ (λ q. get_view fs q ∙ h q ∙ sym (get_view es q))
+
+pub written_view : (es fs : List (RowKey × Kept)) (k : RowKey) (row : RowState) → ((q : RowKey) → state_in (kept_at fs q) ≡ cond (is_key k q) (Some row) (state_in (kept_at es q))) → view_of fs ≡ insert (view_of es) k row
+written_view es fs k row h = same_keyed _ _ (λ q. get_view fs q ∙ h q ∙ ap (cond (is_key k q) (Some row)) (sym (get_view es q)) ∙ sym (get_put (view_of es) k row q))
+
+-- the entries after a row is put back, at each key
+pub set_at : (es : List (RowKey × Kept)) (k : RowKey) (before after : Kept) (q : RowKey) → kept_at es k ≡ Some before → kept_at (set_value (is_at (key_cmp k)) es after) q ≡ cond (is_key k q) (Some after) (kept_at es q)
+set_at es k before after q was = lookup-set_value (eq_by_cmp_equiv keys_total) (is_at (key_cmp k)) (λ x y h. ap (λ z. is_at (key_cmp z) y) (one_key k x h)) q after es (rw was refl)
+
+-- what the state says of the row of a key
+pub row_in : (es : List (RowKey × Kept)) (k : RowKey) (kept : Kept) → kept_at es k ≡ Some kept → row_at (view_of es) k ≡ state_of kept.row
+row_in es k kept is = ap (λ o. unwrap_or o (resting None)) (get_view es k ∙ ap state_in is)
+
+pub no_row_in : (es : List (RowKey × Kept)) (k : RowKey) → kept_at es k ≡ None → row_at (view_of es) k ≡ resting None
+no_row_in es k none = ap (λ o. unwrap_or o (resting None)) (get_view es k ∙ ap state_in none)
+
+-- the state after the row of a key is put back
+pub put_back_view : (es : List (RowKey × Kept)) (k : RowKey) (before after : Kept) (left : Option RowState) → kept_at es k ≡ Some before → state_of after.row ≡ unwrap_or left (state_of before.row)
+    → view_of (set_value (is_at (key_cmp k)) es after) ≡ with_row (view_of es) k left
+put_back_view es k before after None was is = same_view es (set_value (is_at (key_cmp k)) es after) (λ q.
+    ap state_in (set_at es k before after q was) ∙ elim (is_key k q) as (λ b. is_key k q ≡ b → state_in (cond b (Some after) (kept_at es q)) ≡ state_in (kept_at es q)) [
+      | true ↦ λ t. ap Some is ∙ sym (ap state_in was) ∙ ap (λ z. state_in (kept_at es z)) (one_key k q t)
+      | false ↦ λ _. refl
+    ] refl)
+put_back_view es k before after (Some row) was is = written_view es (set_value (is_at (key_cmp k)) es after) k row (λ q.
+    ap state_in (set_at es k before after q was) ∙ elim (is_key k q) as (λ b. state_in (cond b (Some after) (kept_at es q)) ≡ cond b (Some row) (state_in (kept_at es q))) [
+      | true ↦ ap Some is
+      | false ↦ refl
+    ])
+
+pub acted_answer : (es fs : List (RowKey × Kept)) (ask : Ask) (acted : Acted) → ActsAt es fs ask acted → acted.answer ≡ answer_in (view_of es) ask
+acted_answer es fs ask acted h = h.acts.row.told ∙ ap (λ row. answer_at row ask.by ask.op) (sym (row_in es (key_of ask.op) h.before h.was))
+
+pub acted_view : (es fs : List (RowKey × Kept)) (ask : Ask) (acted : Acted) → ActsAt es fs ask acted → view_of fs ≡ after_ask (view_of es) ask
+acted_view es fs ask acted h =
+    ap view_of h.put ∙ put_back_view es (key_of ask.op) h.before h.after _ h.was h.acts.row.left
+    ∙ ap (λ answer. with_row (view_of es) (key_of ask.op) (left_by answer ask.by ask.op (state_of h.before.row))) h.acts.row.told
+    ∙ ap (λ row. with_row (view_of es) (key_of ask.op) (left_by (answer_at row ask.by ask.op) ask.by ask.op row)) (sym (row_in es (key_of ask.op) h.before h.was))
+
+-- ---- an ask on a key without a row
+
+two_sides : true ≡ false → ⊥
+two_sides h = cc
+
+pub nothing_left : (answer : Answer) (by : AttemptId) (op : Op) (row : RowState) → leaves_row answer ≡ false → left_by answer by op row ≡ None
+nothing_left (Got wts rts value) by op row h = absurd (two_sides h)
+nothing_left (Locked wts rts) by op row h = absurd (two_sides h)
+nothing_left Extended by op row h = absurd (two_sides h)
+nothing_left Installed by op row h = absurd (two_sides h)
+nothing_left Released by op row h = absurd (two_sides h)
+nothing_left (Marked holder) by op row h = refl
+nothing_left (Changed wts) by op row h = refl
+nothing_left (NotMine mark) by op row h = refl
+nothing_left (Stood value) by op row h = refl
+
+extend_made : (same : Bool) (key : RowKey) (wts time : ℕ) (by : AttemptId) → let answer = cond same Extended (Changed 0) in leaves_row answer ≡ true → is_some (left_by answer by (Extend key wts time) (resting None)) ≡ true
+extend_made true key wts time by h = refl
+extend_made false key wts time by h = h
+
+-- the answer that leaves a row, at a row without a value, makes it
+pub row_made : (by : AttemptId) (op : Op) → let answer = answer_at (resting None) by op in leaves_row answer ≡ true → is_some (left_by answer by op (resting None)) ≡ true
+row_made by (Read key) h = refl
+row_made by (Lock key) h = refl
+row_made by (Extend key wts time) h = extend_made (0 == wts) key wts time by h
+row_made by (Install key time value) h = h
+row_made by (Release key) h = h
+row_made by (Past key) h = h
+
+pub added_view : (es fs : List (RowKey × Kept)) (k : RowKey) (kept : Kept) → ((q : RowKey) → kept_at fs q ≡ cond (is_key k q) (Some kept) (kept_at es q)) → view_of fs ≡ insert (view_of es) k (state_of kept.row)
+added_view es fs k kept at = written_view es fs k (state_of kept.row) (λ q. ap state_in (at q) ∙ elim (is_key k q) as (λ b. state_in (cond b (Some kept) (kept_at es q)) ≡ cond b (Some (state_of kept.row)) (state_in (kept_at es q))) [
+  | true ↦ refl
+  | false ↦ refl
+])
+
+-- the state after an ask on a key without a row, where the row is made
+pub made_view : (es fs : List (RowKey × Kept)) (ask : Ask) (answer : Answer) (kept : Kept)
+    → kept_at es (key_of ask.op) ≡ None → answer ≡ answer_at (resting None) ask.by ask.op → leaves_row answer ≡ true
+    → state_of kept.row ≡ unwrap_or (left_by answer ask.by ask.op (resting None)) (resting None)
+    → ((q : RowKey) → kept_at fs q ≡ cond (is_key (key_of ask.op) q) (Some kept) (kept_at es q))
+    → view_of fs ≡ after_ask (view_of es) ask
+made_view es fs ask answer kept none told leaves left at =
+    added_view es fs (key_of ask.op) kept at
+    ∙ as_left (left_by answer ask.by ask.op (resting None)) (ap (λ a. is_some (left_by a ask.by ask.op (resting None))) told ∙ row_made ask.by ask.op (sym (ap leaves_row told) ∙ leaves)) left
+    ∙ ap (λ a. with_row (view_of es) (key_of ask.op) (left_by a ask.by ask.op (resting None))) told
+    ∙ ap (λ row. with_row (view_of es) (key_of ask.op) (left_by (answer_at row ask.by ask.op) ask.by ask.op row)) (sym (no_row_in es (key_of ask.op) none))
+  where
+    as_left : (o : Option RowState) → is_some o ≡ true → state_of kept.row ≡ unwrap_or o (resting None) → insert (view_of es) (key_of ask.op) (state_of kept.row) ≡ with_row (view_of es) (key_of ask.op) o
+    as_left None h is = absurd (two_sides (sym h))
+    as_left (Some row) h is = ap (insert (view_of es) (key_of ask.op)) is
+
+-- the same, where no row is made
+pub unmade_view : (es : List (RowKey × Kept)) (ask : Ask) (answer : Answer)
+    → kept_at es (key_of ask.op) ≡ None → answer ≡ answer_at (resting None) ask.by ask.op → leaves_row answer ≡ false
+    → view_of es ≡ after_ask (view_of es) ask
+unmade_view es ask answer none told leaves =
+    ap (with_row (view_of es) (key_of ask.op)) (sym (nothing_left answer ask.by ask.op (resting None) leaves))
+    ∙ ap (λ a. with_row (view_of es) (key_of ask.op) (left_by a ask.by ask.op (resting None))) told
+    ∙ ap (λ row. with_row (view_of es) (key_of ask.op) (left_by (answer_at row ask.by ask.op) ask.by ask.op row)) (sym (no_row_in es (key_of ask.op) none))
+
+pub missing_answer : (es : List (RowKey × Kept)) (ask : Ask) (answer : Answer) → kept_at es (key_of ask.op) ≡ None → answer ≡ answer_at (resting None) ask.by ask.op → answer ≡ answer_in (view_of es) ask
+missing_answer es ask answer none told = told ∙ ap (λ row. answer_at row ask.by ask.op) (sym (no_row_in es (key_of ask.op) none))
+
+pub missing_on_err : {T E : Type 0} (r : Result T E) (es : List (RowKey × Kept)) (k : RowKey) → OnErr r (kept_at es k ≡ None) → OnErr r (get (view_of es) k ≡ None)
+missing_on_err (Ok x) es k h = tt
+missing_on_err (Err e) es k h = get_view es k ∙ ap state_in h
+
+pub added_on_ok : {T E : Type 0} (r : Result T E) (es fs : List (RowKey × Kept)) (k : RowKey) (kept : Kept) (row : RowState) → state_of kept.row ≡ row
+    → OnOk r ((q : RowKey) → kept_at fs q ≡ cond (is_key k q) (Some kept) (kept_at es q)) → OnOk r (view_of fs ≡ insert (view_of es) k row)
+added_on_ok (Ok x) es fs k kept row is at = added_view es fs k kept at ∙ ap (insert (view_of es) k) is
+added_on_ok (Err e) es fs k kept row is at = tt

@@ -1,0 +1,7 @@
+pub mod Keys
+pub mod Entries
+pub mod Whole
+pub mod Steps
+pub mod Settled
+pub mod LawLemmas
+pub mod ValueLemmas

@@ -1,0 +1,101 @@
+-- How a shard keeps a row: beside it, whether its key stands in the list of touched keys.
+use Rattle.std.specs.Prelude.{◌≡◌, ℕ, ◌+◌, ◌≤◌, Bool, true, false, ◌||◌, if◌then◌else◌, max, List, [], ◌∷◌, ◌++◌, length, map, sum_by, Option, None, Some, IsSome}
+use Rattle.std.specs.List.{list_any}
+use Rattle.std.specs.Option.{unwrap_or, option_map}
+use Rattle.std.specs.Map.{lookup, set_value, values_of}
+use Rattle.std.specs.BTreeMap.{is_at}
+use Rattle.std.specs.FinMap.{from_entries}
+use Rattle.coco_types.specs.RowKey.{RowKey, key_cmp}
+use Rattle.coco_types.specs.declared.value.Value.{Value}
+use Rattle.coco_types.specs.declared.call.AttemptId.{AttemptId}
+use Rattle.coco_rows.specs.declared.Row.{Row}
+use Rattle.coco_rows.specs.Versions.{newest_of, at_rest}
+use Rattle.coco_shard.specs.declared.kept.Kept.{Kept}
+use Rattle.coco_shard.specs.declared.kept.Acted.{Acted}
+use Rattle.coco_shard.specs.declared.ops.Op.{Op}
+use Rattle.coco_shard.specs.declared.ops.Ask.{Ask}
+use Rattle.coco_shard.specs.declared.ops.Answer.{Answer}
+use Rattle.coco_shard.specs.RowState.{RowState, ShardState}
+use Rattle.coco_shard.specs.Table.{answer_at, left_by, key_of}
+
+abbrev pub state_of : Row → RowState
+state_of row = record { newest = newest_of row; wts = row.wts; rts = row.rts; mark = row.mark; stable = row.stable }
+
+-- the answer is the table's, and so is what becomes of the row
+pub record Follows (before after : Row) (by : AttemptId) (op : Op) (answer : Answer) : Type 0 where
+  pub told : answer ≡ answer_at (state_of before) by op
+  pub left : state_of after ≡ unwrap_or (left_by answer by op (state_of before)) (state_of before)
+
+-- a row that isn't touched is as the last promote or revert left it
+abbrev pub IsSound : Kept → Type 0
+IsSound kept = kept.touched ≡ false → (kept.row ≡ at_rest kept.row.stable) × IsSome kept.row.stable
+
+-- the row after an ask, and the answer to it
+pub record Acts (before after : Kept) (ask : Ask) (acted : Acted) : Type 0 where
+  pub row : Follows before.row after.row ask.by ask.op acted.answer
+  pub touched : after.touched ≡ before.touched || acted.touches
+  pub once : acted.touches ≡ true → before.touched ≡ false
+  pub sound : IsSound after
+
+-- a map's entry at a key
+abbrev pub kept_at : List (RowKey × Kept) → RowKey → Option Kept
+kept_at es k = lookup (is_at (key_cmp k)) es
+
+-- the entries after an ask on a key that has a row
+pub record ActsAt (old new : List (RowKey × Kept)) (ask : Ask) (acted : Acted) : Type 0 where
+  pub before : Kept
+  pub after : Kept
+  pub was : kept_at old (key_of ask.op) ≡ Some before
+  pub put : new ≡ set_value (is_at (key_cmp (key_of ask.op))) old after
+  pub acts : Acts before after ask acted
+
+-- what contracts see of an entry, and of all of them
+abbrev pub shown : RowKey × Kept → RowKey × RowState
+shown e = (e.0, state_of e.1.row)
+
+abbrev pub view_of : List (RowKey × Kept) → ShardState
+view_of es = from_entries (map shown es)
+
+-- 1 where the row's key isn't in the list of touched keys
+abbrev pub waits : Kept → ℕ
+waits kept = if kept.touched then 0 else 1
+
+-- The list has the key of each touched row, once, and room for the key of every row.
+pub record IsWhole (es : List (RowKey × Kept)) (touched : List RowKey) (capacity : ℕ) : Type 0 where
+  pub sound : (k : RowKey) (kept : Kept) → kept_at es k ≡ Some kept → IsSound kept
+  pub listed : (k : RowKey) (kept : Kept) → kept_at es k ≡ Some kept → kept.touched ≡ true → list_any (is_at (key_cmp k)) touched ≡ true
+  pub once : length touched + sum_by waits (values_of es) ≤ length es
+  pub room : length es ≤ capacity
+
+-- the entries after the row of a key is set
+pub record SetsRow (old new : List (RowKey × Kept)) (k : RowKey) (row : Row) : Type 0 where
+  pub before : Kept
+  pub was : kept_at old k ≡ Some before
+  pub put : new ≡ set_value (is_at (key_cmp k)) old (record { row = row; touched = before.touched })
+
+-- the version that a row ends an epoch with: the newest, or the stable one
+abbrev pub version_of : Bool → Row → Option Value
+version_of promotes row = if promotes then newest_of row else row.stable
+
+abbrev pub rested : Bool → Kept → Kept
+rested promotes kept = record { row = at_rest (version_of promotes kept.row); touched = false }
+
+-- what is left of a row at an epoch's end: nothing, where it has no value
+abbrev pub settled : Bool → Option Kept → Option Kept
+settled promotes None = None
+settled promotes (Some kept) = option_map (λ value. record { row = at_rest (Some value); touched = false }) (version_of promotes kept.row)
+
+-- a key with its value, where it has one
+abbrev pub entry_of : RowKey → Option Value → List (RowKey × Value)
+entry_of k None = []
+entry_of k (Some value) = (k, value) ∷ []
+
+-- the keys that have a value in one of the versions, each with it
+abbrev pub values_in : Bool → List (RowKey × Kept) → List (RowKey × Value)
+values_in newest [] = []
+values_in newest (e ∷ es) = entry_of e.0 (version_of newest e.1.row) ++ values_in newest es
+
+-- the greatest read time
+abbrev pub most_rts : List (RowKey × Kept) → ℕ
+most_rts [] = 0
+most_rts (e ∷ es) = max e.1.row.rts (most_rts es)

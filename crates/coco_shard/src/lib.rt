@@ -1,0 +1,102 @@
+//! A shard of rows as a machine over six operations, and the law of the journals that it answers.
+#![tactic(auto)]
+
+mod kept;
+pub mod law;
+pub mod ops;
+mod settle;
+pub mod shard;
+mod table;
+mod values;
+
+pub use ops::{Answer, Ask, Op};
+pub use shard::Shard;
+
+#[cfg(test)]
+mod tests {
+    use super::*;
+    use coco_types::{AttemptId, Key, Machine, Value};
+    use std::alloc::Global;
+    use std::process::Abort;
+    use std::test::Fail;
+
+    const FIVE: Key = Key { table: 0, row: 5 };
+
+    fn ask(worker: u32, op: Op) -> Ask {
+        Ask {
+            by: AttemptId { worker, number: 1 },
+            op,
+        }
+    }
+
+    fn int(n: i64) -> Option<Value> {
+        Some(Value::Int(n))
+    }
+
+    // Row 5 of table 0 is loaded as 1, locked, and installed as 2 at 1.
+    fn written(rt: &impl Abort, alloc: Global) -> Result<Shard, Fail> {
+        let mut shard = Shard::new(alloc);
+        shard.load(FIVE, Value::Int(1))?;
+        let locked = shard.apply(ask(0, Op::Lock(FIVE)))?;
+        assert_eq!(rt; locked, Answer::Locked { wts: 0, rts: 0 });
+        let op = Op::Install {
+            key: FIVE,
+            time: 1,
+            value: int(2),
+        };
+        assert_eq!(rt; shard.apply(ask(0, op))?, Answer::Installed);
+        Ok(shard)
+    }
+
+    fn reads(rt: &impl Abort, shard: &mut Shard, time: u64, n: i64) -> Result<(), Fail> {
+        let got = Answer::Got {
+            wts: time,
+            rts: time,
+            value: int(n),
+        };
+        assert_eq!(rt; shard.apply(ask(1, Op::Read(FIVE)))?, got);
+        Ok(())
+    }
+
+    #[test]
+    fn past_is_of_the_last_epoch_beside_a_writer(rt: HostRuntime) -> Result<(), Fail> {
+        let mut shard = written(&rt, rt.alloc())?;
+        assert_eq!(rt; shard.apply(ask(1, Op::Past(FIVE)))?, Answer::Stood(int(1)));
+        reads(&rt, &mut shard, 1, 2)?;
+        assert_eq!(rt; shard.stable(FIVE), int(1));
+        assert_eq!(rt; shard.greatest_time(), 1);
+        Ok(())
+    }
+
+    #[test]
+    fn after_a_revert_the_stable_value_is_read(rt: HostRuntime) -> Result<(), Fail> {
+        let mut shard = written(&rt, rt.alloc())?;
+        shard.revert();
+        reads(&rt, &mut shard, 0, 1)
+    }
+
+    #[test]
+    fn after_a_promote_the_newest_value_is_read(rt: HostRuntime) -> Result<(), Fail> {
+        let mut shard = written(&rt, rt.alloc())?;
+        shard.promote();
+        reads(&rt, &mut shard, 0, 2)
+    }
+
+    #[test]
+    fn rows_have_the_loaded_values(rt: HostRuntime) -> Result<(), Fail> {
+        let mut shard = Shard::new(rt.alloc());
+        shard.load(FIVE, Value::Int(1))?;
+        let rows = shard.rows(true)?;
+        assert_eq!(rt; rows.as_slice(), [(FIVE, Value::Int(1))].as_slice());
+        Ok(())
+    }
+
+    #[test]
+    fn tail_steps_act_at_their_times(rt: HostRuntime) -> Result<(), Fail> {
+        let mut shard = Shard::new(rt.alloc());
+        shard.put_at(FIVE, 4, int(3))?;
+        assert_eq!(rt; shard.read_at(FIVE, 5)?, int(3));
+        assert_eq!(rt; shard.greatest_time(), 5);
+        Ok(())
+    }
+}

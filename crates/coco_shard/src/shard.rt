@@ -1,0 +1,177 @@
+ghost use Rattle.std.specs.Prelude.{◌≡◌, ◌≤◌, None, Some, true, IfOk, OnOk, OnErr};
+ghost use Rattle.std.specs.FinMap.{get, insert, empty};
+ghost use Rattle.coco_shard.specs.RowState.{resting, row_at, newest_at, stable_at, value_at, Holds, IsSettled, IsGreatestTime, ListsRows};
+ghost use Rattle.coco_shard.specs.Table.{after_ask, answer_in, installed, extended, key_of, may_make_row};
+
+use crate::kept::Kept;
+use crate::ops::{Answer, Ask, Op};
+use crate::settle::settle;
+use crate::table::{act_on_rows, load_row, stable_of};
+use crate::values::{greatest, values};
+use coco_types::{AttemptId, Key, Machine, MapRows, NoMemory, Value};
+use std::alloc::Global;
+use std::collections::BTreeMap;
+use std::marker::Model;
+
+/// Rows under their keys. Contracts see a finite map from the keys that have a row to what each row says; a key
+/// without a row is as one without a value, with times 0 and no mark.
+#[derive(Drop)]
+pub struct Shard {
+    rows: BTreeMap<Key, Kept>,
+    touched: Vec<Key>,
+}
+
+impl Model for Shard {
+    ghost use Rattle.std.specs.FinMap as map;
+    ghost use Rattle.std.specs.Prelude.{vec_capacity};
+    ghost use Rattle.coco_types.specs.RowKey.{key_cmp};
+    ghost use Rattle.coco_shard.specs.RowState.{RowState};
+    ghost use Rattle.coco_shard.specs.Codes.{coded_key, coded_row};
+
+    ghost Value = { map.FinMap key_cmp RowState };
+
+    ghost coded = { map.code coded_key coded_row };
+
+    ghost use Rattle.coco_shard.specs.Kept.{view_of, IsWhole};
+
+    ghost view = { λ a. view_of a.rows.entries };
+
+    ghost invariant = { λ a. IsWhole a.rows.entries a.touched.items (vec_capacity a.touched) };
+}
+
+impl Shard {
+    /// A shard without rows, which grows on this allocator.
+    pub fn new(alloc: Global) -> Shard
+        ensures empty { result ≡ empty }
+        ensures settled { IsSettled result }
+    {
+        Shard {
+            rows: BTreeMap::new(alloc),
+            touched: Vec::new(alloc),
+        }
+    }
+
+    /// The key's value of the last committed epoch.
+    pub fn stable(&self, key: Key) -> Option<Value>
+        ensures { result ≡ stable_at self.now key }
+    {
+        stable_of(&self.rows, key)
+    }
+
+    /// Sets a stable value, while no row is touched. Out of memory, nothing has changed.
+    pub fn load(&mut self, key: Key, value: Value) -> Result<(), NoMemory>
+        requires { IsSettled self.old }
+        ensures ok { OnOk result (self.new ≡ insert self.old key (resting (Some value))) }
+        ensures settled { IsSettled self.new }
+        ensures err { OnErr result (self.new ≡ self.old) }
+        ensures missing { OnErr result (get self.old key ≡ None) }
+    {
+        load_row(&mut self.rows, &mut self.touched, key, value)
+    }
+
+    /// All keys that have a stable value, or, for false, a newest value, each with it, rising.
+    pub fn rows(&self, stable: bool) -> Result<MapRows, NoMemory>
+        ensures { IfOk result (λ rows. ListsRows (value_at stable self.now) rows) }
+    {
+        let alloc = *self.touched.allocator();
+        let values = values(alloc, &self.rows, !stable)?;
+        Ok(MapRows::from_vec(values))
+    }
+
+    /// The greatest read time of any row.
+    pub fn greatest_time(&self) -> u64
+        ensures { IsGreatestTime self.now result }
+    {
+        greatest(&self.rows)
+    }
+
+    /// Makes every newest value the stable one, sets all times to 0 and clears the marks. Rows without a value go.
+    pub fn promote(&mut self)
+        ensures values { Holds (newest_at self.old) self.new }
+        ensures settled { IsSettled self.new }
+    {
+        settle(&mut self.rows, &mut self.touched, true);
+    }
+
+    /// Makes every stable value the newest one, sets all times to 0 and clears the marks. Rows without a value go.
+    pub fn revert(&mut self)
+        ensures values { Holds (stable_at self.old) self.new }
+        ensures settled { IsSettled self.new }
+    {
+        settle(&mut self.rows, &mut self.touched, false);
+    }
+
+    /// Installs a value at the time without a lock. Out of memory, nothing has changed.
+    pub fn put_at(&mut self, key: Key, time: u64, value: Option<Value>) -> Result<(), NoMemory>
+        requires unmarked { (row_at self.old key).mark ≡ None }
+        requires later { (row_at self.old key).rts ≤ time }
+        ensures ok { OnOk result (self.new ≡ insert self.old key (installed time value (row_at self.old key))) }
+        ensures err { OnErr result (self.new ≡ self.old) }
+        ensures missing { OnErr result (get self.old key ≡ None) }
+    {
+        let by = TAIL;
+        let lock = Ask {
+            by,
+            op: Op::Lock(key),
+        };
+        let install = Ask {
+            by,
+            op: Op::Install { key, time, value },
+        };
+        self.apply(lock)?;
+        self.apply(install)?;
+        Ok(())
+    }
+
+    /// The newest value, which is valid until the time from then on. Out of memory, nothing has changed.
+    pub fn read_at(&mut self, key: Key, time: u64) -> Result<Option<Value>, NoMemory>
+        requires unmarked { (row_at self.old key).mark ≡ None }
+        requires later { (row_at self.old key).rts ≤ time }
+        ensures value { IfOk result (λ value. value ≡ newest_at self.old key) }
+        ensures ok { OnOk result (self.new ≡ insert self.old key (extended time (row_at self.old key))) }
+        ensures err { OnErr result (self.new ≡ self.old) }
+        ensures missing { OnErr result (get self.old key ≡ None) }
+    {
+        let by = TAIL;
+        let read = Ask {
+            by,
+            op: Op::Read(key),
+        };
+        let Answer::Got { wts, value, .. } = self.apply(read)? else {
+            unreachable!()
+        };
+        let extend = Ask {
+            by,
+            op: Op::Extend { key, wts, time },
+        };
+        self.apply(extend)?;
+        Ok(value)
+    }
+}
+
+// Whom the steps of an epoch's tail are by. It runs alone, so no attempt's mark stands.
+const TAIL: AttemptId = AttemptId {
+    worker: 0,
+    number: 0,
+};
+
+impl Machine for Shard {
+    type Ask = Ask;
+
+    type Answer = Answer;
+
+    ghost answer_to = { answer_in };
+
+    ghost state_after = { after_ask };
+
+    /// Answers an ask. Out of memory, the key has no row, and nothing has changed.
+    fn apply(&mut self, ask: Ask) -> Result<Answer, NoMemory>
+        ensures answer { IfOk result (λ answer. answer ≡ answer_in self.old ask) }
+        ensures state { IfOk result (λ _. self.new ≡ after_ask self.old ask) }
+        ensures err { OnErr result (self.new ≡ self.old) }
+        ensures missing { OnErr result (get self.old (key_of ask.op) ≡ None) }
+        ensures makes { OnErr result (may_make_row ask.op ≡ true) }
+    {
+        act_on_rows(&mut self.rows, &mut self.touched, &ask)
+    }
+}

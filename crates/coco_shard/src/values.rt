@@ -1,0 +1,62 @@
+ghost use Rattle.std.specs.Prelude.{◌≡◌, ◌++◌, OnOk, IfOk};
+ghost use Rattle.std.specs.Map.{keys_of};
+ghost use Rattle.std.specs.List.Sorted.{IsStrictlySortedBy};
+ghost use Rattle.coco_types.specs.RowKey.{key_cmp};
+ghost use Rattle.coco_shard.specs.Kept.{version_of, entry_of, values_in, most_rts};
+
+use crate::kept::Kept;
+use coco_rows::Row;
+use coco_types::{Key, NoMemory, Value};
+use std::alloc::Global;
+use std::collections::BTreeMap;
+
+// The keys that have a value in one of the two versions, each with it.
+pub fn values(
+    alloc: Global,
+    rows: &BTreeMap<Key, Kept>,
+    newest: bool,
+) -> Result<Vec<(Key, Value)>, NoMemory>
+    ensures values { IfOk result (λ values. values.items ≡ values_in newest rows.now.entries) }
+    ensures rising { OnOk result (IsStrictlySortedBy key_cmp (keys_of rows.now.entries)) }
+{
+    let mut values = Vec::new(alloc);
+    for (key, kept) in rows {
+        push_value(&mut values, *key, version(&kept.row, newest))?;
+    }
+    Ok(values)
+}
+
+fn push_value(
+    values: &mut Vec<(Key, Value)>,
+    key: Key,
+    value: Option<Value>,
+) -> Result<(), NoMemory>
+    ensures { OnOk result (values.new.items ≡ values.old.items ++ entry_of key value) }
+{
+    if let Some(value) = value {
+        values.push((key, value))?;
+    }
+    Ok(())
+}
+
+fn version(row: &Row, newest: bool) -> Option<Value>
+    ensures { result ≡ version_of newest row.now }
+{
+    if newest {
+        row.newest_value()
+    } else {
+        row.stable
+    }
+}
+
+// The greatest read time of any row.
+pub fn greatest(rows: &BTreeMap<Key, Kept>) -> u64
+    ensures most { result ≡ most_rts rows.now.entries }
+    ensures rising { IsStrictlySortedBy key_cmp (keys_of rows.now.entries) }
+{
+    let mut most = 0;
+    for (_, kept) in rows {
+        most = kept.row.rts.max(most);
+    }
+    most
+}
