@@ -11,8 +11,6 @@ pub mod run;
 pub mod running;
 pub mod serve;
 pub mod session;
-#[cfg(test)]
-mod tests;
 pub mod top;
 
 use coco_host::FolderHost;
