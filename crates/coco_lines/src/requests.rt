@@ -180,7 +180,7 @@ fn args_of(alloc: Global, items: &[Json]) -> Result<Option<Args>, NoMemory>
     requires { length items.now ≤ 16 }
     ensures { IfOk result (λ args. args ≡ args_of (items_view items.now)) }
 {
-    let mut args = Args::new(alloc);
+    let mut args = Args::with_room(alloc, items.len())?;
     for item in items {
         let Some(arg) = arg_of(item) else {
             return Ok(None);

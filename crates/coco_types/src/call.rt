@@ -34,6 +34,14 @@ impl Args {
         }
     }
 
+    /// No arguments, with room for so many.
+    pub fn with_room(alloc: Global, count: usize) -> Result<Self, NoMemory>
+        ensures { IfOk result (λ args. args ≡ []) }
+    {
+        let items = Vec::with_capacity(alloc, count)?;
+        Ok(Args { items })
+    }
+
     /// Adds an argument at the end.
     pub fn push(&mut self, argument: Option<Value>) -> Result<(), NoMemory>
         requires { length self.old < 16 }
