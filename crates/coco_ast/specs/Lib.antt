@@ -1,12 +1,17 @@
 pub mod BuiltinForms
 pub mod Builtins
+pub mod CheckExamples
+pub mod Checks
 pub mod Examples
 pub mod Fitting
 pub mod History
 pub mod Keyed
 pub mod Meaning
+pub mod Messages
 pub mod NameView
+pub mod Numbering
 pub mod Short
 pub mod Tree
+pub mod TreeCode
 pub mod Views
 pub mod Words

@@ -2,6 +2,7 @@
 
 ghost use Rattle.std.specs.Prelude.{Bool};
 ghost use Rattle.coco_ast.specs.BuiltinForms.{BuiltinForms};
+ghost use Rattle.coco_ast.specs.CheckExamples.{CheckExamples};
 ghost use Rattle.coco_ast.specs.Examples.{Examples};
 ghost use Rattle.coco_ast.specs.Keyed.{Rows};
 ghost use Rattle.coco_ast.specs.Meaning.{Datum};
@@ -14,4 +15,9 @@ pub fn builtin_runs()
 /// The meaning gives each example the answer beside it.
 pub fn examples()
     ensures { Examples }
+{}
+
+/// The words of the check come to what stands beside each example.
+pub fn check_examples()
+    ensures { CheckExamples }
 {}

@@ -2,11 +2,15 @@
 #![tactic(auto)]
 
 pub mod builtin;
+pub mod checked;
+pub mod error;
 pub mod laws;
 pub mod name;
 pub mod tree;
 
 pub use builtin::builtins;
+pub use checked::Checked;
+pub use error::{CheckError, CheckKind};
 pub use name::{MOST_NAME_BYTES, Name};
 pub use tree::{Block, Expr, Names, Place, Proc, ProcList, Procs, Stmt, TwoOp};
 
