@@ -57,7 +57,7 @@ fn sixteen_arguments_stand_in_order(rt: HostRuntime) -> Result<(), Fail> {
 }
 
 fn call(alloc: Global, proc_no: u16, argument: i64, snapshot: bool) -> Result<Call, NoMemory> {
-    let mut args = Args::new(alloc);
+    let mut args = Args::with_room(alloc, 1)?;
     args.push(Some(Value::Int(argument)))?;
     Ok(Call {
         proc_no,
