@@ -14,6 +14,7 @@ pub struct Bare<M: Machine> {
 }
 
 impl<M: Machine> Bare<M> {
+    /// A machine of which nothing was asked.
     pub fn new(alloc: Global, machine: M) -> Bare<M>
         ensures { result.machine ≡ machine }
     {

@@ -1,4 +1,4 @@
-ghost use Rattle.std.specs.Prelude.{◌≡◌, ◌++◌, ◌∷◌, [], All, OnOk, OnErr};
+ghost use Rattle.std.specs.Prelude.{◌≡◌, ◌++◌, ◌∷◌, [], All, IfSome, MatchOption, OnOk, OnErr};
 ghost use Rattle.coco_bench_lock.specs.Reads.{read_of, asks};
 
 use coco_journaled::{Journaled, Pass};
@@ -23,8 +23,11 @@ pub struct Desk<'a> {
 }
 
 impl<'a> Desk<'a> {
-    /// The next pass in a lane of its own.
-    pub fn lane(&mut self) -> Option<Lane<'a>> {
+    /// The last pass in a lane of its own, or None where no pass is left.
+    pub fn lane(&mut self) -> Option<Lane<'a>>
+        ensures pass { MatchOption result (self.old.passes.items ≡ []) (λ lane. self.old.passes.items ≡ self.new.passes.items ++ lane.pass ∷ []) }
+        ensures shard { IfSome result (λ lane. lane.shard ≡ self.old.shard) }
+    {
         let shard = self.shard;
         let pass = self.passes.pop()?;
         Some(Lane::new(shard, pass))
@@ -32,6 +35,7 @@ impl<'a> Desk<'a> {
 }
 
 impl<'a> Lane<'a> {
+    /// A lane of a shard and a pass of it.
     pub fn new(shard: &'a Journaled<Shard>, pass: Pass<Shard>) -> Lane<'a>
         requires { pass.lock ≡ shard.now.id }
         ensures shard { result.shard ≡ shard.entry }
@@ -40,6 +44,7 @@ impl<'a> Lane<'a> {
         Lane { shard, pass }
     }
 
+    /// The lane's pass.
     pub fn into_pass(self) -> Pass<Shard>
         ensures { result ≡ self.entry.pass }
     {

@@ -17,7 +17,7 @@ pub struct Reader<'a> {
 }
 
 impl<'a> Reader<'a> {
-    /// A reader with the next pass of each desk.
+    /// A reader with a pass of each desk.
     pub fn new(alloc: Global, desks: &mut [Desk<'a>]) -> Result<Reader<'a>, NoMemory> {
         let mut lanes = Vec::new(alloc);
         for desk in desks {
