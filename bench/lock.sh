@@ -7,7 +7,7 @@
 set -eu
 cd "$(dirname "$0")/.."
 runs=${1:-5}
-steps=${2:-20000}
+steps=${2:-10000}
 program=$PWD/crates/coco_bench_lock/out/coco_bench_lock
 [ -x "$program" ] || (cd crates/coco_bench_lock && rt run -- >&2)
 export MALLOC_ARENA_MAX=1 MALLOC_MMAP_THRESHOLD_=4294967296 MALLOC_TRIM_THRESHOLD_=17179869184
