@@ -28,7 +28,7 @@ all_append : {X : Type 0} (P : X → Type 0) (xs ys : List X) → AllByRecursion
 all_append P [] ys here there = there
 all_append P (x ∷ xs) ys here there = (here.0, all_append P xs ys here.1 there)
 
-all_weaker : {X : Type 0} (P Q : X → Type 0) → ((x : X) → P x → Q x) → (xs : List X) → AllByRecursion P xs → AllByRecursion Q xs
+pub all_weaker : {X : Type 0} (P Q : X → Type 0) → ((x : X) → P x → Q x) → (xs : List X) → AllByRecursion P xs → AllByRecursion Q xs
 all_weaker P Q f [] all = tt
 all_weaker P Q f (x ∷ xs) all = (f x all.0, all_weaker P Q f xs all.1)
 
@@ -36,7 +36,7 @@ all_both : {X : Type 0} (P Q R : X → Type 0) → ((x : X) → P x → Q x → 
 all_both P Q R f [] here there = tt
 all_both P Q R f (x ∷ xs) here there = (f x here.0 there.0, all_both P Q R f xs here.1 there.1)
 
-all_from_map : {X Y : Type 0} (f : X → Y) (P : Y → Type 0) (xs : List X) → AllByRecursion P (map f xs) → AllByRecursion (λ x. P (f x)) xs
+pub all_from_map : {X Y : Type 0} (f : X → Y) (P : Y → Type 0) (xs : List X) → AllByRecursion P (map f xs) → AllByRecursion (λ x. P (f x)) xs
 all_from_map f P [] all = tt
 all_from_map f P (x ∷ xs) all = (all.0, all_from_map f P xs all.1)
 
@@ -104,7 +104,7 @@ ids_are requests ds order =
     ∙ ap (λ l. map (λ r. r.id) order.snapshots ++ l) (ids_numbered 1 (others requests))
 
 -- the requests' ids, in another order
-moved_ids : (requests : List Request) (ds : List Done) → IsCommitOrder requests (map timed_request_of ds) → IsPermutation (map (λ r. r.id) requests) (ids_of ds)
+pub moved_ids : (requests : List Request) (ds : List Done) → IsCommitOrder requests (map timed_request_of ds) → IsPermutation (map (λ r. r.id) requests) (ids_of ds)
 moved_ids requests ds order =
     let parts = IsPermutation-filter_both is_snapshot (λ r. not (is_snapshot r)) (λ _. refl) requests in
     let sorted = IsPermutation-append_left (others requests) (filter is_snapshot requests) order.snapshots order.same in
@@ -218,7 +218,7 @@ rising_append n (x ∷ xs) ys here there low all = (all_append (λ e. IsBefore x
 
 -- ---- one more epoch
 
-dones_in-push : (es : List Epoch) (e : Epoch) → dones_in (es ++ e ∷ []) ≡ dones_in es ++ e.dones
+pub dones_in-push : (es : List Epoch) (e : Epoch) → dones_in (es ++ e ∷ []) ≡ dones_in es ++ e.dones
 dones_in-push [] e = append-nil e.dones
 dones_in-push (x ∷ es) e = ap (λ l. x.dones ++ l) (dones_in-push es e) ∙ sym (append_assoc x.dones (dones_in es) e.dones)
 

@@ -6,6 +6,7 @@ pub mod FreshLemmas
 pub mod Growing
 pub mod JoinLemmas
 pub mod KeepingLemmas
+pub mod OneReplyLemmas
 pub mod RunningLemmas
 pub mod ServingLemmas
 pub mod StatusLemmas

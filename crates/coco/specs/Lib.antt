@@ -6,6 +6,7 @@ pub mod Batches
 pub mod Classes
 pub mod CommitOrder
 pub mod Growth
+pub mod OneReply
 pub mod Running
 pub mod SayingPart
 pub mod Serving

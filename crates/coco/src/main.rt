@@ -6,11 +6,14 @@ pub mod batch;
 pub mod class;
 pub mod classify;
 pub mod fresh;
+pub mod laws;
 pub mod order;
 pub mod run;
 pub mod running;
 pub mod serve;
 pub mod session;
+#[cfg(test)]
+mod tests;
 pub mod top;
 
 use coco_host::FolderHost;
