@@ -18,7 +18,7 @@ fn class(alloc: Global, line: &[u8]) -> Result<Option<LineError>, NoMemory> {
 
 #[test]
 fn lines_fall_into_the_first_class_that_fits(rt: HostRuntime) -> Result<(), Fail> {
-    let cases: [(&str, Option<LineError>); 29] = [
+    let cases: [(&str, Option<LineError>); 51] = [
         ("", Some(LineError::Json)),
         ("{", Some(LineError::Json)),
         ("{} {}", Some(LineError::Json)),
@@ -96,42 +96,169 @@ fn lines_fall_into_the_first_class_that_fits(rt: HostRuntime) -> Result<(), Fail
             r#" {"id":1, "call":"put", "args":[-9223372036854775808,null]} "#,
             None,
         ),
+        (
+            r#"{"args":[5],"call":"get","id":1}x"#,
+            Some(LineError::Json),
+        ),
+        (
+            r#"{"args":["\ude00"],"call":"get","id":1}"#,
+            Some(LineError::Json),
+        ),
+        (
+            r#"{"args":["\ud83d\u0061"],"call":"get","id":1}"#,
+            Some(LineError::Json),
+        ),
+        (
+            r#"{"args":["\x61"],"call":"get","id":1}"#,
+            Some(LineError::Json),
+        ),
+        (
+            r#"{"args":["\u00"],"call":"get","id":1}"#,
+            Some(LineError::Json),
+        ),
+        (
+            r#"{"args":[05],"call":"get","id":1}"#,
+            Some(LineError::Json),
+        ),
+        (
+            r#"{"args":[5],"call":"get","id":null}"#,
+            Some(LineError::Shape),
+        ),
+        (
+            r#"{"args":[5],"call":"get","id":"1"}"#,
+            Some(LineError::Shape),
+        ),
+        (r#"{"args":[5],"call":7,"id":1}"#, Some(LineError::Shape)),
+        (
+            r#"{"args":[5],"call":"get","id":1,"snapshot":1}"#,
+            Some(LineError::Shape),
+        ),
+        (
+            r#"{"args":[5],"call":"get","id":1,"Snapshot":true}"#,
+            Some(LineError::Shape),
+        ),
+        (
+            r#"{"args":[5],"call":"get","id":1,"id":"x"}"#,
+            Some(LineError::Shape),
+        ),
+        (r#"{"args":[5],"call":"","id":1}"#, Some(LineError::Name)),
+        (
+            r#"{"args":[5],"call":"get","call":"Get","id":1}"#,
+            Some(LineError::Name),
+        ),
+        (
+            r#"{"args":[5],"args":[],"call":"get","id":1}"#,
+            Some(LineError::Args),
+        ),
+        (
+            r#"{"args":[1,2,3],"call":"add","id":1}"#,
+            Some(LineError::Args),
+        ),
+        (
+            r#"{"args":[-0],"call":"get","id":1}"#,
+            Some(LineError::Args),
+        ),
+        (
+            r#"{"args":[-9223372036854775809],"call":"get","id":1}"#,
+            Some(LineError::Args),
+        ),
+        (
+            r#"{"args":[[5]],"call":"get","id":1}"#,
+            Some(LineError::Args),
+        ),
+        (
+            r#"{"args":[],"args":[5],"call":"got","call":"get","id":1}"#,
+            None,
+        ),
+        (
+            r#"{"\u0061rgs":[9223372036854775807],"call":"\u0067et","id":0}"#,
+            None,
+        ),
+        (
+            r#"{"args":["\"\\\/\b\f\n\r\t\u0000"],"call":"get","id":1}"#,
+            None,
+        ),
     ];
     for (line, error) in &cases {
-        assert!(rt; class(rt.alloc(), line.as_bytes())? == *error);
+        assert!(rt; class(rt.alloc(), line.as_bytes())? == *error, "{line}");
     }
-    assert!(rt; class(rt.alloc(), b"\xff")? == Some(LineError::Json));
-    let nested = vec![in rt.alloc(); b'['; 200]?;
-    assert!(rt; class(rt.alloc(), nested.as_slice())? == Some(LineError::Json));
+    for line in [
+        b"\xff".as_slice(),
+        b"\"\xc3\"",
+        b"[\xed\xa0\x80]",
+        b"\xef\xbb\xbf{}",
+        b"\0",
+        b"\"a\tb\"",
+    ] {
+        assert!(rt; class(rt.alloc(), line)? == Some(LineError::Json));
+    }
     Ok(())
 }
 
-// A `get` of a text of so many bytes.
-fn get_of(alloc: Global, len: usize) -> Result<Vec<u8>, AllocError> {
-    let mut line = Vec::from_slice(alloc, br#"{"id":1,"call":"get","args":[""#)?;
-    for _ in 0..len {
-        line.push(b'x')?;
+// A piece again and again, between a start and an end.
+fn repeated(
+    alloc: Global,
+    start: &str,
+    piece: &str,
+    count: usize,
+    end: &str,
+) -> Result<Vec<u8>, AllocError> {
+    let mut line = Vec::from_slice(alloc, start.as_bytes())?;
+    for _ in 0..count {
+        line.extend_from_slice(piece.as_bytes())?;
     }
-    line.extend_from_slice(br#""]}"#)?;
+    line.extend_from_slice(end.as_bytes())?;
     Ok(line)
 }
 
 #[test]
-fn a_text_has_at_most_256_bytes(rt: HostRuntime) -> Result<(), Fail> {
-    assert!(rt; class(rt.alloc(), get_of(rt.alloc(), 256)?.as_slice())? == None);
-    assert!(rt; class(rt.alloc(), get_of(rt.alloc(), 257)?.as_slice())? == Some(LineError::Args));
+fn texts_have_at_most_256_bytes_and_lists_127_levels(rt: HostRuntime) -> Result<(), Fail> {
+    let start = r#"{"id":1,"call":"get","args":[""#;
+    let end = r#""]}"#;
+    let cases = [
+        (start, "x", 256usize, end, None),
+        (start, "x", 257, end, Some(LineError::Args)),
+        (start, "é", 128, end, None),
+        (start, "é", 129, end, Some(LineError::Args)),
+        (start, r"\u00e9", 128, end, None),
+        (start, r"\u00e9", 129, end, Some(LineError::Args)),
+        (start, r"\\", 256, end, None),
+        (start, r"\\", 257, end, Some(LineError::Args)),
+        ("", "[", 200, "", Some(LineError::Json)),
+        ("[", "[],", 1_000, "5]", Some(LineError::Shape)),
+    ];
+    for (start, piece, count, end, error) in cases {
+        let line = repeated(rt.alloc(), start, piece, count, end)?;
+        assert!(rt;
+            class(rt.alloc(), line.as_slice())? == error,
+            "{count} times {piece}"
+        );
+    }
+    for (levels, error) in [
+        (127usize, LineError::Shape),
+        (128, LineError::Json),
+        (200, LineError::Json),
+    ] {
+        let mut line = repeated(rt.alloc(), "", "[", levels, "")?;
+        let ends = repeated(rt.alloc(), "", "]", levels, "")?;
+        line.extend_from_slice(ends.as_slice())?;
+        assert!(rt;
+            class(rt.alloc(), line.as_slice())? == Some(error),
+            "{levels} levels"
+        );
+    }
     Ok(())
 }
 
 #[test]
 fn a_line_asks_for_its_request(rt: HostRuntime) -> Result<(), Fail> {
-    let line = br#"{"args":[5,"a\n"],"call":"put","id":7,"snapshot":false}"#;
+    let line = br#"{"args":[5,"a\n\ud83d\ude00\u00e9"],"call":"put","id":7,"snapshot":false}"#;
     let Ok(request) = request(rt.alloc(), line) else {
         return Err(Fail::new("no request"));
     };
     let mut args = Args::new(rt.alloc());
     args.push(Some(Value::Int(5)))?;
-    args.push(Text::of("a\n").map(Value::Text))?;
+    args.push(Text::of("a\n😀é").map(Value::Text))?;
     let call = Call {
         proc_no: 1,
         args,
