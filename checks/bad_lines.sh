@@ -3,6 +3,10 @@
 set -u
 cd "$(dirname "$0")/.." || exit 2
 program=${1:-$PWD/crates/coco/out/coco}
+if [ ! -x "$program" ]; then
+    echo "$program isn't built: run rt ci first"
+    exit 2
+fi
 work=$(mktemp -d) || exit 2
 trap 'rm -rf "$work"' EXIT
 failed=0
