@@ -1,0 +1,48 @@
+-- What the tokens of a text stand for, without their places.
+use Rattle.std.specs.Prelude.{ℕ, ◌-◌, ◌==◌, if◌then◌else◌, nat_eq, List, [], ◌∷◌, length, take, drop, map, codes}
+use Rattle.std.specs.Cmp.Lexicographic.{pointwise}
+use Rattle.std.specs.Str.Parse.{digits_value}
+use Rattle.coco_ast.specs.declared.tree.TwoOp.TheVariants.{Plus, Less, Times, Over, Modulo, Equals, Differs, Below, AtMost, Above, AtLeast, Both, Either}
+use Rattle.coco_lex.specs.declared.token.Token.{Token}
+use Rattle.coco_lex.specs.declared.token.TokenKind.{TokenKind}
+use Rattle.coco_lex.specs.declared.token.TokenKind.TheVariants as kind
+use Rattle.coco_parse.specs.declared.word.Word.{Word}
+use Rattle.coco_parse.specs.declared.word.Word.TheVariants.{Table, Proc, Let, Get, Put, Delete, If, Else, Repeat, As, Refuse, Reply, Nothing, Not, Name, Number, Text, Two, OpenParen, CloseParen, OpenBrace, CloseBrace, OpenBracket, CloseBracket, Comma, Semicolon, Assign}
+
+-- the fixed words, each with its spelling
+abbrev pub spellings : List (List ℕ × Word)
+spellings =
+    (codes "table", Table) ∷ (codes "proc", Proc) ∷ (codes "let", Let) ∷ (codes "get", Get) ∷ (codes "put", Put) ∷ (codes "delete", Delete)
+    ∷ (codes "if", If) ∷ (codes "else", Else) ∷ (codes "repeat", Repeat) ∷ (codes "as", As) ∷ (codes "refuse", Refuse) ∷ (codes "reply", Reply)
+    ∷ (codes "none", Nothing) ∷ (codes "not", Not) ∷ (codes "and", Two Both) ∷ (codes "or", Two Either)
+    ∷ (codes "(", OpenParen) ∷ (codes ")", CloseParen) ∷ (codes "{", OpenBrace) ∷ (codes "}", CloseBrace) ∷ (codes "[", OpenBracket) ∷ (codes "]", CloseBracket)
+    ∷ (codes ",", Comma) ∷ (codes ";", Semicolon) ∷ (codes "=", Assign)
+    ∷ (codes "==", Two Equals) ∷ (codes "!=", Two Differs) ∷ (codes "<", Two Below) ∷ (codes "<=", Two AtMost) ∷ (codes ">", Two Above) ∷ (codes ">=", Two AtLeast)
+    ∷ (codes "+", Two Plus) ∷ (codes "-", Two Less) ∷ (codes "*", Two Times) ∷ (codes "/", Two Over) ∷ (codes "%", Two Modulo) ∷ []
+
+abbrev pub spelled_by : List (List ℕ × Word) → List ℕ → Word
+spelled_by [] bytes = Nothing
+spelled_by (row ∷ rows) bytes = if pointwise nat_eq row.0 bytes then row.1 else spelled_by rows bytes
+
+-- a text's content, its escapes read
+abbrev pub unescaped : List ℕ → List ℕ
+unescaped [] = []
+unescaped (b ∷ []) = b ∷ []
+unescaped (b ∷ c ∷ bs) = if b == 92 then c ∷ unescaped bs else b ∷ unescaped (c ∷ bs)
+
+-- without its quotes
+abbrev pub content : List ℕ → List ℕ
+content bytes = unescaped (take (length bytes - 2) (drop 1 bytes))
+
+abbrev pub word_in : TokenKind → List ℕ → Word
+word_in kind.Keyword bytes = spelled_by spellings bytes
+word_in kind.Name bytes = Name bytes
+word_in kind.Number bytes = Number (digits_value 10 bytes)
+word_in kind.Text bytes = Text (content bytes)
+word_in kind.Symbol bytes = spelled_by spellings bytes
+
+abbrev pub word_of : List ℕ → Token → Word
+word_of text t = word_in t.kind (take (t.end - t.start) (drop t.start text))
+
+abbrev pub words_of : List ℕ → List Token → List Word
+words_of text ts = map (word_of text) ts
