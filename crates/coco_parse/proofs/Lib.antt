@@ -1,2 +1,6 @@
 pub mod Expressions
+pub mod Following
+pub mod Holding
+pub mod Meeting
+pub mod Sounding
 pub mod Verdicts

@@ -2,7 +2,7 @@
 use Rattle.std.specs.Prelude.{◌≡◌, ◌≢◌, ℕ, suc, ◌<◌, ◌≤◌, List, [], ◌∷◌, ◌++◌, length, take, Option, None, Some, Result}
 use Rattle.coco_ast.specs.Tree.{Procedure, Procedures}
 use Rattle.coco_lex.specs.declared.token.Token.{Token}
-use Rattle.coco_parse.specs.Grammar.{IsText, IsFile, IsFront}
+use Rattle.coco_parse.specs.Grammar.{IsText, IsFile}
 use Rattle.coco_parse.specs.Limits.{Passes}
 use Rattle.coco_parse.specs.Refusal.{KeepLimits, IsTreeOf, IsRefusedAt, ParsesAs}
 use Rattle.coco_parse.specs.Machine.{Goal, Items, after, start}
@@ -17,13 +17,6 @@ IsItems g = (ts : List (List ℕ)) × (ps : List Procedure) × (g ≡ Items ts p
 
 pub file-complete : {ws : List Word} {ts : List (List ℕ)} {ps : List Procedure} → IsFile ws ts ps → after start ws ≡ Some (Items ts ps)
 file-complete h = ?
-
-pub file-sound : (ws : List Word) (ts : List (List ℕ)) (ps : List Procedure) → after start ws ≡ Some (Items ts ps) → IsFile ws ts ps
-file-sound ws ts ps h = ?
-
--- every goal can be met
-pub reached-front : (ws : List Word) (g : Goal) → after start ws ≡ Some g → IsFront ws
-reached-front ws g h = ?
 
 pub tree-of : (ws : List Word) (ts : List (List ℕ)) (ps : List Procedure) → after start ws ≡ Some (Items ts ps) → KeepLimits ws (length ws) → IsTreeOf ws (record { tables = ts; procs = ps })
 tree-of ws ts ps h limits = ?
