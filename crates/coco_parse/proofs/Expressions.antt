@@ -1,11 +1,15 @@
 -- What the machine does with expressions.
-use Rattle.std.specs.Prelude.{◌≡◌, ℕ, suc, ◌≤◌, List, [], ◌∷◌, ◌++◌, Some}
+use Rattle.std.proofs.Common.{◌≡◌, ℕ, suc, ◌<◌, ◌≤◌, Bool, true, false, if◌then◌else◌, nat_eq, nat_le, ◌&&◌, ◌⊎◌, inl, inr, ⊎_elim, List, [], ◌∷◌, ◌++◌, Option, Some, None, option_map, option_and_then, refl, sym, ap, ◌∙◌, subst, append_assoc, arith, le-leb, leb-true, leb-false, ne_eqb}
+use Rattle.std.proofs.lemmas.Bool.{lt-leb}
 use Rattle.coco_ast.specs.Tree.{Expression}
+use Rattle.coco_ast.specs.Tree as tree
+use Rattle.coco_ast.specs.Views.{sign_of}
 use Rattle.coco_ast.specs.declared.tree.TwoOp.{TwoOp}
 use Rattle.coco_ast.specs.declared.tree.TwoOp.TheVariants.{Plus, Less, Times, Over, Modulo, Equals, Differs, Below, AtMost, Above, AtLeast, Both, Either}
-use Rattle.coco_parse.specs.Grammar.{Level, Disjunction, Conjunction, Negation, Comparison, Sum, Product, Signed, Atom, IsExpression, IsWhole}
+use Rattle.coco_parse.specs.Grammar.{Level, Disjunction, Conjunction, Negation, Comparison, Sum, Product, Signed, Atom, Joins, either, both, plus, less, times, over, modulo, Compares, equals, differs, below, at_most, above, at_least, Within, disjunction, conjunction, negation, comparison, sum, product, IsExpression, plain, joined, compared, number, text, nothing, variable, enclosed, IsWhole}
+use Rattle.coco_parse.specs.Grammar as grammar
 use Rattle.coco_parse.specs.Machine as machine
-use Rattle.coco_parse.specs.Machine.{Frame, Opened, Negated, Left, binding, wants, operate, enclose, conclude, Mark, mark_word, Goal, Operand, after}
+use Rattle.coco_parse.specs.Machine.{Frame, Opened, Negated, Left, binding, wants, operate, enclose, conclude, Mark, ParenMark, BraceMark, BracketMark, EndBracketMark, SemicolonMark, AssignMark, AsMark, mark_word, marks, Goal, Operand, Operator, operand_step, operator_step, after}
 use Rattle.coco_parse.specs.declared.word.Word.{Word}
 use Rattle.coco_parse.specs.declared.word.Word.TheVariants as word
 use Rattle.coco_parse.specs.declared.word.Word.TheVariants.{Two, OpenParen, CloseParen}
@@ -48,8 +52,207 @@ pub data Spells : List Frame → List Word → Type 0 where
   signed : {fs : List Frame} {ws : List Word} → Spells fs ws → Spells (machine.Signed ∷ fs) (ws ++ Two Less ∷ [])
   left : {fs : List Frame} {ws us : List Word} {op : TwoOp} {d : Expression} → Spells fs ws → wants fs ≤ binding op → IsAt (left_least op) us d → Spells (Left op d ∷ fs) (ws ++ us ++ Two op ∷ [])
 
+-- ---- levels
+
+-- how tightly an operator behind an expression of a level may bind
+abbrev bound : Level → ℕ
+bound Disjunction = 0
+bound Conjunction = 1
+bound Negation = 1
+bound Comparison = 2
+bound Sum = 4
+bound Product = 5
+bound Signed = 5
+bound Atom = 5
+
+abbrev Follows : ℕ → Word → Type 0
+Follows n (Two op) = binding op ≤ n
+Follows n _ = Unit {0}
+
+follows_more : (w : Word) (m n : ℕ) → m ≤ n → Follows m w → Follows n w
+follows_more (Two op) m n h f = omega arith
+follows_more _ m n h f = tt
+
+binding_most : (op : TwoOp) → binding op ≤ 5
+binding_most Either = omega arith
+binding_most _ = omega arith
+
+within_number : {l k : Level} → Within l k → level_number k ≡ suc (level_number l)
+within_number disjunction = refl
+within_number conjunction = refl
+within_number negation = refl
+within_number comparison = refl
+within_number sum = refl
+within_number product = refl
+within_number grammar.signed = refl
+
+within_bound : {l k : Level} → Within l k → bound l ≤ bound k
+within_bound disjunction = omega arith
+within_bound conjunction = omega arith
+within_bound negation = omega arith
+within_bound comparison = omega arith
+within_bound sum = omega arith
+within_bound product = omega arith
+within_bound grammar.signed = omega arith
+
+-- ---- the machine on what the grammar allows
+
+pushed : (e : Expression) (fs : List Frame) (op : TwoOp) → wants fs ≤ binding op → operate e fs op ≡ Some (Left op e ∷ fs)
+pushed e [] op h = refl
+pushed e (Opened ∷ fs) op h = refl
+pushed e (Negated ∷ fs) op h = rw (le-leb 2 (binding op) h)
+pushed e (machine.Signed ∷ fs) op h = absurd (omega (arith, binding_most op))
+pushed e (Left o d ∷ fs) op h = rw (le-leb (suc (binding o)) (binding op) h)
+
+taken_left : (o op : TwoOp) (d e : Expression) (fs : List Frame) → binding op ≤ binding o → (nat_eq (binding o) 3 && nat_eq (binding op) 3) ≡ false → operate e (Left o d ∷ fs) op ≡ operate (tree.Two (sign_of o) d e) fs op
+taken_left o op d e fs h one = rw (lt-leb (suc (binding o)) (binding op) (omega arith), one)
+
+
+taken_joined : {l : Level} {o : TwoOp} → Joins l o → (op : TwoOp) (d e : Expression) (fs : List Frame) → binding op ≤ bound l → operate e (Left o d ∷ fs) op ≡ operate (tree.Two (sign_of o) d e) fs op
+taken_joined either op d e fs h = taken_left Either op d e fs h refl
+taken_joined both op d e fs h = taken_left Both op d e fs h refl
+taken_joined plus op d e fs h = taken_left Plus op d e fs h refl
+taken_joined less op d e fs h = taken_left Less op d e fs h refl
+taken_joined times op d e fs h = taken_left Times op d e fs h refl
+taken_joined over op d e fs h = taken_left Over op d e fs h refl
+taken_joined modulo op d e fs h = taken_left Modulo op d e fs h refl
+
+compares_binding : {o : TwoOp} → Compares o → binding o ≡ 3
+compares_binding equals = refl
+compares_binding differs = refl
+compares_binding below = refl
+compares_binding at_most = refl
+compares_binding above = refl
+compares_binding at_least = refl
+
+joins_binding : {l : Level} {o : TwoOp} → Joins l o → binding o ≡ level_number l
+joins_binding either = refl
+joins_binding both = refl
+joins_binding plus = refl
+joins_binding less = refl
+joins_binding times = refl
+joins_binding over = refl
+joins_binding modulo = refl
+
+joins_bound : {l : Level} {o : TwoOp} → Joins l o → binding o ≡ bound l
+joins_bound either = refl
+joins_bound both = refl
+joins_bound plus = refl
+joins_bound less = refl
+joins_bound times = refl
+joins_bound over = refl
+joins_bound modulo = refl
+
+not_three : (n : ℕ) → n ≤ 2 → nat_eq n 3 ≡ false
+not_three n h = ne_eqb n 3 (λ same. omega arith)
+
+taken_compared : (o op : TwoOp) (d e : Expression) (fs : List Frame) → binding o ≡ 3 → binding op ≤ 2 → operate e (Left o d ∷ fs) op ≡ operate (tree.Two (sign_of o) d e) fs op
+taken_compared o op d e fs same h = taken_left o op d e fs (omega arith) (rw (same, not_three (binding op) h))
+
+-- two operands in frames do the same where each operator, parenthesis and end does
+alike : (e d : Expression) (fs gs : List Frame) (n : ℕ) → ((op : TwoOp) → binding op ≤ n → operate e fs op ≡ operate d gs op) → enclose e fs ≡ enclose d gs → conclude e fs ≡ conclude d gs
+    → (m : Mark) (k : Expression → Goal) (w : Word) → Follows n w → operator_step e fs m k w ≡ operator_step d gs m k w
+alike e d fs gs n operates encloses concludes m k (Two op) h = ap (option_map (λ hs. Operand hs m k)) (operates op h)
+alike e d fs gs n operates encloses concludes m k CloseParen h = ap (option_map (λ (p : Expression × List Frame). Operator p.0 p.1 m k)) encloses
+alike e d fs gs n operates encloses concludes m k w h = ap (λ c. if marks m w then option_map k c else None) concludes
+
+-- the machine reads an operand into frames that want no more, and what follows it comes to the whole operand
+abbrev Reads : List Word → Expression → List Frame → Mark → (Expression → Goal) → Word → List Word → Type 0
+Reads ws e fs m k w v = after (Operand fs m k) (ws ++ w ∷ v) ≡ after (Operator e fs m k) (w ∷ v)
+
+reads_two : (us vs : List Word) (op : TwoOp) (d e : Expression) (fs : List Frame) (m : Mark) (k : Expression → Goal) (w : Word) (v : List Word) → wants fs ≤ binding op
+    → Reads us d fs m k (Two op) (vs ++ w ∷ v) → Reads vs e (Left op d ∷ fs) m k w v
+    → operator_step e (Left op d ∷ fs) m k w ≡ operator_step (tree.Two (sign_of op) d e) fs m k w
+    → Reads (us ++ Two op ∷ vs) (tree.Two (sign_of op) d e) fs m k w v
+reads_two us vs op d e fs m k w v h first second taken =
+    ap (after (Operand fs m k)) (append_assoc us (Two op ∷ vs) (w ∷ v)) ∙ first
+    ∙ ap (λ o. option_and_then (λ g. after g (vs ++ w ∷ v)) (option_map (λ gs. Operand gs m k) o)) (pushed d fs op h)
+    ∙ second ∙ ap (option_and_then (λ g. after g v)) taken
+
+reads_not : (ws : List Word) (e : Expression) (fs : List Frame) (m : Mark) (k : Expression → Goal) (w : Word) (v : List Word) → wants fs ≤ 2
+    → Reads ws e (Negated ∷ fs) m k w v → operator_step e (Negated ∷ fs) m k w ≡ operator_step (tree.Not e) fs m k w → Reads (word.Not ∷ ws) (tree.Not e) fs m k w v
+reads_not ws e fs m k w v h inner taken =
+    ap (λ (b : Bool). option_and_then (λ g. after g (ws ++ w ∷ v)) (if b then Some (Operand (Negated ∷ fs) m k) else None)) (le-leb (wants fs) 2 h)
+    ∙ inner ∙ ap (option_and_then (λ g. after g v)) taken
+
+reads_enclosed : (ws : List Word) (e : Expression) (fs : List Frame) (m : Mark) (k : Expression → Goal) (w : Word) (v : List Word) → Reads ws e (Opened ∷ fs) m k CloseParen (w ∷ v) → Reads (OpenParen ∷ ws ++ CloseParen ∷ []) e fs m k w v
+reads_enclosed ws e fs m k w v inner = ap (after (Operand (Opened ∷ fs) m k)) (append_assoc ws (CloseParen ∷ []) (w ∷ v)) ∙ inner
+
+taken_not : (op : TwoOp) (e : Expression) (fs : List Frame) → binding op ≤ 1 → operate e (Negated ∷ fs) op ≡ operate (tree.Not e) fs op
+taken_not op e fs h = rw (lt-leb 2 (binding op) (omega arith))
+
+reads : {l : Level} {ws : List Word} {e : Expression} → IsExpression l ws e → (fs : List Frame) (m : Mark) (k : Expression → Goal) (w : Word) (v : List Word) → wants fs ≤ level_number l → Follows (bound l) w → Reads ws e fs m k w v
+reads (plain {l = l} {k = n} inside h) fs m k w v wanted follows = reads h fs m k w v (omega (arith, within_number inside)) (follows_more w (bound l) (bound n) (within_bound inside) follows)
+reads (joined {l = l} {k = n} {op = op} {us = us} {vs = vs} {d = d} {e = e} joins inside first second) fs m k w v wanted follows =
+    reads_two us vs op d e fs m k w v (omega (arith, joins_binding joins))
+    (reads first fs m k (Two op) (vs ++ w ∷ v) wanted (omega (arith, joins_bound joins)))
+    (reads second (Left op d ∷ fs) m k w v (omega (arith, joins_binding joins, within_number inside)) (follows_more w (bound l) (bound n) (within_bound inside) follows))
+    (alike e (tree.Two (sign_of op) d e) (Left op d ∷ fs) fs (bound l) (λ o h. taken_joined joins o d e fs h) refl refl m k w follows)
+reads (compared {op = op} {us = us} {vs = vs} {d = d} {e = e} compares first second) fs m k w v wanted follows =
+    reads_two us vs op d e fs m k w v (omega (arith, compares_binding compares))
+    (reads first fs m k (Two op) (vs ++ w ∷ v) (omega arith) (omega (arith, compares_binding compares)))
+    (reads second (Left op d ∷ fs) m k w v (omega (arith, compares_binding compares)) (follows_more w 2 4 (omega arith) follows))
+    (alike e (tree.Two (sign_of op) d e) (Left op d ∷ fs) fs 2 (λ o h. taken_compared op o d e fs (compares_binding compares) h) refl refl m k w follows)
+reads (grammar.negated {ws = ws} {e = e} h) fs m k w v wanted follows =
+    reads_not ws e fs m k w v wanted (reads h (Negated ∷ fs) m k w v (omega arith) follows)
+    (alike e (tree.Not e) (Negated ∷ fs) fs 1 (λ o less. taken_not o e fs less) refl refl m k w follows)
+reads (grammar.signed {ws = ws} {e = e} h) fs m k w v wanted follows =
+    reads h (machine.Signed ∷ fs) m k w v (omega arith) follows
+    ∙ ap (option_and_then (λ g. after g v)) (alike e (tree.Minus e) (machine.Signed ∷ fs) fs 5 (λ o less. refl) refl refl m k w follows)
+reads number fs m k w v wanted follows = refl
+reads text fs m k w v wanted follows = refl
+reads nothing fs m k w v wanted follows = refl
+reads variable fs m k w v wanted follows = refl
+reads (enclosed {ws = ws} {e = e} h) fs m k w v wanted follows = reads_enclosed ws e fs m k w v (reads h (Opened ∷ fs) m k CloseParen (w ∷ v) (omega arith) tt)
+
+mark_follows : (m : Mark) → Follows 0 (mark_word m)
+mark_follows ParenMark = tt
+mark_follows _ = tt
+
+mark_ends : (m : Mark) (k : Expression → Goal) (e : Expression) → operator_step e [] m k (mark_word m) ≡ Some (k e)
+mark_ends ParenMark k e = refl
+mark_ends _ k e = refl
+
 pub whole-complete : {ws : List Word} {e : Expression} → IsWhole ws e → (m : Mark) (k : Expression → Goal) (v : List Word) → after (Operand [] m k) (ws ++ mark_word m ∷ v) ≡ after (k e) v
-whole-complete h m k v = ?
+whole-complete {e = e} h m k v = reads h [] m k (mark_word m) v (omega arith) (mark_follows m) ∙ ap (option_and_then (λ g. after g v)) (mark_ends m k e)
+
+-- ---- an expression stands at every level below its own
+
+at_atom : (l : Level) (ws : List Word) (e : Expression) → 7 ≤ level_number l → IsExpression l ws e → IsExpression Atom ws e
+at_atom Atom ws e h x = x
+at_atom _ ws e h x = absurd (omega arith)
+
+at_signed : (l : Level) (ws : List Word) (e : Expression) → 6 ≤ level_number l → IsExpression l ws e → IsExpression Signed ws e
+at_signed Signed ws e h x = x
+at_signed l ws e h x = plain grammar.signed (at_atom l ws e (omega arith) x)
+
+at_product : (l : Level) (ws : List Word) (e : Expression) → 5 ≤ level_number l → IsExpression l ws e → IsExpression Product ws e
+at_product Product ws e h x = x
+at_product l ws e h x = plain product (at_signed l ws e (omega arith) x)
+
+at_sum : (l : Level) (ws : List Word) (e : Expression) → 4 ≤ level_number l → IsExpression l ws e → IsExpression Sum ws e
+at_sum Sum ws e h x = x
+at_sum l ws e h x = plain sum (at_product l ws e (omega arith) x)
+
+at_comparison : (l : Level) (ws : List Word) (e : Expression) → 3 ≤ level_number l → IsExpression l ws e → IsExpression Comparison ws e
+at_comparison Comparison ws e h x = x
+at_comparison l ws e h x = plain comparison (at_sum l ws e (omega arith) x)
+
+at_negation : (l : Level) (ws : List Word) (e : Expression) → 2 ≤ level_number l → IsExpression l ws e → IsExpression Negation ws e
+at_negation Negation ws e h x = x
+at_negation l ws e h x = plain negation (at_comparison l ws e (omega arith) x)
+
+at_conjunction : (l : Level) (ws : List Word) (e : Expression) → 1 ≤ level_number l → IsExpression l ws e → IsExpression Conjunction ws e
+at_conjunction Conjunction ws e h x = x
+at_conjunction l ws e h x = plain conjunction (at_negation l ws e (omega arith) x)
+
+at_disjunction : (l : Level) (ws : List Word) (e : Expression) → 0 ≤ level_number l → IsExpression l ws e → IsExpression Disjunction ws e
+at_disjunction Disjunction ws e h x = x
+at_disjunction l ws e h x = plain disjunction (at_conjunction l ws e (omega arith) x)
+
+level_of : ℕ → Level
+level_of 0 = Disjunction
+level_of _ = Atom
 
 pub operate-spells : (e : Expression) (fs gs : List Frame) (op : TwoOp) (ws us : List Word) → operate e fs op ≡ Some gs → Spells fs ws → IsExpression Atom us e → Spells gs (ws ++ us ++ Two op ∷ [])
 operate-spells e fs gs op ws us h s a = ?
