@@ -1,6 +1,6 @@
 -- What the machine does with expressions.
-use Rattle.std.proofs.Common.{◌≡◌, ℕ, suc, ◌<◌, ◌≤◌, Bool, true, false, if◌then◌else◌, nat_eq, nat_le, ◌&&◌, ◌⊎◌, inl, inr, ⊎_elim, List, [], ◌∷◌, ◌++◌, Option, Some, None, option_map, option_and_then, refl, sym, ap, ◌∙◌, subst, append_assoc, arith, le-leb, leb-true, leb-false, ne_eqb}
-use Rattle.std.proofs.lemmas.Bool.{lt-leb}
+use Rattle.std.proofs.Common.{◌≡◌, ◌≢◌, ℕ, suc, ◌<◌, ◌≤◌, Bool, true, false, if◌then◌else◌, nat_eq, nat_le, ◌&&◌, ◌⊎◌, inl, inr, ⊎_elim, List, [], ◌∷◌, ◌++◌, Option, Some, None, option_map, option_and_then, refl, sym, ap, ◌∙◌, subst, append_assoc, arith, le-leb, leb-true, leb-false, ne_eqb, eq-eqb}
+use Rattle.std.proofs.lemmas.Bool.{lt-leb, cases_Bool}
 use Rattle.coco_ast.specs.Tree.{Expression}
 use Rattle.coco_ast.specs.Tree as tree
 use Rattle.coco_ast.specs.Views.{sign_of}
@@ -218,48 +218,183 @@ whole-complete {e = e} h m k v = reads h [] m k (mark_word m) v (omega arith) (m
 
 -- ---- an expression stands at every level below its own
 
-at_atom : (l : Level) (ws : List Word) (e : Expression) → 7 ≤ level_number l → IsExpression l ws e → IsExpression Atom ws e
-at_atom Atom ws e h x = x
-at_atom _ ws e h x = absurd (omega arith)
+at_atom : (l : Level) {ws : List Word} {e : Expression} → 7 ≤ level_number l → IsExpression l ws e → IsExpression Atom ws e
+at_atom Atom h x = x
+at_atom _ h x = absurd (omega arith)
 
-at_signed : (l : Level) (ws : List Word) (e : Expression) → 6 ≤ level_number l → IsExpression l ws e → IsExpression Signed ws e
-at_signed Signed ws e h x = x
-at_signed l ws e h x = plain grammar.signed (at_atom l ws e (omega arith) x)
+at_signed : (l : Level) {ws : List Word} {e : Expression} → 6 ≤ level_number l → IsExpression l ws e → IsExpression Signed ws e
+at_signed Signed h x = x
+at_signed l h x = plain grammar.signed (at_atom l (omega arith) x)
 
-at_product : (l : Level) (ws : List Word) (e : Expression) → 5 ≤ level_number l → IsExpression l ws e → IsExpression Product ws e
-at_product Product ws e h x = x
-at_product l ws e h x = plain product (at_signed l ws e (omega arith) x)
+at_product : (l : Level) {ws : List Word} {e : Expression} → 5 ≤ level_number l → IsExpression l ws e → IsExpression Product ws e
+at_product Product h x = x
+at_product l h x = plain product (at_signed l (omega arith) x)
 
-at_sum : (l : Level) (ws : List Word) (e : Expression) → 4 ≤ level_number l → IsExpression l ws e → IsExpression Sum ws e
-at_sum Sum ws e h x = x
-at_sum l ws e h x = plain sum (at_product l ws e (omega arith) x)
+at_sum : (l : Level) {ws : List Word} {e : Expression} → 4 ≤ level_number l → IsExpression l ws e → IsExpression Sum ws e
+at_sum Sum h x = x
+at_sum l h x = plain sum (at_product l (omega arith) x)
 
-at_comparison : (l : Level) (ws : List Word) (e : Expression) → 3 ≤ level_number l → IsExpression l ws e → IsExpression Comparison ws e
-at_comparison Comparison ws e h x = x
-at_comparison l ws e h x = plain comparison (at_sum l ws e (omega arith) x)
+at_comparison : (l : Level) {ws : List Word} {e : Expression} → 3 ≤ level_number l → IsExpression l ws e → IsExpression Comparison ws e
+at_comparison Comparison h x = x
+at_comparison l h x = plain comparison (at_sum l (omega arith) x)
 
-at_negation : (l : Level) (ws : List Word) (e : Expression) → 2 ≤ level_number l → IsExpression l ws e → IsExpression Negation ws e
-at_negation Negation ws e h x = x
-at_negation l ws e h x = plain negation (at_comparison l ws e (omega arith) x)
+at_negation : (l : Level) {ws : List Word} {e : Expression} → 2 ≤ level_number l → IsExpression l ws e → IsExpression Negation ws e
+at_negation Negation h x = x
+at_negation l h x = plain negation (at_comparison l (omega arith) x)
 
-at_conjunction : (l : Level) (ws : List Word) (e : Expression) → 1 ≤ level_number l → IsExpression l ws e → IsExpression Conjunction ws e
-at_conjunction Conjunction ws e h x = x
-at_conjunction l ws e h x = plain conjunction (at_negation l ws e (omega arith) x)
+at_conjunction : (l : Level) {ws : List Word} {e : Expression} → 1 ≤ level_number l → IsExpression l ws e → IsExpression Conjunction ws e
+at_conjunction Conjunction h x = x
+at_conjunction l h x = plain conjunction (at_negation l (omega arith) x)
 
-at_disjunction : (l : Level) (ws : List Word) (e : Expression) → 0 ≤ level_number l → IsExpression l ws e → IsExpression Disjunction ws e
-at_disjunction Disjunction ws e h x = x
-at_disjunction l ws e h x = plain disjunction (at_conjunction l ws e (omega arith) x)
+at_disjunction : (l : Level) {ws : List Word} {e : Expression} → 0 ≤ level_number l → IsExpression l ws e → IsExpression Disjunction ws e
+at_disjunction Disjunction h x = x
+at_disjunction l h x = plain disjunction (at_conjunction l (omega arith) x)
 
-level_of : ℕ → Level
-level_of 0 = Disjunction
-level_of _ = Atom
+-- the level of an operator's expression
+abbrev level_at : TwoOp → Level
+level_at Either = Disjunction
+level_at Both = Conjunction
+level_at Plus = Sum
+level_at Less = Sum
+level_at Times = Product
+level_at Over = Product
+level_at Modulo = Product
+level_at _ = Comparison
+
+level_binding : (op : TwoOp) → level_number (level_at op) ≡ binding op
+level_binding Either = refl
+level_binding _ = refl
+
+left_binding : (op : TwoOp) → (left_least op ≡ binding op) ⊎ ((binding op ≡ 3) × (left_least op ≡ 4))
+left_binding Equals = inr (refl, refl)
+left_binding Differs = inr (refl, refl)
+left_binding Below = inr (refl, refl)
+left_binding AtMost = inr (refl, refl)
+left_binding Above = inr (refl, refl)
+left_binding AtLeast = inr (refl, refl)
+left_binding _ = inl refl
+
+two_at : (op : TwoOp) {us vs : List Word} {d e : Expression} → IsAt (left_least op) us d → IsAt (suc (binding op)) vs e → IsExpression (level_at op) (us ++ Two op ∷ vs) (tree.Two (sign_of op) d e)
+two_at Either a b = joined either disjunction (at_disjunction a.0 a.1 a.2) (at_conjunction b.0 b.1 b.2)
+two_at Both a b = joined both conjunction (at_conjunction a.0 a.1 a.2) (at_negation b.0 b.1 b.2)
+two_at Equals a b = compared equals (at_sum a.0 a.1 a.2) (at_sum b.0 b.1 b.2)
+two_at Differs a b = compared differs (at_sum a.0 a.1 a.2) (at_sum b.0 b.1 b.2)
+two_at Below a b = compared below (at_sum a.0 a.1 a.2) (at_sum b.0 b.1 b.2)
+two_at AtMost a b = compared at_most (at_sum a.0 a.1 a.2) (at_sum b.0 b.1 b.2)
+two_at Above a b = compared above (at_sum a.0 a.1 a.2) (at_sum b.0 b.1 b.2)
+two_at AtLeast a b = compared at_least (at_sum a.0 a.1 a.2) (at_sum b.0 b.1 b.2)
+two_at Plus a b = joined plus sum (at_sum a.0 a.1 a.2) (at_product b.0 b.1 b.2)
+two_at Less a b = joined less sum (at_sum a.0 a.1 a.2) (at_product b.0 b.1 b.2)
+two_at Times a b = joined times product (at_product a.0 a.1 a.2) (at_signed b.0 b.1 b.2)
+two_at Over a b = joined over product (at_product a.0 a.1 a.2) (at_signed b.0 b.1 b.2)
+two_at Modulo a b = joined modulo product (at_product a.0 a.1 a.2) (at_signed b.0 b.1 b.2)
+
+two_within : (n : ℕ) (op : TwoOp) {us vs : List Word} {d e : Expression} → n ≤ binding op → IsAt (left_least op) us d → IsAt (suc (binding op)) vs e → IsAt n (us ++ Two op ∷ vs) (tree.Two (sign_of op) d e)
+two_within n op h a b = (level_at op, omega (arith, level_binding op), two_at op a b)
+
+not_within : (n : ℕ) {us : List Word} {e : Expression} → n ≤ 2 → IsAt 2 us e → IsAt n (word.Not ∷ us) (tree.Not e)
+not_within n h a = (Negation, h, grammar.negated (at_negation a.0 a.1 a.2))
+
+minus_within : (n : ℕ) {us : List Word} {e : Expression} → n ≤ 6 → IsAt 6 us e → IsAt n (Two Less ∷ us) (tree.Minus e)
+minus_within n h a = (Signed, h, grammar.signed (at_signed a.0 a.1 a.2))
+
+wants_most : (fs : List Frame) → wants fs ≤ 6
+wants_most [] = omega arith
+wants_most (Opened ∷ fs) = omega arith
+wants_most (Negated ∷ fs) = omega arith
+wants_most (machine.Signed ∷ fs) = omega arith
+wants_most (Left op e ∷ fs) = omega (arith, binding_most op)
+
+left_most : (op : TwoOp) → left_least op ≤ 5
+left_most Either = omega arith
+left_most _ = omega arith
+
+-- ---- frames behind an operator
+
+pushed_spells : (e : Expression) (fs gs : List Frame) (op : TwoOp) (ws us : List Word) → Some (Left op e ∷ fs) ≡ Some gs → Spells fs ws → wants fs ≤ binding op → IsAt (left_least op) us e → Spells gs (ws ++ us ++ Two op ∷ [])
+pushed_spells e fs gs op ws us h s wanted a =
+    let same : (Left op e ∷ fs) ≡ gs = cc in
+    subst (λ hs. Spells hs (ws ++ us ++ Two op ∷ [])) same (left s wanted a)
+
+operated_not : (e : Expression) (fs gs : List Frame) (op : TwoOp) (ws us : List Word) → operate e (Negated ∷ fs) op ≡ Some gs → Spells fs ws → wants fs ≤ 2 → IsAt 2 us e → IsAt (left_least op) us e
+    → (operate (tree.Not e) fs op ≡ Some gs → IsAt (wants fs) (word.Not ∷ us) (tree.Not e) → IsAt (left_least op) (word.Not ∷ us) (tree.Not e) → Spells gs (ws ++ (word.Not ∷ us) ++ Two op ∷ []))
+    → Spells gs (ws ++ word.Not ∷ [] ++ us ++ Two op ∷ [])
+operated_not e fs gs op ws us h s wanted a b further =
+    ⊎_elim
+    (λ binds. pushed_spells e (Negated ∷ fs) gs op (ws ++ word.Not ∷ []) us (rw binds at h) (negated s wanted) (leb-true 2 (binding op) binds) b)
+    (λ frees. rw (append_assoc ws (word.Not ∷ []) us) (further (rw frees at h) (not_within (wants fs) wanted a) (not_within (left_least op) (omega (arith, leb-false 2 (binding op) frees, left_binding op)) a)))
+    (cases_Bool (nat_le 2 (binding op)))
+
+one_compares : (o op : TwoOp) → nat_le (suc (binding o)) (binding op) ≡ false → (nat_eq (binding o) 3 && nat_eq (binding op) 3) ≡ false → left_least op ≤ binding o
+one_compares o op frees one =
+    let h : binding op ≤ binding o = omega (arith, leb-false (suc (binding o)) (binding op) frees) in
+    ⊎_elim
+    (λ same. omega arith)
+    (λ both. let differ : binding o ≢ 3 = λ three. absurd (cc (rw (eq-eqb (binding o) 3 three, eq-eqb (binding op) 3 both.0) at one)) in omega arith)
+    (left_binding op)
+
+regrouped : (ws us vs : List Word) (w : Word) → (ws ++ us ++ w ∷ []) ++ vs ≡ ws ++ (us ++ w ∷ vs)
+regrouped ws us vs w = append_assoc (ws ++ us) (w ∷ []) vs ∙ append_assoc ws us (w ∷ vs)
+
+operated_left : (e d : Expression) (fs gs : List Frame) (o op : TwoOp) (ws us vs : List Word) → operate e (Left o d ∷ fs) op ≡ Some gs → Spells fs ws → wants fs ≤ binding o → IsAt (left_least o) us d → IsAt (suc (binding o)) vs e → IsAt (left_least op) vs e
+    → (operate (tree.Two (sign_of o) d e) fs op ≡ Some gs → IsAt (wants fs) (us ++ Two o ∷ vs) (tree.Two (sign_of o) d e) → IsAt (left_least op) (us ++ Two o ∷ vs) (tree.Two (sign_of o) d e)
+        → Spells gs (ws ++ (us ++ Two o ∷ vs) ++ Two op ∷ []))
+    → Spells gs ((ws ++ us ++ Two o ∷ []) ++ vs ++ Two op ∷ [])
+operated_left e d fs gs o op ws us vs h s wanted c a b further =
+    ⊎_elim
+    (λ binds. pushed_spells e (Left o d ∷ fs) gs op (ws ++ us ++ Two o ∷ []) vs (rw binds at h) (left s wanted c) (leb-true (suc (binding o)) (binding op) binds) b)
+    (λ frees. ⊎_elim
+    (λ two. let none_left : None ≡ Some gs = rw two at (rw frees at h) in absurd (cc))
+    (λ one. let went_on : operate (tree.Two (sign_of o) d e) fs op ≡ Some gs = rw one at (rw frees at h) in
+    rw (regrouped ws us vs (Two o)) (further went_on (two_within (wants fs) o wanted c a) (two_within (left_least op) o (one_compares o op frees one) c a)))
+    (cases_Bool (nat_eq (binding o) 3 && nat_eq (binding op) 3)))
+    (cases_Bool (nat_le (suc (binding o)) (binding op)))
+
+operated : {fs : List Frame} {ws : List Word} → Spells fs ws → (e : Expression) (gs : List Frame) (op : TwoOp) (us : List Word) → operate e fs op ≡ Some gs → IsAt (wants fs) us e → IsAt (left_least op) us e → Spells gs (ws ++ us ++ Two op ∷ [])
+operated none e gs op us h a b = pushed_spells e [] gs op [] us h none (omega arith) b
+operated (opened {fs = fs} {ws = ws} s) e gs op us h a b = pushed_spells e (Opened ∷ fs) gs op (ws ++ OpenParen ∷ []) us h (opened s) (omega arith) b
+operated (negated {fs = fs} {ws = ws} s wanted) e gs op us h a b = operated_not e fs gs op ws us h s wanted a b (operated s (tree.Not e) gs op (word.Not ∷ us))
+operated (signed {fs = fs} {ws = ws} s) e gs op us h a b =
+    rw (append_assoc ws (Two Less ∷ []) us) (operated s (tree.Minus e) gs op (Two Less ∷ us) h (minus_within (wants fs) (wants_most fs) a) (minus_within (left_least op) (omega (arith, left_most op)) a))
+operated (left {fs = fs} {ws = ws} {us = us} {op = o} {d = d} s wanted c) e gs op vs h a b = operated_left e d fs gs o op ws us vs h s wanted c a b (operated s (tree.Two (sign_of o) d e) gs op (us ++ Two o ∷ vs))
 
 pub operate-spells : (e : Expression) (fs gs : List Frame) (op : TwoOp) (ws us : List Word) → operate e fs op ≡ Some gs → Spells fs ws → IsExpression Atom us e → Spells gs (ws ++ us ++ Two op ∷ [])
-operate-spells e fs gs op ws us h s a = ?
+operate-spells e fs gs op ws us h s a = operated s e gs op us h (Atom, omega (arith, wants_most fs), a) (Atom, omega (arith, left_most op), a)
+
+-- ---- frames behind a closing parenthesis, and none at the end
+
+abbrev EndsInside : Expression → List Frame → List Word → Type 0
+EndsInside d gs ws = (vs xs : List Word) × (ws ≡ vs ++ xs) × Spells gs vs × IsExpression Atom xs d
+
+closed : (e d : Expression) (fs gs : List Frame) (ws us : List Word) → enclose e (Opened ∷ fs) ≡ Some (d, gs) → Spells fs ws → IsAt 0 us e → EndsInside d gs (ws ++ OpenParen ∷ [] ++ us ++ CloseParen ∷ [])
+closed e d fs gs ws us h s a =
+    let pair : ◌≡◌ {A = Expression × List Frame} (e, fs) (d, gs) = cc in
+    let same : e ≡ d = ap (λ (p : Expression × List Frame). p.0) pair in
+    let around : fs ≡ gs = ap (λ (p : Expression × List Frame). p.1) pair in
+    (ws, (OpenParen ∷ us ++ CloseParen ∷ []), append_assoc (ws ++ OpenParen ∷ []) us (CloseParen ∷ []) ∙ append_assoc ws (OpenParen ∷ []) (us ++ CloseParen ∷ []),
+    subst (λ hs. Spells hs ws) around s, subst (λ x. IsExpression Atom (OpenParen ∷ us ++ CloseParen ∷ []) x) same (enclosed (at_disjunction a.0 a.1 a.2)))
+
+closing : {fs : List Frame} {ws : List Word} → Spells fs ws → (e d : Expression) (gs : List Frame) (us : List Word) → enclose e fs ≡ Some (d, gs) → IsAt (wants fs) us e → EndsInside d gs (ws ++ us ++ CloseParen ∷ [])
+closing none e d gs us h a = absurd (cc)
+closing (opened {fs = fs} {ws = ws} s) e d gs us h a = closed e d fs gs ws us h s a
+closing (negated {fs = fs} {ws = ws} s wanted) e d gs us h a =
+    subst (λ l. EndsInside d gs (l ++ CloseParen ∷ [])) (sym (append_assoc ws (word.Not ∷ []) us)) (closing s (tree.Not e) d gs (word.Not ∷ us) h (not_within (wants fs) wanted a))
+closing (signed {fs = fs} {ws = ws} s) e d gs us h a =
+    subst (λ l. EndsInside d gs (l ++ CloseParen ∷ [])) (sym (append_assoc ws (Two Less ∷ []) us)) (closing s (tree.Minus e) d gs (Two Less ∷ us) h (minus_within (wants fs) (wants_most fs) a))
+closing (left {fs = fs} {ws = ws} {us = us} {op = o} {d = c} s wanted b) e d gs vs h a =
+    subst (λ l. EndsInside d gs (l ++ CloseParen ∷ [])) (sym (regrouped ws us vs (Two o))) (closing s (tree.Two (sign_of o) c e) d gs (us ++ Two o ∷ vs) h (two_within (wants fs) o wanted b a))
 
 pub enclose-spells : (e d : Expression) (fs gs : List Frame) (ws us : List Word) → enclose e fs ≡ Some (d, gs) → Spells fs ws → IsExpression Atom us e
     → (vs xs : List Word) × (ws ++ us ++ CloseParen ∷ [] ≡ vs ++ xs) × Spells gs vs × IsExpression Atom xs d
-enclose-spells e d fs gs ws us h s a = ?
+enclose-spells e d fs gs ws us h s a = closing s e d gs us h (Atom, omega (arith, wants_most fs), a)
+
+concluded : {fs : List Frame} {ws : List Word} → Spells fs ws → (e d : Expression) (us : List Word) → conclude e fs ≡ Some d → IsAt (wants fs) us e → IsWhole (ws ++ us) d
+concluded none e d us h a = let same : e ≡ d = cc in subst (λ x. IsWhole us x) same (at_disjunction a.0 a.1 a.2)
+concluded (opened s) e d us h a = absurd (cc)
+concluded (negated {fs = fs} {ws = ws} s wanted) e d us h a = rw (append_assoc ws (word.Not ∷ []) us) (concluded s (tree.Not e) d (word.Not ∷ us) h (not_within (wants fs) wanted a))
+concluded (signed {fs = fs} {ws = ws} s) e d us h a = rw (append_assoc ws (Two Less ∷ []) us) (concluded s (tree.Minus e) d (Two Less ∷ us) h (minus_within (wants fs) (wants_most fs) a))
+concluded (left {fs = fs} {ws = ws} {us = us} {op = o} {d = c} s wanted b) e d vs h a =
+    rw (regrouped ws us vs (Two o)) (concluded s (tree.Two (sign_of o) c e) d (us ++ Two o ∷ vs) h (two_within (wants fs) o wanted b a))
 
 pub conclude-spells : (e d : Expression) (fs : List Frame) (ws us : List Word) → conclude e fs ≡ Some d → Spells fs ws → IsExpression Atom us e → IsWhole (ws ++ us) d
-conclude-spells e d fs ws us h s a = ?
+conclude-spells e d fs ws us h s a = concluded s e d us h (Atom, omega (arith, wants_most fs), a)
