@@ -1,5 +1,5 @@
 -- What the machine does with expressions.
-use Rattle.std.proofs.Common.{◌≡◌, ◌≢◌, ℕ, suc, ◌<◌, ◌≤◌, Bool, true, false, if◌then◌else◌, nat_eq, nat_le, ◌&&◌, ◌⊎◌, inl, inr, ⊎_elim, List, [], ◌∷◌, ◌++◌, Option, Some, None, option_map, option_and_then, refl, sym, ap, ◌∙◌, subst, append_assoc, arith, le-leb, leb-true, leb-false, ne_eqb, eq-eqb}
+use Rattle.std.proofs.Common.{◌≡◌, ◌≢◌, ℕ, suc, ◌≤◌, Bool, false, if◌then◌else◌, nat_eq, nat_le, ◌&&◌, ◌⊎◌, inl, inr, ⊎_elim, List, [], ◌∷◌, ◌++◌, Some, None, option_map, option_and_then, refl, sym, ap, ◌∙◌, subst, append_assoc, arith, le-leb, leb-true, leb-false, ne_eqb, eq-eqb}
 use Rattle.std.proofs.lemmas.Bool.{lt-leb, cases_Bool}
 use Rattle.coco_ast.specs.Tree.{Expression}
 use Rattle.coco_ast.specs.Tree as tree
@@ -9,7 +9,7 @@ use Rattle.coco_ast.specs.declared.tree.TwoOp.TheVariants.{Plus, Less, Times, Ov
 use Rattle.coco_parse.specs.Grammar.{Level, Disjunction, Conjunction, Negation, Comparison, Sum, Product, Signed, Atom, Joins, either, both, plus, less, times, over, modulo, Compares, equals, differs, below, at_most, above, at_least, Within, disjunction, conjunction, negation, comparison, sum, product, IsExpression, plain, joined, compared, number, text, nothing, variable, enclosed, IsWhole}
 use Rattle.coco_parse.specs.Grammar as grammar
 use Rattle.coco_parse.specs.Machine as machine
-use Rattle.coco_parse.specs.Machine.{Frame, Opened, Negated, Left, binding, wants, operate, enclose, conclude, Mark, ParenMark, BraceMark, BracketMark, EndBracketMark, SemicolonMark, AssignMark, AsMark, mark_word, marks, Goal, Operand, Operator, operand_step, operator_step, after}
+use Rattle.coco_parse.specs.Machine.{Frame, Opened, Negated, Left, binding, wants, operate, enclose, conclude, Mark, ParenMark, mark_word, marks, Goal, Operand, Operator, operator_step, after}
 use Rattle.coco_parse.specs.declared.word.Word.{Word}
 use Rattle.coco_parse.specs.declared.word.Word.TheVariants as word
 use Rattle.coco_parse.specs.declared.word.Word.TheVariants.{Two, OpenParen, CloseParen}
@@ -106,7 +106,6 @@ pushed e (Left o d ∷ fs) op h = rw (le-leb (suc (binding o)) (binding op) h)
 
 taken_left : (o op : TwoOp) (d e : Expression) (fs : List Frame) → binding op ≤ binding o → (nat_eq (binding o) 3 && nat_eq (binding op) 3) ≡ false → operate e (Left o d ∷ fs) op ≡ operate (tree.Two (sign_of o) d e) fs op
 taken_left o op d e fs h one = rw (lt-leb (suc (binding o)) (binding op) (omega arith), one)
-
 
 taken_joined : {l : Level} {o : TwoOp} → Joins l o → (op : TwoOp) (d e : Expression) (fs : List Frame) → binding op ≤ bound l → operate e (Left o d ∷ fs) op ≡ operate (tree.Two (sign_of o) d e) fs op
 taken_joined either op d e fs h = taken_left Either op d e fs h refl
@@ -338,7 +337,7 @@ regrouped ws us vs w = append_assoc (ws ++ us) (w ∷ []) vs ∙ append_assoc ws
 
 operated_left : (e d : Expression) (fs gs : List Frame) (o op : TwoOp) (ws us vs : List Word) → operate e (Left o d ∷ fs) op ≡ Some gs → Spells fs ws → wants fs ≤ binding o → IsAt (left_least o) us d → IsAt (suc (binding o)) vs e → IsAt (left_least op) vs e
     → (operate (tree.Two (sign_of o) d e) fs op ≡ Some gs → IsAt (wants fs) (us ++ Two o ∷ vs) (tree.Two (sign_of o) d e) → IsAt (left_least op) (us ++ Two o ∷ vs) (tree.Two (sign_of o) d e)
-        → Spells gs (ws ++ (us ++ Two o ∷ vs) ++ Two op ∷ []))
+    → Spells gs (ws ++ (us ++ Two o ∷ vs) ++ Two op ∷ []))
     → Spells gs ((ws ++ us ++ Two o ∷ []) ++ vs ++ Two op ∷ [])
 operated_left e d fs gs o op ws us vs h s wanted c a b further =
     ⊎_elim
@@ -370,9 +369,13 @@ closed : (e d : Expression) (fs gs : List Frame) (ws us : List Word) → enclose
 closed e d fs gs ws us h s a =
     let pair : ◌≡◌ {A = Expression × List Frame} (e, fs) (d, gs) = cc in
     let same : e ≡ d = ap (λ (p : Expression × List Frame). p.0) pair in
-    let around : fs ≡ gs = ap (λ (p : Expression × List Frame). p.1) pair in
-    (ws, (OpenParen ∷ us ++ CloseParen ∷ []), append_assoc (ws ++ OpenParen ∷ []) us (CloseParen ∷ []) ∙ append_assoc ws (OpenParen ∷ []) (us ++ CloseParen ∷ []),
-    subst (λ hs. Spells hs ws) around s, subst (λ x. IsExpression Atom (OpenParen ∷ us ++ CloseParen ∷ []) x) same (enclosed (at_disjunction a.0 a.1 a.2)))
+    let around : fs ≡ gs = ap (λ (p : Expression × List Frame). p.1) pair in (
+      ws,
+      (OpenParen ∷ us ++ CloseParen ∷ []),
+      append_assoc (ws ++ OpenParen ∷ []) us (CloseParen ∷ []) ∙ append_assoc ws (OpenParen ∷ []) (us ++ CloseParen ∷ []),
+      subst (λ hs. Spells hs ws) around s,
+      subst (λ x. IsExpression Atom (OpenParen ∷ us ++ CloseParen ∷ []) x) same (enclosed (at_disjunction a.0 a.1 a.2)),
+    )
 
 closing : {fs : List Frame} {ws : List Word} → Spells fs ws → (e d : Expression) (gs : List Frame) (us : List Word) → enclose e fs ≡ Some (d, gs) → IsAt (wants fs) us e → EndsInside d gs (ws ++ us ++ CloseParen ∷ [])
 closing none e d gs us h a = absurd (cc)
