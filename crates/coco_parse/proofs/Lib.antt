@@ -1,6 +1,9 @@
 pub mod Expressions
 pub mod Following
+pub mod Completing
 pub mod Holding
 pub mod Meeting
 pub mod Sounding
+pub mod Fronts
+pub mod Readings
 pub mod Verdicts
