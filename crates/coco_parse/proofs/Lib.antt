@@ -7,3 +7,4 @@ pub mod Sounding
 pub mod Fronts
 pub mod Readings
 pub mod Verdicts
+pub mod Few
