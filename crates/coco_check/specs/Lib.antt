@@ -1,0 +1,4 @@
+pub mod Accepting
+pub mod Messages
+pub mod Search
+pub mod Walking
