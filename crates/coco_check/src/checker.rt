@@ -14,7 +14,7 @@ use crate::procedure::check_proc;
 use crate::{CheckError, CheckKind};
 use coco_ast::{Checked, Name, Names, Proc, ProcList, Procs, builtins};
 use coco_types::NoMemory;
-use std::alloc::Global;
+use std::alloc::{AllocFailed, Global};
 
 /// The tree behind the built-in tables and procedures, or its first error.
 pub fn check(alloc: Global, procs: Procs) -> Result<Checked, CheckFault>
@@ -66,7 +66,7 @@ fn check_tables(alloc: Global, first: &[Name], tables: &[Name]) -> Result<NameSe
     }
 }
 
-fn names_of(alloc: Global, procs: &[Proc]) -> Result<NameSet, CheckFault>
+fn names_of(alloc: Global, procs: &[Proc]) -> Result<NameSet, AllocFailed<Name>>
     ensures { IfOk result (λ names. names.keys ≡ with_names [] (map (λ p. p.name) procs.now)) }
 {
     let mut names = NameSet::new(alloc);

@@ -1,0 +1,26 @@
+use Rattle.std.proofs.Common.{◌≡◌, ◌+◌, [], not, map, drop, sym, ap, ◌∙◌, subst, arith}
+use Rattle.coco_ast.specs.Views.{procedure_of}
+use Rattle.coco_check.specs.Search.{Fault, IsErrorFound, adding, error_before, first_of_procedures, has, procedure_fault, with_name}
+use Rattle.coco_check.proofs.Answering.{at_fault, front_of}
+use Rattle.coco_check.proofs.checker.check_procs.Goals as goal
+
+pub returns-in-Err : goal.returns-in-Err
+returns-in-Err c =
+    let ts = c.args.tables.now.keys in
+    let p = c.proc-item.result in
+    let rest = first_of_procedures ts (with_name c.loop-proc.names.keys p.name) (c.loop-proc.item + 1) (map procedure_of (drop (c.loop-proc.proc-index + 1) c.args.procs.now)) in
+    let front = front_of ts c.loop-proc.names.keys c.loop-proc.item c.args.procs.now c.loop-proc.proc-index p c.loop-proc-test.true c.proc-item.is in
+    let fault = rw c.in_ok-is_new.ensures.added at c.in-Err.ensures in
+    rw (c.at.ensures, ← c.loop-proc.invariant.found, front) (at_fault c.loop-proc.item c.in-Err.fault _ rest fault)
+
+pub loop-proc-preserved : goal.loop-proc-preserved
+loop-proc-preserved c =
+    let ts = c.args.tables.now.keys in
+    let p = c.proc-item.result in
+    let rest = first_of_procedures ts (with_name c.loop-proc.names.keys p.name) (c.loop-proc.item + 1) (map procedure_of (drop (c.loop-proc.proc-index + 1) c.args.procs.now)) in
+    let front = front_of ts c.loop-proc.names.keys c.loop-proc.item c.args.procs.now c.loop-proc.proc-index p c.loop-proc-test.true c.proc-item.is in
+    let none = rw c.in_ok-is_new.ensures.added at c.in_default.ensures in
+    record {
+      item = omega (arith, c.loop-proc.invariant.item);
+      found = rw c.in_ok-is_new.ensures.keys (sym (ap (λ o. error_before c.loop-proc.item o rest) none) ∙ sym front ∙ c.loop-proc.invariant.found);
+    }
