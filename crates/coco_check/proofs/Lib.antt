@@ -1,4 +1,5 @@
 pub mod Answering
+pub mod Counts
 pub mod FirstErrors
 pub mod NameSets
 pub mod Procedures
