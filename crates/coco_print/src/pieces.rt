@@ -48,16 +48,20 @@ fn push_spelled(out: &mut String, content: &str) -> Result<(), NoMemory>
     Ok(())
 }
 
-// A backslash before a quote and a backslash.
-#[tactic(auto, using(crate::proofs::Escapes::spelled_special, crate::proofs::Escapes::spelled_plain))]
 fn push_char(out: &mut String, c: char) -> Result<(), NoMemory>
     ensures { OnOk result (string_bytes out.new ≡ string_bytes out.old ++ spelled (encode_utf8 c)) }
 {
-    if is_escaped(c) {
-        push(out, "\\")?;
-    }
+    push(out, mark_before(c))?;
     out.push(c)?;
     Ok(())
+}
+
+// A backslash before a quote and a backslash.
+#[tactic(auto, using(crate::proofs::Escapes::spelled_special, crate::proofs::Escapes::spelled_plain))]
+fn mark_before(c: char) -> &'static str
+    ensures { spelled (encode_utf8 c) ≡ result.now ++ encode_utf8 c }
+{
+    if is_escaped(c) { "\\" } else { "" }
 }
 
 fn is_escaped(c: char) -> bool
