@@ -1,2 +1,5 @@
 pub mod Escapes
 pub mod Laid
+pub mod Parts
+pub mod Readable
+pub mod Expressions

@@ -1,0 +1,191 @@
+-- The printed text of an expression is read as that expression.
+use Rattle.std.proofs.Common.{◌≡◌, ℕ, ◌<◌, ◌≤◌, pos, negsuc, List, [], ◌∷◌, ◌++◌, length, Contains, codes, decimal, sym, refl, subst, arith, append_assoc, append-nil}
+use Rattle.coco_ast.specs.Tree.{TwoSign, Plus, Less, Times, Over, Modulo, Equals, Differs, Below, AtMost, Above, AtLeast, Both, Either, Expression, Number, Quoted, Nothing, Variable, Not, Minus, Two}
+use Rattle.coco_ast.specs.declared.tree.TwoOp.{TwoOp}
+use Rattle.coco_ast.specs.declared.tree.TwoOp.TheVariants as op
+use Rattle.coco_lex.specs.Lexeme.{keywords}
+use Rattle.coco_parse.specs.Grammar as grammar
+use Rattle.coco_parse.specs.Grammar.{Level, Disjunction, Conjunction, Negation, Comparison, Sum, Product, Signed, Atom, IsExpression, IsWhole}
+use Rattle.coco_parse.specs.declared.word.Word.{Word}
+use Rattle.coco_parse.specs.declared.word.Word.TheVariants as word
+use Rattle.coco_print.specs.Printed.{operator_text, operand_text, expression_text}
+use Rattle.coco_print.proofs.Parts.{Open, Tight, Begins, open_open, open_tight, tight_open, open_is_tight, one_blank, keyword_piece, name_piece, number_piece, text_piece, lone_symbol, single_symbol, double_symbol}
+use Rattle.coco_print.proofs.Readable.{IsReadable}
+
+-- ---- levels of the grammar
+
+to_signed : {ws : List Word} {e : Expression} → IsExpression Atom ws e → IsExpression Signed ws e
+to_signed h = grammar.plain grammar.signed h
+
+to_product : {ws : List Word} {e : Expression} → IsExpression Signed ws e → IsExpression Product ws e
+to_product h = grammar.plain grammar.product h
+
+to_sum : {ws : List Word} {e : Expression} → IsExpression Product ws e → IsExpression Sum ws e
+to_sum h = grammar.plain grammar.sum h
+
+to_comparison : {ws : List Word} {e : Expression} → IsExpression Sum ws e → IsExpression Comparison ws e
+to_comparison h = grammar.plain grammar.comparison h
+
+to_negation : {ws : List Word} {e : Expression} → IsExpression Comparison ws e → IsExpression Negation ws e
+to_negation h = grammar.plain grammar.negation h
+
+to_conjunction : {ws : List Word} {e : Expression} → IsExpression Negation ws e → IsExpression Conjunction ws e
+to_conjunction h = grammar.plain grammar.conjunction h
+
+to_whole : {ws : List Word} {e : Expression} → IsExpression Conjunction ws e → IsWhole ws e
+to_whole h = grammar.plain grammar.disjunction h
+
+negation_whole : {ws : List Word} {e : Expression} → IsExpression Negation ws e → IsWhole ws e
+negation_whole h = to_whole (to_conjunction h)
+
+comparison_whole : {ws : List Word} {e : Expression} → IsExpression Comparison ws e → IsWhole ws e
+comparison_whole h = negation_whole (to_negation h)
+
+sum_whole : {ws : List Word} {e : Expression} → IsExpression Sum ws e → IsWhole ws e
+sum_whole h = comparison_whole (to_comparison h)
+
+product_whole : {ws : List Word} {e : Expression} → IsExpression Product ws e → IsWhole ws e
+product_whole h = sum_whole (to_sum h)
+
+signed_whole : {ws : List Word} {e : Expression} → IsExpression Signed ws e → IsWhole ws e
+signed_whole h = product_whole (to_product h)
+
+atom_product : {ws : List Word} {e : Expression} → IsExpression Atom ws e → IsExpression Product ws e
+atom_product h = to_product (to_signed h)
+
+atom_sum : {ws : List Word} {e : Expression} → IsExpression Atom ws e → IsExpression Sum ws e
+atom_sum h = to_sum (atom_product h)
+
+atom_negation : {ws : List Word} {e : Expression} → IsExpression Atom ws e → IsExpression Negation ws e
+atom_negation h = to_negation (to_comparison (atom_sum h))
+
+atom_conjunction : {ws : List Word} {e : Expression} → IsExpression Atom ws e → IsExpression Conjunction ws e
+atom_conjunction h = to_conjunction (atom_negation h)
+
+-- ---- operators
+
+abbrev pub op_of : TwoSign → TwoOp
+op_of Plus = op.Plus
+op_of Less = op.Less
+op_of Times = op.Times
+op_of Over = op.Over
+op_of Modulo = op.Modulo
+op_of Equals = op.Equals
+op_of Differs = op.Differs
+op_of Below = op.Below
+op_of AtMost = op.AtMost
+op_of Above = op.Above
+op_of AtLeast = op.AtLeast
+op_of Both = op.Both
+op_of Either = op.Either
+
+-- between two operands that are atoms each operator makes an expression
+combined : (sign : TwoSign) {us vs : List Word} {d e : Expression} → IsExpression Atom us d → IsExpression Atom vs e → IsWhole (us ++ word.Two (op_of sign) ∷ vs) (Two sign d e)
+combined Plus g h = sum_whole (grammar.joined grammar.plus grammar.sum (atom_sum g) (atom_product h))
+combined Less g h = sum_whole (grammar.joined grammar.less grammar.sum (atom_sum g) (atom_product h))
+combined Times g h = product_whole (grammar.joined grammar.times grammar.product (atom_product g) (to_signed h))
+combined Over g h = product_whole (grammar.joined grammar.over grammar.product (atom_product g) (to_signed h))
+combined Modulo g h = product_whole (grammar.joined grammar.modulo grammar.product (atom_product g) (to_signed h))
+combined Equals g h = comparison_whole (grammar.compared grammar.equals (atom_sum g) (atom_sum h))
+combined Differs g h = comparison_whole (grammar.compared grammar.differs (atom_sum g) (atom_sum h))
+combined Below g h = comparison_whole (grammar.compared grammar.below (atom_sum g) (atom_sum h))
+combined AtMost g h = comparison_whole (grammar.compared grammar.at_most (atom_sum g) (atom_sum h))
+combined Above g h = comparison_whole (grammar.compared grammar.above (atom_sum g) (atom_sum h))
+combined AtLeast g h = comparison_whole (grammar.compared grammar.at_least (atom_sum g) (atom_sum h))
+combined Both g h = to_whole (grammar.joined grammar.both grammar.conjunction (atom_conjunction g) (atom_negation h))
+combined Either g h = grammar.joined grammar.either grammar.disjunction (to_whole (atom_conjunction g)) (atom_conjunction h)
+
+space : Open (32 ∷ []) []
+space = one_blank 32 refl
+
+operator_piece : (sign : TwoSign) → Open (operator_text sign) (word.Two (op_of sign) ∷ [])
+operator_piece Plus = open_open (open_open space (lone_symbol 43 refl refl)) space
+operator_piece Less = open_open (open_open space (lone_symbol 45 refl refl)) space
+operator_piece Times = open_open (open_open space (lone_symbol 42 refl refl)) space
+operator_piece Over = open_open (open_open space (lone_symbol 47 refl refl)) space
+operator_piece Modulo = open_open (open_open space (lone_symbol 37 refl refl)) space
+operator_piece Equals = open_open (open_open space (double_symbol 61 refl)) space
+operator_piece Differs = open_open (open_open space (double_symbol 33 refl)) space
+operator_piece Below = tight_open (open_tight space (single_symbol 60 refl)) (λ rest. refl) space
+operator_piece AtMost = open_open (open_open space (double_symbol 60 refl)) space
+operator_piece Above = tight_open (open_tight space (single_symbol 62 refl)) (λ rest. refl) space
+operator_piece AtLeast = open_open (open_open space (double_symbol 62 refl)) space
+operator_piece Both = tight_open (open_tight space (keyword_piece (codes "and") (14, omega arith, refl) (omega arith))) (λ rest. refl) space
+operator_piece Either = tight_open (open_tight space (keyword_piece (codes "or") (15, omega arith, refl) (omega arith))) (λ rest. refl) space
+
+operator_begins : (sign : TwoSign) → Begins (operator_text sign)
+operator_begins Plus = λ rest. refl
+operator_begins Less = λ rest. refl
+operator_begins Times = λ rest. refl
+operator_begins Over = λ rest. refl
+operator_begins Modulo = λ rest. refl
+operator_begins Equals = λ rest. refl
+operator_begins Differs = λ rest. refl
+operator_begins Below = λ rest. refl
+operator_begins AtMost = λ rest. refl
+operator_begins Above = λ rest. refl
+operator_begins AtLeast = λ rest. refl
+operator_begins Both = λ rest. refl
+operator_begins Either = λ rest. refl
+
+-- ---- expressions
+
+pub record Reads (text : List ℕ) (level : Level) (e : Expression) : Type 0 where
+  pub words : List Word
+  pub laid : Tight text words
+  pub is : IsExpression level words e
+
+-- an expression by itself, and as an operand
+pub record ReadsBoth (e : Expression) : Type 0 where
+  pub whole : Reads (expression_text e) Disjunction e
+  pub operand : Reads (operand_text e (expression_text e)) Atom e
+
+atom_whole : {text : List ℕ} {e : Expression} → Reads text Atom e → Reads text Disjunction e
+atom_whole r = record { words = r.words; laid = r.laid; is = to_whole (atom_conjunction r.is) }
+
+in_parentheses : {text : List ℕ} {e : Expression} → Reads text Disjunction e → Reads (codes "(" ++ text ++ codes ")") Atom e
+in_parentheses r = record {
+  words = word.OpenParen ∷ r.words ++ word.CloseParen ∷ [];
+  laid = open_is_tight (tight_open (open_tight (lone_symbol 40 refl refl) r.laid) (λ rest. refl) (lone_symbol 41 refl refl));
+  is = grammar.enclosed r.is;
+}
+
+not_piece : Open (codes "not ") (word.Not ∷ [])
+not_piece = tight_open (keyword_piece (codes "not") (13, omega arith, refl) (omega arith)) (λ rest. refl) space
+
+negated_reads : (e : Expression) → Reads (operand_text e (expression_text e)) Atom e → Reads (expression_text (Not e)) Disjunction (Not e)
+negated_reads e r = record { words = word.Not ∷ r.words; laid = open_tight not_piece r.laid; is = negation_whole (grammar.negated (atom_negation r.is)) }
+
+signed_reads : (e : Expression) → Reads (operand_text e (expression_text e)) Atom e → Reads (expression_text (Minus e)) Disjunction (Minus e)
+signed_reads e r = record { words = word.Two op.Less ∷ r.words; laid = open_tight (lone_symbol 45 refl refl) r.laid; is = signed_whole (grammar.signed (to_signed r.is)) }
+
+two_reads : (sign : TwoSign) (d e : Expression) → Reads (operand_text d (expression_text d)) Atom d → Reads (operand_text e (expression_text e)) Atom e → Reads (expression_text (Two sign d e)) Disjunction (Two sign d e)
+two_reads sign d e q r = record {
+  words = (q.words ++ word.Two (op_of sign) ∷ []) ++ r.words;
+  laid = open_tight (tight_open q.laid (operator_begins sign) (operator_piece sign)) r.laid;
+  is = subst (λ ws. IsWhole ws (Two sign d e)) (sym (append_assoc q.words (word.Two (op_of sign) ∷ []) r.words)) (combined sign q.is r.is);
+}
+
+pub reads : (e : Expression) → IsReadable e → ReadsBoth e
+reads (Number (pos n)) h =
+    let r : Reads (decimal n) Atom (Number (pos n)) = record { words = word.Number n ∷ []; laid = number_piece n h; is = grammar.number } in
+    record { whole = atom_whole r; operand = r }
+reads (Number (negsuc n)) h = absurd h
+reads (Quoted content) h =
+    let r : Reads (expression_text (Quoted content)) Atom (Quoted content) = record { words = word.Text content ∷ []; laid = open_is_tight (text_piece content h.printable h.short); is = grammar.text } in
+    record { whole = atom_whole r; operand = r }
+reads Nothing h =
+    let r : Reads (codes "none") Atom Nothing = record { words = word.Nothing ∷ []; laid = keyword_piece (codes "none") (12, omega arith, refl) (omega arith); is = grammar.nothing } in
+    record { whole = atom_whole r; operand = r }
+reads (Variable name) h =
+    let r : Reads name Atom (Variable name) = record { words = word.Name name ∷ []; laid = name_piece name h; is = grammar.variable } in
+    record { whole = atom_whole r; operand = r }
+reads (Not e) h =
+    let w = negated_reads e (reads e h).operand in
+    record { whole = w; operand = in_parentheses w }
+reads (Minus e) h =
+    let w = signed_reads e (reads e h).operand in
+    record { whole = w; operand = in_parentheses w }
+reads (Two sign d e) h =
+    let w = two_reads sign d e (reads d h.0).operand (reads e h.1).operand in
+    record { whole = w; operand = in_parentheses w }
