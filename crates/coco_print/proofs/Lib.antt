@@ -3,3 +3,4 @@ pub mod Laid
 pub mod Parts
 pub mod Readable
 pub mod Expressions
+pub mod Statements
