@@ -4,3 +4,5 @@ pub mod Parts
 pub mod Readable
 pub mod Expressions
 pub mod Statements
+pub mod Files
+pub mod Sources
