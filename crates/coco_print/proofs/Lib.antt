@@ -6,3 +6,4 @@ pub mod Expressions
 pub mod Statements
 pub mod Files
 pub mod Sources
+pub mod Printing

@@ -1,7 +1,9 @@
-ghost use Rattle.std.specs.Prelude.{◌≡◌, ◌++◌, IfOk, OnOk};
+ghost use Rattle.std.specs.Prelude.{◌≡◌, ◌++◌, map, IfOk, OnOk};
+ghost use Rattle.std.specs.List.{flat_map};
 ghost use Rattle.std.specs.String.{string_bytes};
 ghost use Rattle.coco_ast.specs.Views.{procedure_of, procedures_of};
 ghost use Rattle.coco_print.specs.Printed.{params_text, procedure_text, table_text, printed};
+ghost use Rattle.coco_print.specs.ReadsBack.{IsTree, ReadsBack};
 
 use crate::pieces::push;
 use crate::statement::push_block;
@@ -13,15 +15,32 @@ use std::alloc::Global;
 /// every operand that is itself an operator.
 pub fn print(alloc: Global, procs: &Procs) -> Result<String, NoMemory>
     ensures text { IfOk result (λ s. string_bytes s ≡ printed (procedures_of procs.now)) }
+
+    // The text of a tree that some text has is read back as that tree.
+    ensures reads_back { IfOk result (λ s. IsTree (procedures_of procs.now) → ReadsBack (string_bytes s) (procedures_of procs.now)) }
 {
     let mut out = String::new(alloc);
-    for table in procs.tables.as_slice() {
-        push_table(&mut out, table)?;
-    }
-    for proc in procs.procs.as_slice() {
-        push_proc(alloc, &mut out, proc)?;
-    }
+    push_tables(&mut out, procs.tables.as_slice())?;
+    push_procs(alloc, &mut out, procs.procs.as_slice())?;
     Ok(out)
+}
+
+fn push_tables(out: &mut String, names: &[Name]) -> Result<(), NoMemory>
+    ensures { OnOk result (string_bytes out.new ≡ string_bytes out.old ++ flat_map table_text names.now) }
+{
+    for name in names {
+        push_table(out, name)?;
+    }
+    Ok(())
+}
+
+fn push_procs(alloc: Global, out: &mut String, procs: &[Proc]) -> Result<(), NoMemory>
+    ensures { OnOk result (string_bytes out.new ≡ string_bytes out.old ++ flat_map procedure_text (map procedure_of procs.now)) }
+{
+    for proc in procs {
+        push_proc(alloc, out, proc)?;
+    }
+    Ok(())
 }
 
 fn push_table(out: &mut String, name: &Name) -> Result<(), NoMemory>
