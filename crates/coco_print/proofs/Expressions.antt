@@ -1,9 +1,8 @@
 -- The printed text of an expression is read as that expression.
-use Rattle.std.proofs.Common.{◌≡◌, ℕ, ◌<◌, ◌≤◌, pos, negsuc, List, [], ◌∷◌, ◌++◌, length, Contains, codes, decimal, sym, refl, subst, arith, append_assoc, append-nil}
+use Rattle.std.proofs.Common.{ℕ, pos, negsuc, List, [], ◌∷◌, ◌++◌, codes, decimal, sym, refl, subst, arith, append_assoc}
 use Rattle.coco_ast.specs.Tree.{TwoSign, Plus, Less, Times, Over, Modulo, Equals, Differs, Below, AtMost, Above, AtLeast, Both, Either, Expression, Number, Quoted, Nothing, Variable, Not, Minus, Two}
 use Rattle.coco_ast.specs.declared.tree.TwoOp.{TwoOp}
 use Rattle.coco_ast.specs.declared.tree.TwoOp.TheVariants as op
-use Rattle.coco_lex.specs.Lexeme.{keywords}
 use Rattle.coco_parse.specs.Grammar as grammar
 use Rattle.coco_parse.specs.Grammar.{Level, Disjunction, Conjunction, Negation, Comparison, Sum, Product, Signed, Atom, IsExpression, IsWhole}
 use Rattle.coco_parse.specs.declared.word.Word.{Word}

@@ -1,14 +1,13 @@
 -- The printed text of a tree is read as that tree.
-use Rattle.std.proofs.Common.{◌≡◌, ℕ, ◌<◌, ◌≤◌, List, [], ◌∷◌, ◌++◌, length, Contains, codes, IsUtf8, sym, refl, ap, ◌∙◌, subst, arith, append_assoc, append-nil}
+use Rattle.std.proofs.Common.{◌≡◌, ℕ, List, [], ◌∷◌, ◌++◌, codes, IsUtf8, sym, refl, subst, arith, append_assoc, append-nil}
 use Rattle.std.specs.List.{flat_map}
 use Rattle.coco_ast.specs.Tree.{Procedure, Procedures}
-use Rattle.coco_lex.specs.Lexeme.{keywords}
 use Rattle.coco_parse.specs.Grammar as grammar
 use Rattle.coco_parse.specs.Grammar.{AreListed, AreParams, IsProcedure, IsFile, IsText}
 use Rattle.coco_parse.specs.Wording.{words_of}
 use Rattle.coco_parse.specs.declared.word.Word.{Word}
 use Rattle.coco_parse.specs.declared.word.Word.TheVariants as word
-use Rattle.coco_print.specs.Printed.{further_param, params_text, block_text, procedure_text, table_text, printed}
+use Rattle.coco_print.specs.Printed.{further_param, params_text, procedure_text, table_text, printed}
 use Rattle.coco_print.specs.ReadsBack.{ReadsBack}
 use Rattle.coco_print.proofs.Laid as laid
 use Rattle.coco_print.proofs.Laid.{Laid, tokenized}

@@ -1,11 +1,11 @@
 -- A text that is put together of tokens and blanks has just these tokens.
-use Rattle.std.proofs.Common.{◌≡◌, ◌≢◌, ℕ, zero, suc, ◌+◌, ◌-◌, ◌<◌, ◌≤◌, Bool, true, false, not, ◌||◌, ◌==◌, ◌⊎◌, inl, inr, ⊎_elim, List, [], ◌∷◌, ◌++◌, length, take, drop, get_or, map, IsUtf8, Contains, codes, sym, refl, ap, ◌∙◌, subst, arith, append_assoc, append-nil, length-append, add-zero}
+use Rattle.std.proofs.Common.{◌≡◌, ℕ, zero, suc, ◌-◌, ◌<◌, ◌≤◌, Bool, true, false, not, ◌||◌, ◌==◌, inl, inr, ⊎_elim, List, [], ◌∷◌, ◌++◌, length, take, get_or, IsUtf8, codes, sym, refl, ap, ◌∙◌, subst, arith, append_assoc, append-nil, length-append, add-zero}
 use Rattle.std.proofs.Math.Seq.{take-append_seam, drop-append_seam}
 use Rattle.std.proofs.lemmas.Bool.{not-true, or_cases, eqb-true, cases_lt}
 use Rattle.std.proofs.lemmas.List.{get_or_append_left, get_or-append-add, get_or_at}
 use Rattle.std.proofs.lemmas.List.Elements.{All-contains}
 use Rattle.std.proofs.lemmas.List.Sums.{AllPass-from_list_all}
-use Rattle.coco_lex.specs.Bytes.{is_blank, number_sign, line_feed}
+use Rattle.coco_lex.specs.Bytes.{is_blank, number_sign}
 use Rattle.coco_lex.specs.Gap.{Separates, IsGap}
 use Rattle.coco_lex.specs.Lexeme.{IsLexeme, IsSymbol}
 use Rattle.coco_lex.specs.Tokens.{IsFront, IsToken, Follow, AreTokens}

@@ -6,4 +6,3 @@ pub mod Expressions
 pub mod Statements
 pub mod Files
 pub mod Sources
-pub mod Printing

@@ -1,11 +1,11 @@
 -- Pieces of a printed text, and what they are read as, whatever stands behind them.
-use Rattle.std.proofs.Common.{◌≡◌, ℕ, zero, suc, ◌+◌, ◌-◌, ◌^◌, ◌<◌, ◌≤◌, Bool, true, false, not, ◌||◌, ◌==◌, nat_eq, inl, ⊎_elim, List, [], ◌∷◌, ◌++◌, length, take, drop, get_or, All, Contains, codes, decimal, sym, refl, ap, ◌∙◌, subst, arith, append_assoc, append-nil, length-append}
+use Rattle.std.proofs.Common.{◌≡◌, ℕ, ◌+◌, ◌-◌, ◌<◌, ◌≤◌, Bool, true, false, not, ◌||◌, ◌==◌, nat_eq, inl, ⊎_elim, List, [], ◌∷◌, ◌++◌, length, take, get_or, All, Contains, codes, decimal, sym, refl, ap, ◌∙◌, subst, arith, append_assoc, length-append}
 use Rattle.std.proofs.Math.Seq.{take-append_seam, get_or-append_seam}
 use Rattle.std.specs.Char.{is_ascii_digit}
 use Rattle.std.specs.Int.{IsInRange}
 use Rattle.std.specs.List.{list_all, list_any, prefix_len}
 use Rattle.std.specs.Str.Parse.{AllDigits, digits_value}
-use Rattle.std.proofs.lemmas.Bool.{not-true, or_parts, and_parts, cases_Bool, cases_lt}
+use Rattle.std.proofs.lemmas.Bool.{not-true, or_parts, and_parts, cases_Bool}
 use Rattle.std.proofs.lemmas.Bool.Decides.{nat_tests}
 use Rattle.std.proofs.lemmas.Fmt.{decimal_is_IsNumeral}
 use Rattle.std.proofs.lemmas.List.Sums.{list_all-from_AllPass}
@@ -13,9 +13,7 @@ use Rattle.std.proofs.lemmas.Str.Parse.{digit_from_value}
 use Rattle.coco_lex.specs.Bytes.{quote, backslash, is_blank, is_word_start, is_word_byte}
 use Rattle.coco_lex.specs.Lexeme.{IsWord, IsDigits, IsSymbol, escaped, spelled, keywords}
 use Rattle.coco_lex.specs.Refusal.{Opens}
-use Rattle.coco_lex.specs.Steps.{IsContent}
 use Rattle.coco_lex.specs.Tokens.{IsFront}
-use Rattle.coco_lex.specs.declared.token.TokenKind.{TokenKind}
 use Rattle.coco_lex.specs.declared.token.TokenKind.TheVariants as kind
 use Rattle.coco_lex.proofs.Fronts.{any_contains_byte, keywords_are_words, keyword_front, name_front, number_front, symbol_front, symbol_is_two}
 use Rattle.coco_lex.proofs.Heads.{class_of, symbol_class, class_of_symbol}

@@ -1,20 +1,18 @@
 -- A tree that some text gave can be read back: its names, numbers and texts were tokens.
-use Rattle.std.proofs.Common.{◌≡◌, ℕ, ◌+◌, ◌-◌, ◌<◌, ◌≤◌, Bool, true, false, if◌then◌else◌, nat_eq, ⊎_elim, List, [], ◌∷◌, ◌++◌, length, take, drop, map, All, Contains, codes, pos, sym, refl, ap, ◌∙◌, subst, arith}
+use Rattle.std.proofs.Common.{◌≡◌, ℕ, ◌-◌, ◌≤◌, nat_eq, ⊎_elim, List, [], ◌∷◌, ◌++◌, length, take, drop, sym, ap, ◌∙◌, subst}
 use Rattle.std.specs.Cmp.Lexicographic.{pointwise}
-use Rattle.std.specs.Str.Parse.{digits_value}
 use Rattle.std.proofs.lemmas.Bool.{cases_Bool}
 use Rattle.coco_ast.specs.Tree.{Expression, RowPlace, Statement, Statements, Procedure, Procedures}
 use Rattle.coco_lex.specs.Lexeme.{IsQuoted}
-use Rattle.coco_lex.specs.Tokens.{IsOfKind, KeepsLimits, IsToken, Follow, AreTokens}
+use Rattle.coco_lex.specs.Tokens.{IsOfKind, KeepsLimits, Follow}
 use Rattle.coco_lex.specs.declared.token.Token.{Token}
 use Rattle.coco_lex.specs.declared.token.TokenKind.{TokenKind}
 use Rattle.coco_lex.specs.declared.token.TokenKind.TheVariants as kind
 use Rattle.coco_parse.specs.Grammar as grammar
 use Rattle.coco_parse.specs.Grammar.{Level, IsExpression, IsPlace, IsStatement, IsBlock, AreStatements, AreListed, AreParams, IsProcedure, IsFile, IsText}
-use Rattle.coco_parse.specs.Wording.{spellings, spelled_by, content, word_in, word_of, words_of}
+use Rattle.coco_parse.specs.Wording.{spellings, spelled_by, content, word_in, words_of}
 use Rattle.coco_parse.specs.declared.word.Word.{Word}
 use Rattle.coco_parse.specs.declared.word.Word.TheVariants as word
-use Rattle.coco_print.specs.Printed.{quoted}
 use Rattle.coco_print.specs.ReadsBack.{IsTree}
 use Rattle.coco_print.proofs.Parts.{IsName, content_quoted}
 use Rattle.coco_print.proofs.Readable.{IsCount, IsQuotable, IsReadable, IsReadablePlace, IsReadableStatement, AreReadable, AreNames, IsReadableProcedure, AreReadableProcedures, IsReadableTree}

@@ -1,12 +1,11 @@
 -- The printed text of statements is read as these statements.
-use Rattle.std.proofs.Common.{◌≡◌, ℕ, ◌<◌, ◌≤◌, List, [], ◌∷◌, ◌++◌, length, Contains, codes, decimal, sym, refl, subst, arith, append_assoc, append-nil}
+use Rattle.std.proofs.Common.{ℕ, List, [], ◌∷◌, ◌++◌, codes, sym, refl, subst, arith, append_assoc, append-nil}
 use Rattle.coco_ast.specs.Tree.{Expression, RowPlace, Statement, Let, Get, Put, Delete, If, IfElse, Repeat, Refuse, Reply, Statements, End, Then}
-use Rattle.coco_lex.specs.Lexeme.{keywords}
 use Rattle.coco_parse.specs.Grammar as grammar
 use Rattle.coco_parse.specs.Grammar.{Disjunction, IsPlace, IsStatement, IsBlock, AreStatements}
 use Rattle.coco_parse.specs.declared.word.Word.{Word}
 use Rattle.coco_parse.specs.declared.word.Word.TheVariants as word
-use Rattle.coco_print.specs.Printed.{expression_text, place_text, deeper, braced, statement_text, lines_text, block_text}
+use Rattle.coco_print.specs.Printed.{expression_text, place_text, deeper, statement_text, lines_text, block_text}
 use Rattle.coco_print.proofs.Parts.{Open, Tight, open_open, open_tight, tight_open, nothing, one_blank, keyword_piece, name_piece, number_piece, lone_symbol, single_symbol}
 use Rattle.coco_print.proofs.Readable.{IsReadable, IsReadablePlace, IsReadableStatement, AreReadable}
 use Rattle.coco_print.proofs.Expressions.{Reads, reads}

@@ -3,7 +3,6 @@ use Rattle.std.specs.Prelude.{ℕ, Bool, true, false, if◌then◌else◌, List,
 use Rattle.std.specs.Fmt.{signed_decimal}
 use Rattle.std.specs.List.{flat_map}
 use Rattle.coco_ast.specs.Tree.{TwoSign, Plus, Less, Times, Over, Modulo, Equals, Differs, Below, AtMost, Above, AtLeast, Both, Either, Expression, Number, Quoted, Nothing, Variable, Not, Minus, Two, RowPlace, Statement, Let, Get, Put, Delete, If, IfElse, Repeat, Refuse, Reply, Statements, End, Then, Procedure, Procedures}
-use Rattle.coco_lex.specs.Bytes.{quote}
 use Rattle.coco_lex.specs.Lexeme.{spelled}
 
 abbrev pub operator_text : TwoSign → List ℕ

@@ -24,11 +24,7 @@ fn place(rt: &impl Abort, table: &str, row: &str) -> Place {
     }
 }
 
-fn names<const N: usize>(
-    rt: &impl Abort,
-    alloc: Global,
-    words: [&str; N],
-) -> Result<Names, NoMemory> {
+fn names(rt: &impl Abort, alloc: Global, words: &[&str]) -> Result<Names, NoMemory> {
     let mut names = Names::new(alloc);
     for text in words {
         names.push(word(rt, text))?;
@@ -212,7 +208,7 @@ fn open_proc(rt: &impl Abort, alloc: Global) -> Result<Proc, NoMemory> {
     let body = block(alloc, [first, Stmt::Reply(var(rt, "n"))])?;
     Ok(Proc {
         name: word(rt, "open"),
-        params: names(rt, alloc, ["a", "n"])?,
+        params: names(rt, alloc, &["a", "n"])?,
         body,
     })
 }
@@ -236,7 +232,7 @@ fn move_proc(rt: &impl Abort, alloc: Global) -> Result<Proc, NoMemory> {
     let body = block(alloc, body)?;
     Ok(Proc {
         name: word(rt, "move"),
-        params: names(rt, alloc, ["a", "b", "n"])?,
+        params: names(rt, alloc, &["a", "b", "n"])?,
         body,
     })
 }
@@ -248,7 +244,7 @@ fn the_bank_is_printed(rt: HostRuntime) -> Result<(), Fail> {
     procs.push(open_proc(&rt, alloc)?)?;
     procs.push(move_proc(&rt, alloc)?)?;
     let bank = Procs {
-        tables: names(&rt, alloc, ["acct"])?,
+        tables: names(&rt, alloc, &["acct"])?,
         procs,
     };
     let printed = print(alloc, &bank)?;
