@@ -3,3 +3,7 @@ pub mod Limits
 pub mod Wording
 pub mod Refusal
 pub mod Machine
+pub mod Messages
+pub mod Counting
+pub mod Steps
+pub mod Readable

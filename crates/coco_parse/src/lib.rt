@@ -1,8 +1,23 @@
 //! The tree of a procedure text's tokens, or the first token at which they have none.
 #![tactic(auto)]
 
+mod choice;
+mod class;
+mod counter;
 pub mod error;
+mod expression;
+mod file;
+mod frames;
+pub mod parser;
+mod reader;
+mod spelling;
+mod state;
+mod statement;
 pub mod word;
 
 pub use error::{ParseError, ParseFault, ParseKind};
+pub use parser::{one_reading, parse};
 pub use word::Word;
+
+#[cfg(test)]
+mod tests;

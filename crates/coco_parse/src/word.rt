@@ -1,3 +1,6 @@
+ghost use Rattle.std.specs.Prelude.{◌≡◌};
+ghost use Rattle.coco_parse.specs.Counting.{name_in, number_in, operator_in};
+
 use coco_ast::{Name, TwoOp};
 use coco_types::Text;
 
@@ -32,4 +35,33 @@ pub enum Word {
     Comma,
     Semicolon,
     Assign,
+}
+
+impl Word {
+    pub(crate) fn name(&self) -> Option<Name>
+        ensures { result ≡ name_in self.now }
+    {
+        match self {
+            Word::Name(name) => Some(*name),
+            _ => None,
+        }
+    }
+
+    pub(crate) fn number(&self) -> Option<u64>
+        ensures { result ≡ number_in self.now }
+    {
+        match self {
+            Word::Number(number) => Some(*number),
+            _ => None,
+        }
+    }
+
+    pub(crate) fn operator(&self) -> Option<TwoOp>
+        ensures { result ≡ operator_in self.now }
+    {
+        match self {
+            Word::Two(op) => Some(*op),
+            _ => None,
+        }
+    }
 }

@@ -1,0 +1,47 @@
+-- What tokens stand for.
+use Rattle.std.proofs.Common.{◌≡◌, ℕ, zero, suc, ◌+◌, ◌-◌, ◌<◌, ◌≤◌, Bool, true, false, ◌||◌, ◌==◌, nat_eq, ◌⊎◌, inl, inr, ⊎_elim, List, [], ◌∷◌, ◌++◌, length, take, drop, get_or, map, sym, refl, ap, ◌∙◌, subst, arith, append_assoc, length-append, length-take-le, length-drop, take-append-drop, IsUtf8}
+use Rattle.std.proofs.lemmas.Bool.{cases_Bool, ne_eqb, eq-eqb, eqb-true}
+use Rattle.std.proofs.lemmas.List.{drop_more, drop_all, nil_from_length, length_push, take_at, drop_at}
+use Rattle.std.proofs.Common.{cond, Option, None}
+use Rattle.std.specs.Cmp.Lexicographic.{pointwise}
+use Rattle.coco_parse.specs.Counting.{number_in}
+use Rattle.coco_parse.specs.Wording.{unescaped, spelled_by}
+use Rattle.coco_parse.specs.declared.word.Word.{Word}
+
+-- ---- escapes
+
+pub unescape_escape : (b c : ℕ) (bs : List ℕ) → b ≡ 92 → unescaped (b ∷ c ∷ bs) ≡ c ∷ unescaped bs
+unescape_escape b c bs h = let e : (b == 92) ≡ true = eq-eqb b 92 h in rw e refl
+
+pub unescape_plain : (b : ℕ) (bs : List ℕ) → (b ≡ 92 → ⊥) → unescaped (b ∷ bs) ≡ b ∷ unescaped bs
+unescape_plain b [] h = refl
+unescape_plain b (c ∷ bs) h = let e : (b == 92) ≡ false = ne_eqb b 92 h in rw e refl
+
+pub unescaped_escape : (bytes : List ℕ) (n : ℕ) → n + 1 < length bytes → get_or bytes n 0 ≡ 92 → unescaped (drop n bytes) ≡ get_or bytes (n + 1) 0 ∷ unescaped (drop (n + 1 + 1) bytes)
+unescaped_escape bytes n h b =
+    let first = drop_more bytes n 0 (omega arith) in
+    let second = drop_more bytes (n + 1) 0 h in
+    ap unescaped (first ∙ ap (λ l. get_or bytes n 0 ∷ l) second) ∙ unescape_escape (get_or bytes n 0) (get_or bytes (n + 1) 0) (drop (n + 1 + 1) bytes) b
+
+pub unescaped_plain : (bytes : List ℕ) (n : ℕ) → n < length bytes → (get_or bytes n 0 ≡ 92 → ⊥) → unescaped (drop n bytes) ≡ get_or bytes n 0 ∷ unescaped (drop (n + 1) bytes)
+unescaped_plain bytes n h b = ap unescaped (drop_more bytes n 0 h) ∙ unescape_plain (get_or bytes n 0) (drop (n + 1) bytes) b
+
+pub unescaped_last : (bytes : List ℕ) (n : ℕ) → n < length bytes → length bytes ≤ n + 1 → unescaped (drop n bytes) ≡ get_or bytes n 0 ∷ unescaped (drop (n + 1) bytes)
+unescaped_last bytes n h l =
+    let none = drop_all (n + 1) bytes l in
+    ap unescaped (drop_more bytes n 0 h ∙ ap (λ t. get_or bytes n 0 ∷ t) none) ∙ ap (λ t. get_or bytes n 0 ∷ unescaped t) (sym none)
+
+-- ---- fixed words
+
+-- none of the words of these rows is a number
+abbrev pub NoNumbers : List (List ℕ × Word) → Type 0
+NoNumbers [] = Unit {0}
+NoNumbers (row ∷ rows) = (number_in row.1 ≡ None) × NoNumbers rows
+
+pub no_number : (rows : List (List ℕ × Word)) (bytes : List ℕ) → NoNumbers rows → number_in (spelled_by rows bytes) ≡ None
+no_number [] bytes h = refl
+no_number (row ∷ rows) bytes h =
+    ⊎_elim
+    (λ t. ap (λ b. number_in (cond b row.1 (spelled_by rows bytes))) t ∙ h.0)
+    (λ f. ap (λ b. number_in (cond b row.1 (spelled_by rows bytes))) f ∙ no_number rows bytes h.1)
+    (cases_Bool (pointwise nat_eq row.0 bytes))

@@ -1,0 +1,27 @@
+use Rattle.std.proofs.Common.{length, ◌<◌, arith}
+use Rattle.coco_parse.specs.Steps.{words}
+use Rattle.std.proofs.Common.{take}
+use Rattle.coco_parse.proofs.Steps.{onward, counts_small, stands_on, limit_refused}
+use Rattle.coco_parse.proofs.state.Parser.advance.Goals as goal
+
+pub returns-in-Some-clause-reads : goal.returns-in-Some-clause-reads
+returns-in-Some-clause-reads c g h s st =
+    let p = c.args.self.now in
+    let at = c.args.cursor.now in
+    let w = c.args.word.now in
+    let counts = c.next-next.ensures.counts (take at.at (words p)) (counts_small p at w c.requires p.few) s.counts in
+    limit_refused p at c.in-Some.kind g h w c.refusal.result s c.requires st (c.in-Some.ensures.passes (take at.at (words p)) s.counts counts) c.refusal.ensures.place c.refusal.ensures.kind
+
+pub overflow_add-cursor : goal.overflow_add-cursor
+overflow_add-cursor c = let lt = onward c.args.self.now c.args.cursor.now c.args.word.now c.requires in let few = c.args.self.now.few in omega arith
+
+pub returns-clause-onward : goal.returns-clause-onward
+returns-clause-onward c = let lt = onward c.args.self.now c.args.cursor.now c.args.word.now c.requires in omega arith
+
+pub returns-clause-reads : goal.returns-clause-reads
+returns-clause-reads c g h s st =
+    let p = c.args.self.now in
+    let at = c.args.cursor.now in
+    let w = c.args.word.now in
+    let counts = c.next-next.ensures.counts (take at.at (words p)) (counts_small p at w c.requires p.few) s.counts in
+    stands_on p at c.next-next.result g h w s c.requires st counts (c.in_default.ensures.passes (take at.at (words p)) s.counts counts)

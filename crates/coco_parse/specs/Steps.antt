@@ -1,0 +1,178 @@
+-- How far a parser's cursor has come, and what the machine does next there. Only contracts of private functions and proofs
+-- name it.
+use Rattle.std.specs.Prelude.{◌≡◌, ℕ, ◌-◌, ◌<◌, ◌≤◌, Bool, true, false, List, [], ◌∷◌, ◌++◌, length, take, slice_get, Option, None, Some, map, reverse}
+use Rattle.coco_ast.specs.Tree.{Expression, Minus, RowPlace, Statement, Statements, Procedure}
+use Rattle.coco_ast.specs.Tree as tree
+use Rattle.coco_ast.specs.Views.{expression_of, sign_of, statements_from}
+use Rattle.coco_parse.specs.Counting.{Counts}
+use Rattle.coco_parse.specs.Machine.{Goal, Items, Fixed, Named, Numbered, Operand, Valued, Within, BraceMark, BracketMark, EndBracketMark, SemicolonMark, AssignMark, AsMark, ParenMark, Operator, Params, Listed, Frame, Opened, Negated, Signed, Left, operate, enclose, conclude, at_place, in_braces, with_statement, operand_step, within_step, Tested, after, start, step}
+use Rattle.coco_parse.specs.Machine as machine
+use Rattle.coco_parse.specs.Refusal.{KeepLimits, IsRefused, OnRefused}
+use Rattle.coco_parse.specs.Wording.{words_of}
+use Rattle.coco_parse.specs.declared.error.ParseError.{ParseError}
+use Rattle.coco_parse.specs.declared.error.ParseFault.{ParseFault}
+use Rattle.coco_parse.specs.declared.state.Parser.{Parser}
+use Rattle.coco_parse.specs.declared.state.Cursor.{Cursor}
+use Rattle.coco_parse.specs.declared.state.Mark.{Mark}
+use Rattle.coco_parse.specs.declared.state.Mark.TheVariants as sign
+use Rattle.coco_ast.specs.declared.tree.TwoOp.{TwoOp}
+use Rattle.coco_parse.specs.declared.frames.Frame.{Frame as RustFrame}
+use Rattle.coco_parse.specs.declared.frames.Frame.TheVariants as frame
+use Rattle.coco_parse.specs.declared.frames.Fit.{Fit}
+use Rattle.coco_parse.specs.declared.frames.Fit.TheVariants as fit
+use Rattle.coco_parse.specs.declared.expression.Front.{Front}
+use Rattle.coco_parse.specs.declared.expression.Front.TheVariants as front
+use Rattle.coco_parse.specs.declared.expression.Behind.{Behind}
+use Rattle.coco_parse.specs.declared.expression.Behind.TheVariants as behind
+use Rattle.coco_parse.specs.declared.statement.Head.{Head}
+use Rattle.coco_parse.specs.declared.statement.Head.TheVariants as head
+use Rattle.coco_parse.specs.declared.file.Item.{Item}
+use Rattle.coco_parse.specs.declared.file.Item.TheVariants as item
+use Rattle.coco_parse.specs.declared.choice.Optional.{Optional}
+use Rattle.coco_parse.specs.declared.choice.Optional.TheVariants as optional
+use Rattle.coco_parse.specs.declared.word.Word.{Word}
+use Rattle.coco_parse.specs.declared.word.Word.TheVariants.{Get, Else, CloseParen, CloseBrace}
+
+abbrev pub words : Parser → List Word
+words p = words_of p.text.now p.tokens.now
+
+abbrev pub next_word : Parser → Cursor → Option Word
+next_word p c = slice_get (words p) c.at
+
+-- how many words are left
+abbrev pub left : Parser → Cursor → ℕ
+left p c = length p.tokens.now - c.at
+
+-- nothing but tables and procedures may follow
+abbrev pub IsItems : Goal → Type 0
+IsItems g = (ts : List (List ℕ)) × (ps : List Procedure) × (g ≡ Items ts ps)
+
+-- behind n words the machine has this goal, or one that goes on alike from the next word
+pub data Reaches (ws : List Word) (n : ℕ) (g : Goal) : Type 0 where
+  whole : after start (take n ws) ≡ Some g → Reaches ws n g
+  alike : (h : Goal) → after start (take n ws) ≡ Some h → ¬ (IsItems h) → ¬ (IsItems g) → ((w : Word) → slice_get ws n ≡ Some w → step h w ≡ step g w) → Reaches ws n g
+
+pub record Stands (p : Parser) (c : Cursor) (g : Goal) : Type 0 where
+  pub within : c.at ≤ length p.tokens.now
+  pub counts : Counts c.counter (take c.at (words p))
+  pub kept : KeepLimits (words p) c.at
+  pub reaches : Reaches (words p) c.at g
+
+-- what comes next can't
+abbrev pub Stops : Goal → Option Word → Type 0
+Stops g None = ¬ (IsItems g)
+Stops g (Some w) = step g w ≡ None
+
+abbrev pub IsRefusal : Parser → ParseError → Type 0
+IsRefusal p e = IsRefused p.text.now p.tokens.now e
+
+abbrev pub IsFault : Parser → ParseFault → Type 0
+IsFault p fault = OnRefused fault (IsRefusal p)
+
+abbrev pub mark_of : Mark → machine.Mark
+mark_of sign.Paren = ParenMark
+mark_of sign.Brace = BraceMark
+mark_of sign.Bracket = BracketMark
+mark_of sign.EndBracket = EndBracketMark
+mark_of sign.Semicolon = SemicolonMark
+mark_of sign.Assign = AssignMark
+mark_of sign.As = AsMark
+
+-- an operand with the frame around it that ends behind it
+abbrev pub around : Frame → Expression → Expression
+around Opened e = e
+around Negated e = tree.Not e
+around Signed e = Minus e
+around (Left op d) e = tree.Two (sign_of op) d e
+
+abbrev pub frame_of : RustFrame → Frame
+frame_of frame.Opened = Opened
+frame_of frame.Negated = Negated
+frame_of frame.Signed = Signed
+frame_of (frame.Left op d) = Left op (expression_of d)
+
+-- the last one is the innermost
+abbrev pub frames_of : List RustFrame → List Frame
+frames_of fs = map frame_of (reverse fs)
+
+-- what an operator does to the frame around the operand before it
+abbrev pub Fits : Fit → Frame → TwoOp → Type 0
+Fits fit.Within f op = (e : Expression) (fs : List Frame) → operate e (f ∷ fs) op ≡ Some (Left op e ∷ f ∷ fs)
+Fits fit.Apart f op = (e : Expression) (fs : List Frame) → operate e (f ∷ fs) op ≡ None
+Fits fit.Around f op = (e : Expression) (fs : List Frame) → operate e (f ∷ fs) op ≡ operate (around f e) fs op
+
+-- behind a word at an operand's place
+abbrev pub behind_front : Front → List Frame → machine.Mark → (Expression → Goal) → Goal
+behind_front (front.Atom e) fs m k = Operator (expression_of e) fs m k
+behind_front (front.Prefix f) fs m k = Operand (frame_of f ∷ fs) m k
+
+abbrev pub Begins : Option Front → List Frame → Word → Type 0
+Begins None fs w = (m : machine.Mark) (k : Expression → Goal) → operand_step fs m k w ≡ None
+Begins (Some f) fs w = (m : machine.Mark) (k : Expression → Goal) → operand_step fs m k w ≡ Some (behind_front f fs m k)
+
+-- what has been read behind an operand: an operator, the parenthesis around it, or the mark behind the whole
+abbrev pub Goes : Parser → Cursor → List Frame → machine.Mark → (Expression → Goal) → Behind → Type 0
+Goes p c fs m k behind.Operator = Stands p c (Operand fs m k)
+Goes p c fs m k (behind.Enclosed e) = Stands p c (Operator (expression_of e) fs m k)
+Goes p c fs m k (behind.Whole e) = Stands p c (k (expression_of e))
+
+abbrev pub closes_block : Word → Bool
+closes_block CloseBrace = true
+closes_block _ = false
+
+-- what follows a statement's first word, or the brace behind the last one
+abbrev pub behind_head : Option Head → List Statement → (Statements → Goal) → Goal
+behind_head None ss k = k (statements_from ss)
+behind_head (Some head.Let) ss k = Named (λ x. Fixed AssignMark (Valued (λ e. with_statement ss k (tree.Let x e)) (λ p. with_statement ss k (tree.Get x p))))
+behind_head (Some head.Put) ss k = at_place (λ p. Fixed AssignMark (Operand [] SemicolonMark (λ e. with_statement ss k (tree.Put p e))))
+behind_head (Some head.Delete) ss k = at_place (λ p. Fixed SemicolonMark (with_statement ss k (tree.Delete p)))
+behind_head (Some head.If) ss k = Operand [] BraceMark (λ e. Within [] (λ body. Tested e body ss k))
+behind_head (Some head.Repeat) ss k = Numbered (λ n. Fixed AsMark (Named (λ x. in_braces (λ body. with_statement ss k (tree.Repeat n x body)))))
+behind_head (Some head.Refuse) ss k = Numbered (λ n. Fixed SemicolonMark (with_statement ss k (tree.Refuse n)))
+behind_head (Some head.Reply) ss k = Operand [] SemicolonMark (λ e. with_statement ss k (tree.Reply e))
+
+-- what a word that isn't that brace says as a statement's first
+abbrev pub Heads : Option Head → Word → Type 0
+Heads None w = (ss : List Statement) (k : Statements → Goal) → within_step ss k w ≡ None
+Heads (Some h) w = (ss : List Statement) (k : Statements → Goal) → within_step ss k w ≡ Some (behind_head (Some h) ss k)
+
+-- what follows an item's first word
+abbrev pub behind_item : Item → List (List ℕ) → List Procedure → Goal
+behind_item item.Table ts ps = Named (λ name. Fixed SemicolonMark (Items (ts ++ name ∷ []) ps))
+behind_item item.Proc ts ps = Named (λ name. Fixed ParenMark (Params (λ params. in_braces (λ body. Items ts (ps ++ record { name = name; params = params; body = body } ∷ [])))))
+
+abbrev pub StartsItem : Option Item → Word → Type 0
+StartsItem None w = (ts : List (List ℕ)) (ps : List Procedure) → step (Items ts ps) w ≡ None
+StartsItem (Some i) w = (ts : List (List ℕ)) (ps : List Procedure) → step (Items ts ps) w ≡ Some (behind_item i ts ps)
+
+-- a word that may stand at a place and may be missing there
+abbrev pub is_optional : Optional → Word → Bool
+is_optional optional.Get Get = true
+is_optional optional.Else Else = true
+is_optional optional.CloseParen CloseParen = true
+is_optional _ _ = false
+
+-- with the word the goal g goes on as h does, and without it as the goal o
+pub record Chooses (optional : Optional) (g h o : Goal) : Type 0 where
+  pub taken : (w : Word) → is_optional optional w ≡ true → step g w ≡ Some h
+  pub missing : (w : Word) → is_optional optional w ≡ false → step g w ≡ step o w
+  pub within : ¬ (IsItems g)
+  pub unfinished : ¬ (IsItems o)
+
+abbrev pub chosen : Bool → Goal → Goal → Goal
+chosen true h o = h
+chosen false h o = o
+
+abbrev pub is_opened : Frame → Bool
+is_opened Opened = true
+is_opened _ = false
+
+-- the frames behind an operator, where it may follow
+abbrev pub Operates : Bool → Option (List Frame) → List Frame → Type 0
+Operates true o fs = o ≡ Some fs
+Operates false o fs = o ≡ None
+
+-- the operand d that the operand e and the frames around it make: up to a parenthesis that was open, or to their end
+abbrev pub Collapses : Bool → Expression → Expression → List Frame → List Frame → Type 0
+Collapses true d e fs gs = (enclose e fs ≡ Some (d, gs)) × (conclude e fs ≡ None)
+Collapses false d e fs gs = (enclose e fs ≡ None) × (conclude e fs ≡ Some d)
