@@ -50,3 +50,9 @@ if_ok (Err e) P Q h = tt
 pub if_err : {V : Type 0} (r : Result V ParseFault) (P : V → Type 0) (Q : ParseFault → Type 0) → MatchResult r P Q → IfErr r Q
 if_err (Ok v) P Q h = tt
 if_err (Err e) P Q h = h
+
+-- what holds of each tree of the tokens holds of the one that is answered
+pub of_tree : {V : Type 0} (text : List ℕ) (ts : List Token) (view : V → Procedures) (P : Procedures → Type 0) → ((t : Procedures) → IsTreeOf (words_of text ts) t → P t)
+    → (r : Result V ParseFault) → MatchResult r (λ v. IsTreeOf (words_of text ts) (view v)) (λ fault. OnRefused fault (IsRefused text ts)) → IfOk r (λ v. P (view v))
+of_tree text ts view P holds (Ok v) h = holds (view v) h
+of_tree text ts view P holds (Err e) h = tt

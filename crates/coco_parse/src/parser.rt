@@ -1,4 +1,6 @@
-ghost use Rattle.std.specs.Prelude.{◌≡◌, ◌≤◌, ◌⊎◌, ℕ, List, length, Result, IfOk, IfErr, IsErrAnd, MatchResult};
+ghost use Rattle.std.specs.Prelude.{◌≡◌, ◌≤◌, ◌<◌, ◌^◌, ◌⊎◌, ℕ, List, length, Result, IfOk, IfErr, IsErrAnd, MatchResult};
+ghost use Rattle.std.specs.List.{All};
+ghost use Rattle.coco_ast.specs.Checks.{IsWithinLimits, statements_in};
 ghost use Rattle.coco_ast.specs.Tree.{Procedures};
 ghost use Rattle.coco_ast.specs.Views.{procedures_of};
 ghost use Rattle.coco_lex.specs.Tokens.{AreTokens};
@@ -19,6 +21,10 @@ pub fn parse(alloc: Global, text: &[u8], tokens: &[Token]) -> Result<Procs, Pars
     requires tokens { AreTokens text.now tokens.now }
     ensures tree { IfOk result (λ procs. IsTreeOf (words_of text.now tokens.now) (procedures_of procs)) }
     ensures refused { IfErr result (λ fault. OnRefused fault (IsRefused text.now tokens.now)) }
+
+    // A tree of a text has no more than a check of it may be handed.
+    ensures limits { IfOk result (λ procs. IsWithinLimits (procedures_of procs)) }
+    ensures statements { IfOk result (λ procs. All (λ p. length (statements_in p) < 2 ^ 32) (procedures_of procs).procs) }
 
     // Only want of memory comes in the place of what the tokens are read as.
     ensures only_tree { (t : Procedures) → IsTreeOf (words_of text.now tokens.now) t
