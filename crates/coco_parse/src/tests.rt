@@ -1,6 +1,6 @@
 use crate::{ParseError, ParseFault, ParseKind, parse};
 use ParseKind::{Range, TooDeep, TooMany, Unexpected};
-use coco_ast::Procs;
+use coco_ast::{Procs, builtins};
 use coco_lex::{MOST_BYTES, lex};
 use std::alloc::{AllocError, Global};
 use std::process::Abort;
@@ -203,5 +203,34 @@ fn printed_refusals(rt: HostRuntime) -> Result<(), Fail> {
         let error = ParseError { at: 20, kind };
         assert_eq!(rt; error.to_string(rt.alloc())?.as_str(), text);
     }
+    Ok(())
+}
+
+const BANK: &[u8] = b"table acct;
+proc open(a, n) { put acct[a] = n; reply n; }
+proc move(a, b, n) {
+  if a == b { refuse 3; }
+  let x = get acct[a];
+  let y = get acct[b];
+  if x == none or y == none { refuse 1; }
+  if x < n { refuse 2; }
+  put acct[a] = x - n;
+  put acct[b] = y + n;
+  reply x - n;
+}";
+
+const ADD: &[u8] = b"proc add(r, n) { let v = get main[r]; if v == none { let v = 0; }
+  let v = v + n; put main[r] = v; reply v; }";
+
+#[test]
+fn the_bank_and_a_built_in_procedure(rt: HostRuntime) -> Result<(), Fail> {
+    let bank = parsed(&rt, rt.alloc(), BANK)?;
+    assert_eq!(rt; bank.tables.len(), 1);
+    assert_eq!(rt; bank.procs.len(), 2);
+    let read = parsed(&rt, rt.alloc(), ADD)?;
+    let read = format!(in rt.alloc(); "{:?}", read.procs.as_slice().last())?;
+    let made = builtins(rt.alloc())?;
+    let made = format!(in rt.alloc(); "{:?}", made.procs.as_slice().last())?;
+    assert_eq!(rt; read.as_str(), made.as_str());
     Ok(())
 }
