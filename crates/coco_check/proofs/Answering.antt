@@ -1,10 +1,10 @@
 -- What the loop over procedures answers, and what the answers to a tree follow from.
-use Rattle.std.proofs.Common.{◌≡◌, ℕ, zero, suc, ◌+◌, ◌<◌, ◌⊎◌, inl, inr, not, List, [], ◌∷◌, ◌++◌, length, map, get_or, drop, Option, None, Some, MatchOption, Result, Ok, Err, MatchResult, IsErrAnd, refl, sym, ap, ◌∙◌, subst, arith, add-one, drop-cons}
+use Rattle.std.proofs.Common.{◌≡◌, ℕ, suc, ◌+◌, ◌<◌, ◌⊎◌, inl, inr, not, List, [], ◌∷◌, length, map, get_or, drop, Option, None, Some, Err, refl, sym, ap, ◌∙◌, subst, arith, add-one, drop-cons}
 use Rattle.std.specs.List.{All}
 use Rattle.std.proofs.lemmas.List.Elements.{All-cons, All-head, All-tail, All-nil}
 use Rattle.coco_ast.specs.declared.error.CheckError.{CheckError}
 use Rattle.coco_ast.specs.declared.tree.Proc.{Proc}
-use Rattle.coco_ast.specs.Tree.{Procedure, Procedures}
+use Rattle.coco_ast.specs.Tree.{Procedures}
 use Rattle.coco_ast.specs.Checks.{HasNoError, IsBehind, IsFirstError, kind_number}
 use Rattle.coco_ast.specs.declared.tree.Procs.{Procs}
 use Rattle.coco_ast.specs.Builtins.{builtins}

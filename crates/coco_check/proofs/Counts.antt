@@ -1,5 +1,5 @@
 -- How many statements stand in a statement with blocks.
-use Rattle.std.proofs.Common.{◌≡◌, ℕ, suc, ◌+◌, ◌*◌, ◌<◌, ◌≤◌, ◌^◌, true, false, List, length, Option, None, Some, IfSome, is_none, Global, sym, ap, ◌∙◌, refl, arith, length-append}
+use Rattle.std.proofs.Common.{◌≡◌, ℕ, suc, ◌+◌, ◌*◌, ◌<◌, ◌≤◌, ◌^◌, true, false, List, length, Option, None, Some, IfSome, is_none, Global, sym, ap, ◌∙◌, arith, length-append}
 use Rattle.std.specs.declared.vec.Vec.{Vec}
 use Rattle.coco_ast.specs.Checks.{and_within, in_order, statements_in}
 use Rattle.coco_ast.specs.Tree.{Statement}

@@ -1,15 +1,14 @@
 -- The search finds the first error of the tables and procedures, or there is none.
-use Rattle.std.proofs.Common.{◌≡◌, ℕ, zero, suc, ◌+◌, ◌<◌, ◌≤◌, ◌⊎◌, inl, inr, ⊎_elim, true, false, List, [], ◌∷◌, ◌++◌, length, take, Option, None, Some, MatchOption, slice_get, Result, Ok, Err, refl, sym, ap, ◌∙◌, subst, arith}
+use Rattle.std.proofs.Common.{◌≡◌, ℕ, zero, suc, ◌+◌, ◌<◌, ◌⊎◌, inl, inr, ⊎_elim, true, false, [], ◌++◌, length, take, Option, None, Some, MatchOption, slice_get, Result, Ok, Err, refl, sym, subst, arith}
 use Rattle.std.proofs.lemmas.Bool.{cases_order}
 use Rattle.std.proofs.lemmas.Option.{slice_get_within}
 use Rattle.coco_ast.specs.declared.error.CheckError.{CheckError}
-use Rattle.coco_ast.specs.declared.error.CheckKind.{CheckKind}
 use Rattle.coco_ast.specs.declared.error.CheckKind.TheVariants.{Twice}
 use Rattle.coco_ast.specs.Tree.{Procedure, Procedures}
 use Rattle.coco_ast.specs.Builtins.{builtins}
-use Rattle.coco_ast.specs.Checks.{HasNoError, IsBehind, IsError, IsErrorWithin, IsFirstError, IsProcedureError, IsTableError, StandsTwice}
+use Rattle.coco_ast.specs.Checks.{HasNoError, IsBehind, IsErrorWithin, IsFirstError, IsProcedureError, IsTableError, StandsTwice}
 use Rattle.coco_check.specs.Search.{Names, adding, built_in_names, built_in_tables, error_at, error_behind, first_error, first_of_procedures}
-use Rattle.coco_check.proofs.NameSets.{Adds, IsThere, Same, adding_adds, same_none, same_with_names}
+use Rattle.coco_check.proofs.NameSets.{Adds, IsThere, adding_adds, same_none, same_with_names}
 use Rattle.coco_check.proofs.Procedures.{IsFirstOf, first_of, names_in}
 use Rattle.coco_check.proofs.Statements.{IsAfter}
 

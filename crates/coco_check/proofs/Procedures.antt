@@ -1,12 +1,12 @@
 -- The first fault of a procedure, and the first error of procedures.
-use Rattle.std.proofs.Common.{◌≡◌, ℕ, zero, suc, ◌+◌, ◌<◌, ◌≤◌, ◌⊎◌, inl, inr, ⊎_elim, if◌then◌else◌, min, Bool, true, false, not, ◌||◌, nat_lt, List, [], ◌∷◌, ◌++◌, length, map, take, Option, None, Some, slice_get, Result, Ok, Err, refl, sym, ap, ◌∙◌, subst, arith, append_assoc, append-nil}
+use Rattle.std.proofs.Common.{◌≡◌, ℕ, zero, suc, ◌+◌, ◌<◌, ◌≤◌, ◌⊎◌, inl, inr, ⊎_elim, if◌then◌else◌, min, Bool, true, false, not, nat_lt, List, [], ◌∷◌, ◌++◌, map, take, Option, None, Some, slice_get, Result, Ok, Err, refl, sym, ap, ◌∙◌, subst, arith, append_assoc, append-nil}
 use Rattle.std.proofs.lemmas.Bool.Decides.{nat_tests}
 use Rattle.coco_ast.specs.declared.error.CheckError.{CheckError}
 use Rattle.coco_ast.specs.declared.error.CheckKind.{CheckKind}
 use Rattle.coco_ast.specs.declared.error.CheckKind.TheVariants.{UnknownName, Twice, TooManyKeys, RepeatBound, NoReply}
-use Rattle.coco_ast.specs.Tree.{Procedure, Statements}
-use Rattle.coco_ast.specs.Checks.{Placed, IsHeaderError, IsErrorWithin, StandsTwice, counted_weight, ends, is_among, key_weight, kind_number, statements_in}
-use Rattle.coco_check.specs.Search.{Names, Fault, adding, body_fault, error_at, error_before, first_of_procedures, has, header_fault, header_kind, procedure_fault, walk, with_name}
+use Rattle.coco_ast.specs.Tree.{Procedure}
+use Rattle.coco_ast.specs.Checks.{IsHeaderError, IsErrorWithin, StandsTwice, counted_weight, ends, is_among, key_weight, kind_number, statements_in}
+use Rattle.coco_check.specs.Search.{Names, Fault, adding, body_fault, error_at, error_before, first_of_procedures, has, header_fault, header_kind, procedure_fault, with_name}
 use Rattle.coco_check.proofs.NameSets.{Adds, IsThere, Same, adding_adds, same_none, same_with_name}
 use Rattle.coco_check.proofs.Statements.{IsAfter, IsErrorAmong, IsFirstFault, IsFirstKind, first_among, first_fault_of}
 

@@ -1,12 +1,12 @@
 -- The walk over statements stops at the first one that is wrong, and at the first kind that is wrong with it.
-use Rattle.std.proofs.Common.{◌≡◌, ℕ, zero, suc, ◌+◌, ◌*◌, ◌<◌, ◌⊎◌, inl, inr, ⊎_elim, if◌then◌else◌, Bool, true, false, not, ◌&&◌, ◌||◌, nat_eq, nat_lt, List, [], ◌∷◌, ◌++◌, take, Option, None, Some, slice_get, Result, Ok, Err, refl, sym, ap, ◌∙◌, subst, arith, append_assoc, append-nil}
+use Rattle.std.proofs.Common.{◌≡◌, ℕ, zero, suc, ◌+◌, ◌*◌, ◌<◌, ◌⊎◌, inl, inr, ⊎_elim, if◌then◌else◌, Bool, true, false, not, ◌&&◌, ◌||◌, nat_eq, nat_lt, List, [], ◌∷◌, ◌++◌, take, Option, None, Some, slice_get, refl, sym, subst, arith, append_assoc, append-nil}
 use Rattle.std.specs.List.{flat_map}
 use Rattle.std.proofs.lemmas.Bool.Decides.{nat_tests}
 use Rattle.coco_ast.specs.declared.error.CheckKind.{CheckKind}
 use Rattle.coco_ast.specs.declared.error.CheckKind.TheVariants.{UnknownName, Twice, TooManyKeys, RepeatBound, NoReply}
-use Rattle.coco_ast.specs.Tree.{Statement, Let, Get, Put, Delete, If, IfElse, Repeat, Refuse, Reply, Statements}
+use Rattle.coco_ast.specs.Tree.{Statement, Let, Get, Put, Delete, If, IfElse, Repeat, Refuse, Reply}
 use Rattle.coco_ast.specs.Checks.{Placed, IsBadRepeat, IsStatementError, has_unknown, kind_number, own_tables, own_variables, set_by}
-use Rattle.coco_check.specs.Search.{Names, Walk, Fault, and_then, step, step_of, stepped, walk, fault_of, kind_at, knows_names, repeats_badly, is_bad_bound, with_names}
+use Rattle.coco_check.specs.Search.{Names, Walk, Fault, and_then, step_of, stepped, walk, fault_of, kind_at, knows_names, repeats_badly, is_bad_bound}
 use Rattle.coco_check.proofs.NameSets.{Same, same_with_names, has_all-unknown}
 
 -- ---- the first kind

@@ -1,5 +1,5 @@
 -- A walk over statements goes on where a walk over the first of them ended.
-use Rattle.std.proofs.Common.{◌≡◌, ℕ, suc, ◌+◌, ◌<◌, List, [], ◌∷◌, ◌++◌, length, get_or, drop, Option, None, Some, Global, Result, Ok, Err, refl, sym, ap, ◌∙◌, subst, arith, add-one, drop-cons, append-nil, rules}
+use Rattle.std.proofs.Common.{◌≡◌, ℕ, suc, ◌+◌, ◌<◌, List, [], ◌∷◌, ◌++◌, length, get_or, drop, Option, None, Some, Global, Result, Ok, Err, refl, sym, ap, ◌∙◌, add-one, drop-cons, append-nil}
 use Rattle.coco_ast.specs.Checks.{Placed, in_order, and_within}
 use Rattle.coco_ast.specs.Tree.{Statement}
 use Rattle.coco_ast.specs.Tree as tree

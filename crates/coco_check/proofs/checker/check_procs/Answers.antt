@@ -1,6 +1,6 @@
-use Rattle.std.proofs.Common.{◌≡◌, ◌+◌, [], not, map, drop, sym, ap, ◌∙◌, subst, arith}
+use Rattle.std.proofs.Common.{◌+◌, map, drop, sym, ap, ◌∙◌, arith}
 use Rattle.coco_ast.specs.Views.{procedure_of}
-use Rattle.coco_check.specs.Search.{Fault, IsErrorFound, adding, error_before, first_of_procedures, has, procedure_fault, with_name}
+use Rattle.coco_check.specs.Search.{error_before, first_of_procedures, with_name}
 use Rattle.coco_check.proofs.Answering.{at_fault, front_of}
 use Rattle.coco_check.proofs.checker.check_procs.Goals as goal
 

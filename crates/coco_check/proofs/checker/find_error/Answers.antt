@@ -1,9 +1,8 @@
-use Rattle.std.proofs.Common.{◌≡◌, ◌+◌, ◌<◌, ◌^◌, List, [], Ok, length, map, sym, ap, ◌∙◌, subst}
+use Rattle.std.proofs.Common.{◌≡◌, ◌<◌, ◌^◌, List, [], Ok, length, map, sym, ap, ◌∙◌}
 use Rattle.coco_ast.specs.Checks.{statements_in}
-use Rattle.coco_ast.specs.declared.error.CheckError.{CheckError}
 use Rattle.coco_ast.specs.declared.tree.Proc.{Proc}
 use Rattle.coco_ast.specs.Views.{procedure_of, procedures_of}
-use Rattle.coco_check.specs.Search.{Names, FindsError, adding, built_in_names, built_in_tables, error_behind, first_error, first_of_procedures, with_names}
+use Rattle.coco_check.specs.Search.{adding, built_in_names, built_in_tables, with_names}
 use Rattle.coco_check.proofs.Answering.{all_mapped, built_in_set}
 use Rattle.coco_check.proofs.checker.find_error.Goals as goal
 

@@ -1,8 +1,8 @@
-use Rattle.std.proofs.Common.{◌≡◌, ℕ, ◌+◌, ◌<◌, ◌≤◌, ◌^◌, length, arith, below_more, not, ap, ◌∙◌}
+use Rattle.std.proofs.Common.{◌<◌, ◌≤◌, ◌^◌, length, arith, below_more, not, ap, ◌∙◌}
 use Rattle.std.specs.List.{HoldsAt}
 use Rattle.std.proofs.lemmas.List.Elements.{at_read}
-use Rattle.coco_ast.specs.Checks.{in_order, statements_in}
-use Rattle.coco_ast.specs.Views.{procedure_of, statements_of}
+use Rattle.coco_ast.specs.Checks.{statements_in}
+use Rattle.coco_ast.specs.Views.{procedure_of}
 use Rattle.coco_ast.specs.declared.tree.Proc.{Proc}
 use Rattle.coco_check.proofs.Counts.{few_statements}
 use Rattle.coco_check.proofs.limits.are_small.Goals as goal

@@ -1,8 +1,8 @@
-use Rattle.std.proofs.Common.{◌≡◌, ℕ, suc, ◌+◌, ◌<◌, List, ◌∷◌, ◌++◌, length, drop, Result, Ok, Err, refl, sym, ap, ◌∙◌, arith, length-append}
+use Rattle.std.proofs.Common.{◌≡◌, suc, ◌+◌, ◌∷◌, ◌++◌, length, drop, Err, sym, ap, ◌∙◌, arith, length-append}
 use Rattle.std.proofs.lemmas.Result.{err_from_is_err_and, on_ok_weaker}
 use Rattle.coco_ast.specs.Checks.{Placed, and_within, in_order}
 use Rattle.coco_ast.specs.Views.{statement_of, statements_of}
-use Rattle.coco_check.specs.Search.{walk, Fault}
+use Rattle.coco_check.specs.Search.{walk}
 use Rattle.coco_check.specs.Walking.{walk_of}
 use Rattle.coco_check.proofs.Walks.{walk_on, walk_stops, walk_into, walk_into_fault, follows_fault, order_from, if_order, if_else_order}
 use Rattle.coco_check.proofs.body.Body.+body.Goals as goal

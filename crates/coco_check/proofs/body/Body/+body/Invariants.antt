@@ -1,4 +1,4 @@
-use Rattle.std.proofs.Common.{◌≡◌, ◌+◌, ◌<◌, ◌^◌, drop, length}
+use Rattle.std.proofs.Common.{◌≡◌, ◌+◌, drop, length}
 use Rattle.coco_ast.specs.Checks.{in_order}
 use Rattle.coco_ast.specs.Views.{statements_of}
 use Rattle.coco_check.specs.Search.{walk}
