@@ -5,8 +5,8 @@ use coco_check::check;
 use coco_lex::{MOST_BYTES, lex};
 use coco_parse::parse;
 use coco_print::print;
-use std::fmt::Display;
-use std::io::{self, Read, Write};
+use coco_types::NoMemory;
+use std::io::{self, ErrorKind, Read, Write};
 use std::rt::Clock;
 use std::time::Instant;
 
@@ -31,7 +31,7 @@ fn main(rt: HostRuntime) -> io::Result<()> {
     };
     eprintln!(rt; "tree {}", began.elapsed(&rt)?.as_nanos())?;
     let began = Instant::now(&rt)?;
-    let printed = print(alloc, &procs)?;
+    let printed = print(alloc, &procs).map_err(refused)?;
     eprintln!(rt; "printed {}", began.elapsed(&rt)?.as_nanos())?;
     let began = Instant::now(&rt)?;
     let checked = check(alloc, procs);
@@ -40,4 +40,8 @@ fn main(rt: HostRuntime) -> io::Result<()> {
         Ok(_) => print!(rt; "{printed}"),
         Err(fault) => println!(rt; "{fault}"),
     }
+}
+
+fn refused(_error: NoMemory) -> io::Error {
+    io::Error::from(ErrorKind::OutOfMemory)
 }
