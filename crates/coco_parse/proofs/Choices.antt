@@ -1,19 +1,18 @@
 -- What the machine's goals do with a word.
-use Rattle.std.proofs.Common.{◌≡◌, ℕ, Bool, true, false, cond, List, [], ◌∷◌, ◌++◌, Option, None, Some, sym, refl, ap, ◌∙◌, subst}
+use Rattle.std.proofs.Common.{◌≡◌, ℕ, Bool, true, false, cond, List, [], ◌∷◌, ◌++◌, Option, None, Some, refl, ap, ◌∙◌, subst}
 use Rattle.coco_ast.specs.Tree.{Expression, RowPlace, Statement, Statements, Procedure}
 use Rattle.coco_ast.specs.Tree as tree
 use Rattle.coco_ast.specs.declared.tree.TwoOp.{TwoOp}
 use Rattle.std.specs.Prelude.{option_map}
 use Rattle.coco_parse.specs.Counting.{name_in, number_in, operator_in}
 use Rattle.coco_parse.specs.Limits.{closes_list}
-use Rattle.coco_parse.specs.Machine.{Goal, Items, Fixed, Named, Numbered, Params, Listed, Operand, Operator, Valued, Within, Tested, SemicolonMark, Mark, marks, Frame, operate, enclose, conclude, at_place, in_braces, with_statement, operator_step, step}
+use Rattle.coco_parse.specs.Machine.{Goal, Fixed, Named, Numbered, Params, Listed, Operand, Operator, Valued, Within, Tested, SemicolonMark, Mark, marks, Frame, operate, enclose, conclude, at_place, in_braces, with_statement, step}
 use Rattle.std.proofs.Common.{map}
 use Rattle.std.proofs.lemmas.List.{reverse-append}
 use Rattle.coco_parse.specs.declared.frames.Frame.{Frame as RustFrame}
-use Rattle.coco_parse.specs.Steps.{Operates, Collapses, frame_of, frames_of, IsItems, Chooses, is_optional, closes_block}
+use Rattle.coco_parse.specs.Steps.{Operates, Collapses, frame_of, frames_of, Chooses, is_optional, closes_block}
 use Rattle.coco_parse.specs.declared.choice.Optional.TheVariants as optional
 use Rattle.coco_parse.specs.declared.word.Word.{Word}
-use Rattle.coco_parse.specs.declared.word.Word.TheVariants as word
 use Rattle.coco_parse.specs.declared.word.Word.TheVariants.{Name, Number, Two, Comma, CloseParen, CloseBrace, Get, Else}
 
 pub fixed_some : (m : Mark) (g : Goal) (w : Word) → marks m w ≡ true → step (Fixed m g) w ≡ Some g

@@ -1,10 +1,10 @@
 -- What one more word does to what the limits count.
-use Rattle.std.proofs.Common.{◌≡◌, ℕ, suc, ◌+◌, ◌-◌, ◌^◌, ◌<◌, ◌≤◌, Bool, true, false, not, ◌||◌, nat_lt, cond, ltb-true, lt-ltb, ◌⊎◌, inl, inr, ⊎_elim, List, [], ◌∷◌, ◌++◌, length, IsTrue, sym, refl, ap, ◌∙◌, subst, arith, append_assoc, length-append}
-use Rattle.std.specs.List.{filter, list_any}
+use Rattle.std.proofs.Common.{◌≡◌, ℕ, suc, ◌+◌, ◌<◌, ◌≤◌, Bool, true, false, ◌||◌, cond, ltb-true, lt-ltb, ⊎_elim, List, [], ◌∷◌, ◌++◌, length, sym, refl, ap, ◌∙◌, arith, append_assoc}
+use Rattle.std.specs.List.{list_any}
 use Rattle.std.proofs.lemmas.Bool.{cases_Bool, false≢true}
 use Rattle.std.proofs.lemmas.List.{same_from_push}
 use Rattle.coco_parse.specs.Counting.{is_refuse, is_wide, ends_in, Tallies, Counts}
-use Rattle.coco_parse.specs.Limits.{is_proc, closes_list, since, count, EndsIn, Passes, header_names, is_name}
+use Rattle.coco_parse.specs.Limits.{is_proc, closes_list, since, count, Passes, header_names}
 use Rattle.coco_parse.specs.declared.counter.Counter.{Counter}
 use Rattle.coco_parse.specs.declared.counter.Tally.{Tally}
 use Rattle.coco_parse.specs.declared.error.ParseKind.TheVariants.{Unexpected, TooDeep, TooMany, Range}

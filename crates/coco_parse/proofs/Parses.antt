@@ -1,5 +1,5 @@
 -- What is parsed soundly is parsed wholly, unless memory runs out.
-use Rattle.std.proofs.Common.{◌≡◌, ℕ, ◌⊎◌, inl, inr, List, Result, Ok, Err, IfOk, IfErr, IsErrAnd, MatchResult, sym, refl, ap, subst}
+use Rattle.std.proofs.Common.{◌≡◌, ℕ, ◌⊎◌, inl, inr, List, Result, Ok, Err, IfOk, IfErr, IsErrAnd, MatchResult, refl, ap, subst}
 use Rattle.coco_ast.specs.Tree.{Procedures}
 use Rattle.coco_lex.specs.declared.token.Token.{Token}
 use Rattle.coco_parse.specs.Refusal.{IsTreeOf, IsRefused, OnRefused}

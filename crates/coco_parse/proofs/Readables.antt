@@ -1,5 +1,5 @@
 -- What is known of each token of a text.
-use Rattle.std.proofs.Common.{◌≡◌, ℕ, zero, suc, ◌+◌, ◌-◌, ◌<◌, ◌≤◌, Bool, true, false, List, [], ◌∷◌, ◌++◌, inl, inr, length, take, drop, get_or, Option, None, Some, IsUtf8, sym, refl, ap, ◌∙◌, subst, arith, append_assoc, length-append, length-drop, length-take, take-append-drop}
+use Rattle.std.proofs.Common.{◌≡◌, ℕ, zero, suc, ◌+◌, ◌-◌, ◌<◌, ◌≤◌, Bool, true, false, List, [], ◌∷◌, ◌++◌, inl, inr, length, take, drop, get_or, Some, IsUtf8, sym, refl, ap, ◌∙◌, subst, arith, append_assoc, length-append, length-drop, take-append-drop}
 use Rattle.std.specs.Prelude.{slice_get}
 use Rattle.std.proofs.Common.{◌&&◌, ◌||◌, ◌==◌, cond, ◌⊎◌, ⊎_elim}
 use Rattle.std.proofs.Math.Bool.{Bool-set}

@@ -1,8 +1,8 @@
 -- What tokens stand for.
-use Rattle.std.proofs.Common.{◌≡◌, ℕ, zero, suc, ◌+◌, ◌-◌, ◌<◌, ◌≤◌, Bool, true, false, ◌||◌, ◌==◌, nat_eq, ◌⊎◌, inl, inr, ⊎_elim, List, [], ◌∷◌, ◌++◌, length, take, drop, get_or, map, sym, refl, ap, ◌∙◌, subst, arith, append_assoc, length-append, length-take-le, length-drop, take-append-drop, IsUtf8}
-use Rattle.std.proofs.lemmas.Bool.{cases_Bool, ne_eqb, eq-eqb, eqb-true}
-use Rattle.std.proofs.lemmas.List.{drop_more, drop_all, nil_from_length, length_push, take_at, drop_at}
-use Rattle.std.proofs.Common.{cond, Option, None}
+use Rattle.std.proofs.Common.{◌≡◌, ℕ, ◌+◌, ◌<◌, ◌≤◌, true, false, ◌==◌, nat_eq, ⊎_elim, List, [], ◌∷◌, length, drop, get_or, sym, refl, ap, ◌∙◌, arith}
+use Rattle.std.proofs.lemmas.Bool.{cases_Bool, ne_eqb, eq-eqb}
+use Rattle.std.proofs.lemmas.List.{drop_more, drop_all}
+use Rattle.std.proofs.Common.{cond, None}
 use Rattle.std.specs.Cmp.Lexicographic.{pointwise}
 use Rattle.coco_parse.specs.Counting.{number_in}
 use Rattle.coco_parse.specs.Wording.{unescaped, spelled_by}

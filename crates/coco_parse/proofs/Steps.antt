@@ -1,24 +1,24 @@
 -- What a word does to a cursor.
-use Rattle.std.proofs.Common.{◌≡◌, ℕ, zero, suc, ◌+◌, ◌<◌, ◌≤◌, ◌⊎◌, inl, inr, ⊎_elim, List, [], ◌∷◌, ◌++◌, length, take, map, Option, None, Some, Result, Ok, Err, IsErrAnd, MatchResult, sym, refl, ap, ◌∙◌, subst, arith, add-one, take_all, length-take}
+use Rattle.std.proofs.Common.{◌≡◌, ℕ, zero, suc, ◌+◌, ◌<◌, ◌≤◌, ⊎_elim, List, [], ◌∷◌, ◌++◌, length, take, Option, None, Some, Result, Ok, Err, IsErrAnd, MatchResult, sym, refl, ap, ◌∙◌, subst, arith, add-one, take_all, length-take}
 use Rattle.std.proofs.lemmas.List.{length-map}
 use Rattle.std.specs.Prelude.{slice_get, option_and_then}
 use Rattle.std.proofs.lemmas.Bool.{cases_lt}
-use Rattle.std.proofs.lemmas.Option.{slice_get_within, slice_get_past}
+use Rattle.std.proofs.lemmas.Option.{slice_get_within}
 use Rattle.coco_lex.specs.declared.token.Token.{Token}
 use Rattle.coco_parse.specs.Counting.{Counts}
 use Rattle.coco_parse.specs.Limits.{Passes}
 use Rattle.coco_ast.specs.Tree.{Procedure}
 use Rattle.coco_parse.specs.Machine.{Goal, Items, after, start, step}
-use Rattle.coco_parse.specs.Refusal.{KeepLimits, IsTreeOf, IsRefusedAt, IsRefused, place_of, OnRefused}
+use Rattle.coco_parse.specs.Refusal.{KeepLimits, IsTreeOf, IsRefusedAt, place_of}
 use Rattle.std.proofs.Common.{Bool, true, false, not}
 use Rattle.coco_parse.specs.declared.choice.Optional.{Optional}
-use Rattle.coco_parse.specs.Steps.{Chooses, chosen, is_optional, words, next_word, left, IsItems, Reaches, whole, alike, Stands, Stops, IsRefusal, IsFault}
+use Rattle.coco_parse.specs.Steps.{Chooses, chosen, is_optional, words, next_word, IsItems, Reaches, whole, alike, Stands, Stops, IsRefusal, IsFault}
 use Rattle.coco_parse.specs.declared.counter.Counter.{Counter}
 use Rattle.coco_parse.specs.declared.error.ParseError.{ParseError}
 use Rattle.coco_parse.specs.declared.error.ParseFault.{ParseFault}
 use Rattle.coco_parse.specs.declared.error.ParseFault.TheVariants.{Refused, NoMemory}
 use Rattle.coco_parse.specs.declared.error.ParseKind.{ParseKind}
-use Rattle.coco_parse.specs.declared.error.ParseKind.TheVariants.{Unexpected, TooDeep, TooMany, Range}
+use Rattle.coco_parse.specs.declared.error.ParseKind.TheVariants.{Unexpected}
 use Rattle.coco_parse.specs.declared.state.Cursor.{Cursor}
 use Rattle.coco_parse.specs.declared.state.Parser.{Parser}
 use Rattle.coco_parse.specs.declared.word.Word.{Word}

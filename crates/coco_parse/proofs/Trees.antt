@@ -5,7 +5,6 @@ use Rattle.coco_ast.specs.Tree.{Statement}
 use Rattle.coco_ast.specs.Views.{expression_of, place_of, statement_of, statement_step}
 use Rattle.coco_ast.specs.declared.tree.Expr.{Expr}
 use Rattle.coco_ast.specs.declared.tree.Place.{Place}
-use Rattle.coco_ast.specs.declared.tree.Stmt.{Stmt}
 use Rattle.coco_ast.specs.declared.tree.Stmt.TheOpen.{Stmt-F}
 use Rattle.coco_ast.specs.declared.tree.Stmt.TheFolds.{fold-roll-Stmt}
 use Rattle.coco_ast.specs.declared.tree.Stmt.TheVariants.{Let, Get, Put, Delete, Refuse, Reply, rolls-Let, rolls-Get, rolls-Put, rolls-Delete, rolls-Refuse, rolls-Reply}

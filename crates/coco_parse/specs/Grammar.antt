@@ -1,5 +1,5 @@
 -- The grammar of procedure texts, over tokens without their places.
-use Rattle.std.specs.Prelude.{◌≡◌, ℕ, List, [], ◌∷◌, ◌++◌, pos}
+use Rattle.std.specs.Prelude.{ℕ, List, [], ◌∷◌, ◌++◌, pos}
 use Rattle.coco_ast.specs.Tree.{Expression, Nothing, Variable, Quoted, Minus, RowPlace, Statement, Statements, End, Then, Procedure, Procedures}
 use Rattle.coco_ast.specs.Tree as tree
 use Rattle.coco_ast.specs.Views.{sign_of}

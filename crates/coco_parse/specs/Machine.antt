@@ -1,6 +1,6 @@
 -- A machine that reads a file of procedures word by word. What it does next is a goal. Only contracts of private functions and
 -- proofs name it: the definition is the grammar.
-use Rattle.std.specs.Prelude.{◌≡◌, ℕ, suc, ◌<◌, ◌≤◌, Bool, true, false, ◌&&◌, nat_le, nat_eq, if◌then◌else◌, List, [], ◌∷◌, ◌++◌, Option, None, Some, option_map, option_and_then, pos}
+use Rattle.std.specs.Prelude.{ℕ, suc, Bool, true, false, ◌&&◌, nat_le, nat_eq, if◌then◌else◌, List, [], ◌∷◌, ◌++◌, Option, None, Some, option_map, option_and_then, pos}
 use Rattle.coco_ast.specs.Tree.{Expression, Variable, Quoted, Minus, RowPlace, Statement, Statements, Procedure}
 use Rattle.coco_ast.specs.Tree as tree
 use Rattle.coco_ast.specs.Views.{sign_of, statements_from}

@@ -1,6 +1,6 @@
 use Rattle.std.proofs.Common.{◌≡◌, ◌+◌, true, sym, subst, ◌∙◌, arith}
 use Rattle.coco_parse.specs.Counting.{Tallies}
-use Rattle.std.proofs.Common.{List, ◌∷◌, ◌++◌, []}
+use Rattle.std.proofs.Common.{◌∷◌, ◌++◌, []}
 use Rattle.coco_parse.proofs.Counters.{tally_within, tally_begins, tally_before, tally_other, tally_more}
 use Rattle.std.proofs.lemmas.Bool.{not-true, not-false}
 use Rattle.coco_parse.proofs.counter.Tally.next.Goals.{then-not-self-via-then-not-self, then-not-self-via-else-not-self+then-not-counts}

@@ -1,12 +1,12 @@
-use Rattle.std.proofs.Common.{ℕ, List, [], ◌∷◌, ◌++◌, map, Some, None, sym, ap, ◌∙◌, subst, arith}
+use Rattle.std.proofs.Common.{[], ◌∷◌, map, Some, None, sym, ap, ◌∙◌, subst, arith}
 use Rattle.std.proofs.lemmas.List.{map-append}
 use Rattle.coco_ast.specs.Tree.{Expression, Statement, Statements}
 use Rattle.coco_ast.specs.Tree as tree
 use Rattle.coco_ast.specs.declared.tree.Stmt.TheFolds.{fold-roll-Stmt}
 use Rattle.coco_ast.specs.declared.tree.Stmt.TheVariants.{rolls-If, rolls-Repeat}
 use Rattle.coco_ast.specs.declared.tree.Stmt.TheOpen.{Stmt-F}
-use Rattle.coco_ast.specs.Views.{statement_step, expression_of, statement_of, statements_of, statements_from}
-use Rattle.coco_parse.specs.Machine.{Goal, Fixed, Named, Operand, Within, Tested, BraceMark, AsMark, in_braces, with_statement}
+use Rattle.coco_ast.specs.Views.{statement_step, expression_of, statement_of, statements_of}
+use Rattle.coco_parse.specs.Machine.{Fixed, Named, Within, Tested, AsMark, in_braces, with_statement}
 use Rattle.coco_parse.specs.Steps.{Stands, behind_head}
 use Rattle.coco_parse.proofs.Choices.{chooses_else}
 use Rattle.coco_parse.proofs.Steps.{exit_same, exit_refused, chosen_true, chosen_false}

@@ -1,4 +1,4 @@
-use Rattle.std.proofs.Common.{ℕ, ◌+◌, ◌*◌, ◌≤◌, [], map}
+use Rattle.std.proofs.Common.{◌+◌, ◌*◌, ◌≤◌, [], map}
 use Rattle.coco_ast.specs.Tree.{Statements}
 use Rattle.coco_ast.specs.Views.{statement_of}
 use Rattle.coco_parse.specs.Machine.{Goal, Within}

@@ -1,4 +1,4 @@
-use Rattle.std.proofs.Common.{length, ◌<◌, arith}
+use Rattle.std.proofs.Common.{arith}
 use Rattle.coco_parse.specs.Steps.{words}
 use Rattle.std.proofs.Common.{take}
 use Rattle.coco_parse.proofs.Steps.{onward, counts_small, stands_on, limit_refused}

@@ -1,7 +1,7 @@
-use Rattle.std.proofs.Common.{ℕ, List, [], sym, subst}
+use Rattle.std.proofs.Common.{[], sym, subst}
 use Rattle.coco_ast.specs.Tree.{RowPlace, Expression}
 use Rattle.coco_ast.specs.Tree as tree
-use Rattle.coco_parse.specs.Machine.{Goal, Fixed, Operand, Valued, AssignMark, SemicolonMark, at_place, with_statement}
+use Rattle.coco_parse.specs.Machine.{Fixed, Operand, Valued, AssignMark, SemicolonMark, at_place, with_statement}
 use Rattle.coco_parse.specs.Steps.{Stands}
 use Rattle.coco_parse.proofs.Choices.{chooses_get}
 use Rattle.coco_parse.proofs.Steps.{exit_same, exit_refused, chosen_true, chosen_false}

@@ -1,4 +1,3 @@
-use Rattle.coco_ast.specs.Tree.{RowPlace}
 use Rattle.coco_ast.specs.Views.{place_of}
 use Rattle.coco_parse.specs.Machine.{Fixed, SemicolonMark}
 use Rattle.coco_parse.proofs.Steps.{exit_same, exit_refused}

@@ -1,6 +1,5 @@
-use Rattle.std.proofs.Common.{[], sym, ap, ◌∙◌, subst, arith}
-use Rattle.coco_ast.specs.Views.{expression_of}
-use Rattle.coco_parse.specs.Machine.{Operand, Operator}
+use Rattle.std.proofs.Common.{sym, subst, arith}
+use Rattle.coco_parse.specs.Machine.{Operand}
 use Rattle.coco_parse.specs.Steps.{Stands, frames_of, mark_of, Goes}
 use Rattle.coco_parse.proofs.Steps.{exit_same}
 use Rattle.coco_parse.proofs.state.Parser.expression.Goals as goal

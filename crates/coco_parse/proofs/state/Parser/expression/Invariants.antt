@@ -1,4 +1,4 @@
-use Rattle.std.proofs.Common.{ℕ, ◌≤◌, ◌<◌, []}
+use Rattle.std.proofs.Common.{◌<◌, []}
 use Rattle.coco_ast.specs.Tree.{Expression}
 use Rattle.coco_ast.specs.Views.{expression_of}
 use Rattle.coco_parse.specs.Machine.{Goal, Operand, Operator}

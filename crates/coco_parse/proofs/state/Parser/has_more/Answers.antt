@@ -1,5 +1,5 @@
-use Rattle.std.proofs.Common.{List, ℕ, [], ◌∷◌, ◌++◌, Some, sym, refl, ap}
-use Rattle.coco_parse.specs.Machine.{Goal, Listed, Named, step}
+use Rattle.std.proofs.Common.{sym}
+use Rattle.coco_parse.specs.Machine.{Listed}
 use Rattle.coco_parse.proofs.Choices.{listed_none, listed_more, listed_end}
 use Rattle.coco_parse.proofs.Steps.{stops_end, stops_word, exit_same}
 use Rattle.coco_parse.proofs.state.Parser.has_more.Goals as goal

@@ -1,4 +1,3 @@
-use Rattle.std.proofs.Common.{sym}
 use Rattle.coco_parse.specs.Machine.{Items}
 use Rattle.coco_parse.specs.Steps.{behind_item}
 use Rattle.coco_parse.proofs.Steps.{stops_word, exit_same}

@@ -1,6 +1,5 @@
 use Rattle.std.proofs.Common.{sym, ap, ◌∙◌, subst, arith}
-use Rattle.coco_ast.specs.Views.{expression_of}
-use Rattle.coco_parse.specs.Machine.{Operand, Operator}
+use Rattle.coco_parse.specs.Machine.{Operand}
 use Rattle.coco_parse.specs.Steps.{Stands, frames_of, behind_front}
 use Rattle.coco_parse.proofs.Choices.{frames_push}
 use Rattle.coco_parse.proofs.Steps.{exit_same}

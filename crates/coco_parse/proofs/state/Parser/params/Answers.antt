@@ -1,5 +1,5 @@
-use Rattle.std.proofs.Common.{ℕ, List, [], ◌∷◌, ◌++◌, true, false, sym, ap, ◌∙◌, subst, arith}
-use Rattle.coco_parse.specs.Machine.{Goal, Params, Named, Listed}
+use Rattle.std.proofs.Common.{[], ◌∷◌, ◌++◌, sym, subst, arith}
+use Rattle.coco_parse.specs.Machine.{Params, Named, Listed}
 use Rattle.coco_parse.specs.Steps.{Stands, chosen}
 use Rattle.coco_parse.proofs.Choices.{chooses_close}
 use Rattle.coco_parse.proofs.Steps.{exit_refused, chosen_true, chosen_false, chosen_not}

@@ -1,7 +1,6 @@
 use Rattle.std.proofs.Common.{ℕ, List, []}
 use Rattle.coco_ast.specs.Tree.{Expression}
-use Rattle.coco_ast.specs.Views.{expression_of}
-use Rattle.coco_parse.specs.Machine.{Goal, Fixed, Operand, BracketMark, EndBracketMark}
+use Rattle.coco_parse.specs.Machine.{Fixed, Operand, BracketMark, EndBracketMark}
 use Rattle.coco_parse.proofs.Steps.{exit_same, exit_refused}
 use Rattle.coco_parse.proofs.state.Parser.place.Goals as goal
 

@@ -1,4 +1,4 @@
-use Rattle.std.proofs.Common.{[], ◌∷◌, ◌++◌, List, ℕ}
+use Rattle.std.proofs.Common.{[], ◌∷◌, ◌++◌}
 use Rattle.coco_parse.specs.Machine.{Fixed, Items, SemicolonMark}
 use Rattle.coco_parse.proofs.Steps.{exit_same}
 use Rattle.coco_parse.proofs.state.Parser.table.Goals as goal

@@ -1,6 +1,6 @@
-use Rattle.std.proofs.Common.{◌≡◌, Some, None, sym, ap, ◌∙◌, subst}
-use Rattle.coco_parse.specs.Steps.{is_optional, next_word}
-use Rattle.coco_parse.proofs.Steps.{stands_missing, stands_alike, exit_same}
+use Rattle.std.proofs.Common.{◌≡◌, Some, None, sym, ap, ◌∙◌}
+use Rattle.coco_parse.specs.Steps.{is_optional}
+use Rattle.coco_parse.proofs.Steps.{stands_missing, exit_same}
 use Rattle.coco_parse.proofs.state.Parser.takes.Goals as goal
 
 pub returns-in_default-clause-reads : goal.returns-in_default-clause-reads
