@@ -30,10 +30,10 @@ pub returns-clause-limits : goal.returns-clause-limits
 returns-clause-limits c =
     let r = c.file.result in
     of_tree c.args.text.now c.args.tokens.now procedures_of IsWithinLimits (λ t tree. (few c.args.text.now c.args.tokens.now t c.requires.short c.requires.tokens tree).0) r
-        (of_parser c.args.text.now _ c.args.tokens.now _ procedures_of r c.new-parser.ensures.0 c.new-parser.ensures.1 c.file.ensures)
+    (of_parser c.args.text.now _ c.args.tokens.now _ procedures_of r c.new-parser.ensures.0 c.new-parser.ensures.1 c.file.ensures)
 
 pub returns-clause-statements : goal.returns-clause-statements
 returns-clause-statements c =
     let r = c.file.result in
     of_tree c.args.text.now c.args.tokens.now procedures_of (λ t. All (λ p. length (statements_in p) < 2 ^ 32) t.procs) (λ t tree. (few c.args.text.now c.args.tokens.now t c.requires.short c.requires.tokens tree).1) r
-        (of_parser c.args.text.now _ c.args.tokens.now _ procedures_of r c.new-parser.ensures.0 c.new-parser.ensures.1 c.file.ensures)
+    (of_parser c.args.text.now _ c.args.tokens.now _ procedures_of r c.new-parser.ensures.0 c.new-parser.ensures.1 c.file.ensures)
