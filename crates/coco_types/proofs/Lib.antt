@@ -1,2 +1,3 @@
+pub mod ArgumentLemmas
 pub mod KeyMaps
 pub mod PaddedLemmas

@@ -1,3 +1,4 @@
+pub mod Arguments
 pub mod Codes
 pub mod Padded
 pub mod PaddedText

@@ -1,6 +1,7 @@
 //! The types that every layer speaks of: values and keys, calls and their replies, and the trait of machines.
 #![tactic(auto)]
 
+pub mod args;
 pub mod call;
 pub mod error;
 pub mod key;
@@ -9,9 +10,9 @@ pub mod sequence;
 pub mod text;
 pub mod value;
 
+pub use args::Args;
 pub use call::{
-    Args, AttemptId, Call, Cause, Done, Dones, MapRows, Piece, Pieces, Reply, Request, Write,
-    Writes,
+    AttemptId, Call, Cause, Done, Dones, MapRows, Piece, Pieces, Reply, Request, Write, Writes,
 };
 pub use error::{Failed, NoMemory, OutFault};
 pub use key::Key;

@@ -45,14 +45,18 @@ fn sixteen_arguments_stand_in_order(rt: HostRuntime) -> Result<(), Fail> {
     let kinds = [Some(Value::Int(i64::MIN)), None, Some(Value::Text(text))];
     let mut args = Args::new(rt.alloc());
     for place in 0..16 {
-        assert_eq!(rt; args.as_slice().len(), place);
+        assert_eq!(rt; args.len(), place);
+        assert_eq!(rt; args.is_empty(), place == 0);
         args.push(kinds[place % 3])?;
     }
     let copy = args.try_clone()?;
-    assert_eq!(rt; copy.as_slice().len(), 16);
-    for (place, argument) in copy.as_slice().iter().enumerate() {
-        assert_eq!(rt; *argument, kinds[place % 3]);
+    assert_eq!(rt; copy, args);
+    for place in 0..16 {
+        assert_eq!(rt; copy.get(place), Some(kinds[place % 3]));
+        assert_eq!(rt; copy.int(place), [Some(i64::MIN), None, None][place % 3]);
     }
+    assert_eq!(rt; copy.get(16), None);
+    assert_eq!(rt; copy.int(16), None);
     Ok(())
 }
 
