@@ -1,55 +1,77 @@
--- The run of a call whose procedure's number and whose arguments are known piece by piece.
-use Rattle.std.proofs.Common.{◌≡◌, ℕ, ◌<◌, ◌≤◌, Bool, List, [], ◌∷◌, length, get_or, Ok, Err, ap, sym, refl, ◌∙◌, arith}
+-- The run of a call by the whole numbers that its arguments are.
+use Rattle.std.proofs.Common.{◌≡◌, ℕ, List, Some, None, Ok, Err, option_map, ap, refl, ◌∙◌, arith, false}
+use Rattle.std.specs.Prelude.{slice_get, option_and_then}
+use Rattle.coco_types.specs.Arguments.{int_of}
 use Rattle.coco_types.specs.RowKey.{RowKey}
 use Rattle.coco_types.specs.declared.call.Call.{Call}
+use Rattle.coco_types.specs.declared.value.Value.TheVariants.{Int, Text}
 use Rattle.coco_ast.specs.Builtins.{builtins}
-use Rattle.coco_ast.specs.Keyed.{Rows}
-use Rattle.coco_ast.specs.Meaning.{Datum, Computed, run, row_key}
-use Rattle.coco_ast.proofs.BuiltinRuns.{got, stored, added, run-get, run-put, run-add}
+use Rattle.coco_ast.specs.Fitting.{Fits}
+use Rattle.coco_ast.specs.Keyed.{Rows, value_at}
+use Rattle.coco_ast.specs.Meaning.{Datum, Computed, run, row_key, combined}
+use Rattle.coco_ast.specs.Tree.{Plus}
+use Rattle.coco_ast.proofs.BuiltinCalls.{IsBuiltinCall, gets, puts, adds, builtin_call}
+use Rattle.coco_ast.proofs.BuiltinRuns.{got, stored, added, summed, or_zero, run-get, run-put, run-add}
 
-abbrev call_of : ℕ → List Datum → Bool → Call
-call_of number args snapshot = record { proc_no = number; args = args; snapshot = snapshot }
+-- the whole number that a value is, as a value, and none where it is no number
+abbrev pub whole : Datum → Datum
+whole v = option_map Int (int_of v)
 
-run_of_get : (m : Rows) (number : ℕ) (args : List Datum) (snapshot : Bool) (a : Datum) → number ≡ 0 → 1 ≤ length args → length args < 2
-    → a ≡ get_or args 0 a → run builtins (record { proc_no = number; args = args; snapshot = snapshot }) m ≡ got m (row_key 0 a)
-run_of_get m number [] snapshot a e some few i = absurd (omega arith)
-run_of_get m number (x ∷ []) snapshot a e some few i =
-    ap (λ (n : ℕ). run builtins (call_of n (x ∷ []) snapshot) m) e ∙ run-get m snapshot x ∙ ap (λ (d : Datum). got m (row_key 0 d)) (sym i)
-run_of_get m number (x ∷ y ∷ more) snapshot a e some few i = absurd (omega arith)
+-- the value of the argument at a place, as far as it is a whole number
+abbrev pub whole_at : List Datum → ℕ → Datum
+whole_at args place = option_map Int (option_and_then int_of (slice_get args place))
 
-run_of_put : (m : Rows) (number : ℕ) (args : List Datum) (snapshot : Bool) (a v : Datum) → number ≡ 1 → 2 ≤ length args → length args < 3
-    → a ≡ get_or args 0 a → v ≡ get_or args 1 v → run builtins (record { proc_no = number; args = args; snapshot = snapshot }) m ≡ stored m v (row_key 0 a)
-run_of_put m number [] snapshot a v e some few i j = absurd (omega arith)
-run_of_put m number (x ∷ []) snapshot a v e some few i j = absurd (omega arith)
-run_of_put m number (x ∷ y ∷ []) snapshot a v e some few i j =
-    ap (λ (n : ℕ). run builtins (call_of n (x ∷ y ∷ []) snapshot) m) e ∙ run-put m snapshot x y
-    ∙ ap (λ (d : Datum). stored m y (row_key 0 d)) (sym i) ∙ ap (λ (d : Datum). stored m d (row_key 0 a)) (sym j)
-run_of_put m number (x ∷ y ∷ z ∷ more) snapshot a v e some few i j = absurd (omega arith)
+key-of-whole : (v : Datum) → row_key 0 v ≡ row_key 0 (whole v)
+key-of-whole None = refl
+key-of-whole (Some (Int n)) = refl
+key-of-whole (Some (Text t)) = refl
 
-run_of_add : (m : Rows) (number : ℕ) (args : List Datum) (snapshot : Bool) (a v : Datum) → number ≡ 2 → 2 ≤ length args → length args < 3
-    → a ≡ get_or args 0 a → v ≡ get_or args 1 v → run builtins (record { proc_no = number; args = args; snapshot = snapshot }) m ≡ added m v (row_key 0 a)
-run_of_add m number [] snapshot a v e some few i j = absurd (omega arith)
-run_of_add m number (x ∷ []) snapshot a v e some few i j = absurd (omega arith)
-run_of_add m number (x ∷ y ∷ []) snapshot a v e some few i j =
-    ap (λ (n : ℕ). run builtins (call_of n (x ∷ y ∷ []) snapshot) m) e ∙ run-add m snapshot x y
-    ∙ ap (λ (d : Datum). added m y (row_key 0 d)) (sym i) ∙ ap (λ (d : Datum). added m d (row_key 0 a)) (sym j)
-run_of_add m number (x ∷ y ∷ z ∷ more) snapshot a v e some few i j = absurd (omega arith)
+plus-whole-right : (a b : Datum) → combined Plus a b ≡ combined Plus a (whole b)
+plus-whole-right a None = refl
+plus-whole-right a (Some (Int n)) = refl
+plus-whole-right a (Some (Text t)) = refl
 
--- the same for a call whose arguments are these
-pub run_get : (m : Rows) (call : Call) (xs : List Datum) (a : Datum) → xs ≡ call.args → call.proc_no ≡ 0 → 1 ≤ length xs → length xs < 2
-    → a ≡ get_or xs 0 a → run builtins call m ≡ got m (row_key 0 a)
-run_get m call xs a args e some few i =
-    ap (λ (ys : List Datum). run builtins (call_of call.proc_no ys call.snapshot) m) (sym args) ∙ run_of_get m call.proc_no xs call.snapshot a e some few i
+pub plus-whole-left : (a b : Datum) → combined Plus (whole a) b ≡ combined Plus a b
+plus-whole-left None b = refl
+plus-whole-left (Some (Int n)) b = refl
+plus-whole-left (Some (Text t)) b = refl
 
-pub run_put : (m : Rows) (call : Call) (xs : List Datum) (a v : Datum) → xs ≡ call.args → call.proc_no ≡ 1 → 2 ≤ length xs → length xs < 3
-    → a ≡ get_or xs 0 a → v ≡ get_or xs 1 v → run builtins call m ≡ stored m v (row_key 0 a)
-run_put m call xs a v args e some few i j =
-    ap (λ (ys : List Datum). run builtins (call_of call.proc_no ys call.snapshot) m) (sym args) ∙ run_of_put m call.proc_no xs call.snapshot a v e some few i j
+added-whole : (m : Rows) (n : Datum) (k : Computed RowKey) → added m n k ≡ added m (whole n) k
+added-whole m n (Ok k) = ap (summed m k) (plus-whole-right (or_zero (value_at m k)) n)
+added-whole m n (Err c) = refl
 
-pub run_add : (m : Rows) (call : Call) (xs : List Datum) (a v : Datum) → xs ≡ call.args → call.proc_no ≡ 2 → 2 ≤ length xs → length xs < 3
-    → a ≡ get_or xs 0 a → v ≡ get_or xs 1 v → run builtins call m ≡ added m v (row_key 0 a)
-run_add m call xs a v args e some few i j =
-    ap (λ (ys : List Datum). run builtins (call_of call.proc_no ys call.snapshot) m) (sym args) ∙ run_of_add m call.proc_no xs call.snapshot a v e some few i j
+get_runs : (m : Rows) (call : Call) → IsBuiltinCall call → call.proc_no ≡ 0 → run builtins call m ≡ got m (row_key 0 (whole_at call.args 0))
+get_runs m _ (gets a s) e = run-get m s a ∙ ap (got m) (key-of-whole a)
+get_runs m _ (puts a v) e = absurd (omega arith)
+get_runs m _ (adds a n) e = absurd (omega arith)
+
+only_value : (a b : Datum) → Some a ≡ Some b → a ≡ b
+only_value a b is = cc
+
+put_runs : (m : Rows) (call : Call) (value : Datum) → IsBuiltinCall call → call.proc_no ≡ 1 → slice_get call.args 1 ≡ Some value
+    → run builtins call m ≡ stored m value (row_key 0 (whole_at call.args 0))
+put_runs m _ value (gets a s) e is = absurd (omega arith)
+put_runs m _ value (puts a v) e is = run-put m false a v ∙ ap (stored m v) (key-of-whole a) ∙ ap (λ (d : Datum). stored m d (row_key 0 (whole a))) (only_value v value is)
+put_runs m _ value (adds a n) e is = absurd (omega arith)
+
+add_runs : (m : Rows) (call : Call) → IsBuiltinCall call → call.proc_no ≡ 2 → run builtins call m ≡ added m (whole_at call.args 1) (row_key 0 (whole_at call.args 0))
+add_runs m _ (gets a s) e = absurd (omega arith)
+add_runs m _ (puts a v) e = absurd (omega arith)
+add_runs m _ (adds a n) e = run-add m false a n ∙ added-whole m n (row_key 0 a) ∙ ap (added m (whole n)) (key-of-whole a)
+
+is_builtin : (call : Call) → Fits builtins call → IsBuiltinCall call
+is_builtin call = builtin_call call.proc_no call.args call.snapshot
+
+-- what a call that fits comes to, by its procedure's number
+pub run_get : (m : Rows) (call : Call) → Fits builtins call → call.proc_no ≡ 0 → run builtins call m ≡ got m (row_key 0 (whole_at call.args 0))
+run_get m call h = get_runs m call (is_builtin call h)
+
+pub run_put : (m : Rows) (call : Call) (value : Datum) → Fits builtins call → call.proc_no ≡ 1 → slice_get call.args 1 ≡ Some value
+    → run builtins call m ≡ stored m value (row_key 0 (whole_at call.args 0))
+run_put m call value h = put_runs m call value (is_builtin call h)
+
+pub run_add : (m : Rows) (call : Call) → Fits builtins call → call.proc_no ≡ 2 → run builtins call m ≡ added m (whole_at call.args 1) (row_key 0 (whole_at call.args 0))
+run_add m call h = add_runs m call (is_builtin call h)
 
 pub got-rows : (m : Rows) (k : Computed RowKey) → (got m k).rows ≡ m
 got-rows m (Ok k) = refl

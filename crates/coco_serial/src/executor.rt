@@ -1,10 +1,12 @@
-ghost use Rattle.std.specs.Prelude.{◌≡◌, IfOk, OnOk, OnErr};
+ghost use Rattle.std.specs.Prelude.{◌≡◌, option_map, IfOk, OnOk, OnErr};
 ghost use Rattle.std.specs.FinMap.{empty};
 ghost use Rattle.coco_ast.specs.Builtins.{builtins};
 ghost use Rattle.coco_ast.specs.Fitting.{Fits};
 ghost use Rattle.coco_ast.specs.Keyed.{write_at, value_at};
 ghost use Rattle.coco_ast.specs.Meaning.{run, row_key};
 ghost use Rattle.coco_ast.proofs.BuiltinRuns.{got, stored, added, or_zero};
+ghost use Rattle.coco_types.specs.Arguments.{int_of};
+ghost use Rattle.coco_types.specs.declared.value.Value.TheVariants.{Int};
 
 use crate::steps::{key_of, sum};
 use coco_types::{Call, Cause, Key, NoMemory, Reply, Value};
@@ -51,16 +53,17 @@ impl Executor {
         ensures rows { OnOk result (self.new ≡ (run builtins call.now self.old).rows) }
         ensures err { OnErr result (self.new ≡ self.old) }
     {
-        match (call.proc_no, call.args.as_slice()) {
-            (0, [row]) => Ok(self.get(*row)),
-            (1, [row, value]) => self.put(*row, *value),
-            (2, [row, number]) => self.add(*row, *number),
+        let args = &call.args;
+        match (call.proc_no, args.get(1)) {
+            (0, _) => Ok(self.get(args.int(0))),
+            (1, Some(value)) => self.put(args.int(0), value),
+            (2, _) => self.add(args.int(0), args.int(1)),
             _ => unreachable!(),
         }
     }
 
-    fn get(&self, row: Option<Value>) -> Reply
-        ensures { result ≡ (got self.now (row_key 0 row)).reply }
+    fn get(&self, row: Option<i64>) -> Reply
+        ensures { result ≡ (got self.now (row_key 0 (option_map Int row))).reply }
     {
         match key_of(MAIN, row) {
             Ok(key) => Reply::Ok(self.value_at(key)),
@@ -68,9 +71,9 @@ impl Executor {
         }
     }
 
-    fn put(&mut self, row: Option<Value>, value: Option<Value>) -> Result<Reply, NoMemory>
-        ensures reply { IfOk result (λ reply. reply ≡ (stored self.old value (row_key 0 row)).reply) }
-        ensures rows { OnOk result (self.new ≡ (stored self.old value (row_key 0 row)).rows) }
+    fn put(&mut self, row: Option<i64>, value: Option<Value>) -> Result<Reply, NoMemory>
+        ensures reply { IfOk result (λ reply. reply ≡ (stored self.old value (row_key 0 (option_map Int row))).reply) }
+        ensures rows { OnOk result (self.new ≡ (stored self.old value (row_key 0 (option_map Int row))).rows) }
         ensures err { OnErr result (self.new ≡ self.old) }
     {
         match key_of(MAIN, row) {
@@ -82,16 +85,16 @@ impl Executor {
         }
     }
 
-    fn add(&mut self, row: Option<Value>, number: Option<Value>) -> Result<Reply, NoMemory>
-        ensures reply { IfOk result (λ reply. reply ≡ (added self.old number (row_key 0 row)).reply) }
-        ensures rows { OnOk result (self.new ≡ (added self.old number (row_key 0 row)).rows) }
+    fn add(&mut self, row: Option<i64>, number: Option<i64>) -> Result<Reply, NoMemory>
+        ensures reply { IfOk result (λ reply. reply ≡ (added self.old (option_map Int number) (row_key 0 (option_map Int row))).reply) }
+        ensures rows { OnOk result (self.new ≡ (added self.old (option_map Int number) (row_key 0 (option_map Int row))).rows) }
         ensures err { OnErr result (self.new ≡ self.old) }
     {
         let key = match key_of(MAIN, row) {
             Ok(key) => key,
             Err(cause) => return Ok(Reply::Refused(cause)),
         };
-        match sum(self.value_or_zero(key), number) {
+        match sum(self.number_or_zero(key), number) {
             Ok(sum) => {
                 self.write(key, &sum)?;
                 Ok(Reply::Ok(sum))
@@ -100,12 +103,14 @@ impl Executor {
         }
     }
 
-    fn value_or_zero(&self, key: Key) -> Option<Value>
-        ensures { result ≡ or_zero (value_at self.now key) }
+    // The number that a row has, 0 where it has no value, and none where it has a text.
+    fn number_or_zero(&self, key: Key) -> Option<i64>
+        ensures { result ≡ int_of (or_zero (value_at self.now key)) }
     {
-        match self.value_at(key) {
-            None => Some(Value::Int(0)),
-            Some(value) => Some(value),
+        match self.rows.get(&key) {
+            None => Some(0),
+            Some(Value::Int(number)) => Some(*number),
+            Some(Value::Text(_)) => None,
         }
     }
 
