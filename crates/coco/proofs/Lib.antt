@@ -1,3 +1,4 @@
+pub mod AnswerLemmas
 pub mod BatchLemmas
 pub mod Batching
 pub mod ClassLemmas

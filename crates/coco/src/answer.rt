@@ -1,4 +1,4 @@
-ghost use Rattle.std.specs.Prelude.{◌≡◌, ◌++◌, ℕ, length, OnOk, OnErr, take, ◌≤◌};
+ghost use Rattle.std.specs.Prelude.{◌≡◌, ◌<◌, ◌++◌, ℕ, length, OnOk, OnErr, take};
 ghost use Rattle.coco.specs.Answering.{texts_of, text_of_answer};
 
 use coco_kept::Kept;
@@ -12,9 +12,11 @@ pub enum Answer {
     Reply(u64),
 }
 
-/// Puts the texts of the answers at the end of a buffer.
+/// Puts the texts of the answers at the end of a buffer. Out of memory, the texts of the first of them are there.
 pub fn write_answers(out: &mut Vec<u8>, kept: &Kept, answers: &[Answer]) -> Result<(), NoMemory>
-    ensures { OnOk result (out.new.items ≡ out.old.items ++ texts_of kept.now.dones answers.now) }
+    ensures ok { OnOk result (out.new.items ≡ out.old.items ++ texts_of kept.now.dones answers.now) }
+    ensures err { OnErr result ((count : ℕ) × (count < length answers.now)
+        × (out.new.items ≡ out.old.items ++ texts_of kept.now.dones (take count answers.now))) }
 {
     for answer in answers {
         write_answer(out, kept, *answer)?;
@@ -23,7 +25,8 @@ pub fn write_answers(out: &mut Vec<u8>, kept: &Kept, answers: &[Answer]) -> Resu
 }
 
 fn write_answer(out: &mut Vec<u8>, kept: &Kept, answer: Answer) -> Result<(), NoMemory>
-    ensures { OnOk result (out.new.items ≡ out.old.items ++ text_of_answer kept.now.dones answer) }
+    ensures ok { OnOk result (out.new.items ≡ out.old.items ++ text_of_answer kept.now.dones answer) }
+    ensures err { OnErr result (out.new.items ≡ out.old.items) }
 {
     match answer {
         Answer::Error { error, number } => write_error(out, error, number),

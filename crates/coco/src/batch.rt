@@ -24,14 +24,15 @@ pub struct Batch {
 }
 
 impl Batch {
-    pub fn new(alloc: Global) -> Batch
-        ensures answers { result.answers.items ≡ [] }
-        ensures fresh { result.fresh ≡ [] }
+    /// A batch without lines, with room for so many.
+    pub fn with_room(alloc: Global, size: usize) -> Result<Batch, NoMemory>
+        ensures answers { IfOk result (λ batch. batch.answers.items ≡ []) }
+        ensures fresh { IfOk result (λ batch. batch.fresh ≡ []) }
     {
-        Batch {
-            answers: Vec::new(alloc),
-            fresh: Fresh::new(alloc),
-        }
+        Ok(Batch {
+            answers: Vec::with_capacity(alloc, size)?,
+            fresh: Fresh::with_room(alloc, size)?,
+        })
     }
 
     /// Takes a line in by its class.
@@ -82,7 +83,7 @@ pub fn read_batch<S: Source>(
     ensures too_much { result ≡ Err LineFault.TooMuch → reader.new.taken ≡ 2 ^ 62 }
     ensures none { IfOk result (λ batch. length batch.answers.items < size → reader.new.ended ≡ true) }
 {
-    let mut batch = Batch::new(alloc);
+    let mut batch = Batch::with_room(alloc, size as usize)?;
     for _place in 0..size {
         match reader.next(source)? {
             Some(line) => batch.take(alloc, kept, line)?,

@@ -28,12 +28,12 @@ impl Model for Fresh {
 }
 
 impl Fresh {
-    pub fn new(alloc: Global) -> Fresh
-        ensures { result ≡ [] }
+    /// No requests, with room for so many.
+    pub fn with_room(alloc: Global, count: usize) -> Result<Fresh, NoMemory>
+        ensures { IfOk result (λ fresh. fresh ≡ []) }
     {
-        Fresh {
-            calls: IndexMap::new(alloc),
-        }
+        let calls = IndexMap::with_capacity(alloc, count)?;
+        Ok(Fresh { calls })
     }
 
     pub fn len(&self) -> usize
@@ -66,7 +66,7 @@ impl Fresh {
     {
         let Fresh { calls } = self;
         let mut snapshots = Vec::new(alloc);
-        let mut others = Vec::new(alloc);
+        let mut others = Vec::with_capacity(alloc, calls.len())?;
         for (id, call) in calls {
             if call.snapshot {
                 snapshots.push(Request { id, call })?;

@@ -30,7 +30,8 @@ pub fn timed(
 ) -> Result<Vec<TimedRequest>, NoMemory>
     ensures { IfOk result (λ order. order.items ≡ at_start snapshots.items ++ numbered 1 others.items) }
 {
-    let mut order = Vec::new(alloc);
+    let mut order = Vec::with_capacity(alloc, snapshots.len())?;
+    order.reserve(others.len())?;
     for request in snapshots {
         order.push(TimedRequest { time: 0, request })?;
     }

@@ -26,7 +26,7 @@ pub fn run_all(
     ensures order { IfOk result (λ dones. map timed_request_of dones.items ≡ order.items) }
     ensures epoch { IfOk result (λ dones. AllByRecursion (λ (d : Record). d.epoch ≡ epoch) dones.items) }
 {
-    let mut dones = Vec::new(alloc);
+    let mut dones = Vec::with_capacity(alloc, order.len())?;
     for timed in order {
         dones.push(run_one(executor, epoch, timed)?)?;
     }

@@ -9,13 +9,13 @@ use Rattle.coco.proofs.batch.read_batch.Goals as goal
 
 pub loop-place-init : goal.loop-place-init
 loop-place-init g c = record {
-  new = subst (AreNew c.args.kept.now.dones) (sym c.new-batch.ensures.fresh) (none_new c.args.kept.now.dones c.requires.few);
-  count = ap (length {A = Answer}) c.new-batch.ensures.answers;
-  given = omega (arith, ap (length {A = Answer}) c.new-batch.ensures.answers);
+  new = subst (AreNew c.args.kept.now.dones) (sym c.in_ok-batch.ensures.fresh) (none_new c.args.kept.now.dones c.requires.few);
+  count = ap (length {A = Answer}) c.in_ok-batch.ensures.answers;
+  given = omega (arith, ap (length {A = Answer}) c.in_ok-batch.ensures.answers);
   within = c.requires.given;
   takes = takes_none c.args.reader.now _;
   faults = refl;
-  text = λ text is. taking_start c.args.kept.now.dones c.args.reader.now.given text _ c.new-batch.result c.new-batch.ensures.answers c.new-batch.ensures.fresh is;
+  text = λ text is. taking_start c.args.kept.now.dones c.args.reader.now.given text _ c.in_ok-batch.batch c.in_ok-batch.ensures.answers c.in_ok-batch.ensures.fresh is;
 }
 
 pub returns-in-None-clause-text : goal.returns-in-None-clause-text
