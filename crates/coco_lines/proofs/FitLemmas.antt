@@ -12,7 +12,7 @@ use Rattle.coco_ast.specs.Fitting.{Fits}
 use Rattle.coco_lines.specs.Signature.{Signature, find_named, builtins as signatures}
 use Rattle.coco_lines.specs.declared.error.LineError.{LineError}
 use Rattle.coco_lines.specs.declared.error.RequestFault.{RequestFault}
-use Rattle.coco_lines.specs.declared.error.LineError.TheVariants.{Shape, Name, Args, Snapshot}
+use Rattle.coco_lines.specs.declared.error.LineError.TheVariants.{Json, Shape, Name, Args, Snapshot}
 use Rattle.coco_lines.specs.Reading.{request_of, or_error, asked_of, arg_of, args_of, fitting_args}
 
 after_ok : {A B : Type 0} (e : LineError) (o : Option A) (next : A → Result B LineError) (b : B) → or_error e o next ≡ Ok b → (a : A) × (o ≡ Some a) × (next a ≡ Ok b)
@@ -33,7 +33,7 @@ some_args (Some a) (Some more) n args rest h =
     let same : a ∷ more ≡ args = cc in
     omega (arith, ap (length {A = Option Value}) same, rest more refl)
 
-args_length : (items : Items) (args : List (Option Value)) → args_of items ≡ Some args → length args ≡ items_len items
+pub args_length : (items : Items) (args : List (Option Value)) → args_of items ≡ Some args → length args ≡ items_len items
 args_length no_items args h = let e : ◌≡◌ {A = Option (List (Option Value))} (Some []) (Some args) = h in let same : [] ≡ args = cc in ap (length {A = Option Value}) (sym same)
 args_length (item value others) args h = some_args (arg_of value) (args_of others) (items_len others) args (args_length others) h ∙ add-one (items_len others)
 
@@ -99,3 +99,6 @@ asks_fit value r h =
 pub answers_fit : (value : Data) (result : Result Request RequestFault) → IfOk result (λ (r : Request). request_of signatures value ≡ Ok r) → IfOk result (λ (r : Request). Fits builtins r.call)
 answers_fit value (Ok r) h = asks_fit value r h
 answers_fit value (Err e) h = h
+
+pub text_fits : (o : Option Data) (r : Request) → or_error Json o (request_of signatures) ≡ Ok r → Fits builtins r.call
+text_fits o r h = let value = after_ok Json o (request_of signatures) r h in asks_fit value.0 r value.2

@@ -1,4 +1,4 @@
-use Rattle.std.proofs.Common.{◌≡◌, ℕ, List, [], ◌∷◌, Bool, true, false, ◌&&◌, length, Some, None, Err, refl, ap, String, Global, nat_eq, arith}
+use Rattle.std.proofs.Common.{◌≡◌, ℕ, List, [], ◌∷◌, Bool, true, false, ◌&&◌, length, Some, None, Err, refl, sym, ap, ◌∙◌, String, Global, nat_eq, arith}
 use Rattle.std.proofs.lemmas.Bool.Decides.{nat_tests}
 use Rattle.std.specs.Prelude.{string_bytes, option_and_then, codes}
 use Rattle.std.specs.Map.{keys_of}
@@ -12,7 +12,7 @@ use Rattle.serde_json.specs.Read.{read}
 use Rattle.serde_json.specs.View.{items_view, members_view}
 use Rattle.serde_json.specs.declared.value.Value.{Value as Json}
 use Rattle.coco_lines.specs.Signature.{Signature}
-use Rattle.coco_lines.specs.Reading.{json_of, is_member, only_members, snapshot_of, asked_of, args_of, fitting_args, request_of, read_line}
+use Rattle.coco_lines.specs.Reading.{json_of, is_member, only_members, snapshot_of, asked_of, args_of, fitting_args, or_error, request_of, read_line}
 use Rattle.coco_lines.specs.declared.error.LineError.TheVariants as error
 
 pub only_members-members_view : (es : List (String Global × Json)) → list_all (λ key. is_member (string_bytes key)) (keys_of es) ≡ only_members (members_view es)
@@ -46,6 +46,14 @@ read_line-some procs line value is = rw is
 pub read_line-none : (procs : List Signature) (line : List ℕ) → json_of line ≡ None → read_line procs line ≡ Err error.Json
 unfolding read_line
 read_line-none procs line is = rw is
+
+-- what a text reads as, where it is that of the line
+pub json_of-text : (line text : List ℕ) → text ≡ line → IsUtf8 line → json_of line ≡ read text
+json_of-text line text same is = json_of-utf8 line is ∙ ap read (sym same)
+
+pub read_line-text : (procs : List Signature) (line text : List ℕ) → text ≡ line → IsUtf8 line → read_line procs line ≡ or_error error.Json (read text) (request_of procs)
+unfolding read_line
+read_line-text procs line text same is = ap (λ o. or_error error.Json o (request_of procs)) (json_of-text line text same is)
 
 pub asked_of-others : (value : Data) (ms : Members) → Some ms ≡ as_object value → false ≡ only_members ms → None ≡ asked_of value
 asked_of-others value ms is others = rw (← is, ← others)

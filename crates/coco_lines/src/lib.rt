@@ -3,11 +3,13 @@
 
 pub mod error;
 pub mod held;
+mod plain;
 pub mod reader;
 pub mod requests;
 pub mod texts;
 
 pub use error::{LineError, LineFault, RequestFault};
+pub use json::Scratch;
 pub use reader::{Body, Line, Reader};
 pub use requests::request;
 pub use texts::{done_text, error_text, write_done, write_error};

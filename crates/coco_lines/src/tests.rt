@@ -1,6 +1,6 @@
 use crate::{
-    Body, LineError, LineFault, Reader, RequestFault, done_text, error_text, request, write_done,
-    write_error,
+    Body, LineError, LineFault, Reader, RequestFault, Scratch, done_text, error_text, request,
+    write_done, write_error,
 };
 use coco_io::MemorySource;
 use coco_types::{Args, Call, Cause, Done, NoMemory, Reply, Text, Value};
@@ -8,8 +8,8 @@ use std::alloc::{AllocError, Global};
 use std::test::Fail;
 
 // The class that refuses a line, none for a request.
-fn class(alloc: Global, line: &[u8]) -> Result<Option<LineError>, NoMemory> {
-    match request(alloc, line) {
+fn class(alloc: Global, scratch: &mut Scratch, line: &[u8]) -> Result<Option<LineError>, NoMemory> {
+    match request(alloc, scratch, line) {
         Ok(_) => Ok(None),
         Err(RequestFault::Line(error)) => Ok(Some(error)),
         Err(RequestFault::NoMemory) => Err(NoMemory),
@@ -179,8 +179,12 @@ fn lines_fall_into_the_first_class_that_fits(rt: HostRuntime) -> Result<(), Fail
             None,
         ),
     ];
+    let mut scratch = Scratch::new(rt.alloc());
     for (line, error) in &cases {
-        assert!(rt; class(rt.alloc(), line.as_bytes())? == *error, "{line}");
+        assert!(rt;
+            class(rt.alloc(), &mut scratch, line.as_bytes())? == *error,
+            "{line}"
+        );
     }
     for line in [
         b"\xff".as_slice(),
@@ -190,7 +194,7 @@ fn lines_fall_into_the_first_class_that_fits(rt: HostRuntime) -> Result<(), Fail
         b"\0",
         b"\"a\tb\"",
     ] {
-        assert!(rt; class(rt.alloc(), line)? == Some(LineError::Json));
+        assert!(rt; class(rt.alloc(), &mut scratch, line)? == Some(LineError::Json));
     }
     Ok(())
 }
@@ -227,10 +231,11 @@ fn texts_have_at_most_256_bytes_and_lists_127_levels(rt: HostRuntime) -> Result<
         ("", "[", 200, "", Some(LineError::Json)),
         ("[", "[],", 1_000, "5]", Some(LineError::Shape)),
     ];
+    let mut scratch = Scratch::new(rt.alloc());
     for (start, piece, count, end, error) in cases {
         let line = repeated(rt.alloc(), start, piece, count, end)?;
         assert!(rt;
-            class(rt.alloc(), line.as_slice())? == error,
+            class(rt.alloc(), &mut scratch, line.as_slice())? == error,
             "{count} times {piece}"
         );
     }
@@ -243,7 +248,7 @@ fn texts_have_at_most_256_bytes_and_lists_127_levels(rt: HostRuntime) -> Result<
         let ends = repeated(rt.alloc(), "", "]", levels, "")?;
         line.extend_from_slice(ends.as_slice())?;
         assert!(rt;
-            class(rt.alloc(), line.as_slice())? == Some(error),
+            class(rt.alloc(), &mut scratch, line.as_slice())? == Some(error),
             "{levels} levels"
         );
     }
@@ -253,7 +258,7 @@ fn texts_have_at_most_256_bytes_and_lists_127_levels(rt: HostRuntime) -> Result<
 #[test]
 fn a_line_asks_for_its_request(rt: HostRuntime) -> Result<(), Fail> {
     let line = br#"{"args":[5,"a\n\ud83d\ude00\u00e9"],"call":"put","id":7,"snapshot":false}"#;
-    let Ok(request) = request(rt.alloc(), line) else {
+    let Ok(request) = request(rt.alloc(), &mut Scratch::new(rt.alloc()), line) else {
         return Err(Fail::new("no request"));
     };
     let mut args = Args::new(rt.alloc());
