@@ -1,5 +1,5 @@
 -- Whole numbers by their texts.
-use Rattle.std.proofs.Common.{◌≡◌, ℕ, List, length, drop, get_or, Bool, true, false, ◌==◌, ◌^◌, ◌<◌, Option, Some, None, IfSome, lt-ltb, refl, sym, ap}
+use Rattle.std.proofs.Common.{◌≡◌, ℕ, List, drop, get_or, true, false, ◌==◌, ◌^◌, ◌<◌, Option, Some, None, IfSome, lt-ltb, sym, ap}
 use Rattle.std.specs.Option.{SomeIff}
 use Rattle.std.proofs.lemmas.Bool.{eq-eqb}
 use Rattle.fast_float.specs.Text.{Parts, scan, digits_of, IsInteger}

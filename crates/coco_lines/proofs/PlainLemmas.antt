@@ -1,18 +1,18 @@
 -- What a member of a plain line adds to its parts, and what they ask for in the end.
-use Rattle.std.proofs.Common.{◌≡◌, ℕ, ◌+◌, ◌<◌, ◌&&◌, Bool, true, false, true≢false, nat_eq, List, [], ◌∷◌, ◌++◌, length, drop, get_or, Option, None, Some, Ok, IfSome, Ordering, Less, Equal, Greater, nat_cmp, Bor, refl, sym, ap, subst, ◌∙◌, arith, codes}
+use Rattle.std.proofs.Common.{◌≡◌, ℕ, ◌&&◌, Bool, true, false, true≢false, nat_eq, List, [], length, Option, None, Some, Ok, IfSome, Ordering, Less, Equal, Greater, nat_cmp, Bor, refl, sym, ap, subst, ◌∙◌, codes}
 use Rattle.std.specs.Option.{option_map, option_and_then}
 use Rattle.std.specs.Ordering.{match_ordering}
 use Rattle.std.specs.Str.{bytes_eq}
 use Rattle.std.specs.Cmp.Lexicographic.{slice_cmp}
 use Rattle.std.proofs.lemmas.Bool.{eq-eqb}
-use Rattle.std.proofs.lemmas.Option.{IfSome_then, same_Some}
+use Rattle.std.proofs.lemmas.Option.{same_Some}
 use Rattle.std.proofs.lemmas.Slice.Eq.{bytes_eq-Decides}
 use Rattle.json.specs.Json as json
 use Rattle.json.specs.Lex.{tokens}
-use Rattle.serde_json.specs.Data.{Data, unsigned, number, string, boolean, array, object, Items, item, Members, no_members, member, put}
+use Rattle.serde_json.specs.Data.{Data, unsigned, number, string, boolean, array, object, Items, Members, no_members, member, put}
 use Rattle.serde_json.specs.Events.{items_len}
 use Rattle.serde_json.specs.Find.{get_member, as_array, as_number, as_str, as_u64}
-use Rattle.serde_json.specs.Read.{of_json, of_items, of_members, number_of, read}
+use Rattle.serde_json.specs.Read.{of_json, read}
 use Rattle.serde_json.proofs.Views.{get_member-put, get_member-put_other}
 use Rattle.coco_types.specs.declared.value.Value.{Value}
 use Rattle.coco_lines.specs.Signature.{Signature, builtins, find_named}

@@ -1,7 +1,7 @@
 -- What the members of a plain line have said, beside the object that they make.
-use Rattle.std.specs.Prelude.{◌≡◌, ℕ, ℤ, List, length, Bool, true, Option, Some, IfSome, option_and_then, codes}
+use Rattle.std.specs.Prelude.{◌≡◌, ℕ, List, length, true, Option, Some, IfSome, option_and_then, codes}
 use Rattle.serde_json.specs.Data.{Data, Members, put}
-use Rattle.serde_json.specs.Find.{get_member, as_array, as_number, as_str, as_i64, as_u64}
+use Rattle.serde_json.specs.Find.{get_member, as_array, as_number, as_str, as_u64}
 use Rattle.coco_types.specs.declared.value.Value.{Value}
 use Rattle.coco_lines.specs.Reading.{only_members, snapshot_of, args_of}
 use Rattle.coco_lines.specs.declared.plain.Parts.{Parts}

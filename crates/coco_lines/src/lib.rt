@@ -1,6 +1,7 @@
 //! Request lines in, the texts of their answers out.
 #![tactic(auto)]
 
+mod builtins;
 pub mod error;
 pub mod held;
 mod plain;

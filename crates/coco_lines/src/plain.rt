@@ -4,15 +4,15 @@ ghost use Rattle.fast_float.specs.Text.{scan};
 ghost use Rattle.json.specs.Value.{value_view, items_view, members_view};
 ghost use Rattle.serde_json.specs.Data.{Data, Members, no_members, object, unsigned, negative};
 ghost use Rattle.serde_json.specs.Find.{as_array, as_bool, as_i64, as_number, as_str, as_u64};
-ghost use Rattle.serde_json.specs.Read.{of_json, of_items, of_members, number_from, number_of, read};
+ghost use Rattle.serde_json.specs.Read.{of_json, of_items, of_members, number_from, number_of};
 ghost use Rattle.coco_types.specs.declared.value.Value.{Value as Datum};
 ghost use Rattle.coco_types.specs.declared.value.Value.TheVariants as datum;
 ghost use Rattle.coco_lines.specs.Signature.{builtins};
-ghost use Rattle.coco_lines.specs.Reading.{or_error, arg_of, args_of, request_of};
+ghost use Rattle.coco_lines.specs.Reading.{or_error, arg_of, args_of, read_text, request_of};
 ghost use Rattle.coco_lines.specs.Plain.{args_in, u64_in, Holds, Taken};
 
 use crate::LineError;
-use crate::requests::builtin;
+use crate::builtins::builtin;
 use coco_types::{Args, Call, Request, Text, Value};
 use fast_float::Numeral;
 use json::{Reader, Scratch, Value as Tree};
@@ -26,7 +26,7 @@ const MOST_ARGS: usize = 16;
 
 // The request that a plain line asks for. None says nothing of the line.
 pub(crate) fn plain_request(alloc: Global, scratch: &mut Scratch, text: &str) -> Option<Request>
-    ensures { IfSome result (λ request. or_error LineError.Json (read text.now) (request_of builtins) ≡ Ok request) }
+    ensures { IfSome result (λ request. read_text builtins text.now ≡ Ok request) }
 {
     let mut reader = Reader::new(text, scratch).ok()?;
     let tree = Tree::read(alloc, &mut reader, MOST_LEVELS).ok()?;

@@ -4,11 +4,12 @@ ghost use Rattle.std.specs.List.{list_all};
 ghost use Rattle.serde_json.specs.Find.{get, as_array, as_number, as_str, as_u64};
 ghost use Rattle.serde_json.specs.Read.{read};
 ghost use Rattle.serde_json.specs.View.{view, items_view, members_view};
-ghost use Rattle.coco_lines.specs.Signature.{Signature, builtins, find_named};
-ghost use Rattle.coco_lines.specs.Reading.{is_member, only_members, snapshot_of, asked_of, arg_of, args_of, fitting_args, request_of, read_line};
+ghost use Rattle.coco_lines.specs.Signature.{builtins};
+ghost use Rattle.coco_lines.specs.Reading.{is_member, only_members, snapshot_of, asked_of, arg_of, args_of, fitting_args, request_of, read_line, read_text};
 ghost use Rattle.coco_ast.specs.Builtins.{builtins as procedures};
 ghost use Rattle.coco_ast.specs.Fitting.{Fits};
 
+use crate::builtins::builtin;
 use crate::plain::plain_request;
 use crate::{LineError, RequestFault};
 use coco_types::{Args, Call, NoMemory, Request, Text, Value};
@@ -27,9 +28,18 @@ pub fn request(alloc: Global, scratch: &mut Scratch, line: &[u8]) -> Result<Requ
     let Ok(text) = str::from_utf8(line) else {
         return Err(RequestFault::Line(LineError::Json));
     };
-    if let Some(request) = plain_request(alloc, scratch, text) {
-        return Ok(request);
+    match plain_request(alloc, scratch, text) {
+        Some(request) => Ok(request),
+        None => any_request(alloc, text),
     }
+}
+
+// It isn't inlined, for its frame is large.
+#[inline(never)]
+fn any_request(alloc: Global, text: &str) -> Result<Request, RequestFault>
+    ensures ok { IfOk result (λ request. read_text builtins text.now ≡ Ok request) }
+    ensures line { (e : LineError) → result ≡ Err (RequestFault.Line e) → read_text builtins text.now ≡ Err e }
+{
     let value = json_of(alloc, text)?;
     request_of(alloc, &value)
 }
@@ -141,39 +151,6 @@ fn snapshot_of(member: Option<&Json>) -> Option<bool>
     match member {
         None => Some(false),
         Some(value) => value.as_bool(),
-    }
-}
-
-// A procedure by its name, where there is one.
-#[derive(Clone, Copy)]
-pub(crate) struct Known {
-    pub(crate) proc_no: u16,
-    pub(crate) params: usize,
-    pub(crate) writes: bool,
-}
-
-pub(crate) fn builtin(name: &str) -> Option<Known>
-    ensures value { option_map (λ b. b.proc_no) result ≡ option_map (λ f. f.0) (find_named builtins name.now) }
-    ensures params { option_map (λ b. b.params) result ≡ option_map (λ f. f.1.params) (find_named builtins name.now) }
-    ensures writes { option_map (λ b. b.writes) result ≡ option_map (λ f. f.1.writes) (find_named builtins name.now) }
-{
-    match name {
-        "get" => Some(Known {
-            proc_no: 0,
-            params: 1,
-            writes: false,
-        }),
-        "put" => Some(Known {
-            proc_no: 1,
-            params: 2,
-            writes: true,
-        }),
-        "add" => Some(Known {
-            proc_no: 2,
-            params: 2,
-            writes: true,
-        }),
-        _ => None,
     }
 }
 

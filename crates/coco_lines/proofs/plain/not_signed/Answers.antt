@@ -1,4 +1,4 @@
-use Rattle.std.proofs.Common.{false, ◌≡◌, ◌∙◌, ap, sym}
+use Rattle.std.proofs.Common.{false, ◌∙◌, ap, sym}
 use Rattle.std.proofs.lemmas.Option.{IfSome_then}
 use Rattle.serde_json.specs.Read.{number_of, number_from}
 use Rattle.coco_lines.proofs.NumberLemmas.{whole_number, without_minus}

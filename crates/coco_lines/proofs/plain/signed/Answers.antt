@@ -1,4 +1,4 @@
-use Rattle.std.proofs.Common.{◌≡◌, ◌∙◌, true, drop, ap, sym, arith, take_all, length-drop}
+use Rattle.std.proofs.Common.{◌∙◌, true, drop, ap, sym, arith, take_all, length-drop}
 use Rattle.std.specs.Option.{option_and_then}
 use Rattle.std.proofs.lemmas.Option.{IfSome_then}
 use Rattle.fast_float.specs.Text.{scan}

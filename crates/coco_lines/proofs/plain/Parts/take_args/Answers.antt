@@ -1,6 +1,5 @@
 use Rattle.std.proofs.Common.{◌≡◌, ◌∙◌, Some, ap, sym, length}
 use Rattle.std.specs.Option.{option_map}
-use Rattle.json.specs.Json as json
 use Rattle.json.specs.Value.{value_view, items_view}
 use Rattle.json.proofs.Trees.{view-Array}
 use Rattle.serde_json.specs.Data.{array}

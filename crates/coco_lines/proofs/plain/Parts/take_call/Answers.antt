@@ -1,7 +1,7 @@
 use Rattle.std.proofs.Common.{◌≡◌, ap, rules}
 use Rattle.json.specs.Json as json
 use Rattle.json.specs.Value.{value_view}
-use Rattle.json.specs.declared.value.Value.{String, the_lemmas}
+use Rattle.json.specs.declared.value.Value.{the_lemmas}
 use Rattle.serde_json.specs.Data.{string}
 use Rattle.serde_json.specs.Read.{of_json}
 use Rattle.coco_lines.proofs.PlainLemmas.{with_call}

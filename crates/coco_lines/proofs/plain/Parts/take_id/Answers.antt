@@ -2,7 +2,7 @@ use Rattle.std.proofs.Common.{◌≡◌, ◌∙◌, ap, rules}
 use Rattle.std.specs.Option.{option_map}
 use Rattle.json.specs.Json as json
 use Rattle.json.specs.Value.{value_view}
-use Rattle.json.specs.declared.value.Value.{Number, the_lemmas}
+use Rattle.json.specs.declared.value.Value.{the_lemmas}
 use Rattle.serde_json.specs.Data.{number, unsigned}
 use Rattle.serde_json.specs.Read.{of_json}
 use Rattle.coco_lines.proofs.PlainLemmas.{with_id}
