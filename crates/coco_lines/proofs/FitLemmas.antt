@@ -1,10 +1,10 @@
 -- What a line asks for can be run.
-use Rattle.std.proofs.Common.{◌≡◌, ℕ, zero, suc, ◌+◌, ◌==◌, ◌&&◌, not, Bool, true, false, nat_eq, if◌then◌else◌, List, [], ◌∷◌, length, Option, None, Some, Result, Ok, Err, IfOk, ◌⊎◌, inl, inr, refl, sym, ap, subst, ◌∙◌, arith, add-one, codes}
+use Rattle.std.proofs.Common.{◌≡◌, ℕ, ◌+◌, ◌==◌, ◌&&◌, not, Bool, true, false, if◌then◌else◌, List, [], ◌∷◌, length, Option, None, Some, Result, Ok, Err, IfOk, refl, sym, ap, subst, ◌∙◌, arith, add-one, codes}
 use Rattle.std.specs.Option.{option_map, option_and_then}
-use Rattle.std.specs.Str.{bytes_eq}
 use Rattle.std.proofs.lemmas.Bool.{eqb-true, eq-eqb}
 use Rattle.serde_json.specs.Data.{Data, Items, no_items, item}
 use Rattle.serde_json.specs.Events.{items_len}
+use Rattle.serde_json.specs.Read.{read}
 use Rattle.coco_types.specs.declared.value.Value.{Value}
 use Rattle.coco_types.specs.declared.call.Request.{Request}
 use Rattle.coco_ast.specs.Builtins.{builtins}
@@ -12,8 +12,8 @@ use Rattle.coco_ast.specs.Fitting.{Fits}
 use Rattle.coco_lines.specs.Signature.{Signature, find_named, builtins as signatures}
 use Rattle.coco_lines.specs.declared.error.LineError.{LineError}
 use Rattle.coco_lines.specs.declared.error.RequestFault.{RequestFault}
-use Rattle.coco_lines.specs.declared.error.LineError.TheVariants.{Shape, Name, Args, Snapshot}
-use Rattle.coco_lines.specs.Reading.{request_of, or_error, asked_of, arg_of, args_of, fitting_args}
+use Rattle.coco_lines.specs.declared.error.LineError.TheVariants.{Json, Shape, Name, Args, Snapshot}
+use Rattle.coco_lines.specs.Reading.{request_of, read_text, or_error, asked_of, arg_of, args_of, fitting_args}
 
 after_ok : {A B : Type 0} (e : LineError) (o : Option A) (next : A → Result B LineError) (b : B) → or_error e o next ≡ Ok b → (a : A) × (o ≡ Some a) × (next a ≡ Ok b)
 after_ok e None next b h = absurd (differ h)
@@ -33,7 +33,7 @@ some_args (Some a) (Some more) n args rest h =
     let same : a ∷ more ≡ args = cc in
     omega (arith, ap (length {A = Option Value}) same, rest more refl)
 
-args_length : (items : Items) (args : List (Option Value)) → args_of items ≡ Some args → length args ≡ items_len items
+pub args_length : (items : Items) (args : List (Option Value)) → args_of items ≡ Some args → length args ≡ items_len items
 args_length no_items args h = let e : ◌≡◌ {A = Option (List (Option Value))} (Some []) (Some args) = h in let same : [] ≡ args = cc in ap (length {A = Option Value}) (sym same)
 args_length (item value others) args h = some_args (arg_of value) (args_of others) (items_len others) args (args_length others) h ∙ add-one (items_len others)
 
@@ -96,6 +96,9 @@ asks_fit value r h =
     subst (λ (q : Request). Fits builtins q.call) made.1
     (taken found.0 (named asked.0.call found.0 found.1) args.0 asked.0.snapshot (fitting_length found.0.1.params asked.0.args args.0 args.1) made.0)
 
-pub answers_fit : (value : Data) (result : Result Request RequestFault) → IfOk result (λ (r : Request). request_of signatures value ≡ Ok r) → IfOk result (λ (r : Request). Fits builtins r.call)
-answers_fit value (Ok r) h = asks_fit value r h
-answers_fit value (Err e) h = h
+pub text_fits : (text : List ℕ) (r : Request) → read_text signatures text ≡ Ok r → Fits builtins r.call
+text_fits text r h = let value = after_ok Json (read text) (request_of signatures) r h in asks_fit value.0 r value.2
+
+pub answers_fit : (text : List ℕ) (result : Result Request RequestFault) → IfOk result (λ (r : Request). read_text signatures text ≡ Ok r) → IfOk result (λ (r : Request). Fits builtins r.call)
+answers_fit text (Ok r) h = text_fits text r h
+answers_fit text (Err e) h = h

@@ -1,6 +1,8 @@
 pub mod CutLemmas
 pub mod GatheringLemmas
 pub mod LinesLemmas
+pub mod NumberLemmas
+pub mod PlainLemmas
 pub mod ReadingLemmas
 pub mod ReadsLemmas
 pub mod TextLemmas

@@ -1,4 +1,4 @@
-use Rattle.std.proofs.Common.{◌≡◌, ℕ, List, [], ◌∷◌, Bool, true, false, ◌&&◌, length, Some, None, Err, refl, ap, String, Global, nat_eq, arith}
+use Rattle.std.proofs.Common.{◌≡◌, ℕ, List, [], ◌∷◌, Bool, true, false, ◌&&◌, length, Some, None, Err, refl, sym, ap, ◌∙◌, String, Global, nat_eq, arith}
 use Rattle.std.proofs.lemmas.Bool.Decides.{nat_tests}
 use Rattle.std.specs.Prelude.{string_bytes, option_and_then, codes}
 use Rattle.std.specs.Map.{keys_of}
@@ -12,7 +12,7 @@ use Rattle.serde_json.specs.Read.{read}
 use Rattle.serde_json.specs.View.{items_view, members_view}
 use Rattle.serde_json.specs.declared.value.Value.{Value as Json}
 use Rattle.coco_lines.specs.Signature.{Signature}
-use Rattle.coco_lines.specs.Reading.{json_of, is_member, only_members, snapshot_of, asked_of, args_of, fitting_args, request_of, read_line}
+use Rattle.coco_lines.specs.Reading.{json_of, is_member, only_members, snapshot_of, asked_of, args_of, fitting_args, or_error, request_of, read_line, read_text}
 use Rattle.coco_lines.specs.declared.error.LineError.TheVariants as error
 
 pub only_members-members_view : (es : List (String Global × Json)) → list_all (λ key. is_member (string_bytes key)) (keys_of es) ≡ only_members (members_view es)
@@ -39,13 +39,23 @@ fitting_args-as_many params items same =
     let equal : nat_eq (length items) params ≡ true = grind (arith, nat_tests) in
     rw (items_len-items_view items, equal)
 
-pub read_line-some : (procs : List Signature) (line : List ℕ) (value : Data) → json_of line ≡ Some value → read_line procs line ≡ request_of procs value
-unfolding read_line
-read_line-some procs line value is = rw is
+pub read_text-some : (procs : List Signature) (text : List ℕ) (value : Data) → read text ≡ Some value → read_text procs text ≡ request_of procs value
+read_text-some procs text value is = rw is
+
+pub read_text-none : (procs : List Signature) (text : List ℕ) → read text ≡ None → read_text procs text ≡ Err error.Json
+read_text-none procs text is = rw is
 
 pub read_line-none : (procs : List Signature) (line : List ℕ) → json_of line ≡ None → read_line procs line ≡ Err error.Json
 unfolding read_line
 read_line-none procs line is = rw is
+
+-- what a text reads as, where it is that of the line
+pub json_of-text : (line text : List ℕ) → text ≡ line → IsUtf8 line → json_of line ≡ read text
+json_of-text line text same is = json_of-utf8 line is ∙ ap read (sym same)
+
+pub read_line-text : (procs : List Signature) (line text : List ℕ) → text ≡ line → IsUtf8 line → read_line procs line ≡ read_text procs text
+unfolding read_line
+read_line-text procs line text same is = ap (λ o. or_error error.Json o (request_of procs)) (json_of-text line text same is)
 
 pub asked_of-others : (value : Data) (ms : Members) → Some ms ≡ as_object value → false ≡ only_members ms → None ≡ asked_of value
 asked_of-others value ms is others = rw (← is, ← others)

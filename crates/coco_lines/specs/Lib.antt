@@ -1,5 +1,6 @@
 pub mod Gathering
 pub mod Lines
+pub mod Plain
 pub mod ReaderState
 pub mod Reading
 pub mod Reads

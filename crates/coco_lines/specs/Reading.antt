@@ -79,6 +79,10 @@ request_of procs value =
     if asked.snapshot && found.1.writes then Err error.Snapshot
     else Ok (record { id = asked.id; call = record { proc_no = found.0; args = args; snapshot = asked.snapshot } }))))
 
+-- the request of a text, or its first error
+abbrev pub read_text : List Signature → List ℕ → Result Request LineError
+read_text procs text = or_error error.Json (read text) (request_of procs)
+
 -- the request of a line that isn't long, or its first error
 unfoldable pub read_line : List Signature → List ℕ → Result Request LineError
 read_line procs line = or_error error.Json (json_of line) (request_of procs)

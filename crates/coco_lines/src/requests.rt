@@ -2,32 +2,53 @@ ghost use Rattle.std.specs.Prelude.{◌≡◌, ◌≤◌, ℕ, Bool, Option, Som
 ghost use Rattle.std.specs.BTreeMap.{keys};
 ghost use Rattle.std.specs.List.{list_all};
 ghost use Rattle.serde_json.specs.Find.{get, as_array, as_number, as_str, as_u64};
+ghost use Rattle.serde_json.specs.Read.{read};
 ghost use Rattle.serde_json.specs.View.{view, items_view, members_view};
-ghost use Rattle.coco_lines.specs.Signature.{Signature, builtins, find_named};
-ghost use Rattle.coco_lines.specs.Reading.{json_of, is_member, only_members, snapshot_of, asked_of, arg_of, args_of, fitting_args, request_of, read_line};
+ghost use Rattle.coco_lines.specs.Signature.{builtins};
+ghost use Rattle.coco_lines.specs.Reading.{is_member, only_members, snapshot_of, asked_of, arg_of, args_of, fitting_args, request_of, read_line, read_text};
 ghost use Rattle.coco_ast.specs.Builtins.{builtins as procedures};
 ghost use Rattle.coco_ast.specs.Fitting.{Fits};
 
+use crate::builtins::builtin;
+use crate::plain::plain_request;
 use crate::{LineError, RequestFault};
 use coco_types::{Args, Call, NoMemory, Request, Text, Value};
+use json::Scratch;
 use serde_json::{Category, Map, Value as Json};
 use std::alloc::Global;
 
 /// The request that a line asks for. A line that is no request is refused by the first class that it falls into.
-pub fn request(alloc: Global, line: &[u8]) -> Result<Request, RequestFault>
+///
+/// The scratch is the memory that reading takes, kept from line to line.
+pub fn request(alloc: Global, scratch: &mut Scratch, line: &[u8]) -> Result<Request, RequestFault>
     ensures ok { IfOk result (λ request. read_line builtins line.now ≡ Ok request) }
     ensures fits { IfOk result (λ request. Fits procedures request.call) }
     ensures line { (e : LineError) → result ≡ Err (RequestFault.Line e) → read_line builtins line.now ≡ Err e }
 {
-    let value = json_of(alloc, line)?;
+    let Ok(text) = str::from_utf8(line) else {
+        return Err(RequestFault::Line(LineError::Json));
+    };
+    match plain_request(alloc, scratch, text) {
+        Some(request) => Ok(request),
+        None => any_request(alloc, text),
+    }
+}
+
+// It isn't inlined, for its frame is large.
+#[inline(never)]
+fn any_request(alloc: Global, text: &str) -> Result<Request, RequestFault>
+    ensures ok { IfOk result (λ request. read_text builtins text.now ≡ Ok request) }
+    ensures line { (e : LineError) → result ≡ Err (RequestFault.Line e) → read_text builtins text.now ≡ Err e }
+{
+    let value = json_of(alloc, text)?;
     request_of(alloc, &value)
 }
 
-fn json_of(alloc: Global, line: &[u8]) -> Result<Json, RequestFault>
-    ensures ok { IfOk result (λ value. json_of line.now ≡ Some (view value)) }
-    ensures line { (e : LineError) → result ≡ Err (RequestFault.Line e) → (e ≡ LineError.Json) × (json_of line.now ≡ None) }
+fn json_of(alloc: Global, text: &str) -> Result<Json, RequestFault>
+    ensures ok { IfOk result (λ value. read text.now ≡ Some (view value)) }
+    ensures line { (e : LineError) → result ≡ Err (RequestFault.Line e) → (e ≡ LineError.Json) × (read text.now ≡ None) }
 {
-    match Json::from_slice(alloc, line) {
+    match Json::from_str(alloc, text) {
         Ok(value) => Ok(value),
         Err(error) => match error.classify() {
             Category::Memory => Err(RequestFault::NoMemory),
@@ -130,39 +151,6 @@ fn snapshot_of(member: Option<&Json>) -> Option<bool>
     match member {
         None => Some(false),
         Some(value) => value.as_bool(),
-    }
-}
-
-// A procedure by its name, where there is one.
-#[derive(Clone, Copy)]
-struct Known {
-    proc_no: u16,
-    params: usize,
-    writes: bool,
-}
-
-fn builtin(name: &str) -> Option<Known>
-    ensures value { option_map (λ b. b.proc_no) result ≡ option_map (λ f. f.0) (find_named builtins name.now) }
-    ensures params { option_map (λ b. b.params) result ≡ option_map (λ f. f.1.params) (find_named builtins name.now) }
-    ensures writes { option_map (λ b. b.writes) result ≡ option_map (λ f. f.1.writes) (find_named builtins name.now) }
-{
-    match name {
-        "get" => Some(Known {
-            proc_no: 0,
-            params: 1,
-            writes: false,
-        }),
-        "put" => Some(Known {
-            proc_no: 1,
-            params: 2,
-            writes: true,
-        }),
-        "add" => Some(Known {
-            proc_no: 2,
-            params: 2,
-            writes: true,
-        }),
-        _ => None,
     }
 }
 

@@ -1,6 +1,6 @@
 use crate::{
-    Body, LineError, LineFault, Reader, RequestFault, done_text, error_text, request, write_done,
-    write_error,
+    Body, LineError, LineFault, Reader, RequestFault, Scratch, done_text, error_text, request,
+    write_done, write_error,
 };
 use coco_io::MemorySource;
 use coco_types::{Args, Call, Cause, Done, NoMemory, Reply, Text, Value};
@@ -8,8 +8,8 @@ use std::alloc::{AllocError, Global};
 use std::test::Fail;
 
 // The class that refuses a line, none for a request.
-fn class(alloc: Global, line: &[u8]) -> Result<Option<LineError>, NoMemory> {
-    match request(alloc, line) {
+fn class(alloc: Global, scratch: &mut Scratch, line: &[u8]) -> Result<Option<LineError>, NoMemory> {
+    match request(alloc, scratch, line) {
         Ok(_) => Ok(None),
         Err(RequestFault::Line(error)) => Ok(Some(error)),
         Err(RequestFault::NoMemory) => Err(NoMemory),
@@ -18,7 +18,7 @@ fn class(alloc: Global, line: &[u8]) -> Result<Option<LineError>, NoMemory> {
 
 #[test]
 fn lines_fall_into_the_first_class_that_fits(rt: HostRuntime) -> Result<(), Fail> {
-    let cases: [(&str, Option<LineError>); 51] = [
+    let cases: [(&str, Option<LineError>); 57] = [
         ("", Some(LineError::Json)),
         ("{", Some(LineError::Json)),
         ("{} {}", Some(LineError::Json)),
@@ -178,9 +178,37 @@ fn lines_fall_into_the_first_class_that_fits(rt: HostRuntime) -> Result<(), Fail
             r#"{"args":["\"\\\/\b\f\n\r\t\u0000"],"call":"get","id":1}"#,
             None,
         ),
+        (
+            r#"{"args":[1e3],"call":"get","id":1}"#,
+            Some(LineError::Args),
+        ),
+        (
+            r#"{"args":[18446744073709551615],"call":"get","id":1}"#,
+            Some(LineError::Args),
+        ),
+        (
+            r#"{"args":[18446744073709551616],"call":"get","id":1}"#,
+            Some(LineError::Args),
+        ),
+        (
+            r#"{"args":[5],"call":"get","id":-9223372036854775808}"#,
+            Some(LineError::Shape),
+        ),
+        (
+            r#"{"args":[5],"call":"get","id":9223372036854775808}"#,
+            None,
+        ),
+        (
+            r#"{"args":[5],"call":"get","id":1,"snapshot":false,"snapshot":0}"#,
+            Some(LineError::Shape),
+        ),
     ];
+    let mut scratch = Scratch::new(rt.alloc());
     for (line, error) in &cases {
-        assert!(rt; class(rt.alloc(), line.as_bytes())? == *error, "{line}");
+        assert!(rt;
+            class(rt.alloc(), &mut scratch, line.as_bytes())? == *error,
+            "{line}"
+        );
     }
     for line in [
         b"\xff".as_slice(),
@@ -190,7 +218,7 @@ fn lines_fall_into_the_first_class_that_fits(rt: HostRuntime) -> Result<(), Fail
         b"\0",
         b"\"a\tb\"",
     ] {
-        assert!(rt; class(rt.alloc(), line)? == Some(LineError::Json));
+        assert!(rt; class(rt.alloc(), &mut scratch, line)? == Some(LineError::Json));
     }
     Ok(())
 }
@@ -227,10 +255,11 @@ fn texts_have_at_most_256_bytes_and_lists_127_levels(rt: HostRuntime) -> Result<
         ("", "[", 200, "", Some(LineError::Json)),
         ("[", "[],", 1_000, "5]", Some(LineError::Shape)),
     ];
+    let mut scratch = Scratch::new(rt.alloc());
     for (start, piece, count, end, error) in cases {
         let line = repeated(rt.alloc(), start, piece, count, end)?;
         assert!(rt;
-            class(rt.alloc(), line.as_slice())? == error,
+            class(rt.alloc(), &mut scratch, line.as_slice())? == error,
             "{count} times {piece}"
         );
     }
@@ -243,29 +272,89 @@ fn texts_have_at_most_256_bytes_and_lists_127_levels(rt: HostRuntime) -> Result<
         let ends = repeated(rt.alloc(), "", "]", levels, "")?;
         line.extend_from_slice(ends.as_slice())?;
         assert!(rt;
-            class(rt.alloc(), line.as_slice())? == Some(error),
+            class(rt.alloc(), &mut scratch, line.as_slice())? == Some(error),
             "{levels} levels"
         );
     }
     Ok(())
 }
 
+// A call with one argument or two.
+fn called(
+    alloc: Global,
+    proc_no: u16,
+    first: Option<Value>,
+    second: Option<Option<Value>>,
+    snapshot: bool,
+) -> Result<Call, NoMemory> {
+    let mut args = Args::new(alloc);
+    args.push(first)?;
+    if let Some(second) = second {
+        args.push(second)?;
+    }
+    Ok(Call {
+        proc_no,
+        args,
+        snapshot,
+    })
+}
+
 #[test]
 fn a_line_asks_for_its_request(rt: HostRuntime) -> Result<(), Fail> {
-    let line = br#"{"args":[5,"a\n\ud83d\ude00\u00e9"],"call":"put","id":7,"snapshot":false}"#;
-    let Ok(request) = request(rt.alloc(), line) else {
-        return Err(Fail::new("no request"));
-    };
-    let mut args = Args::new(rt.alloc());
-    args.push(Some(Value::Int(5)))?;
-    args.push(Text::of("a\n😀é").map(Value::Text))?;
-    let call = Call {
-        proc_no: 1,
-        args,
-        snapshot: false,
-    };
-    assert!(rt; request.id == 7);
-    assert!(rt; request.call == call);
+    let text = Text::of("a\n😀é").map(Value::Text);
+    let cases: [(&str, u64, u16, Option<Value>, Option<Option<Value>>, bool); 5] = [
+        (
+            r#"{"args":[5,"a\n\ud83d\ude00\u00e9"],"call":"put","id":7,"snapshot":false}"#,
+            7,
+            1,
+            Some(Value::Int(5)),
+            Some(text),
+            false,
+        ),
+        (
+            r#" {"snapshot":true , "id":18446744073709551615,"args":[9223372036854775807],"call":"get" } "#,
+            u64::MAX,
+            0,
+            Some(Value::Int(i64::MAX)),
+            None,
+            true,
+        ),
+        (
+            r#"{"args":[-9223372036854775808,null],"c\u0061ll":"\u0070ut","id":0}"#,
+            0,
+            1,
+            Some(Value::Int(i64::MIN)),
+            Some(None),
+            false,
+        ),
+        (
+            r#"{"args":[7],"args":[-1,0],"call":"put","call":"add","id":4,"id":3,"snapshot":true,"snapshot":false}"#,
+            3,
+            2,
+            Some(Value::Int(-1)),
+            Some(Some(Value::Int(0))),
+            false,
+        ),
+        (
+            r#"{"snapshot":false,"args":[[]],"args":[1],"call":"put","call":"get","id":"4","id":3,"snapshot":true}"#,
+            3,
+            0,
+            Some(Value::Int(1)),
+            None,
+            true,
+        ),
+    ];
+    let mut scratch = Scratch::new(rt.alloc());
+    for (line, id, proc_no, first, second, snapshot) in &cases {
+        let Ok(request) = request(rt.alloc(), &mut scratch, line.as_bytes()) else {
+            return Err(Fail::new("no request"));
+        };
+        assert!(rt; request.id == *id, "{line}");
+        assert!(rt;
+            request.call == called(rt.alloc(), *proc_no, *first, *second, *snapshot)?,
+            "{line}"
+        );
+    }
     Ok(())
 }
 
