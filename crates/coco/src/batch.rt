@@ -12,7 +12,7 @@ use crate::classify::class_of;
 use crate::fresh::Fresh;
 use coco_io::Source;
 use coco_kept::Kept;
-use coco_lines::{Line, LineFault, Reader};
+use coco_lines::{Line, LineFault, Reader, Scratch};
 use coco_types::NoMemory;
 use std::alloc::Global;
 
@@ -36,7 +36,13 @@ impl Batch {
     }
 
     /// Takes a line in by its class.
-    fn take(&mut self, alloc: Global, kept: &Kept, line: Line) -> Result<(), NoMemory>
+    fn take(
+        &mut self,
+        alloc: Global,
+        scratch: &mut Scratch,
+        kept: &Kept,
+        line: Line,
+    ) -> Result<(), NoMemory>
         requires new { AreNew kept.now.dones self.old.fresh }
         ensures line { (bytes : List ℕ) → line.body ≡ body_of bytes → OnOk result ((c : LineClass)
             × IsClassOfLine kept.now.dones self.old.fresh bytes c
@@ -45,7 +51,7 @@ impl Batch {
         ensures one { OnOk result (length self.new.answers.items ≡ length self.old.answers.items + 1) }
         ensures new { OnOk result (AreNew kept.now.dones self.new.fresh) }
     {
-        let answer = match class_of(alloc, kept, &self.fresh, &line.body)? {
+        let answer = match class_of(alloc, scratch, kept, &self.fresh, &line.body)? {
             Class::Fails(error) => Answer::Error {
                 error,
                 number: line.number,
@@ -65,6 +71,7 @@ impl Batch {
 /// Reads lines, at most so many, and takes them in by their classes. Fewer are read only where the input ends.
 pub fn read_batch<S: Source>(
     alloc: Global,
+    scratch: &mut Scratch,
     reader: &mut Reader,
     source: &mut S,
     kept: &Kept,
@@ -86,7 +93,7 @@ pub fn read_batch<S: Source>(
     let mut batch = Batch::with_room(alloc, size as usize)?;
     for _place in 0..size {
         match reader.next(source)? {
-            Some(line) => batch.take(alloc, kept, line)?,
+            Some(line) => batch.take(alloc, scratch, kept, line)?,
             None => return Ok(batch),
         }
     }

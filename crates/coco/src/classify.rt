@@ -8,12 +8,19 @@ ghost use Rattle.coco.specs.Classes.{IsClassOfLine, IsClassOfRequest, known_call
 use crate::class::Class;
 use crate::fresh::Fresh;
 use coco_kept::{Found, Kept, MOST_DONES};
-use coco_lines::{Body, LineError, RequestFault, request};
+use coco_lines::{Body, LineError, RequestFault, Scratch, request};
 use coco_types::{NoMemory, Request};
 use std::alloc::Global;
 
-/// The class of a line, for the kept records and the new requests of its batch before it.
-pub fn class_of(alloc: Global, kept: &Kept, fresh: &Fresh, body: &Body) -> Result<Class, NoMemory>
+/// The class of a line, for the kept records and the new requests of its batch before it. The scratch is the
+/// memory that reading takes, kept from line to line.
+pub fn class_of(
+    alloc: Global,
+    scratch: &mut Scratch,
+    kept: &Kept,
+    fresh: &Fresh,
+    body: &Body,
+) -> Result<Class, NoMemory>
     ensures class { (line : List ℕ) → body.now ≡ body_of line → IfOk result (IsClassOfLine kept.now.dones fresh.now line) }
     ensures allowed { IfOk result (IsAllowed kept.now.dones fresh.now) }
 {
@@ -21,7 +28,7 @@ pub fn class_of(alloc: Global, kept: &Kept, fresh: &Fresh, body: &Body) -> Resul
         Body::Long => return Ok(Class::Fails(LineError::Long)),
         Body::Whole(bytes) => bytes,
     };
-    match request(alloc, bytes.as_slice()) {
+    match request(alloc, scratch, bytes.as_slice()) {
         Ok(request) => Ok(class_of_request(kept, fresh, request)),
         Err(RequestFault::Line(error)) => Ok(Class::Fails(error)),
         Err(RequestFault::NoMemory) => Err(NoMemory),

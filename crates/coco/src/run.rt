@@ -8,7 +8,7 @@ use crate::serve::serve_batch;
 use crate::session::Session;
 use coco_host::Host;
 use coco_io::Source;
-use coco_lines::{LineFault, Reader};
+use coco_lines::{LineFault, Reader, Scratch};
 use coco_types::OutFault;
 use std::alloc::Global;
 
@@ -36,8 +36,9 @@ pub fn run<H: Host, S: Source>(alloc: Global, host: &mut H, input: &mut S, size:
 {
     let mut session = Session::new(alloc);
     let mut reader = Reader::new(alloc);
+    let mut scratch = Scratch::new(alloc);
     'batches: loop {
-        let batch = match read_batch(alloc, &mut reader, input, &session.kept, size) {
+        let batch = match read_batch(alloc, &mut scratch, &mut reader, input, &session.kept, size) {
             Ok(batch) => batch,
             Err(LineFault::NoMemory) => return Ending::NoMemory,
             Err(LineFault::Failed) => return Ending::ReadFault,
