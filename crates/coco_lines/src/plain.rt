@@ -3,13 +3,13 @@ ghost use Rattle.std.specs.Prelude.{◌≡◌, ◌<◌, ◌≤◌, ◌++◌, ◌
 ghost use Rattle.fast_float.specs.Text.{scan};
 ghost use Rattle.json.specs.Value.{value_view, items_view, members_view};
 ghost use Rattle.serde_json.specs.Data.{Data, Members, no_members, object, unsigned, negative};
-ghost use Rattle.serde_json.specs.Find.{as_array, as_bool, as_i64, as_number, as_str, as_u64};
+ghost use Rattle.serde_json.specs.Find.{as_i64};
 ghost use Rattle.serde_json.specs.Read.{of_json, of_items, of_members, number_from, number_of};
 ghost use Rattle.coco_types.specs.declared.value.Value.{Value as Datum};
 ghost use Rattle.coco_types.specs.declared.value.Value.TheVariants as datum;
 ghost use Rattle.coco_lines.specs.Signature.{builtins};
 ghost use Rattle.coco_lines.specs.Reading.{or_error, arg_of, args_of, read_text, request_of};
-ghost use Rattle.coco_lines.specs.Plain.{args_in, u64_in, Holds, Taken};
+ghost use Rattle.coco_lines.specs.Plain.{Holds, Taken};
 
 use crate::LineError;
 use crate::builtins::builtin;
