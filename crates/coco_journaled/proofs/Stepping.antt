@@ -43,21 +43,7 @@ module _ {M Q A : Type 0} (answer_to : M → Q → A) (state_after : M → Q →
       }
 
 module _ {M Q A : Type 0} where
-  -- a pass whose note took the value and gave it back
-  pub pass_looked : (number : ℕ) (old taken gave : Known (Entry Q A) M) (calls now : List (Placed Q A)) (found : List (Entry Q A)) → IsPassOf number old calls → taken ≡ record old { list = found; holds = true } → IsPrefix old.list found → gave ≡ record taken { holds = false } → now ≡ calls
-      → IsPassOf number gave now
-  pass_looked number old taken gave calls now found is takes begins gives same =
-      let note : record old { list = found; holds = false } ≡ gave = ap (λ (k : Known (Entry Q A) M). record k { holds = false }) (sym takes) ∙ sym gives in
-      let longer : length old.list ≤ length found = omega (arith, length-append old.list begins.0, ap length begins.1) in
-      subst (λ (p : Known (Entry Q A) M × List (Placed Q A)). IsPassOf number p.0 p.1) (λ i. (note i, sym same i)) record {
-        number_is = is.number_is;
-        free = refl;
-        calls_are = is.calls_are;
-        before = λ k d below. omega (arith, is.before k d below, longer);
-        rises = is.rises;
-      }
-
-  -- and one that entered a call
+  -- a pass whose note took the value, entered a call, and gave the value back
   pub pass_entered : (number : ℕ) (old taken gave : Known (Entry Q A) M) (calls kept now : List (Placed Q A)) (found : List (Entry Q A)) (ask : Q) (answer : A) → IsPassOf number old calls → taken ≡ record old { list = found; holds = true } → IsPrefix old.list found
       → gave ≡ record taken { list = taken.list ++ entry number ask answer ∷ []; calls = taken.calls ++ (length taken.list, entry number ask answer) ∷ []; holds = false } → kept ≡ calls → now ≡ kept ++ placed (length taken.list) ask answer ∷ []
       → IsPassOf number gave now

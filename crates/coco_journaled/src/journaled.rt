@@ -1,4 +1,4 @@
-ghost use Rattle.std.specs.Prelude.{◌≡◌, ℕ, ◌<◌, ◌≤◌, [], ◌∷◌, ◌++◌, map, length, true, false, All, Some, slice_get, IfOk, IfErr, sum_by, vec_len, vec_capacity};
+ghost use Rattle.std.specs.Prelude.{◌≡◌, ℕ, ◌<◌, ◌≤◌, [], ◌∷◌, ◌++◌, map, length, true, false, All, Some, slice_get, IfOk, IfErr, OnOk, sum_by, vec_len, vec_capacity};
 ghost use Rattle.coco_seen.specs.Rules.{numbers, how_often, once_below};
 ghost use Rattle.coco_journaled.specs.Passes.{placed, entry_of, places, Rises, new_pass, pass_at, Steps, Looks};
 ghost use Rattle.coco_journaled.specs.Replay.{Replays};
@@ -72,22 +72,24 @@ impl<M: Machine> Journaled<M> {
         ensures ok { IfOk result (λ answer. Steps M.answer_to M.state_after pass.old ask answer pass.new) }
         ensures err { IfErr result (λ _. Looks pass.old pass.new) }
     {
+        make_room(&mut pass.calls)?;
         let mut guarded = self.seen.take(rt, &mut pass.note);
-        match apply(&mut guarded, &mut pass.calls, ask) {
-            Ok(answer) => {
-                let entry = Entry {
-                    pass: pass.number,
-                    ask,
-                    answer,
-                };
-                self.enter(&mut pass.note, &mut pass.calls, guarded, entry);
-                Ok(answer)
-            }
-            Err(NoMemory) => {
-                self.seen.give(&mut pass.note, guarded);
-                Err(NoMemory)
-            }
-        }
+        let Ok(()) = make_room(&mut guarded.journal) else {
+            self.seen.give(&mut pass.note, guarded);
+            return Err(NoMemory);
+        };
+        let Ok(answer) = guarded.machine.apply(ask) else {
+            self.seen.give(&mut pass.note, guarded);
+            return Err(NoMemory);
+        };
+        let entry = Entry {
+            pass: pass.number,
+            ask,
+            answer,
+        };
+        let place = self.enter(&mut pass.note, guarded, entry);
+        pass.calls.push_reserved(Placed { place, ask, answer });
+        Ok(answer)
     }
 
     /// Ends the lock, once all its passes are back. The journal has each call of each pass at its place, and no other entry, and the machine is the one at the start after the journal's asks. It takes no memory.
@@ -108,50 +110,41 @@ impl<M: Machine> Journaled<M> {
         }
     }
 
-    // Enters the entry, and gives the machine back. There is room in the journal and among the calls.
+    // Enters the entry, gives the machine back, and answers the entry's place. There is room in the journal.
     fn enter(
         &self,
         note: &mut Note<Guarded<M>>,
-        calls: &mut Vec<Placed<M::Ask, M::Answer>>,
         mut guarded: Guarded<M>,
         entry: Entry<M::Ask, M::Answer>,
-    )
+    ) -> u64
         requires lock { note.old.lock ≡ self.now.id }
         requires holds { note.old.holds ≡ true }
         requires list { guarded.journal.items ≡ note.old.list }
         requires from { (root : M) × (note.old.root ≡ Some root) × Replays M.answer_to M.state_after root (guarded.journal.items ++ entry ∷ []) guarded.machine }
-        requires journal_room { vec_len guarded.journal < vec_capacity guarded.journal }
-        requires calls_room { vec_len calls.old < vec_capacity calls.old }
+        requires room { vec_len guarded.journal < vec_capacity guarded.journal }
+        ensures place { result ≡ length note.old.list }
         ensures note { note.new ≡ record note.old { list = note.old.list ++ entry ∷ []; calls = note.old.calls ++ (length note.old.list, entry) ∷ []; holds = false } }
-        ensures calls { calls.new.items ≡ calls.old.items ++ placed (length note.old.list) entry.ask entry.answer ∷ [] }
     {
         guarded.journal.push_reserved(entry);
         let place = self.seen.append(note, entry);
-        calls.push_reserved(Placed {
-            place,
-            ask: entry.ask,
-            answer: entry.answer,
-        });
         self.seen.give(note, guarded);
+        place
     }
 }
 
-// Takes the room for one more call in the journal and in the calls, and asks the machine.
-fn apply<M: Machine>(
-    guarded: &mut Guarded<M>,
-    calls: &mut Vec<Placed<M::Ask, M::Answer>>,
-    ask: M::Ask,
-) -> Result<M::Answer, NoMemory>
-    ensures journal { guarded.new.journal.items ≡ guarded.old.journal.items }
-    ensures calls { calls.new.items ≡ calls.old.items }
-    ensures answer { IfOk result (λ answer. answer ≡ M.answer_to guarded.old.machine ask) }
-    ensures machine { IfOk result (λ _. guarded.new.machine ≡ M.state_after guarded.old.machine ask) }
-    ensures room { IfOk result (λ _. (vec_len guarded.new.journal < vec_capacity guarded.new.journal) × (vec_len calls.new < vec_capacity calls.new)) }
-    ensures err { IfErr result (λ _. guarded.new.machine ≡ guarded.old.machine) }
+// Takes the room for one more item. Items are large, and are copied where a list grows, so a full list becomes four times as long, or twice where memory is short.
+fn make_room<T>(items: &mut Vec<T>) -> Result<(), NoMemory>
+    ensures items { items.new.items ≡ items.old.items }
+    ensures room { OnOk result (vec_len items.new < vec_capacity items.new) }
 {
-    guarded.journal.reserve(1)?;
-    calls.reserve(1)?;
-    guarded.machine.apply(ask)
+    if items.len() < items.capacity() {
+        return Ok(());
+    }
+    let more = items.len().saturating_mul(3).max(1);
+    if items.reserve(more).is_err() {
+        items.reserve(1)?;
+    }
+    Ok(())
 }
 
 // A pass for each note, in their order. There is room for them.

@@ -37,14 +37,22 @@ impl Row {
         }
     }
 
+    /// The newest value, in its place.
+    #[inline(always)]
+    pub fn newest(&self) -> &Option<Value>
+        ensures { result.now ≡ newest_of self.now }
+    {
+        match &self.newest {
+            Newest::AsStable => &self.stable,
+            Newest::Set(value) => value,
+        }
+    }
+
     /// The newest value.
     pub fn newest_value(&self) -> Option<Value>
         ensures { result ≡ newest_of self.now }
     {
-        match self.newest {
-            Newest::AsStable => self.stable,
-            Newest::Set(value) => value,
-        }
+        *self.newest()
     }
 
     /// Makes the newest value the stable one, sets the times to 0 and clears the mark. Says whether a value stands.

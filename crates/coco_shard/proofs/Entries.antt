@@ -7,8 +7,8 @@ use Rattle.std.specs.FinMap.{get, insert}
 use Rattle.std.proofs.lemmas.Map.{lookup-set_value}
 use Rattle.std.proofs.lemmas.Cmp.{eq_by_cmp_equiv}
 use Rattle.coco_types.specs.RowKey.{RowKey, key_cmp}
+use Rattle.coco_rows.specs.declared.Row.{Row}
 use Rattle.coco_shard.specs.declared.kept.Kept.{Kept}
-use Rattle.coco_shard.specs.declared.kept.Acted.{Acted}
 use Rattle.coco_types.specs.declared.call.AttemptId.{AttemptId}
 use Rattle.coco_shard.specs.declared.ops.Ask.{Ask}
 use Rattle.coco_shard.specs.declared.ops.Op.{Op}
@@ -17,7 +17,7 @@ use Rattle.coco_shard.specs.declared.ops.Answer.{Answer}
 use Rattle.coco_shard.specs.declared.ops.Answer.TheVariants.{Got, Locked, Marked, Changed, Extended, Installed, Released, NotMine, Stood}
 use Rattle.coco_shard.specs.RowState.{RowState, resting, row_at, with_row}
 use Rattle.coco_shard.specs.Table.{answer_in, answer_at, after_ask, left_by, key_of, leaves_row}
-use Rattle.coco_shard.specs.Kept.{state_of, kept_at, shown, view_of, ActsAt}
+use Rattle.coco_shard.specs.Kept.{Follows, state_of, kept_at, shown, view_of}
 use Rattle.coco_shard.proofs.Keys.{get_key, get_put, same_keyed, is_key, one_key, keys_total}
 
 -- what a row says, where there is one
@@ -66,14 +66,32 @@ put_back_view es k before after (Some row) was is = written_view es (set_value (
       | false ↦ refl
     ])
 
-pub acted_answer : (es fs : List (RowKey × Kept)) (ask : Ask) (acted : Acted) → ActsAt es fs ask acted → acted.answer ≡ answer_in (view_of es) ask
-acted_answer es fs ask acted h = h.acts.row.told ∙ ap (λ row. answer_at row ask.by ask.op) (sym (row_in es (key_of ask.op) h.before h.was))
+-- an ask on a key that has a row
+pub acted_answer : (es : List (RowKey × Kept)) (ask : Ask) (answer : Answer) (before : Kept) (row : Row) → kept_at es (key_of ask.op) ≡ Some before → Follows before.row row ask.by ask.op answer → answer ≡ answer_in (view_of es) ask
+acted_answer es ask answer before row was did = did.told ∙ ap (λ row. answer_at row ask.by ask.op) (sym (row_in es (key_of ask.op) before was))
 
-pub acted_view : (es fs : List (RowKey × Kept)) (ask : Ask) (acted : Acted) → ActsAt es fs ask acted → view_of fs ≡ after_ask (view_of es) ask
-acted_view es fs ask acted h =
-    ap view_of h.put ∙ put_back_view es (key_of ask.op) h.before h.after _ h.was h.acts.row.left
-    ∙ ap (λ answer. with_row (view_of es) (key_of ask.op) (left_by answer ask.by ask.op (state_of h.before.row))) h.acts.row.told
-    ∙ ap (λ row. with_row (view_of es) (key_of ask.op) (left_by (answer_at row ask.by ask.op) ask.by ask.op row)) (sym (row_in es (key_of ask.op) h.before h.was))
+pub acted_view : (es : List (RowKey × Kept)) (ask : Ask) (answer : Answer) (before after : Kept) (row : Row) → kept_at es (key_of ask.op) ≡ Some before → after.row ≡ row → Follows before.row row ask.by ask.op answer
+    → view_of (set_value (is_at (key_cmp (key_of ask.op))) es after) ≡ after_ask (view_of es) ask
+acted_view es ask answer before after row was same did =
+    put_back_view es (key_of ask.op) before after _ was (ap state_of same ∙ did.left)
+    ∙ ap (λ answer. with_row (view_of es) (key_of ask.op) (left_by answer ask.by ask.op (state_of before.row))) did.told
+    ∙ ap (λ row. with_row (view_of es) (key_of ask.op) (left_by (answer_at row ask.by ask.op) ask.by ask.op row)) (sym (row_in es (key_of ask.op) before was))
+
+-- a read of a key that has a row
+pub read_answer : (es : List (RowKey × Kept)) (ask : Ask) (key : RowKey) (kept : Kept) → ask.op ≡ Read key → kept_at es (key_of ask.op) ≡ Some kept → answer_at (state_of kept.row) ask.by (Read key) ≡ answer_in (view_of es) ask
+read_answer es ask key kept is was =
+    ap (λ row. answer_at row ask.by (Read key)) (sym (row_in es (key_of ask.op) kept was)) ∙ ap (answer_at (row_at (view_of es) (key_of ask.op)) ask.by) (sym is)
+
+pub read_view : (es : List (RowKey × Kept)) (ask : Ask) (key : RowKey) (kept : Kept) → ask.op ≡ Read key → kept_at es (key_of ask.op) ≡ Some kept → view_of es ≡ after_ask (view_of es) ask
+read_view es ask key kept is was =
+    let k = key_of ask.op in
+    let row = row_at (view_of es) k in
+    written_view es es k (state_of kept.row) (λ q. elim (is_key k q) as (λ b. is_key k q ≡ b → state_in (kept_at es q) ≡ cond b (Some (state_of kept.row)) (state_in (kept_at es q))) [
+      | true ↦ λ t. ap (λ z. state_in (kept_at es z)) (sym (one_key k q t)) ∙ ap state_in was
+      | false ↦ λ _. refl
+    ] refl)
+    ∙ ap (insert (view_of es) k) (sym (row_in es k kept was))
+    ∙ ap (λ op. with_row (view_of es) k (left_by (answer_at row ask.by op) ask.by op row)) (sym is)
 
 -- ---- an ask on a key without a row
 

@@ -1,5 +1,5 @@
 -- How a shard keeps a row: beside it, whether its key stands in the list of touched keys.
-use Rattle.std.specs.Prelude.{◌≡◌, ℕ, ◌+◌, ◌≤◌, Bool, true, false, ◌||◌, if◌then◌else◌, max, List, [], ◌∷◌, ◌++◌, length, map, sum_by, Option, None, Some, IsSome}
+use Rattle.std.specs.Prelude.{◌≡◌, ℕ, ◌+◌, ◌≤◌, Bool, true, false, if◌then◌else◌, max, List, [], ◌∷◌, ◌++◌, length, map, sum_by, Option, None, Some, IsSome}
 use Rattle.std.specs.List.{list_any}
 use Rattle.std.specs.Option.{unwrap_or, option_map}
 use Rattle.std.specs.Map.{lookup, set_value, values_of}
@@ -11,12 +11,10 @@ use Rattle.coco_types.specs.declared.call.AttemptId.{AttemptId}
 use Rattle.coco_rows.specs.declared.Row.{Row}
 use Rattle.coco_rows.specs.Versions.{newest_of, at_rest}
 use Rattle.coco_shard.specs.declared.kept.Kept.{Kept}
-use Rattle.coco_shard.specs.declared.kept.Acted.{Acted}
 use Rattle.coco_shard.specs.declared.ops.Op.{Op}
-use Rattle.coco_shard.specs.declared.ops.Ask.{Ask}
 use Rattle.coco_shard.specs.declared.ops.Answer.{Answer}
 use Rattle.coco_shard.specs.RowState.{RowState, ShardState}
-use Rattle.coco_shard.specs.Table.{answer_at, left_by, key_of}
+use Rattle.coco_shard.specs.Table.{answer_at, left_by}
 
 abbrev pub state_of : Row → RowState
 state_of row = record { newest = newest_of row; wts = row.wts; rts = row.rts; mark = row.mark; stable = row.stable }
@@ -30,24 +28,9 @@ pub record Follows (before after : Row) (by : AttemptId) (op : Op) (answer : Ans
 abbrev pub IsSound : Kept → Type 0
 IsSound kept = kept.touched ≡ false → (kept.row ≡ at_rest kept.row.stable) × IsSome kept.row.stable
 
--- the row after an ask, and the answer to it
-pub record Acts (before after : Kept) (ask : Ask) (acted : Acted) : Type 0 where
-  pub row : Follows before.row after.row ask.by ask.op acted.answer
-  pub touched : after.touched ≡ before.touched || acted.touches
-  pub once : acted.touches ≡ true → before.touched ≡ false
-  pub sound : IsSound after
-
 -- a map's entry at a key
 abbrev pub kept_at : List (RowKey × Kept) → RowKey → Option Kept
 kept_at es k = lookup (is_at (key_cmp k)) es
-
--- the entries after an ask on a key that has a row
-pub record ActsAt (old new : List (RowKey × Kept)) (ask : Ask) (acted : Acted) : Type 0 where
-  pub before : Kept
-  pub after : Kept
-  pub was : kept_at old (key_of ask.op) ≡ Some before
-  pub put : new ≡ set_value (is_at (key_cmp (key_of ask.op))) old after
-  pub acts : Acts before after ask acted
 
 -- what contracts see of an entry, and of all of them
 abbrev pub shown : RowKey × Kept → RowKey × RowState

@@ -1,7 +1,8 @@
-ghost use Rattle.std.specs.Prelude.{◌≡◌, true, IsSome};
+ghost use Rattle.std.specs.Prelude.{◌≡◌, ◌||◌, true, false, IsSome};
 ghost use Rattle.coco_types.specs.RowKey.{RowKey};
-ghost use Rattle.coco_rows.specs.Versions.{at_rest};
-ghost use Rattle.coco_shard.specs.Kept.{Acts, Follows, IsSound, state_of};
+ghost use Rattle.coco_rows.specs.Versions.{at_rest, newest_of};
+ghost use Rattle.coco_shard.specs.declared.ops.Answer.TheVariants.{Got};
+ghost use Rattle.coco_shard.specs.Kept.{Follows, IsSound, state_of};
 ghost use Rattle.coco_shard.specs.Table.{is_mark_of, installed};
 
 use crate::ops::{Answer, Ask, Op};
@@ -15,23 +16,17 @@ pub struct Kept {
     pub touched: bool,
 }
 
-// An answer, and whether it touches the row for the first time since the last promote or revert.
-#[derive(Debug, Drop)]
-pub struct Acted {
-    pub answer: Answer,
-    pub touches: bool,
-}
-
 impl Kept {
-    // Answers an ask, and changes the row as the answer says.
-    pub fn act(&mut self, ask: &Ask) -> Acted
-        requires { IsSound self.old }
-        ensures { Acts self.old self.new ask.now result }
+    // Says whether the row is touched for the first time since the last promote or revert, and keeps that it is.
+    pub fn touch(&mut self) -> bool
+        ensures row { self.new.row ≡ self.old.row }
+        ensures touched { self.new.touched ≡ self.old.touched || result }
+        ensures once { result ≡ true → self.old.touched ≡ false }
+        ensures sound { IsSound self.new }
     {
-        let answer = act(&mut self.row, ask);
         let touches = !self.touched && !is_at_rest(&self.row);
         self.touched = self.touched || touches;
-        Acted { answer, touches }
+        touches
     }
 }
 
@@ -47,21 +42,29 @@ fn is_at_rest(row: &Row) -> bool
         && row.stable.is_some()
 }
 
-// Answers an operation at a row, and changes it as the answer says.
-pub fn act(row: &mut Row, ask: &Ask) -> Answer
-    ensures { Follows row.old row.new ask.now.by ask.now.op result }
+// Answers an operation at a row, and changes it as the answer says. An answer is large, so it is made in its place.
+#[inline(always)]
+pub fn act(row: &mut Row, ask: &Ask, answer: &mut Answer)
+    ensures { Follows row.old row.new ask.now.by ask.now.op answer.new }
 {
-    match ask.op {
-        Op::Read(_) => Answer::Got {
-            wts: row.wts,
-            rts: row.rts,
-            value: row.newest_value(),
-        },
-        Op::Lock(_) => lock(row, ask.by),
-        Op::Extend { wts, time, .. } => extend(row, ask.by, wts, time),
-        Op::Install { time, value, .. } => install(row, ask.by, time, value),
-        Op::Release(_) => release(row, ask.by),
-        Op::Past(_) => Answer::Stood(row.stable),
+    match &ask.op {
+        Op::Read(_) => *answer = read(row),
+        Op::Lock(_) => lock(row, ask.by, answer),
+        Op::Extend { wts, time, .. } => extend(row, ask.by, *wts, *time, answer),
+        Op::Install { time, value, .. } => install(row, ask.by, *time, value, answer),
+        Op::Release(_) => release(row, ask.by, answer),
+        Op::Past(_) => *answer = Answer::Stood(row.stable),
+    }
+}
+
+// The newest value and its times.
+pub fn read(row: &Row) -> Answer
+    ensures { result ≡ Got row.now.wts row.now.rts (newest_of row.now) }
+{
+    Answer::Got {
+        wts: row.wts,
+        rts: row.rts,
+        value: *row.newest(),
     }
 }
 
@@ -75,61 +78,66 @@ fn is_mark_of(mark: Option<AttemptId>, by: AttemptId) -> bool
     }
 }
 
-fn lock(row: &mut Row, by: AttemptId) -> Answer
-    ensures { (key : RowKey) → Follows row.old row.new by (Op.Lock key) result }
+fn lock(row: &mut Row, by: AttemptId, answer: &mut Answer)
+    ensures { (key : RowKey) → Follows row.old row.new by (Op.Lock key) answer.new }
 {
     if let Some(holder) = row.mark
         && holder != by
     {
-        return Answer::Marked { holder };
+        *answer = Answer::Marked { holder };
+        return;
     }
     row.mark = Some(by);
-    Answer::Locked {
+    *answer = Answer::Locked {
         wts: row.wts,
         rts: row.rts,
-    }
+    };
 }
 
-fn extend(row: &mut Row, by: AttemptId, wts: u64, time: u64) -> Answer
-    ensures { (key : RowKey) → Follows row.old row.new by (Op.Extend key wts time) result }
+fn extend(row: &mut Row, by: AttemptId, wts: u64, time: u64, answer: &mut Answer)
+    ensures { (key : RowKey) → Follows row.old row.new by (Op.Extend key wts time) answer.new }
 {
     if row.wts != wts {
-        return Answer::Changed { wts: row.wts };
+        *answer = Answer::Changed { wts: row.wts };
+        return;
     }
     if let Some(holder) = row.mark
         && holder != by
     {
-        return Answer::Marked { holder };
+        *answer = Answer::Marked { holder };
+        return;
     }
     row.rts = row.rts.max(time);
-    Answer::Extended
+    *answer = Answer::Extended;
 }
 
-fn install(row: &mut Row, by: AttemptId, time: u64, value: Option<Value>) -> Answer
-    ensures { (key : RowKey) → Follows row.old row.new by (Op.Install key time value) result }
+fn install(row: &mut Row, by: AttemptId, time: u64, value: &Option<Value>, answer: &mut Answer)
+    ensures { (key : RowKey) → Follows row.old row.new by (Op.Install key time value.now) answer.new }
 {
     if !is_mark_of(row.mark, by) {
-        return Answer::NotMine { mark: row.mark };
+        *answer = Answer::NotMine { mark: row.mark };
+        return;
     }
     put(row, time, value);
-    Answer::Installed
+    *answer = Answer::Installed;
 }
 
-fn release(row: &mut Row, by: AttemptId) -> Answer
-    ensures { (key : RowKey) → Follows row.old row.new by (Op.Release key) result }
+fn release(row: &mut Row, by: AttemptId, answer: &mut Answer)
+    ensures { (key : RowKey) → Follows row.old row.new by (Op.Release key) answer.new }
 {
     if !is_mark_of(row.mark, by) {
-        return Answer::NotMine { mark: row.mark };
+        *answer = Answer::NotMine { mark: row.mark };
+        return;
     }
     row.mark = None;
-    Answer::Released
+    *answer = Answer::Released;
 }
 
 // Writes the value at the time, and takes the mark away.
-pub fn put(row: &mut Row, time: u64, value: Option<Value>)
-    ensures row { state_of row.new ≡ installed time value (state_of row.old) }
+pub fn put(row: &mut Row, time: u64, value: &Option<Value>)
+    ensures row { state_of row.new ≡ installed time value.now (state_of row.old) }
 {
-    row.newest = Newest::Set(value);
+    row.newest = Newest::Set(*value);
     row.wts = time;
     row.rts = time;
     row.mark = None;

@@ -1,20 +1,21 @@
 ghost use Rattle.std.specs.Prelude.{◌≡◌, ◌+◌, ◌^◌, ◌<◌, ◌≤◌, ◌++◌, ◌∷◌, [], if◌then◌else◌, cond, true, false, None, Some, IfNone, IfSome, IfOk, OnOk, OnErr, length, vec_len, vec_capacity};
 ghost use Rattle.std.specs.BTreeMap.{is_at};
 ghost use Rattle.coco_types.specs.RowKey.{RowKey, key_cmp};
-ghost use Rattle.coco_shard.specs.Kept.{ActsAt, IsSound, IsWhole, SetsRow, kept_at, view_of};
+ghost use Rattle.coco_shard.specs.Kept.{IsSound, IsWhole, SetsRow, kept_at, view_of};
 ghost use Rattle.coco_shard.specs.RowState.{resting, stable_at};
 ghost use Rattle.coco_rows.specs.Versions.{at_rest};
 ghost use Rattle.std.specs.FinMap.{insert};
 ghost use Rattle.coco_shard.specs.declared.kept.Kept.{Kept as Entry};
 ghost use Rattle.coco_shard.specs.Table.{after_ask, answer_in, key_of, leaves_row, may_make_row};
 
-use crate::kept::{Acted, Kept, act};
+use crate::kept::{Kept, act};
 use crate::ops::{Answer, Ask};
 use coco_rows::Row;
 use coco_types::{Key, NoMemory, Value};
 use std::collections::BTreeMap;
 
 // Answers an ask on the rows, and makes the row where it is missing and the answer wants one.
+#[inline(never)]
 pub fn act_on_rows(
     rows: &mut BTreeMap<Key, Kept>,
     touched: &mut Vec<Key>,
@@ -28,26 +29,19 @@ pub fn act_on_rows(
     ensures missing { OnErr result (kept_at rows.old.entries (key_of ask.now.op) ≡ None) }
     ensures makes { OnErr result (may_make_row ask.now.op ≡ true) }
 {
-    let Some(acted) = act_at(rows, ask) else {
+    let key = ask.op.key();
+    let Some(kept) = rows.get_mut(&key) else {
         return act_on_missing(rows, touched, ask);
     };
-    list_key(touched, ask.op.key(), acted.touches);
-    Ok(acted.answer)
+    let mut answer = Answer::Released;
+    act(&mut kept.row, ask, &mut answer);
+    list_key(touched, key, kept.touch());
+    Ok(answer)
 }
 
-// Acts on the row of the ask's key, or answers None where the key has no row.
-fn act_at(rows: &mut BTreeMap<Key, Kept>, ask: &Ask) -> Option<Acted>
-    requires { (key : RowKey) (kept : Entry) → kept_at rows.old.entries key ≡ Some kept → IsSound kept }
-    ensures none { IfNone result ((kept_at rows.old.entries (key_of ask.now.op) ≡ None) × (rows.new.entries ≡ rows.old.entries)) }
-    ensures acts { IfSome result (λ acted. ActsAt rows.old.entries rows.new.entries ask.now acted) }
-{
-    match rows.get_mut(&ask.op.key()) {
-        Some(kept) => Some(kept.act(ask)),
-        None => None,
-    }
-}
-
-fn act_on_missing(
+// The same where the key has no row.
+#[inline(never)]
+pub fn act_on_missing(
     rows: &mut BTreeMap<Key, Kept>,
     touched: &mut Vec<Key>,
     ask: &Ask,
@@ -58,14 +52,19 @@ fn act_on_missing(
     ensures answer { IfOk result (λ answer. answer ≡ answer_in (view_of rows.old.entries) ask.now) }
     ensures state { OnOk result (view_of rows.new.entries ≡ after_ask (view_of rows.old.entries) ask.now) }
     ensures err { OnErr result (rows.new.entries ≡ rows.old.entries) }
+    ensures missing { OnErr result (kept_at rows.old.entries (key_of ask.now.op) ≡ None) }
     ensures makes { OnErr result (may_make_row ask.now.op ≡ true) }
 {
-    let mut row = Row::at_rest(None);
-    let answer = act(&mut row, ask);
+    let mut kept = Kept {
+        row: Row::at_rest(None),
+        touched: true,
+    };
+    let mut answer = Answer::Released;
+    act(&mut kept.row, ask, &mut answer);
     if !leaves_row(&answer) {
         return Ok(answer);
     }
-    add_row(rows, touched, ask.op.key(), Kept { row, touched: true })?;
+    add_row(rows, touched, ask.op.key(), kept)?;
     Ok(answer)
 }
 
