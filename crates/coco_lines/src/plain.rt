@@ -13,6 +13,7 @@ ghost use Rattle.coco_lines.specs.Plain.{Holds, Taken};
 
 use crate::LineError;
 use crate::builtins::builtin;
+use coco_types::args::MOST_ARGS;
 use coco_types::{Args, Call, Request, Text, Value};
 use fast_float::Numeral;
 use json::{Reader, Scratch, Value as Tree};
@@ -20,9 +21,6 @@ use std::alloc::Global;
 
 // As deep as the lists and objects of a line may nest.
 const MOST_LEVELS: usize = 127;
-
-// As many arguments as a call may have.
-const MOST_ARGS: usize = 16;
 
 // The request that a plain line asks for. None says nothing of the line.
 pub(crate) fn plain_request(alloc: Global, scratch: &mut Scratch, text: &str) -> Option<Request>
