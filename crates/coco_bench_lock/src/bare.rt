@@ -42,6 +42,7 @@ impl<M: Machine> Bare<M> {
         ensures entries { OnOk result (self.new.entries.items ≡ self.old.entries.items ++ entry 0 ask (M.answer_to self.old.machine ask) ∷ []) }
         ensures calls { self.new.calls ≡ self.old.calls }
     {
+        make_room(&mut self.entries)?;
         let answer = self.machine.apply(ask)?;
         self.entries.push(Entry {
             pass: 0,
@@ -58,6 +59,8 @@ impl<M: Machine> Bare<M> {
         ensures calls { OnOk result (self.new.calls.items ≡ self.old.calls.items ++ placed (length self.old.entries.items) ask (M.answer_to self.old.machine ask) ∷ []) }
     {
         let place = self.entries.len() as u64;
+        make_room(&mut self.entries)?;
+        make_room(&mut self.calls)?;
         let answer = self.machine.apply(ask)?;
         self.entries.push(Entry {
             pass: 0,
@@ -67,4 +70,14 @@ impl<M: Machine> Bare<M> {
         self.calls.push(Placed { place, ask, answer })?;
         Ok(())
     }
+}
+
+// Makes a full list four times as long, as a journaled lock does.
+fn make_room<T>(items: &mut Vec<T>) -> Result<(), NoMemory>
+    ensures { items.new.items ≡ items.old.items }
+{
+    if items.len() == items.capacity() {
+        items.reserve(items.len().saturating_mul(3).max(1))?;
+    }
+    Ok(())
 }
