@@ -2,12 +2,12 @@
 use Rattle.std.proofs.Common.{◌≡◌, ap, ◌∙◌, Bool, None, Some}
 use Rattle.coco_ast.specs.Keyed.{Rows, value_at}
 use Rattle.coco_ast.specs.Meaning.{Datum, Computed, combined}
-use Rattle.coco_ast.specs.Tree.{Plus}
+use Rattle.coco_ast.specs.Tree.{Add}
 use Rattle.coco_ast.specs.BuiltinForms.{BuiltinForms, counted}
 use Rattle.coco_ast.proofs.BuiltinRuns.{got, stored, added, summed, or_zero, run-get, run-put, run-add}
 
 -- the sum that add makes, by either word
-sums : (v n : Datum) (r : Computed Datum) → combined Plus (counted v) n ≡ r → combined Plus (or_zero v) n ≡ r
+sums : (v n : Datum) (r : Computed Datum) → combined Add (counted v) n ≡ r → combined Add (or_zero v) n ≡ r
 sums None n r e = e
 sums (Some v) n r e = e
 

@@ -5,7 +5,7 @@ use Rattle.coco_types.specs.RowKey.{RowKey}
 use Rattle.coco_types.specs.declared.call.Reply.TheVariants.{Ok as Answers, Refused}
 use Rattle.coco_ast.specs.Keyed.{Rows, value_at, write_at}
 use Rattle.coco_ast.specs.Meaning.{Datum, Computed, Run, run, row_key, combined, fits}
-use Rattle.coco_ast.specs.Tree.{Plus}
+use Rattle.coco_ast.specs.Tree.{Add}
 use Rattle.coco_ast.specs.Builtins.{builtins}
 
 -- get: the row's value
@@ -29,7 +29,7 @@ summed m k (Ok v) = record { reply = Answers v; rows = write_at m k v; needs = k
 summed m k (Err c) = record { reply = Refused c; rows = m; needs = k ∷ []; writes = [] }
 
 abbrev pub added : Rows → Datum → Computed RowKey → Run
-added m n (Ok k) = summed m k (combined Plus (or_zero (value_at m k)) n)
+added m n (Ok k) = summed m k (combined Add (or_zero (value_at m k)) n)
 added m n (Err c) = record { reply = Refused c; rows = m; needs = []; writes = [] }
 
 pub run-get : (m : Rows) (snapshot : Bool) (a : Datum) → run builtins (record { proc_no = 0; args = a ∷ []; snapshot = snapshot }) m ≡ got m (row_key 0 a)
@@ -49,7 +49,7 @@ run-put m snapshot (Some (Text t)) v = refl
 abbrev pub AddsAt : Rows → Bool → ℕ → Datum → Datum → Type 0
 AddsAt m snapshot r n held =
     run builtins (record { proc_no = 2; args = Some (Int (pos r)) ∷ n ∷ []; snapshot = snapshot }) m
-    ≡ summed m (record { table = 0; row = r }) (combined Plus (or_zero held) n)
+    ≡ summed m (record { table = 0; row = r }) (combined Add (or_zero held) n)
 
 -- the sum fits or it doesn't, for a row without a value, and for one with a number
 adds_to_none : (m : Rows) (snapshot : Bool) (r : ℕ) (y : ℤ) → value_at m (record { table = 0; row = r }) ≡ None

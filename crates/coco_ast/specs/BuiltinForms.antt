@@ -7,7 +7,7 @@ use Rattle.coco_types.specs.declared.call.Cause.{Cause}
 use Rattle.coco_types.specs.declared.call.Reply.TheVariants.{Ok as Answers, Refused}
 use Rattle.coco_ast.specs.Keyed.{Rows, value_at, write_at}
 use Rattle.coco_ast.specs.Meaning.{Datum, Run, run, row_key, combined}
-use Rattle.coco_ast.specs.Tree.{Plus}
+use Rattle.coco_ast.specs.Tree.{Add}
 use Rattle.coco_ast.specs.Builtins.{builtins}
 
 abbrev pub get_call : Bool → Datum → Call
@@ -42,5 +42,5 @@ pub record BuiltinForms (m : Rows) (snapshot : Bool) (a : Datum) : Type 0 where
   pub gets : (k : RowKey) → row_key 0 a ≡ Ok k → run builtins (get_call snapshot a) m ≡ record { reply = Answers (value_at m k); rows = m; needs = k ∷ []; writes = [] }
   pub puts : (k : RowKey) (v : Datum) → row_key 0 a ≡ Ok k → run builtins (put_call snapshot a v) m ≡ answered k v m []
   -- add puts and answers the sum, where there is one
-  pub adds : (k : RowKey) (n sum : Datum) → row_key 0 a ≡ Ok k → combined Plus (counted (value_at m k)) n ≡ Ok sum → run builtins (add_call snapshot a n) m ≡ answered k sum m (k ∷ [])
-  pub add_fails : (k : RowKey) (n : Datum) (c : Cause) → row_key 0 a ≡ Ok k → combined Plus (counted (value_at m k)) n ≡ Err c → run builtins (add_call snapshot a n) m ≡ refused c m (k ∷ [])
+  pub adds : (k : RowKey) (n sum : Datum) → row_key 0 a ≡ Ok k → combined Add (counted (value_at m k)) n ≡ Ok sum → run builtins (add_call snapshot a n) m ≡ answered k sum m (k ∷ [])
+  pub add_fails : (k : RowKey) (n : Datum) (c : Cause) → row_key 0 a ≡ Ok k → combined Add (counted (value_at m k)) n ≡ Err c → run builtins (add_call snapshot a n) m ≡ refused c m (k ∷ [])

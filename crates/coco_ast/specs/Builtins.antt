@@ -1,6 +1,6 @@
 -- The three procedures that every store has, and its table `main`.
 use Rattle.std.specs.Prelude.{[], ◌∷◌, pos, codes}
-use Rattle.coco_ast.specs.Tree.{Number, Nothing, Variable, Two, Plus, Equals, RowPlace, Let, Get, Put, If, Reply, End, Then, Procedure, Procedures}
+use Rattle.coco_ast.specs.Tree.{Number, None as Nothing, Variable, Two, Add, Equal, RowPlace, Let, Get, Put, If, Reply, End, Then, Procedure, Procedures}
 
 abbrev pub main_row : RowPlace
 main_row = record { table = codes "main"; row = Variable (codes "r") }
@@ -27,8 +27,8 @@ add_proc = record {
   name = codes "add";
   params = codes "r" ∷ codes "n" ∷ [];
   body =
-      Then (Get (codes "v") main_row) (Then (If (Two Equals (Variable (codes "v")) Nothing) (Then (Let (codes "v") (Number (pos 0))) End))
-      (Then (Let (codes "v") (Two Plus (Variable (codes "v")) (Variable (codes "n")))) (Then (Put main_row (Variable (codes "v")))
+      Then (Get (codes "v") main_row) (Then (If (Two Equal (Variable (codes "v")) Nothing) (Then (Let (codes "v") (Number (pos 0))) End))
+      (Then (Let (codes "v") (Two Add (Variable (codes "v")) (Variable (codes "n")))) (Then (Put main_row (Variable (codes "v")))
       (Then (Reply (Variable (codes "v"))) End))));
 }
 

@@ -1,6 +1,6 @@
 -- Small bodies, and what the words of the check come to for them.
 use Rattle.std.specs.Prelude.{◌≡◌, ℕ, Bool, true, false, List, [], ◌∷◌, map, codes, pos}
-use Rattle.coco_ast.specs.Tree.{Expression, Number, Variable, Not, Two, Plus, RowPlace, Let, Get, Put, Delete, If, IfElse, Repeat, Refuse, Reply, Statements, End, Then, Procedure}
+use Rattle.coco_ast.specs.Tree.{Expression, Number, Variable, Not, Two, Add, RowPlace, Let, Get, Put, Delete, If, IfElse, Repeat, Refuse, Reply, Statements, End, Then, Procedure}
 use Rattle.coco_ast.specs.Builtins.{add_proc}
 use Rattle.coco_ast.specs.Checks.{counted_weight, ends, statements_in, known_at, own_variables, own_tables}
 
@@ -84,7 +84,7 @@ of_body body = record { name = codes "p"; params = codes "r" ∷ []; body = body
 abbrev pub setting : Procedure
 setting =
     of_body (Then (Let (codes "x") (Variable (codes "x"))) (repeats 2 (Then (Get (codes "y") place) End)
-    (Then (Put (record { table = codes "t"; row = Variable (codes "i") }) (Two Plus (Variable (codes "y")) (Not (Variable (codes "z"))))) End)))
+    (Then (Put (record { table = codes "t"; row = Variable (codes "i") }) (Two Add (Variable (codes "y")) (Not (Variable (codes "z"))))) End)))
 
 pub record CheckExamples : Type 0 where
   pub weights : map (λ r. counted_weight r.0) weights ≡ map (λ r. r.1) weights

@@ -5,7 +5,7 @@ use Rattle.std.specs.Cmp.Lexicographic.{pointwise}
 use Rattle.coco_ast.specs.declared.error.CheckError.{CheckError}
 use Rattle.coco_ast.specs.declared.error.CheckKind.{CheckKind}
 use Rattle.coco_ast.specs.declared.error.CheckKind.TheVariants.{UnknownName, Twice, TooManyKeys, RepeatBound, NoReply}
-use Rattle.coco_ast.specs.Tree.{Expression, Number, Quoted, Nothing, Variable, Not, Minus, Two, Statement, Let, Get, Put, Delete, If, IfElse, Repeat, Refuse, Reply, Statements, End, Then, Procedure, Procedures}
+use Rattle.coco_ast.specs.Tree.{Expression, Number, Quoted, None as Nothing, Variable, Not, Negate, Two, Statement, Let, Get, Put, Delete, If, IfElse, Repeat, Refuse, Reply, Statements, End, Then, Procedure, Procedures}
 use Rattle.coco_ast.specs.Builtins.{builtins}
 
 -- ---- names
@@ -27,7 +27,7 @@ variables_of (Quoted bytes) = []
 variables_of Nothing = []
 variables_of (Variable x) = x ∷ []
 variables_of (Not e) = variables_of e
-variables_of (Minus e) = variables_of e
+variables_of (Negate e) = variables_of e
 variables_of (Two sign left right) = variables_of left ++ variables_of right
 
 -- the variables in a statement's own expressions

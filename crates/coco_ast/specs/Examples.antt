@@ -9,7 +9,7 @@ use Rattle.coco_types.specs.declared.call.Reply.TheVariants.{Ok as Answers, Refu
 use Rattle.coco_types.specs.declared.call.Write.{Write}
 use Rattle.coco_ast.specs.Keyed.{Rows, write_at}
 use Rattle.coco_ast.specs.Meaning.{Datum, Run, run}
-use Rattle.coco_ast.specs.Tree.{Expression, Number, Quoted, Nothing, Variable, Not, Minus, Two, Plus, Less, Times, Over, Modulo, Equals, Differs, Below, AtMost, Above, AtLeast, Both, Either, RowPlace, Let, Get, Put, Delete, If, IfElse, Repeat, Refuse, Reply as Replies, Statements, End, Then}
+use Rattle.coco_ast.specs.Tree.{Expression, Number, Quoted, None as Nothing, Variable, Not, Negate, Two, Add, Subtract, Multiply, Divide, Remainder, Equal, NotEqual, Less, AtMost, Greater, AtLeast, And, Or, RowPlace, Let, Get, Put, Delete, If, IfElse, Repeat, Refuse, Reply as Replies, Statements, End, Then}
 
 -- ---- one call of one procedure without parameters, on the table t
 
@@ -38,13 +38,13 @@ abbrev pub greatest : Expression
 greatest = number 9223372036854775807
 
 abbrev pub least : Expression
-least = Two Less (Minus greatest) (number 1)
+least = Two Subtract (Negate greatest) (number 1)
 
 abbrev pub zero_divide : Expression
-zero_divide = Two Over (number 1) (number 0)
+zero_divide = Two Divide (number 1) (number 0)
 
 abbrev pub too_great : Expression
-too_great = Two Plus greatest (number 1)
+too_great = Two Add greatest (number 1)
 
 abbrev pub row : Expression → RowPlace
 row e = record { table = codes "t"; row = e }
@@ -76,82 +76,82 @@ abbrev pub ends : List (Expression × Reply)
 ends =
     (greatest, gives 9223372036854775807)
     ∷ (least, gives_negative 9223372036854775807)
-    ∷ (Two Plus greatest (number 1), Refused Overflow)
-    ∷ (Two Plus greatest least, gives_negative 0)
-    ∷ (Two Plus least (Minus (number 1)), Refused Overflow)
-    ∷ (Two Less least (number 1), Refused Overflow)
-    ∷ (Two Less greatest (Minus (number 1)), Refused Overflow)
-    ∷ (Two Less (Minus (number 1)) greatest, gives_negative 9223372036854775807)
-    ∷ (Two Less (Minus (number 2)) greatest, Refused Overflow)
-    ∷ (Two Less (number 0) least, Refused Overflow)
-    ∷ (Two Times greatest (number 2), Refused Overflow)
-    ∷ (Two Times greatest (Minus (number 1)), gives_negative 9223372036854775806)
-    ∷ (Two Times (number 4294967296) (Minus (number 2147483648)), gives_negative 9223372036854775807)
-    ∷ (Two Times (number 4294967296) (number 2147483648), Refused Overflow)
-    ∷ (Two Times least (Minus (number 1)), Refused Overflow)
-    ∷ (Minus greatest, gives_negative 9223372036854775806)
-    ∷ (Minus least, Refused Overflow)
+    ∷ (Two Add greatest (number 1), Refused Overflow)
+    ∷ (Two Add greatest least, gives_negative 0)
+    ∷ (Two Add least (Negate (number 1)), Refused Overflow)
+    ∷ (Two Subtract least (number 1), Refused Overflow)
+    ∷ (Two Subtract greatest (Negate (number 1)), Refused Overflow)
+    ∷ (Two Subtract (Negate (number 1)) greatest, gives_negative 9223372036854775807)
+    ∷ (Two Subtract (Negate (number 2)) greatest, Refused Overflow)
+    ∷ (Two Subtract (number 0) least, Refused Overflow)
+    ∷ (Two Multiply greatest (number 2), Refused Overflow)
+    ∷ (Two Multiply greatest (Negate (number 1)), gives_negative 9223372036854775806)
+    ∷ (Two Multiply (number 4294967296) (Negate (number 2147483648)), gives_negative 9223372036854775807)
+    ∷ (Two Multiply (number 4294967296) (number 2147483648), Refused Overflow)
+    ∷ (Two Multiply least (Negate (number 1)), Refused Overflow)
+    ∷ (Negate greatest, gives_negative 9223372036854775806)
+    ∷ (Negate least, Refused Overflow)
     ∷ []
 
 -- quotients go towards zero, and a remainder has the sign of the left
 abbrev pub quotients : List (Expression × Reply)
 quotients =
-    (Two Over (number 7) (number 2), gives 3)
-    ∷ (Two Over (Minus (number 7)) (number 2), gives_negative 2)
-    ∷ (Two Over (number 7) (Minus (number 2)), gives_negative 2)
-    ∷ (Two Over (Minus (number 7)) (Minus (number 2)), gives 3)
-    ∷ (Two Modulo (number 7) (number 2), gives 1)
-    ∷ (Two Modulo (Minus (number 7)) (number 2), gives_negative 0)
-    ∷ (Two Modulo (number 7) (Minus (number 2)), gives 1)
-    ∷ (Two Modulo (Minus (number 7)) (Minus (number 2)), gives_negative 0)
-    ∷ (Two Over least (number 1), gives_negative 9223372036854775807)
-    ∷ (Two Over least (Minus (number 1)), Refused Overflow)
-    ∷ (Two Modulo least (Minus (number 1)), Refused Overflow)
-    ∷ (Two Over (number 1) (number 0), Refused ZeroDivide)
-    ∷ (Two Modulo (number 1) (number 0), Refused ZeroDivide)
+    (Two Divide (number 7) (number 2), gives 3)
+    ∷ (Two Divide (Negate (number 7)) (number 2), gives_negative 2)
+    ∷ (Two Divide (number 7) (Negate (number 2)), gives_negative 2)
+    ∷ (Two Divide (Negate (number 7)) (Negate (number 2)), gives 3)
+    ∷ (Two Remainder (number 7) (number 2), gives 1)
+    ∷ (Two Remainder (Negate (number 7)) (number 2), gives_negative 0)
+    ∷ (Two Remainder (number 7) (Negate (number 2)), gives 1)
+    ∷ (Two Remainder (Negate (number 7)) (Negate (number 2)), gives_negative 0)
+    ∷ (Two Divide least (number 1), gives_negative 9223372036854775807)
+    ∷ (Two Divide least (Negate (number 1)), Refused Overflow)
+    ∷ (Two Remainder least (Negate (number 1)), Refused Overflow)
+    ∷ (Two Divide (number 1) (number 0), Refused ZeroDivide)
+    ∷ (Two Remainder (number 1) (number 0), Refused ZeroDivide)
     ∷ []
 
 -- the kind of the operands is refused first, then a divisor of 0, then what is out of range.
 -- Operands are computed from the left, and both before either is looked at
 abbrev pub refusals : List (Expression × Reply)
 refusals =
-    (Two Over Nothing (number 0), Refused Kind)
-    ∷ (Two Modulo words (number 0), Refused Kind)
-    ∷ (Two Over least (number 0), Refused ZeroDivide)
-    ∷ (Two Modulo least (number 0), Refused ZeroDivide)
-    ∷ (Two Plus zero_divide too_great, Refused ZeroDivide)
-    ∷ (Two Plus too_great zero_divide, Refused Overflow)
-    ∷ (Two Plus Nothing zero_divide, Refused ZeroDivide)
-    ∷ (Two Times words too_great, Refused Overflow)
-    ∷ (Two Plus (Two Plus Nothing (number 1)) zero_divide, Refused Kind)
-    ∷ (Two Less (number 1) words, Refused Kind)
-    ∷ (Minus Nothing, Refused Kind)
-    ∷ (Minus zero_divide, Refused ZeroDivide)
+    (Two Divide Nothing (number 0), Refused Kind)
+    ∷ (Two Remainder words (number 0), Refused Kind)
+    ∷ (Two Divide least (number 0), Refused ZeroDivide)
+    ∷ (Two Remainder least (number 0), Refused ZeroDivide)
+    ∷ (Two Add zero_divide too_great, Refused ZeroDivide)
+    ∷ (Two Add too_great zero_divide, Refused Overflow)
+    ∷ (Two Add Nothing zero_divide, Refused ZeroDivide)
+    ∷ (Two Multiply words too_great, Refused Overflow)
+    ∷ (Two Add (Two Add Nothing (number 1)) zero_divide, Refused Kind)
+    ∷ (Two Subtract (number 1) words, Refused Kind)
+    ∷ (Negate Nothing, Refused Kind)
+    ∷ (Negate zero_divide, Refused ZeroDivide)
     ∷ (Not words, Refused Kind)
-    ∷ (Two Below words words, Refused Kind)
+    ∷ (Two Less words words, Refused Kind)
     ∷ (Two AtLeast (number 1) Nothing, Refused Kind)
     ∷ []
 
 -- comparisons give 1 or 0. Values of different kinds are unequal
 abbrev pub comparisons : List (Expression × Reply)
 comparisons =
-    (Two Equals (number 3) (number 3), gives 1)
-    ∷ (Two Equals (number 3) (Minus (number 3)), gives 0)
-    ∷ (Two Equals words words, gives 1)
-    ∷ (Two Equals words (Quoted (codes "ab")), gives 0)
-    ∷ (Two Equals (number 1) (Quoted (codes "1")), gives 0)
-    ∷ (Two Equals (number 0) Nothing, gives 0)
-    ∷ (Two Equals Nothing (Quoted []), gives 0)
-    ∷ (Two Equals Nothing Nothing, gives 1)
-    ∷ (Two Differs Nothing (number 0), gives 1)
-    ∷ (Two Differs words words, gives 0)
-    ∷ (Two Equals zero_divide Nothing, Refused ZeroDivide)
-    ∷ (Two Below (Minus (number 1)) (number 0), gives 1)
-    ∷ (Two Below (number 2) (number 2), gives 0)
+    (Two Equal (number 3) (number 3), gives 1)
+    ∷ (Two Equal (number 3) (Negate (number 3)), gives 0)
+    ∷ (Two Equal words words, gives 1)
+    ∷ (Two Equal words (Quoted (codes "ab")), gives 0)
+    ∷ (Two Equal (number 1) (Quoted (codes "1")), gives 0)
+    ∷ (Two Equal (number 0) Nothing, gives 0)
+    ∷ (Two Equal Nothing (Quoted []), gives 0)
+    ∷ (Two Equal Nothing Nothing, gives 1)
+    ∷ (Two NotEqual Nothing (number 0), gives 1)
+    ∷ (Two NotEqual words words, gives 0)
+    ∷ (Two Equal zero_divide Nothing, Refused ZeroDivide)
+    ∷ (Two Less (Negate (number 1)) (number 0), gives 1)
+    ∷ (Two Less (number 2) (number 2), gives 0)
     ∷ (Two AtMost (number 2) (number 2), gives 1)
     ∷ (Two AtMost (number 3) (number 2), gives 0)
-    ∷ (Two Above (number 3) (number 2), gives 1)
-    ∷ (Two Above (number 2) (number 2), gives 0)
+    ∷ (Two Greater (number 3) (number 2), gives 1)
+    ∷ (Two Greater (number 2) (number 2), gives 0)
     ∷ (Two AtLeast (number 2) (number 2), gives 1)
     ∷ (Two AtLeast least greatest, gives 0)
     ∷ []
@@ -159,16 +159,16 @@ comparisons =
 -- a number other than 0 is true, and both operands are always computed
 abbrev pub connectives : List (Expression × Reply)
 connectives =
-    (Two Both (number 5) (Minus (number 1)), gives 1)
-    ∷ (Two Both (number 5) (number 0), gives 0)
-    ∷ (Two Both (number 0) zero_divide, Refused ZeroDivide)
-    ∷ (Two Both (number 0) Nothing, Refused Kind)
-    ∷ (Two Either (number 0) (number 2), gives 1)
-    ∷ (Two Either (number 0) (number 0), gives 0)
-    ∷ (Two Either (number 1) zero_divide, Refused ZeroDivide)
-    ∷ (Two Either (number 1) words, Refused Kind)
+    (Two And (number 5) (Negate (number 1)), gives 1)
+    ∷ (Two And (number 5) (number 0), gives 0)
+    ∷ (Two And (number 0) zero_divide, Refused ZeroDivide)
+    ∷ (Two And (number 0) Nothing, Refused Kind)
+    ∷ (Two Or (number 0) (number 2), gives 1)
+    ∷ (Two Or (number 0) (number 0), gives 0)
+    ∷ (Two Or (number 1) zero_divide, Refused ZeroDivide)
+    ∷ (Two Or (number 1) words, Refused Kind)
     ∷ (Not (number 0), gives 1)
-    ∷ (Not (Minus (number 2)), gives 0)
+    ∷ (Not (Negate (number 2)), gives 0)
     ∷ []
 
 -- variables, conditions, ends and repeats
@@ -182,7 +182,7 @@ statements =
     ∷ (Then (If words (Then (Replies (number 1)) End)) End, Refused Kind)
     ∷ (Then (If Nothing (Then (Replies (number 1)) End)) End, Refused Kind)
     ∷ (Then (IfElse zero_divide (Then (Replies (number 1)) End) (Then (Replies (number 2)) End)) End, Refused ZeroDivide)
-    ∷ (Then (IfElse (Minus (number 1)) (Then (Replies (number 1)) End) (Then (Replies (number 2)) End)) End, gives 1)
+    ∷ (Then (IfElse (Negate (number 1)) (Then (Replies (number 1)) End) (Then (Replies (number 2)) End)) End, gives 1)
     ∷ (Then (IfElse (number 0) (Then (Replies (number 1)) End) (Then (Replies (number 2)) End)) End, gives 2)
     -- what ends the procedure ends it at once, within blocks too
     ∷ (Then (Replies (number 1)) (Then (Refuse 2) End), gives 1)
@@ -190,15 +190,15 @@ statements =
     ∷ (Then (Repeat 3 (codes "i") (Then (Replies i) End)) (Then (Replies (number 9)) End), gives 0)
     -- a counter goes from 0 on, and keeps its last value
     ∷ (Then (Repeat 3 (codes "i") End) (Then (Replies i) End), gives 2)
-    ∷ (Then (Let (codes "x") (number 0)) (Then (Repeat 5 (codes "i") (Then (Let (codes "x") (Two Plus (Two Times (number 10) x) i)) End)) (Then (Replies x) End)), gives 1234)
+    ∷ (Then (Let (codes "x") (number 0)) (Then (Repeat 5 (codes "i") (Then (Let (codes "x") (Two Add (Two Multiply (number 10) x) i)) End)) (Then (Replies x) End)), gives 1234)
     -- what a turn sets it to lasts to the next turn
-    ∷ (Then (Repeat 2 (codes "i") (Then (Let (codes "i") (Two Plus i (number 7))) End)) (Then (Replies i) End), gives 8)
+    ∷ (Then (Repeat 2 (codes "i") (Then (Let (codes "i") (Two Add i (number 7))) End)) (Then (Replies i) End), gives 8)
     -- a place is a number from 0 on, and is looked at before the value
     ∷ (Then (Get (codes "x") (row words)) (Then (Replies x) End), Refused Kind)
     ∷ (Then (Get (codes "x") (row Nothing)) (Then (Replies x) End), Refused Kind)
-    ∷ (Then (Get (codes "x") (row (Minus (number 1)))) (Then (Replies x) End), Refused BadRow)
+    ∷ (Then (Get (codes "x") (row (Negate (number 1)))) (Then (Replies x) End), Refused BadRow)
     ∷ (Then (Delete (row least)) (Then (Replies x) End), Refused BadRow)
-    ∷ (Then (Put (row (Minus (number 1))) zero_divide) (Then (Replies x) End), Refused BadRow)
+    ∷ (Then (Put (row (Negate (number 1))) zero_divide) (Then (Replies x) End), Refused BadRow)
     ∷ (Then (Put (row words) zero_divide) (Then (Replies x) End), Refused Kind)
     ∷ (Then (Put (row (number 0)) zero_divide) (Then (Replies x) End), Refused ZeroDivide)
     ∷ []

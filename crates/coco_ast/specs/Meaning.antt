@@ -11,7 +11,7 @@ use Rattle.coco_types.specs.declared.call.Call.{Call}
 use Rattle.coco_types.specs.declared.call.Write.{Write}
 use Rattle.coco_types.specs.declared.call.Reply.{Reply}
 use Rattle.coco_types.specs.declared.call.Reply.TheVariants.{Ok as Answers, Refused}
-use Rattle.coco_ast.specs.Tree.{Expression, Number, Quoted, Nothing, Variable, Not, Minus, Two, TwoSign, Plus, Less, Times, Over, Modulo, Equals, Differs, Below, AtMost, Above, AtLeast, Both, Either, RowPlace, Statement, Let, Get, Put, Delete, If, IfElse, Repeat, Refuse, Reply as Replies, Statements, End, Then, Procedure, Procedures}
+use Rattle.coco_ast.specs.Tree.{Expression, Number, Quoted, None as Nothing, Variable, Not, Negate, Two, TwoSign, Add, Subtract, Multiply, Divide, Remainder, Equal, NotEqual, Less, AtMost, Greater, AtLeast, And, Or, RowPlace, Statement, Let, Get, Put, Delete, If, IfElse, Repeat, Refuse, Reply as Replies, Statements, End, Then, Procedure, Procedures}
 use Rattle.coco_ast.specs.Keyed.{Rows, value_at, write_at}
 
 -- ---- values
@@ -58,23 +58,23 @@ abbrev pub divided : (ℤ → ℤ → ℤ) → ℤ → ℤ → Computed Datum
 divided op a b = if int_eq b (pos 0) then Err ZeroDivide else (if fits (int_div a b) then Ok (Some (Int (op a b))) else Err Overflow)
 
 abbrev pub numbers : TwoSign → ℤ → ℤ → Computed Datum
-numbers Plus a b = within_range (a +ℤ b)
-numbers Less a b = within_range (a -ℤ b)
-numbers Times a b = within_range (a *ℤ b)
-numbers Over a b = divided int_div a b
-numbers Modulo a b = divided int_rem a b
-numbers Equals a b = truth (int_eq a b)
-numbers Differs a b = truth (not (int_eq a b))
-numbers Below a b = truth (int_lt a b)
+numbers Add a b = within_range (a +ℤ b)
+numbers Subtract a b = within_range (a -ℤ b)
+numbers Multiply a b = within_range (a *ℤ b)
+numbers Divide a b = divided int_div a b
+numbers Remainder a b = divided int_rem a b
+numbers Equal a b = truth (int_eq a b)
+numbers NotEqual a b = truth (not (int_eq a b))
+numbers Less a b = truth (int_lt a b)
 numbers AtMost a b = truth (int_le a b)
-numbers Above a b = truth (int_lt b a)
+numbers Greater a b = truth (int_lt b a)
 numbers AtLeast a b = truth (int_le b a)
-numbers Both a b = truth (is_true a && is_true b)
-numbers Either a b = truth (is_true a || is_true b)
+numbers And a b = truth (is_true a && is_true b)
+numbers Or a b = truth (is_true a || is_true b)
 
 abbrev pub combined : TwoSign → Datum → Datum → Computed Datum
-combined Equals a b = truth (same a b)
-combined Differs a b = truth (not (same a b))
+combined Equal a b = truth (same a b)
+combined NotEqual a b = truth (not (same a b))
 combined sign a b = and_then (number_of a) (λ x. and_then (number_of b) (λ y. numbers sign x y))
 
 -- ---- expressions
@@ -93,7 +93,7 @@ value_of vs (Quoted bytes) = Ok (Some (Text bytes))
 value_of vs Nothing = Ok None
 value_of vs (Variable x) = Ok (variable_at vs x)
 value_of vs (Not e) = and_then (value_of vs e) (λ v. and_then (number_of v) (λ z. truth (not (is_true z))))
-value_of vs (Minus e) = and_then (value_of vs e) (λ v. and_then (number_of v) (λ z. within_range (neg_ℤ z)))
+value_of vs (Negate e) = and_then (value_of vs e) (λ v. and_then (number_of v) (λ z. within_range (neg_ℤ z)))
 value_of vs (Two sign l r) = and_then (value_of vs l) (λ a. and_then (value_of vs r) (λ b. combined sign a b))
 
 -- the number of a table or of a procedure: its place in the list of names

@@ -2,15 +2,15 @@
 use Rattle.std.specs.Prelude.{ℕ, ℤ, List}
 
 pub data TwoSign : Type 0 where
-  Plus Less Times Over Modulo Equals Differs Below AtMost Above AtLeast Both Either : TwoSign
+  Add Subtract Multiply Divide Remainder Equal NotEqual Less AtMost Greater AtLeast And Or : TwoSign
 
 pub data Expression : Type 0 where
   Number : ℤ → Expression
   Quoted : List ℕ → Expression
-  Nothing : Expression
+  None : Expression
   Variable : List ℕ → Expression
   Not : Expression → Expression
-  Minus : Expression → Expression
+  Negate : Expression → Expression
   Two : TwoSign → Expression → Expression → Expression
 
 -- a row of a table

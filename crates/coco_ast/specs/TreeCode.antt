@@ -2,7 +2,7 @@
 use Rattle.std.specs.Prelude.{◌≡◌, ℕ, List, [], ◌∷◌, ◌++◌, ℤ, pos, nat_eq, if◌then◌else◌, slice_index_or, refl}
 use Rattle.std.proofs.Common.{ap, ◌∙◌}
 use Rattle.std.specs.Coded.{Coded, code_by, coded×, coded_ℕ, coded_ℤ, coded_list}
-use Rattle.coco_ast.specs.Tree.{TwoSign, Plus, Less, Times, Over, Modulo, Equals, Differs, Below, AtMost, Above, AtLeast, Both, Either, Expression, Number, Quoted, Nothing, Variable, Not, Minus, Two, Statement, Let, Get, Put, Delete, If, IfElse, Repeat, Refuse, Reply, Statements, End, Then, Procedure, Procedures}
+use Rattle.coco_ast.specs.Tree.{TwoSign, Add, Subtract, Multiply, Divide, Remainder, Equal, NotEqual, Less, AtMost, Greater, AtLeast, And, Or, Expression, Number, Quoted, None as Nothing, Variable, Not, Negate, Two, Statement, Let, Get, Put, Delete, If, IfElse, Repeat, Refuse, Reply, Statements, End, Then, Procedure, Procedures}
 
 -- which form it is, a number of it and a name
 abbrev pub Mark : Type 0
@@ -15,41 +15,41 @@ pub data Part : Type 0 where
   name : List ℕ → Part
 
 abbrev pub signs : List TwoSign
-signs = Plus ∷ Less ∷ Times ∷ Over ∷ Modulo ∷ Equals ∷ Differs ∷ Below ∷ AtMost ∷ Above ∷ AtLeast ∷ Both ∷ Either ∷ []
+signs = Add ∷ Subtract ∷ Multiply ∷ Divide ∷ Remainder ∷ Equal ∷ NotEqual ∷ Less ∷ AtMost ∷ Greater ∷ AtLeast ∷ And ∷ Or ∷ []
 
 abbrev pub sign_number : TwoSign → ℕ
-sign_number Plus = 0
-sign_number Less = 1
-sign_number Times = 2
-sign_number Over = 3
-sign_number Modulo = 4
-sign_number Equals = 5
-sign_number Differs = 6
-sign_number Below = 7
+sign_number Add = 0
+sign_number Subtract = 1
+sign_number Multiply = 2
+sign_number Divide = 3
+sign_number Remainder = 4
+sign_number Equal = 5
+sign_number NotEqual = 6
+sign_number Less = 7
 sign_number AtMost = 8
-sign_number Above = 9
+sign_number Greater = 9
 sign_number AtLeast = 10
-sign_number Both = 11
-sign_number Either = 12
+sign_number And = 11
+sign_number Or = 12
 
 abbrev pub sign_at : ℤ → TwoSign
-sign_at (pos n) = slice_index_or signs n Plus
-sign_at _ = Plus
+sign_at (pos n) = slice_index_or signs n Add
+sign_at _ = Add
 
 sign_back : (s : TwoSign) → sign_at (pos (sign_number s)) ≡ s
-sign_back Plus = refl
+sign_back Add = refl
+sign_back Subtract = refl
+sign_back Multiply = refl
+sign_back Divide = refl
+sign_back Remainder = refl
+sign_back Equal = refl
+sign_back NotEqual = refl
 sign_back Less = refl
-sign_back Times = refl
-sign_back Over = refl
-sign_back Modulo = refl
-sign_back Equals = refl
-sign_back Differs = refl
-sign_back Below = refl
 sign_back AtMost = refl
-sign_back Above = refl
+sign_back Greater = refl
 sign_back AtLeast = refl
-sign_back Both = refl
-sign_back Either = refl
+sign_back And = refl
+sign_back Or = refl
 
 abbrev pub natural : ℤ → ℕ
 natural (pos n) = n
@@ -63,7 +63,7 @@ marks_of (Quoted bytes) = (1, (pos 0, bytes)) ∷ []
 marks_of Nothing = (2, (pos 0, [])) ∷ []
 marks_of (Variable x) = (3, (pos 0, x)) ∷ []
 marks_of (Not e) = marks_of e ++ (4, (pos 0, [])) ∷ []
-marks_of (Minus e) = marks_of e ++ (5, (pos 0, [])) ∷ []
+marks_of (Negate e) = marks_of e ++ (5, (pos 0, [])) ∷ []
 marks_of (Two sign l r) = marks_of l ++ (marks_of r ++ (6, (pos (sign_number sign), [])) ∷ [])
 
 abbrev mutual
@@ -89,7 +89,7 @@ read_not (expression e ∷ s) = expression (Not e) ∷ s
 read_not s = s
 
 abbrev pub read_minus : List Part → List Part
-read_minus (expression e ∷ s) = expression (Minus e) ∷ s
+read_minus (expression e ∷ s) = expression (Negate e) ∷ s
 read_minus s = s
 
 abbrev pub read_two : TwoSign → List Part → List Part
@@ -169,7 +169,7 @@ expression_back (Quoted bytes) s = refl
 expression_back Nothing s = refl
 expression_back (Variable x) s = refl
 expression_back (Not e) s = read_all-append (marks_of e) _ s ∙ ap read_not (expression_back e s)
-expression_back (Minus e) s = read_all-append (marks_of e) _ s ∙ ap read_minus (expression_back e s)
+expression_back (Negate e) s = read_all-append (marks_of e) _ s ∙ ap read_minus (expression_back e s)
 expression_back (Two sign l r) s =
     read_all-append (marks_of l) _ s ∙ read_all-append (marks_of r) _ _
     ∙ ap (read_two (sign_at (pos (sign_number sign)))) (ap (read_all (marks_of r)) (expression_back l s) ∙ expression_back r _)

@@ -1,6 +1,6 @@
 -- The trees that the types of the program stand for.
 use Rattle.std.specs.Prelude.{List, [], ◌∷◌, map, None, Some}
-use Rattle.coco_ast.specs.Tree.{Expression, Number, Quoted, Nothing, Variable, Not, Minus, Two, TwoSign, RowPlace, Statement, Let, Get, Put, Delete, If, IfElse, Repeat, Refuse, Reply, Statements, End, Then, Procedure, Procedures}
+use Rattle.coco_ast.specs.Tree.{Expression, Number, Quoted, None as Nothing, Variable, Not, Negate, Two, TwoSign, RowPlace, Statement, Let, Get, Put, Delete, If, IfElse, Repeat, Refuse, Reply, Statements, End, Then, Procedure, Procedures}
 use Rattle.coco_ast.specs.Tree as sign
 use Rattle.coco_ast.specs.declared.tree.TwoOp.{TwoOp}
 use Rattle.coco_ast.specs.declared.tree.TwoOp.TheVariants as op
@@ -15,28 +15,28 @@ use Rattle.coco_ast.specs.declared.tree.Proc.{Proc}
 use Rattle.coco_ast.specs.declared.tree.Procs.{Procs}
 
 abbrev pub sign_of : TwoOp → TwoSign
-sign_of op.Plus = sign.Plus
+sign_of op.Add = sign.Add
+sign_of op.Subtract = sign.Subtract
+sign_of op.Multiply = sign.Multiply
+sign_of op.Divide = sign.Divide
+sign_of op.Remainder = sign.Remainder
+sign_of op.Equal = sign.Equal
+sign_of op.NotEqual = sign.NotEqual
 sign_of op.Less = sign.Less
-sign_of op.Times = sign.Times
-sign_of op.Over = sign.Over
-sign_of op.Modulo = sign.Modulo
-sign_of op.Equals = sign.Equals
-sign_of op.Differs = sign.Differs
-sign_of op.Below = sign.Below
 sign_of op.AtMost = sign.AtMost
-sign_of op.Above = sign.Above
+sign_of op.Greater = sign.Greater
 sign_of op.AtLeast = sign.AtLeast
-sign_of op.Both = sign.Both
-sign_of op.Either = sign.Either
+sign_of op.And = sign.And
+sign_of op.Or = sign.Or
 
 -- one level, with each expression inside already seen as its tree
 abbrev pub expression_step : Expr-F Expression → Expression
 expression_step (Expr-F.Number n) = Number n
 expression_step (Expr-F.Text bytes) = Quoted bytes
-expression_step Expr-F.Nothing = Nothing
+expression_step Expr-F.None = Nothing
 expression_step (Expr-F.Var name) = Variable name
 expression_step (Expr-F.Not e) = Not e.value
-expression_step (Expr-F.Minus e) = Minus e.value
+expression_step (Expr-F.Negate e) = Negate e.value
 expression_step (Expr-F.Two op left right) = Two (sign_of op) left.value right.value
 
 abbrev pub expression_of : Expr → Expression

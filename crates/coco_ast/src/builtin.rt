@@ -1,7 +1,7 @@
 ghost use Rattle.std.specs.Prelude.{◌≡◌, true, codes, pos, IfOk};
 ghost use Rattle.coco_ast.specs.Builtins as trees;
 ghost use Rattle.coco_ast.specs.Builtins.{main_row};
-ghost use Rattle.coco_ast.specs.Tree.{Number, Nothing, Variable, Two, Equals, Let, Get, Put, If, Reply, End, Then};
+ghost use Rattle.coco_ast.specs.Tree.{Number, None as Nothing, Variable, Two, Equal, Let, Get, Put, If, Reply, End, Then};
 ghost use Rattle.coco_ast.specs.Views.{expression_of, place_of, statement_of, statements_of, procedure_of, procedures_of};
 ghost use Rattle.coco_ast.specs.Words.{is_word};
 
@@ -77,7 +77,7 @@ fn add_body(alloc: Global) -> Result<Block, NoMemory>
     ensures { IfOk result (λ b. statements_of b.items ≡ trees.add_proc.body) }
 {
     let begin = begin_at_zero(alloc)?;
-    let sum = Expr::two(alloc, TwoOp::Plus, variable("v"), variable("n"))?;
+    let sum = Expr::two(alloc, TwoOp::Add, variable("v"), variable("n"))?;
     let mut body = Block::new(alloc);
     body.push(read_v())?;
     body.push(begin)?;
@@ -90,10 +90,10 @@ fn add_body(alloc: Global) -> Result<Block, NoMemory>
 // if v == none { let v = 0; }
 fn begin_at_zero(alloc: Global) -> Result<Stmt, NoMemory>
     ensures { IfOk result (λ s. statement_of s ≡ If
-        (Two Equals (Variable (codes "v")) Nothing)
+        (Two Equal (Variable (codes "v")) Nothing)
         (Then (Let (codes "v") (Number (pos 0))) End)) }
 {
-    let test = Expr::two(alloc, TwoOp::Equals, variable("v"), Expr::Nothing)?;
+    let test = Expr::two(alloc, TwoOp::Equal, variable("v"), Expr::None)?;
     let yes = block_of(alloc, set_v(Expr::Number(0)))?;
     Ok(when(test, yes))
 }

@@ -32,9 +32,9 @@ fn built_in_procedures_stand_in_their_order(rt: HostRuntime) -> Result<(), Fail>
 #[test]
 fn expressions_are_made_of_operands(rt: HostRuntime) -> Result<(), Fail> {
     let alloc = rt.alloc();
-    let left = Expr::minus(alloc, Expr::Number(1))?;
-    let right = Expr::not(alloc, Expr::Nothing)?;
-    let sum = Expr::two(alloc, TwoOp::Plus, left, right)?;
+    let left = Expr::negate(alloc, Expr::Number(1))?;
+    let right = Expr::not(alloc, Expr::None)?;
+    let sum = Expr::two(alloc, TwoOp::Add, left, right)?;
     assert!(rt; matches!(&sum, Expr::Two { .. }));
     Ok(())
 }

@@ -1,5 +1,5 @@
 ghost use Rattle.std.specs.Prelude.{◌≡◌, IfOk};
-ghost use Rattle.coco_ast.specs.Tree.{Not, Minus, Two};
+ghost use Rattle.coco_ast.specs.Tree.{Not, Negate, Two};
 ghost use Rattle.coco_ast.specs.Views.{expression_of, sign_of};
 
 use crate::Name;
@@ -9,30 +9,30 @@ use std::alloc::Global;
 /// An operator with two operands.
 #[derive(Clone, Copy, Debug, PartialEq, Eq)]
 pub enum TwoOp {
-    Plus,
+    Add,
+    Subtract,
+    Multiply,
+    Divide,
+    Remainder,
+    Equal,
+    NotEqual,
     Less,
-    Times,
-    Over,
-    Modulo,
-    Equals,
-    Differs,
-    Below,
     AtMost,
-    Above,
+    Greater,
     AtLeast,
-    Both,
-    Either,
+    And,
+    Or,
 }
 
-/// An expression. `Nothing` is `none`.
+/// An expression. `None` is the word `none`.
 #[derive(Debug, Drop)]
 pub enum Expr {
     Number(i64),
     Text(Text),
-    Nothing,
+    None,
     Var(Name),
     Not(Box<Expr>),
-    Minus(Box<Expr>),
+    Negate(Box<Expr>),
     Two {
         op: TwoOp,
         left: Box<Expr>,
@@ -48,11 +48,11 @@ impl Expr {
         Ok(Expr::Not(operand))
     }
 
-    pub fn minus(alloc: Global, operand: Expr) -> Result<Expr, NoMemory>
-        ensures { IfOk result (λ e. expression_of e ≡ Minus (expression_of operand)) }
+    pub fn negate(alloc: Global, operand: Expr) -> Result<Expr, NoMemory>
+        ensures { IfOk result (λ e. expression_of e ≡ Negate (expression_of operand)) }
     {
         let operand = Box::new(alloc, operand)?;
-        Ok(Expr::Minus(operand))
+        Ok(Expr::Negate(operand))
     }
 
     pub fn two(alloc: Global, op: TwoOp, left: Expr, right: Expr) -> Result<Expr, NoMemory>

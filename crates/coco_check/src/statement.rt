@@ -70,10 +70,10 @@ fn variables_known(known: &NameSet, expr: &Expr) -> bool
     ensures { result ≡ has_all known.now.keys (variables_of (expression_of expr.now)) }
 {
     match expr {
-        Expr::Number(_) | Expr::Text(_) | Expr::Nothing => true,
+        Expr::Number(_) | Expr::Text(_) | Expr::None => true,
         Expr::Var(name) => known.contains(name),
         Expr::Not(operand) => variables_known(known, operand),
-        Expr::Minus(operand) => variables_known(known, operand),
+        Expr::Negate(operand) => variables_known(known, operand),
         Expr::Two { left, right, .. } => {
             variables_known(known, left) && variables_known(known, right)
         }

@@ -48,7 +48,7 @@ fn error_of(
     alloc: Global,
     mut body: Block,
 ) -> Result<Option<(u32, CheckKind)>, NoMemory> {
-    body.push(Stmt::Reply(Expr::Nothing))?;
+    body.push(Stmt::Reply(Expr::None))?;
     body_error(rt, alloc, body)
 }
 
@@ -111,7 +111,7 @@ fn the_greater_block_of_an_if_is_weighed(rt: HostRuntime) -> Result<(), Fail> {
 
 fn choice(alloc: Global, no: Option<Block>) -> Result<Option<Block>, NoMemory> {
     let yes = one(alloc, Stmt::Refuse(1))?;
-    Ok(Some(one(alloc, when(Expr::Nothing, yes, no))?))
+    Ok(Some(one(alloc, when(Expr::None, yes, no))?))
 }
 
 #[test]
@@ -121,7 +121,7 @@ fn every_way_ends(rt: HostRuntime) -> Result<(), Fail> {
         (Block::new(alloc), Some((0, NoReply))),
         (one(alloc, Stmt::Refuse(9))?, None),
         (
-            two(alloc, Stmt::Reply(Expr::Nothing), delete(&rt, "t"))?,
+            two(alloc, Stmt::Reply(Expr::None), delete(&rt, "t"))?,
             None,
         ),
         (one(alloc, delete(&rt, "t"))?, Some((0, NoReply))),
@@ -146,8 +146,8 @@ fn both_blocks_of_an_if_end(rt: HostRuntime) -> Result<(), Fail> {
         (choice(alloc, None)?, Some((0, NoReply))),
         (choice(alloc, Some(one(alloc, Stmt::Refuse(3))?))?, None),
     ] {
-        let yes = one(alloc, Stmt::Reply(Expr::Nothing))?;
-        let body = one(alloc, when(Expr::Nothing, yes, no))?;
+        let yes = one(alloc, Stmt::Reply(Expr::None))?;
+        let body = one(alloc, when(Expr::None, yes, no))?;
         assert_eq!(rt; body_error(&rt, alloc, body)?, expected);
     }
     Ok(())
@@ -160,11 +160,11 @@ fn unknown_names_at_their_statements(rt: HostRuntime) -> Result<(), Fail> {
     let rows = [
         (one(alloc, set(&rt, "x", x()))?, Some(1)),
         (
-            two(alloc, set(&rt, "x", Expr::Nothing), set(&rt, "y", x()))?,
+            two(alloc, set(&rt, "x", Expr::None), set(&rt, "y", x()))?,
             None,
         ),
         (
-            two(alloc, set(&rt, "y", Expr::Nothing), set(&rt, "y", x()))?,
+            two(alloc, set(&rt, "y", Expr::None), set(&rt, "y", x()))?,
             Some(2),
         ),
         (one(alloc, set(&rt, "y", variable(&rt, "r")))?, None),
@@ -191,10 +191,10 @@ fn unknown_names_at_their_statements(rt: HostRuntime) -> Result<(), Fail> {
 #[test]
 fn what_blocks_set_is_known_behind_them(rt: HostRuntime) -> Result<(), Fail> {
     let alloc = rt.alloc();
-    let block = one(alloc, set(&rt, "x", Expr::Nothing))?;
+    let block = one(alloc, set(&rt, "x", Expr::None))?;
     let chosen = two(
         alloc,
-        when(Expr::Nothing, block, None),
+        when(Expr::None, block, None),
         set(&rt, "y", variable(&rt, "x")),
     )?;
     assert_eq!(rt; error_of(&rt, alloc, chosen)?, None);
@@ -221,13 +221,13 @@ fn unknown_names_within_expressions(rt: HostRuntime) -> Result<(), Fail> {
     let x = || variable(&rt, "x");
     let rows = [
         Stmt::Reply(Expr::not(alloc, x())?),
-        Stmt::Reply(Expr::minus(alloc, x())?),
-        Stmt::Reply(both(alloc, TwoOp::Plus, x(), Expr::Number(1))?),
-        Stmt::Reply(both(alloc, TwoOp::Either, Expr::Nothing, x())?),
+        Stmt::Reply(Expr::negate(alloc, x())?),
+        Stmt::Reply(both(alloc, TwoOp::Add, x(), Expr::Number(1))?),
+        Stmt::Reply(both(alloc, TwoOp::Or, Expr::None, x())?),
         get(&rt, "x", place(&rt, "t", x())),
-        put(&rt, "t", x(), Expr::Nothing),
-        put(&rt, "t", Expr::Nothing, x()),
-        put(&rt, "u", Expr::Nothing, Expr::Nothing),
+        put(&rt, "t", x(), Expr::None),
+        put(&rt, "t", Expr::None, x()),
+        put(&rt, "u", Expr::None, Expr::None),
         when(x(), Block::new(alloc), None),
     ];
     for stmt in rows {

@@ -124,7 +124,7 @@ pub(crate) fn proc(
 
 // A procedure that replies at once.
 pub(crate) fn short_proc(rt: &impl Abort, alloc: Global, name: &str) -> Result<Proc, NoMemory> {
-    let body = one(alloc, Stmt::Reply(Expr::Nothing))?;
+    let body = one(alloc, Stmt::Reply(Expr::None))?;
     proc(rt, alloc, name, body)
 }
 
@@ -171,23 +171,23 @@ fn of_two(
 }
 
 fn is_none(rt: &impl Abort, alloc: Global, name: &str) -> Result<Expr, NoMemory> {
-    Expr::two(alloc, TwoOp::Equals, variable(rt, name), Expr::Nothing)
+    Expr::two(alloc, TwoOp::Equal, variable(rt, name), Expr::None)
 }
 
 fn move_body(rt: &impl Abort, alloc: Global) -> Result<Block, NoMemory> {
     let mut body = Block::new(alloc);
-    let same = of_two(rt, alloc, TwoOp::Equals, "a", "b")?;
+    let same = of_two(rt, alloc, TwoOp::Equal, "a", "b")?;
     body.push(refuse_where(alloc, 3, same)?)?;
     body.push(get(rt, "x", place(rt, "acct", variable(rt, "a"))))?;
     body.push(get(rt, "y", place(rt, "acct", variable(rt, "b"))))?;
     let left = is_none(rt, alloc, "x")?;
     let right = is_none(rt, alloc, "y")?;
-    body.push(refuse_where(alloc, 1, Expr::two(alloc, TwoOp::Either, left, right)?)?)?;
-    let short = of_two(rt, alloc, TwoOp::Below, "x", "n")?;
+    body.push(refuse_where(alloc, 1, Expr::two(alloc, TwoOp::Or, left, right)?)?)?;
+    let short = of_two(rt, alloc, TwoOp::Less, "x", "n")?;
     body.push(refuse_where(alloc, 2, short)?)?;
-    body.push(put_acct(rt, "a", of_two(rt, alloc, TwoOp::Less, "x", "n")?))?;
-    body.push(put_acct(rt, "b", of_two(rt, alloc, TwoOp::Plus, "y", "n")?))?;
-    body.push(Stmt::Reply(of_two(rt, alloc, TwoOp::Less, "x", "n")?))?;
+    body.push(put_acct(rt, "a", of_two(rt, alloc, TwoOp::Subtract, "x", "n")?))?;
+    body.push(put_acct(rt, "b", of_two(rt, alloc, TwoOp::Add, "y", "n")?))?;
+    body.push(Stmt::Reply(of_two(rt, alloc, TwoOp::Subtract, "x", "n")?))?;
     Ok(body)
 }
 

@@ -5,7 +5,7 @@ use Rattle.coco_ast.specs.Tree.{Expression}
 use Rattle.coco_ast.specs.Tree as tree
 use Rattle.coco_ast.specs.Views.{sign_of}
 use Rattle.coco_ast.specs.declared.tree.TwoOp.{TwoOp}
-use Rattle.coco_ast.specs.declared.tree.TwoOp.TheVariants.{Plus, Less, Times, Over, Modulo, Equals, Differs, Below, AtMost, Above, AtLeast, Both, Either}
+use Rattle.coco_ast.specs.declared.tree.TwoOp.TheVariants.{Add, Subtract, Multiply, Divide, Remainder, Equal, NotEqual, Less, AtMost, Greater, AtLeast, And, Or}
 use Rattle.coco_parse.specs.Grammar.{Level, Disjunction, Conjunction, Negation, Comparison, Sum, Product, Signed, Atom, Joins, either, both, plus, less, times, over, modulo, Compares, equals, differs, below, at_most, above, at_least, Within, disjunction, conjunction, negation, comparison, sum, product, IsExpression, plain, joined, compared, number, text, nothing, variable, enclosed, IsWhole}
 use Rattle.coco_parse.specs.Grammar as grammar
 use Rattle.coco_parse.specs.Machine as machine
@@ -26,19 +26,19 @@ level_number Atom = 7
 
 -- the least level of what stands on an operator's left
 abbrev pub left_least : TwoOp → ℕ
-left_least Either = 0
-left_least Both = 1
-left_least Equals = 4
-left_least Differs = 4
-left_least Below = 4
-left_least AtMost = 4
-left_least Above = 4
-left_least AtLeast = 4
-left_least Plus = 4
+left_least Or = 0
+left_least And = 1
+left_least Equal = 4
+left_least NotEqual = 4
 left_least Less = 4
-left_least Times = 5
-left_least Over = 5
-left_least Modulo = 5
+left_least AtMost = 4
+left_least Greater = 4
+left_least AtLeast = 4
+left_least Add = 4
+left_least Subtract = 4
+left_least Multiply = 5
+left_least Divide = 5
+left_least Remainder = 5
 
 -- an expression of some level, this or a higher one
 abbrev pub IsAt : ℕ → List Word → Expression → Type 0
@@ -49,7 +49,7 @@ pub data Spells : List Frame → List Word → Type 0 where
   none : Spells [] []
   opened : {fs : List Frame} {ws : List Word} → Spells fs ws → Spells (Opened ∷ fs) (ws ++ OpenParen ∷ [])
   negated : {fs : List Frame} {ws : List Word} → Spells fs ws → wants fs ≤ 2 → Spells (Negated ∷ fs) (ws ++ word.Not ∷ [])
-  signed : {fs : List Frame} {ws : List Word} → Spells fs ws → Spells (machine.Signed ∷ fs) (ws ++ Two Less ∷ [])
+  signed : {fs : List Frame} {ws : List Word} → Spells fs ws → Spells (machine.Signed ∷ fs) (ws ++ Two Subtract ∷ [])
   left : {fs : List Frame} {ws us : List Word} {op : TwoOp} {d : Expression} → Spells fs ws → wants fs ≤ binding op → IsAt (left_least op) us d → Spells (Left op d ∷ fs) (ws ++ us ++ Two op ∷ [])
 
 -- ---- levels
@@ -74,7 +74,7 @@ follows_more (Two op) m n h f = omega arith
 follows_more _ m n h f = tt
 
 binding_most : (op : TwoOp) → binding op ≤ 5
-binding_most Either = omega arith
+binding_most Or = omega arith
 binding_most _ = omega arith
 
 within_number : {l k : Level} → Within l k → level_number k ≡ suc (level_number l)
@@ -108,13 +108,13 @@ taken_left : (o op : TwoOp) (d e : Expression) (fs : List Frame) → binding op 
 taken_left o op d e fs h one = rw (lt-leb (suc (binding o)) (binding op) (omega arith), one)
 
 taken_joined : {l : Level} {o : TwoOp} → Joins l o → (op : TwoOp) (d e : Expression) (fs : List Frame) → binding op ≤ bound l → operate e (Left o d ∷ fs) op ≡ operate (tree.Two (sign_of o) d e) fs op
-taken_joined either op d e fs h = taken_left Either op d e fs h refl
-taken_joined both op d e fs h = taken_left Both op d e fs h refl
-taken_joined plus op d e fs h = taken_left Plus op d e fs h refl
-taken_joined less op d e fs h = taken_left Less op d e fs h refl
-taken_joined times op d e fs h = taken_left Times op d e fs h refl
-taken_joined over op d e fs h = taken_left Over op d e fs h refl
-taken_joined modulo op d e fs h = taken_left Modulo op d e fs h refl
+taken_joined either op d e fs h = taken_left Or op d e fs h refl
+taken_joined both op d e fs h = taken_left And op d e fs h refl
+taken_joined plus op d e fs h = taken_left Add op d e fs h refl
+taken_joined less op d e fs h = taken_left Subtract op d e fs h refl
+taken_joined times op d e fs h = taken_left Multiply op d e fs h refl
+taken_joined over op d e fs h = taken_left Divide op d e fs h refl
+taken_joined modulo op d e fs h = taken_left Remainder op d e fs h refl
 
 compares_binding : {o : TwoOp} → Compares o → binding o ≡ 3
 compares_binding equals = refl
@@ -197,7 +197,7 @@ reads (grammar.negated {ws = ws} {e = e} h) fs m k w v wanted follows =
     (alike e (tree.Not e) (Negated ∷ fs) fs 1 (λ o less. taken_not o e fs less) refl refl m k w follows)
 reads (grammar.signed {ws = ws} {e = e} h) fs m k w v wanted follows =
     reads h (machine.Signed ∷ fs) m k w v (omega arith) follows
-    ∙ ap (option_and_then (λ g. after g v)) (alike e (tree.Minus e) (machine.Signed ∷ fs) fs 5 (λ o less. refl) refl refl m k w follows)
+    ∙ ap (option_and_then (λ g. after g v)) (alike e (tree.Negate e) (machine.Signed ∷ fs) fs 5 (λ o less. refl) refl refl m k w follows)
 reads number fs m k w v wanted follows = refl
 reads text fs m k w v wanted follows = refl
 reads nothing fs m k w v wanted follows = refl
@@ -251,42 +251,42 @@ at_disjunction l h x = plain disjunction (at_conjunction l (omega arith) x)
 
 -- the level of an operator's expression
 abbrev level_at : TwoOp → Level
-level_at Either = Disjunction
-level_at Both = Conjunction
-level_at Plus = Sum
-level_at Less = Sum
-level_at Times = Product
-level_at Over = Product
-level_at Modulo = Product
+level_at Or = Disjunction
+level_at And = Conjunction
+level_at Add = Sum
+level_at Subtract = Sum
+level_at Multiply = Product
+level_at Divide = Product
+level_at Remainder = Product
 level_at _ = Comparison
 
 level_binding : (op : TwoOp) → level_number (level_at op) ≡ binding op
-level_binding Either = refl
+level_binding Or = refl
 level_binding _ = refl
 
 left_binding : (op : TwoOp) → (left_least op ≡ binding op) ⊎ ((binding op ≡ 3) × (left_least op ≡ 4))
-left_binding Equals = inr (refl, refl)
-left_binding Differs = inr (refl, refl)
-left_binding Below = inr (refl, refl)
+left_binding Equal = inr (refl, refl)
+left_binding NotEqual = inr (refl, refl)
+left_binding Less = inr (refl, refl)
 left_binding AtMost = inr (refl, refl)
-left_binding Above = inr (refl, refl)
+left_binding Greater = inr (refl, refl)
 left_binding AtLeast = inr (refl, refl)
 left_binding _ = inl refl
 
 two_at : (op : TwoOp) {us vs : List Word} {d e : Expression} → IsAt (left_least op) us d → IsAt (suc (binding op)) vs e → IsExpression (level_at op) (us ++ Two op ∷ vs) (tree.Two (sign_of op) d e)
-two_at Either a b = joined either disjunction (at_disjunction a.0 a.1 a.2) (at_conjunction b.0 b.1 b.2)
-two_at Both a b = joined both conjunction (at_conjunction a.0 a.1 a.2) (at_negation b.0 b.1 b.2)
-two_at Equals a b = compared equals (at_sum a.0 a.1 a.2) (at_sum b.0 b.1 b.2)
-two_at Differs a b = compared differs (at_sum a.0 a.1 a.2) (at_sum b.0 b.1 b.2)
-two_at Below a b = compared below (at_sum a.0 a.1 a.2) (at_sum b.0 b.1 b.2)
+two_at Or a b = joined either disjunction (at_disjunction a.0 a.1 a.2) (at_conjunction b.0 b.1 b.2)
+two_at And a b = joined both conjunction (at_conjunction a.0 a.1 a.2) (at_negation b.0 b.1 b.2)
+two_at Equal a b = compared equals (at_sum a.0 a.1 a.2) (at_sum b.0 b.1 b.2)
+two_at NotEqual a b = compared differs (at_sum a.0 a.1 a.2) (at_sum b.0 b.1 b.2)
+two_at Less a b = compared below (at_sum a.0 a.1 a.2) (at_sum b.0 b.1 b.2)
 two_at AtMost a b = compared at_most (at_sum a.0 a.1 a.2) (at_sum b.0 b.1 b.2)
-two_at Above a b = compared above (at_sum a.0 a.1 a.2) (at_sum b.0 b.1 b.2)
+two_at Greater a b = compared above (at_sum a.0 a.1 a.2) (at_sum b.0 b.1 b.2)
 two_at AtLeast a b = compared at_least (at_sum a.0 a.1 a.2) (at_sum b.0 b.1 b.2)
-two_at Plus a b = joined plus sum (at_sum a.0 a.1 a.2) (at_product b.0 b.1 b.2)
-two_at Less a b = joined less sum (at_sum a.0 a.1 a.2) (at_product b.0 b.1 b.2)
-two_at Times a b = joined times product (at_product a.0 a.1 a.2) (at_signed b.0 b.1 b.2)
-two_at Over a b = joined over product (at_product a.0 a.1 a.2) (at_signed b.0 b.1 b.2)
-two_at Modulo a b = joined modulo product (at_product a.0 a.1 a.2) (at_signed b.0 b.1 b.2)
+two_at Add a b = joined plus sum (at_sum a.0 a.1 a.2) (at_product b.0 b.1 b.2)
+two_at Subtract a b = joined less sum (at_sum a.0 a.1 a.2) (at_product b.0 b.1 b.2)
+two_at Multiply a b = joined times product (at_product a.0 a.1 a.2) (at_signed b.0 b.1 b.2)
+two_at Divide a b = joined over product (at_product a.0 a.1 a.2) (at_signed b.0 b.1 b.2)
+two_at Remainder a b = joined modulo product (at_product a.0 a.1 a.2) (at_signed b.0 b.1 b.2)
 
 two_within : (n : ℕ) (op : TwoOp) {us vs : List Word} {d e : Expression} → n ≤ binding op → IsAt (left_least op) us d → IsAt (suc (binding op)) vs e → IsAt n (us ++ Two op ∷ vs) (tree.Two (sign_of op) d e)
 two_within n op h a b = (level_at op, omega (arith, level_binding op), two_at op a b)
@@ -294,7 +294,7 @@ two_within n op h a b = (level_at op, omega (arith, level_binding op), two_at op
 not_within : (n : ℕ) {us : List Word} {e : Expression} → n ≤ 2 → IsAt 2 us e → IsAt n (word.Not ∷ us) (tree.Not e)
 not_within n h a = (Negation, h, grammar.negated (at_negation a.0 a.1 a.2))
 
-minus_within : (n : ℕ) {us : List Word} {e : Expression} → n ≤ 6 → IsAt 6 us e → IsAt n (Two Less ∷ us) (tree.Minus e)
+minus_within : (n : ℕ) {us : List Word} {e : Expression} → n ≤ 6 → IsAt 6 us e → IsAt n (Two Subtract ∷ us) (tree.Negate e)
 minus_within n h a = (Signed, h, grammar.signed (at_signed a.0 a.1 a.2))
 
 wants_most : (fs : List Frame) → wants fs ≤ 6
@@ -305,7 +305,7 @@ wants_most (machine.Signed ∷ fs) = omega arith
 wants_most (Left op e ∷ fs) = omega (arith, binding_most op)
 
 left_most : (op : TwoOp) → left_least op ≤ 5
-left_most Either = omega arith
+left_most Or = omega arith
 left_most _ = omega arith
 
 -- ---- frames behind an operator
@@ -354,7 +354,7 @@ operated none e gs op us h a b = pushed_spells e [] gs op [] us h none (omega ar
 operated (opened {fs = fs} {ws = ws} s) e gs op us h a b = pushed_spells e (Opened ∷ fs) gs op (ws ++ OpenParen ∷ []) us h (opened s) (omega arith) b
 operated (negated {fs = fs} {ws = ws} s wanted) e gs op us h a b = operated_not e fs gs op ws us h s wanted a b (operated s (tree.Not e) gs op (word.Not ∷ us))
 operated (signed {fs = fs} {ws = ws} s) e gs op us h a b =
-    rw (append_assoc ws (Two Less ∷ []) us) (operated s (tree.Minus e) gs op (Two Less ∷ us) h (minus_within (wants fs) (wants_most fs) a) (minus_within (left_least op) (omega (arith, left_most op)) a))
+    rw (append_assoc ws (Two Subtract ∷ []) us) (operated s (tree.Negate e) gs op (Two Subtract ∷ us) h (minus_within (wants fs) (wants_most fs) a) (minus_within (left_least op) (omega (arith, left_most op)) a))
 operated (left {fs = fs} {ws = ws} {us = us} {op = o} {d = d} s wanted c) e gs op vs h a b = operated_left e d fs gs o op ws us vs h s wanted c a b (operated s (tree.Two (sign_of o) d e) gs op (us ++ Two o ∷ vs))
 
 pub operate-spells : (e : Expression) (fs gs : List Frame) (op : TwoOp) (ws us : List Word) → operate e fs op ≡ Some gs → Spells fs ws → IsExpression Atom us e → Spells gs (ws ++ us ++ Two op ∷ [])
@@ -383,7 +383,7 @@ closing (opened {fs = fs} {ws = ws} s) e d gs us h a = closed e d fs gs ws us h 
 closing (negated {fs = fs} {ws = ws} s wanted) e d gs us h a =
     subst (λ l. EndsInside d gs (l ++ CloseParen ∷ [])) (sym (append_assoc ws (word.Not ∷ []) us)) (closing s (tree.Not e) d gs (word.Not ∷ us) h (not_within (wants fs) wanted a))
 closing (signed {fs = fs} {ws = ws} s) e d gs us h a =
-    subst (λ l. EndsInside d gs (l ++ CloseParen ∷ [])) (sym (append_assoc ws (Two Less ∷ []) us)) (closing s (tree.Minus e) d gs (Two Less ∷ us) h (minus_within (wants fs) (wants_most fs) a))
+    subst (λ l. EndsInside d gs (l ++ CloseParen ∷ [])) (sym (append_assoc ws (Two Subtract ∷ []) us)) (closing s (tree.Negate e) d gs (Two Subtract ∷ us) h (minus_within (wants fs) (wants_most fs) a))
 closing (left {fs = fs} {ws = ws} {us = us} {op = o} {d = c} s wanted b) e d gs vs h a =
     subst (λ l. EndsInside d gs (l ++ CloseParen ∷ [])) (sym (regrouped ws us vs (Two o))) (closing s (tree.Two (sign_of o) c e) d gs (us ++ Two o ∷ vs) h (two_within (wants fs) o wanted b a))
 
@@ -395,7 +395,7 @@ concluded : {fs : List Frame} {ws : List Word} → Spells fs ws → (e d : Expre
 concluded none e d us h a = let same : e ≡ d = cc in subst (λ x. IsWhole us x) same (at_disjunction a.0 a.1 a.2)
 concluded (opened s) e d us h a = absurd (cc)
 concluded (negated {fs = fs} {ws = ws} s wanted) e d us h a = rw (append_assoc ws (word.Not ∷ []) us) (concluded s (tree.Not e) d (word.Not ∷ us) h (not_within (wants fs) wanted a))
-concluded (signed {fs = fs} {ws = ws} s) e d us h a = rw (append_assoc ws (Two Less ∷ []) us) (concluded s (tree.Minus e) d (Two Less ∷ us) h (minus_within (wants fs) (wants_most fs) a))
+concluded (signed {fs = fs} {ws = ws} s) e d us h a = rw (append_assoc ws (Two Subtract ∷ []) us) (concluded s (tree.Negate e) d (Two Subtract ∷ us) h (minus_within (wants fs) (wants_most fs) a))
 concluded (left {fs = fs} {ws = ws} {us = us} {op = o} {d = c} s wanted b) e d vs h a =
     rw (regrouped ws us vs (Two o)) (concluded s (tree.Two (sign_of o) c e) d (us ++ Two o ∷ vs) h (two_within (wants fs) o wanted b a))
 

@@ -5,7 +5,7 @@ use Rattle.coco_ast.specs.Tree.{Expression, RowPlace, Statement, Statements, End
 use Rattle.coco_ast.specs.Tree as tree
 use Rattle.coco_ast.specs.Views.{statements_from}
 use Rattle.coco_ast.specs.declared.tree.TwoOp.{TwoOp}
-use Rattle.coco_ast.specs.declared.tree.TwoOp.TheVariants.{Less}
+use Rattle.coco_ast.specs.declared.tree.TwoOp.TheVariants.{Subtract}
 use Rattle.coco_parse.specs.Grammar as grammar
 use Rattle.coco_parse.specs.Grammar.{Atom, IsExpression, IsWhole, IsPlace, IsStatement, IsBlock, AreStatements, end, next, AreListed, last, listed, AreParams, some, IsFile}
 use Rattle.coco_parse.specs.Machine.{Frame, Negated, wants, operate, enclose, conclude, Mark, ParenMark, BraceMark, BracketMark, EndBracketMark, SemicolonMark, AssignMark, AsMark, mark_word, marks, Goal, Items, Fixed, Named, Numbered, Params, Listed, Operand, Operator, Valued, Within, Tested, at_place, in_braces, with_statement, operand_step, operator_step, within_step, step, after}
@@ -85,7 +85,7 @@ module _ (m : Mark) (k : Expression → Goal) where
   operand_holds fs word.Nothing q x s t = (q, x, word.Nothing ∷ [], append_assoc q x (word.Nothing ∷ []), s, IsExpression.nothing, t)
   operand_holds fs (word.Name name) q x s t = (q, x, word.Name name ∷ [], append_assoc q x (word.Name name ∷ []), s, grammar.variable, t)
   operand_holds fs OpenParen q x s t = (q, x ++ OpenParen ∷ [], append_assoc q x (OpenParen ∷ []), opened s, t)
-  operand_holds fs (Two Less) q x s t = (q, x ++ Two Less ∷ [], append_assoc q x (Two Less ∷ []), signed s, t)
+  operand_holds fs (Two Subtract) q x s t = (q, x ++ Two Subtract ∷ [], append_assoc q x (Two Subtract ∷ []), signed s, t)
   operand_holds fs word.Not q x s t = negated_holds fs q x s t (nat_le (wants fs) 2) refl
   operand_holds fs _ q x s t = tt
 

@@ -49,14 +49,14 @@ module _ (m : Mark) (k : Expression → Goal) (all_met : (d : Expression) → Is
   ends [] e = inr (e, refl)
   ends (Opened ∷ fs) e = inl (e, fs, refl, ended e fs (ends fs e))
   ends (Negated ∷ fs) e = ends fs (tree.Not e)
-  ends (machine.Signed ∷ fs) e = ends fs (tree.Minus e)
+  ends (machine.Signed ∷ fs) e = ends fs (tree.Negate e)
   ends (Left op d ∷ fs) e = ends fs (tree.Two (sign_of op) d e)
 
   met_behind : (e : Expression) (fs : List Frame) → IsMet (Operator e fs m k)
   met_behind e fs = ended e fs (ends fs e)
 
   met_before : (fs : List Frame) → IsMet (Operand fs m k)
-  met_before fs = met_by (Operand fs m k) (Operator tree.Nothing fs m k) word.Nothing refl (met_behind tree.Nothing fs)
+  met_before fs = met_by (Operand fs m k) (Operator tree.None fs m k) word.Nothing refl (met_behind tree.None fs)
 
 pub met : (g : Goal) → IsMet g
 met (Items ts ps) = ([], ts, ps, refl)
@@ -67,6 +67,6 @@ met (Params k) = met_by (Params k) (k []) CloseParen refl (met (k []))
 met (Listed names k) = met_by (Listed names k) (k names) CloseParen refl (met (k names))
 met (Operand fs m k) = met_before m k (λ d. met (k d)) fs
 met (Operator e fs m k) = met_behind m k (λ d. met (k d)) e fs
-met (Valued set get) = met_by (Valued set get) (Operator tree.Nothing [] SemicolonMark set) word.Nothing refl (met_behind SemicolonMark set (λ d. met (set d)) tree.Nothing [])
+met (Valued set get) = met_by (Valued set get) (Operator tree.None [] SemicolonMark set) word.Nothing refl (met_behind SemicolonMark set (λ d. met (set d)) tree.None [])
 met (Within ss k) = met_by (Within ss k) (k (statements_from ss)) CloseBrace refl (met (k (statements_from ss)))
 met (Tested e body ss k) = met_by (Tested e body ss k) (k (statements_from (ss ++ tree.If e body ∷ []))) CloseBrace refl (met (k (statements_from (ss ++ tree.If e body ∷ []))))

@@ -1,10 +1,10 @@
 -- The grammar of procedure texts, over tokens without their places.
 use Rattle.std.specs.Prelude.{ℕ, List, [], ◌∷◌, ◌++◌, pos}
-use Rattle.coco_ast.specs.Tree.{Expression, Nothing, Variable, Quoted, Minus, RowPlace, Statement, Statements, End, Then, Procedure, Procedures}
+use Rattle.coco_ast.specs.Tree.{Expression, None as Nothing, Variable, Quoted, Negate, RowPlace, Statement, Statements, End, Then, Procedure, Procedures}
 use Rattle.coco_ast.specs.Tree as tree
 use Rattle.coco_ast.specs.Views.{sign_of}
 use Rattle.coco_ast.specs.declared.tree.TwoOp.{TwoOp}
-use Rattle.coco_ast.specs.declared.tree.TwoOp.TheVariants.{Plus, Less, Times, Over, Modulo, Equals, Differs, Below, AtMost, Above, AtLeast, Both, Either}
+use Rattle.coco_ast.specs.declared.tree.TwoOp.TheVariants.{Add, Subtract, Multiply, Divide, Remainder, Equal, NotEqual, Less, AtMost, Greater, AtLeast, And, Or}
 use Rattle.coco_parse.specs.declared.word.Word.{Word}
 use Rattle.coco_parse.specs.declared.word.Word.TheVariants as word
 use Rattle.coco_parse.specs.declared.word.Word.TheVariants.{Two, OpenParen, CloseParen, OpenBrace, CloseBrace, OpenBracket, CloseBracket, Comma, Semicolon, Assign}
@@ -17,21 +17,21 @@ pub data Level : Type 0 where
 
 -- the operators of a level whose chains group to the left
 pub data Joins : Level → TwoOp → Type 0 where
-  either : Joins Disjunction Either
-  both : Joins Conjunction Both
-  plus : Joins Sum Plus
-  less : Joins Sum Less
-  times : Joins Product Times
-  over : Joins Product Over
-  modulo : Joins Product Modulo
+  either : Joins Disjunction Or
+  both : Joins Conjunction And
+  plus : Joins Sum Add
+  less : Joins Sum Subtract
+  times : Joins Product Multiply
+  over : Joins Product Divide
+  modulo : Joins Product Remainder
 
 -- those that stand between two sums, once
 pub data Compares : TwoOp → Type 0 where
-  equals : Compares Equals
-  differs : Compares Differs
-  below : Compares Below
+  equals : Compares Equal
+  differs : Compares NotEqual
+  below : Compares Less
   at_most : Compares AtMost
-  above : Compares Above
+  above : Compares Greater
   at_least : Compares AtLeast
 
 -- the level of the operands of a level's operators
@@ -50,7 +50,7 @@ pub data IsExpression : Level → List Word → Expression → Type 0 where
   joined : {l k : Level} {op : TwoOp} {us vs : List Word} {d e : Expression} → Joins l op → Within l k → IsExpression l us d → IsExpression k vs e → IsExpression l (us ++ Two op ∷ vs) (tree.Two (sign_of op) d e)
   compared : {op : TwoOp} {us vs : List Word} {d e : Expression} → Compares op → IsExpression Sum us d → IsExpression Sum vs e → IsExpression Comparison (us ++ Two op ∷ vs) (tree.Two (sign_of op) d e)
   negated : {ws : List Word} {e : Expression} → IsExpression Negation ws e → IsExpression Negation (word.Not ∷ ws) (tree.Not e)
-  signed : {ws : List Word} {e : Expression} → IsExpression Signed ws e → IsExpression Signed (Two Less ∷ ws) (Minus e)
+  signed : {ws : List Word} {e : Expression} → IsExpression Signed ws e → IsExpression Signed (Two Subtract ∷ ws) (Negate e)
   number : {n : ℕ} → IsExpression Atom (word.Number n ∷ []) (tree.Number (pos n))
   text : {bytes : List ℕ} → IsExpression Atom (word.Text bytes ∷ []) (Quoted bytes)
   nothing : IsExpression Atom (word.Nothing ∷ []) Nothing

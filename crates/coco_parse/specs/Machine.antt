@@ -1,11 +1,11 @@
 -- A machine that reads a file of procedures word by word. What it does next is a goal. Only contracts of private functions and
 -- proofs name it: the definition is the grammar.
 use Rattle.std.specs.Prelude.{ℕ, suc, Bool, true, false, ◌&&◌, nat_le, nat_eq, if◌then◌else◌, List, [], ◌∷◌, ◌++◌, Option, None, Some, option_map, option_and_then, pos}
-use Rattle.coco_ast.specs.Tree.{Expression, Variable, Quoted, Minus, RowPlace, Statement, Statements, Procedure}
+use Rattle.coco_ast.specs.Tree.{Expression, Variable, Quoted, Negate, RowPlace, Statement, Statements, Procedure}
 use Rattle.coco_ast.specs.Tree as tree
 use Rattle.coco_ast.specs.Views.{sign_of, statements_from}
 use Rattle.coco_ast.specs.declared.tree.TwoOp.{TwoOp}
-use Rattle.coco_ast.specs.declared.tree.TwoOp.TheVariants.{Plus, Less, Times, Over, Modulo, Equals, Differs, Below, AtMost, Above, AtLeast, Both, Either}
+use Rattle.coco_ast.specs.declared.tree.TwoOp.TheVariants.{Add, Subtract, Multiply, Divide, Remainder, Equal, NotEqual, Less, AtMost, Greater, AtLeast, And, Or}
 use Rattle.coco_parse.specs.declared.word.Word.{Word}
 use Rattle.coco_parse.specs.declared.word.Word.TheVariants as word
 use Rattle.coco_parse.specs.declared.word.Word.TheVariants.{Two, OpenParen, CloseParen, OpenBrace, CloseBrace, OpenBracket, CloseBracket, Comma, Semicolon, Assign}
@@ -20,19 +20,19 @@ pub data Frame : Type 0 where
   Left : TwoOp → Expression → Frame
 
 abbrev pub binding : TwoOp → ℕ
-binding Either = 0
-binding Both = 1
-binding Equals = 3
-binding Differs = 3
-binding Below = 3
+binding Or = 0
+binding And = 1
+binding Equal = 3
+binding NotEqual = 3
+binding Less = 3
 binding AtMost = 3
-binding Above = 3
+binding Greater = 3
 binding AtLeast = 3
-binding Plus = 4
-binding Less = 4
-binding Times = 5
-binding Over = 5
-binding Modulo = 5
+binding Add = 4
+binding Subtract = 4
+binding Multiply = 5
+binding Divide = 5
+binding Remainder = 5
 
 -- an operand holds operators that bind at least so much
 abbrev pub wants : List Frame → ℕ
@@ -47,7 +47,7 @@ abbrev pub operate : Expression → List Frame → TwoOp → Option (List Frame)
 operate e [] op = Some (Left op e ∷ [])
 operate e (Opened ∷ fs) op = Some (Left op e ∷ Opened ∷ fs)
 operate e (Negated ∷ fs) op = if nat_le 2 (binding op) then Some (Left op e ∷ Negated ∷ fs) else operate (tree.Not e) fs op
-operate e (Signed ∷ fs) op = operate (Minus e) fs op
+operate e (Signed ∷ fs) op = operate (Negate e) fs op
 operate e (Left o d ∷ fs) op =
     if nat_le (suc (binding o)) (binding op) then Some (Left op e ∷ Left o d ∷ fs)
     else (if nat_eq (binding o) 3 && nat_eq (binding op) 3 then None else operate (tree.Two (sign_of o) d e) fs op)
@@ -57,7 +57,7 @@ abbrev pub enclose : Expression → List Frame → Option (Expression × List Fr
 enclose e [] = None
 enclose e (Opened ∷ fs) = Some (e, fs)
 enclose e (Negated ∷ fs) = enclose (tree.Not e) fs
-enclose e (Signed ∷ fs) = enclose (Minus e) fs
+enclose e (Signed ∷ fs) = enclose (Negate e) fs
 enclose e (Left o d ∷ fs) = enclose (tree.Two (sign_of o) d e) fs
 
 -- the whole expression that ends behind an operand
@@ -65,7 +65,7 @@ abbrev pub conclude : Expression → List Frame → Option Expression
 conclude e [] = Some e
 conclude e (Opened ∷ fs) = None
 conclude e (Negated ∷ fs) = conclude (tree.Not e) fs
-conclude e (Signed ∷ fs) = conclude (Minus e) fs
+conclude e (Signed ∷ fs) = conclude (Negate e) fs
 conclude e (Left o d ∷ fs) = conclude (tree.Two (sign_of o) d e) fs
 
 -- ---- goals
@@ -124,10 +124,10 @@ with_statement ss k s = Within (ss ++ s ∷ []) k
 abbrev pub operand_step : List Frame → Mark → (Expression → Goal) → Word → Option Goal
 operand_step fs m k (word.Number n) = Some (Operator (tree.Number (pos n)) fs m k)
 operand_step fs m k (word.Text bytes) = Some (Operator (Quoted bytes) fs m k)
-operand_step fs m k word.Nothing = Some (Operator tree.Nothing fs m k)
+operand_step fs m k word.Nothing = Some (Operator tree.None fs m k)
 operand_step fs m k (word.Name name) = Some (Operator (Variable name) fs m k)
 operand_step fs m k OpenParen = Some (Operand (Opened ∷ fs) m k)
-operand_step fs m k (Two Less) = Some (Operand (Signed ∷ fs) m k)
+operand_step fs m k (Two Subtract) = Some (Operand (Signed ∷ fs) m k)
 operand_step fs m k word.Not = if nat_le (wants fs) 2 then Some (Operand (Negated ∷ fs) m k) else None
 operand_step fs m k _ = None
 

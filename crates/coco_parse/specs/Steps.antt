@@ -1,7 +1,7 @@
 -- How far a parser's cursor has come, and what the machine does next there. Only contracts of private functions and proofs
 -- name it.
 use Rattle.std.specs.Prelude.{◌≡◌, ℕ, ◌-◌, ◌≤◌, Bool, true, false, List, [], ◌∷◌, ◌++◌, length, take, slice_get, Option, None, Some, map, reverse}
-use Rattle.coco_ast.specs.Tree.{Expression, Minus, RowPlace, Statement, Statements, Procedure}
+use Rattle.coco_ast.specs.Tree.{Expression, Negate, RowPlace, Statement, Statements, Procedure}
 use Rattle.coco_ast.specs.Tree as tree
 use Rattle.coco_ast.specs.Views.{expression_of, sign_of, statements_from}
 use Rattle.coco_parse.specs.Counting.{Counts}
@@ -82,7 +82,7 @@ mark_of sign.As = AsMark
 abbrev pub around : Frame → Expression → Expression
 around Opened e = e
 around Negated e = tree.Not e
-around Signed e = Minus e
+around Signed e = Negate e
 around (Left op d) e = tree.Two (sign_of op) d e
 
 abbrev pub frame_of : RustFrame → Frame

@@ -2,7 +2,7 @@
 use Rattle.std.specs.Prelude.{ℕ, ◌-◌, ◌==◌, if◌then◌else◌, nat_eq, List, [], ◌∷◌, length, take, drop, map, codes}
 use Rattle.std.specs.Cmp.Lexicographic.{pointwise}
 use Rattle.std.specs.Str.Parse.{digits_value}
-use Rattle.coco_ast.specs.declared.tree.TwoOp.TheVariants.{Plus, Less, Times, Over, Modulo, Equals, Differs, Below, AtMost, Above, AtLeast, Both, Either}
+use Rattle.coco_ast.specs.declared.tree.TwoOp.TheVariants.{Add, Subtract, Multiply, Divide, Remainder, Equal, NotEqual, Less, AtMost, Greater, AtLeast, And, Or}
 use Rattle.coco_lex.specs.declared.token.Token.{Token}
 use Rattle.coco_lex.specs.declared.token.TokenKind.{TokenKind}
 use Rattle.coco_lex.specs.declared.token.TokenKind.TheVariants as kind
@@ -14,11 +14,11 @@ abbrev pub spellings : List (List ℕ × Word)
 spellings =
     (codes "table", Table) ∷ (codes "proc", Proc) ∷ (codes "let", Let) ∷ (codes "get", Get) ∷ (codes "put", Put) ∷ (codes "delete", Delete)
     ∷ (codes "if", If) ∷ (codes "else", Else) ∷ (codes "repeat", Repeat) ∷ (codes "as", As) ∷ (codes "refuse", Refuse) ∷ (codes "reply", Reply)
-    ∷ (codes "none", Nothing) ∷ (codes "not", Not) ∷ (codes "and", Two Both) ∷ (codes "or", Two Either)
+    ∷ (codes "none", Nothing) ∷ (codes "not", Not) ∷ (codes "and", Two And) ∷ (codes "or", Two Or)
     ∷ (codes "(", OpenParen) ∷ (codes ")", CloseParen) ∷ (codes "{", OpenBrace) ∷ (codes "}", CloseBrace) ∷ (codes "[", OpenBracket) ∷ (codes "]", CloseBracket)
     ∷ (codes ",", Comma) ∷ (codes ";", Semicolon) ∷ (codes "=", Assign)
-    ∷ (codes "==", Two Equals) ∷ (codes "!=", Two Differs) ∷ (codes "<", Two Below) ∷ (codes "<=", Two AtMost) ∷ (codes ">", Two Above) ∷ (codes ">=", Two AtLeast)
-    ∷ (codes "+", Two Plus) ∷ (codes "-", Two Less) ∷ (codes "*", Two Times) ∷ (codes "/", Two Over) ∷ (codes "%", Two Modulo) ∷ []
+    ∷ (codes "==", Two Equal) ∷ (codes "!=", Two NotEqual) ∷ (codes "<", Two Less) ∷ (codes "<=", Two AtMost) ∷ (codes ">", Two Greater) ∷ (codes ">=", Two AtLeast)
+    ∷ (codes "+", Two Add) ∷ (codes "-", Two Subtract) ∷ (codes "*", Two Multiply) ∷ (codes "/", Two Divide) ∷ (codes "%", Two Remainder) ∷ []
 
 abbrev pub spelled_by : List (List ℕ × Word) → List ℕ → Word
 spelled_by [] bytes = Nothing

@@ -191,7 +191,7 @@ fn front_of(word: &Word, frames: &[Frame]) -> Option<Front>
     match word {
         Word::Number(n) => Some(Front::Atom(Expr::Number(*n as i64))),
         Word::Text(text) => Some(Front::Atom(Expr::Text(*text))),
-        Word::Nothing => Some(Front::Atom(Expr::Nothing)),
+        Word::Nothing => Some(Front::Atom(Expr::None)),
         Word::Name(name) => Some(Front::Atom(Expr::Var(*name))),
         Word::OpenParen => Some(Front::Prefix(Frame::Opened)),
         Word::Two(op) => sign_front(*op),
@@ -204,7 +204,7 @@ fn sign_front(op: TwoOp) -> Option<Front>
     ensures { (fs : List machine.Frame) → Begins result fs (Word.Two op) }
 {
     match op {
-        TwoOp::Less => Some(Front::Prefix(Frame::Signed)),
+        TwoOp::Subtract => Some(Front::Prefix(Frame::Signed)),
         _ => None,
     }
 }

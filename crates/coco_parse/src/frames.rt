@@ -114,7 +114,7 @@ impl Frame {
         match self {
             Frame::Opened => Ok(operand),
             Frame::Negated => Expr::not(alloc, operand),
-            Frame::Signed => Expr::minus(alloc, operand),
+            Frame::Signed => Expr::negate(alloc, operand),
             Frame::Left(op, left) => Expr::two(alloc, op, left, operand),
         }
     }
@@ -140,16 +140,16 @@ fn binding(op: TwoOp) -> u8
     ensures { result ≡ binding op }
 {
     match op {
-        TwoOp::Either => 0,
-        TwoOp::Both => 1,
-        TwoOp::Equals
-        | TwoOp::Differs
-        | TwoOp::Below
+        TwoOp::Or => 0,
+        TwoOp::And => 1,
+        TwoOp::Equal
+        | TwoOp::NotEqual
+        | TwoOp::Less
         | TwoOp::AtMost
-        | TwoOp::Above
+        | TwoOp::Greater
         | TwoOp::AtLeast => COMPARISON,
-        TwoOp::Plus | TwoOp::Less => 4,
-        TwoOp::Times | TwoOp::Over | TwoOp::Modulo => 5,
+        TwoOp::Add | TwoOp::Subtract => 4,
+        TwoOp::Multiply | TwoOp::Divide | TwoOp::Remainder => 5,
     }
 }
 

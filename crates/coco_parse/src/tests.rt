@@ -125,7 +125,7 @@ fn trees_of_small_texts(rt: HostRuntime) -> Result<(), Fail> {
         ),
         (
             b"proc p() { let x = get t[\"a\\\\\"]; put t[x] = none; delete t[0]; }",
-            "Procs { tables: Sequence { items: [] }, procs: Sequence { items: [Proc { name: \"p\", params: Sequence { items: [] }, body: [Get { name: \"x\", place: Place { table: \"t\", row: Text(\"a\\\\\") } }, Put { place: Place { table: \"t\", row: Var(\"x\") }, value: Nothing }, Delete { place: Place { table: \"t\", row: Number(0) } }] }] } }",
+            "Procs { tables: Sequence { items: [] }, procs: Sequence { items: [Proc { name: \"p\", params: Sequence { items: [] }, body: [Get { name: \"x\", place: Place { table: \"t\", row: Text(\"a\\\\\") } }, Put { place: Place { table: \"t\", row: Var(\"x\") }, value: None }, Delete { place: Place { table: \"t\", row: Number(0) } }] }] } }",
         ),
         (
             b"proc p() { if 1 { refuse 65535; } else { } if x { } repeat 007 as i { } }",
@@ -133,7 +133,7 @@ fn trees_of_small_texts(rt: HostRuntime) -> Result<(), Fail> {
         ),
         (
             b"proc p() { let y = 1 + 2 * -x; }",
-            "Procs { tables: Sequence { items: [] }, procs: Sequence { items: [Proc { name: \"p\", params: Sequence { items: [] }, body: [Let { name: \"y\", value: Two { op: Plus, left: Number(1), right: Two { op: Times, left: Number(2), right: Minus(Var(\"x\")) } } }] }] } }",
+            "Procs { tables: Sequence { items: [] }, procs: Sequence { items: [Proc { name: \"p\", params: Sequence { items: [] }, body: [Let { name: \"y\", value: Two { op: Add, left: Number(1), right: Two { op: Multiply, left: Number(2), right: Negate(Var(\"x\")) } } }] }] } }",
         ),
     ];
     for (text, tree) in rows {

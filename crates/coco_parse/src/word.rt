@@ -4,7 +4,7 @@ ghost use Rattle.coco_parse.specs.Counting.{name_in, number_in, operator_in};
 use coco_ast::{Name, TwoOp};
 use coco_types::Text;
 
-/// A token without its place. `Two` is an operator with two operands; `Two(TwoOp::Less)` also
+/// A token without its place. `Two` is an operator with two operands; `Two(TwoOp::Subtract)` also
 /// stands for the minus before one operand.
 #[derive(Clone, Copy)]
 pub enum Word {

@@ -1,6 +1,6 @@
 -- The printed text of an expression is read as that expression.
 use Rattle.std.proofs.Common.{ℕ, pos, negsuc, List, [], ◌∷◌, ◌++◌, codes, decimal, sym, refl, subst, arith, append_assoc}
-use Rattle.coco_ast.specs.Tree.{TwoSign, Plus, Less, Times, Over, Modulo, Equals, Differs, Below, AtMost, Above, AtLeast, Both, Either, Expression, Number, Quoted, Nothing, Variable, Not, Minus, Two}
+use Rattle.coco_ast.specs.Tree.{TwoSign, Add, Subtract, Multiply, Divide, Remainder, Equal, NotEqual, Less, AtMost, Greater, AtLeast, And, Or, Expression, Number, Quoted, None as Nothing, Variable, Not, Negate, Two}
 use Rattle.coco_ast.specs.declared.tree.TwoOp.{TwoOp}
 use Rattle.coco_ast.specs.declared.tree.TwoOp.TheVariants as op
 use Rattle.coco_parse.specs.Grammar as grammar
@@ -64,68 +64,68 @@ atom_conjunction h = to_conjunction (atom_negation h)
 -- ---- operators
 
 abbrev pub op_of : TwoSign → TwoOp
-op_of Plus = op.Plus
+op_of Add = op.Add
+op_of Subtract = op.Subtract
+op_of Multiply = op.Multiply
+op_of Divide = op.Divide
+op_of Remainder = op.Remainder
+op_of Equal = op.Equal
+op_of NotEqual = op.NotEqual
 op_of Less = op.Less
-op_of Times = op.Times
-op_of Over = op.Over
-op_of Modulo = op.Modulo
-op_of Equals = op.Equals
-op_of Differs = op.Differs
-op_of Below = op.Below
 op_of AtMost = op.AtMost
-op_of Above = op.Above
+op_of Greater = op.Greater
 op_of AtLeast = op.AtLeast
-op_of Both = op.Both
-op_of Either = op.Either
+op_of And = op.And
+op_of Or = op.Or
 
 -- between two operands that are atoms each operator makes an expression
 combined : (sign : TwoSign) {us vs : List Word} {d e : Expression} → IsExpression Atom us d → IsExpression Atom vs e → IsWhole (us ++ word.Two (op_of sign) ∷ vs) (Two sign d e)
-combined Plus g h = sum_whole (grammar.joined grammar.plus grammar.sum (atom_sum g) (atom_product h))
-combined Less g h = sum_whole (grammar.joined grammar.less grammar.sum (atom_sum g) (atom_product h))
-combined Times g h = product_whole (grammar.joined grammar.times grammar.product (atom_product g) (to_signed h))
-combined Over g h = product_whole (grammar.joined grammar.over grammar.product (atom_product g) (to_signed h))
-combined Modulo g h = product_whole (grammar.joined grammar.modulo grammar.product (atom_product g) (to_signed h))
-combined Equals g h = comparison_whole (grammar.compared grammar.equals (atom_sum g) (atom_sum h))
-combined Differs g h = comparison_whole (grammar.compared grammar.differs (atom_sum g) (atom_sum h))
-combined Below g h = comparison_whole (grammar.compared grammar.below (atom_sum g) (atom_sum h))
+combined Add g h = sum_whole (grammar.joined grammar.plus grammar.sum (atom_sum g) (atom_product h))
+combined Subtract g h = sum_whole (grammar.joined grammar.less grammar.sum (atom_sum g) (atom_product h))
+combined Multiply g h = product_whole (grammar.joined grammar.times grammar.product (atom_product g) (to_signed h))
+combined Divide g h = product_whole (grammar.joined grammar.over grammar.product (atom_product g) (to_signed h))
+combined Remainder g h = product_whole (grammar.joined grammar.modulo grammar.product (atom_product g) (to_signed h))
+combined Equal g h = comparison_whole (grammar.compared grammar.equals (atom_sum g) (atom_sum h))
+combined NotEqual g h = comparison_whole (grammar.compared grammar.differs (atom_sum g) (atom_sum h))
+combined Less g h = comparison_whole (grammar.compared grammar.below (atom_sum g) (atom_sum h))
 combined AtMost g h = comparison_whole (grammar.compared grammar.at_most (atom_sum g) (atom_sum h))
-combined Above g h = comparison_whole (grammar.compared grammar.above (atom_sum g) (atom_sum h))
+combined Greater g h = comparison_whole (grammar.compared grammar.above (atom_sum g) (atom_sum h))
 combined AtLeast g h = comparison_whole (grammar.compared grammar.at_least (atom_sum g) (atom_sum h))
-combined Both g h = to_whole (grammar.joined grammar.both grammar.conjunction (atom_conjunction g) (atom_negation h))
-combined Either g h = grammar.joined grammar.either grammar.disjunction (to_whole (atom_conjunction g)) (atom_conjunction h)
+combined And g h = to_whole (grammar.joined grammar.both grammar.conjunction (atom_conjunction g) (atom_negation h))
+combined Or g h = grammar.joined grammar.either grammar.disjunction (to_whole (atom_conjunction g)) (atom_conjunction h)
 
 space : Open (32 ∷ []) []
 space = one_blank 32 refl
 
 operator_piece : (sign : TwoSign) → Open (operator_text sign) (word.Two (op_of sign) ∷ [])
-operator_piece Plus = open_open (open_open space (lone_symbol 43 refl refl)) space
-operator_piece Less = open_open (open_open space (lone_symbol 45 refl refl)) space
-operator_piece Times = open_open (open_open space (lone_symbol 42 refl refl)) space
-operator_piece Over = open_open (open_open space (lone_symbol 47 refl refl)) space
-operator_piece Modulo = open_open (open_open space (lone_symbol 37 refl refl)) space
-operator_piece Equals = open_open (open_open space (double_symbol 61 refl)) space
-operator_piece Differs = open_open (open_open space (double_symbol 33 refl)) space
-operator_piece Below = tight_open (open_tight space (single_symbol 60 refl)) (λ rest. refl) space
+operator_piece Add = open_open (open_open space (lone_symbol 43 refl refl)) space
+operator_piece Subtract = open_open (open_open space (lone_symbol 45 refl refl)) space
+operator_piece Multiply = open_open (open_open space (lone_symbol 42 refl refl)) space
+operator_piece Divide = open_open (open_open space (lone_symbol 47 refl refl)) space
+operator_piece Remainder = open_open (open_open space (lone_symbol 37 refl refl)) space
+operator_piece Equal = open_open (open_open space (double_symbol 61 refl)) space
+operator_piece NotEqual = open_open (open_open space (double_symbol 33 refl)) space
+operator_piece Less = tight_open (open_tight space (single_symbol 60 refl)) (λ rest. refl) space
 operator_piece AtMost = open_open (open_open space (double_symbol 60 refl)) space
-operator_piece Above = tight_open (open_tight space (single_symbol 62 refl)) (λ rest. refl) space
+operator_piece Greater = tight_open (open_tight space (single_symbol 62 refl)) (λ rest. refl) space
 operator_piece AtLeast = open_open (open_open space (double_symbol 62 refl)) space
-operator_piece Both = tight_open (open_tight space (keyword_piece (codes "and") (14, omega arith, refl) (omega arith))) (λ rest. refl) space
-operator_piece Either = tight_open (open_tight space (keyword_piece (codes "or") (15, omega arith, refl) (omega arith))) (λ rest. refl) space
+operator_piece And = tight_open (open_tight space (keyword_piece (codes "and") (14, omega arith, refl) (omega arith))) (λ rest. refl) space
+operator_piece Or = tight_open (open_tight space (keyword_piece (codes "or") (15, omega arith, refl) (omega arith))) (λ rest. refl) space
 
 operator_begins : (sign : TwoSign) → Begins (operator_text sign)
-operator_begins Plus = λ rest. refl
+operator_begins Add = λ rest. refl
+operator_begins Subtract = λ rest. refl
+operator_begins Multiply = λ rest. refl
+operator_begins Divide = λ rest. refl
+operator_begins Remainder = λ rest. refl
+operator_begins Equal = λ rest. refl
+operator_begins NotEqual = λ rest. refl
 operator_begins Less = λ rest. refl
-operator_begins Times = λ rest. refl
-operator_begins Over = λ rest. refl
-operator_begins Modulo = λ rest. refl
-operator_begins Equals = λ rest. refl
-operator_begins Differs = λ rest. refl
-operator_begins Below = λ rest. refl
 operator_begins AtMost = λ rest. refl
-operator_begins Above = λ rest. refl
+operator_begins Greater = λ rest. refl
 operator_begins AtLeast = λ rest. refl
-operator_begins Both = λ rest. refl
-operator_begins Either = λ rest. refl
+operator_begins And = λ rest. refl
+operator_begins Or = λ rest. refl
 
 -- ---- expressions
 
@@ -155,8 +155,8 @@ not_piece = tight_open (keyword_piece (codes "not") (13, omega arith, refl) (ome
 negated_reads : (e : Expression) → Reads (operand_text e (expression_text e)) Atom e → Reads (expression_text (Not e)) Disjunction (Not e)
 negated_reads e r = record { words = word.Not ∷ r.words; laid = open_tight not_piece r.laid; is = negation_whole (grammar.negated (atom_negation r.is)) }
 
-signed_reads : (e : Expression) → Reads (operand_text e (expression_text e)) Atom e → Reads (expression_text (Minus e)) Disjunction (Minus e)
-signed_reads e r = record { words = word.Two op.Less ∷ r.words; laid = open_tight (lone_symbol 45 refl refl) r.laid; is = signed_whole (grammar.signed (to_signed r.is)) }
+signed_reads : (e : Expression) → Reads (operand_text e (expression_text e)) Atom e → Reads (expression_text (Negate e)) Disjunction (Negate e)
+signed_reads e r = record { words = word.Two op.Subtract ∷ r.words; laid = open_tight (lone_symbol 45 refl refl) r.laid; is = signed_whole (grammar.signed (to_signed r.is)) }
 
 two_reads : (sign : TwoSign) (d e : Expression) → Reads (operand_text d (expression_text d)) Atom d → Reads (operand_text e (expression_text e)) Atom e → Reads (expression_text (Two sign d e)) Disjunction (Two sign d e)
 two_reads sign d e q r = record {
@@ -182,7 +182,7 @@ reads (Variable name) h =
 reads (Not e) h =
     let w = negated_reads e (reads e h).operand in
     record { whole = w; operand = in_parentheses w }
-reads (Minus e) h =
+reads (Negate e) h =
     let w = signed_reads e (reads e h).operand in
     record { whole = w; operand = in_parentheses w }
 reads (Two sign d e) h =

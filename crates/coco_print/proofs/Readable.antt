@@ -1,6 +1,6 @@
 -- What a tree has that some text gave: each name, number and text in it may be a token.
 use Rattle.std.specs.Prelude.{ℕ, ◌≤◌, pos, negsuc, List, [], ◌∷◌, length, All}
-use Rattle.coco_ast.specs.Tree.{Expression, Number, Quoted, Nothing, Variable, Not, Minus, Two, RowPlace, Statement, Let, Get, Put, Delete, If, IfElse, Repeat, Refuse, Reply, Statements, End, Then, Procedure, Procedures}
+use Rattle.coco_ast.specs.Tree.{Expression, Number, Quoted, None as Nothing, Variable, Not, Negate, Two, RowPlace, Statement, Let, Get, Put, Delete, If, IfElse, Repeat, Refuse, Reply, Statements, End, Then, Procedure, Procedures}
 use Rattle.coco_print.proofs.Parts.{IsName}
 
 -- a number of a text
@@ -19,7 +19,7 @@ IsReadable (Quoted content) = IsQuotable content
 IsReadable Nothing = Unit {0}
 IsReadable (Variable name) = IsName name
 IsReadable (Not e) = IsReadable e
-IsReadable (Minus e) = IsReadable e
+IsReadable (Negate e) = IsReadable e
 IsReadable (Two sign d e) = IsReadable d × IsReadable e
 
 abbrev pub IsReadablePlace : RowPlace → Type 0

@@ -2,23 +2,23 @@
 use Rattle.std.specs.Prelude.{ℕ, Bool, true, false, if◌then◌else◌, List, [], ◌∷◌, ◌++◌, codes, decimal}
 use Rattle.std.specs.Fmt.{signed_decimal}
 use Rattle.std.specs.List.{flat_map}
-use Rattle.coco_ast.specs.Tree.{TwoSign, Plus, Less, Times, Over, Modulo, Equals, Differs, Below, AtMost, Above, AtLeast, Both, Either, Expression, Number, Quoted, Nothing, Variable, Not, Minus, Two, RowPlace, Statement, Let, Get, Put, Delete, If, IfElse, Repeat, Refuse, Reply, Statements, End, Then, Procedure, Procedures}
+use Rattle.coco_ast.specs.Tree.{TwoSign, Add, Subtract, Multiply, Divide, Remainder, Equal, NotEqual, Less, AtMost, Greater, AtLeast, And, Or, Expression, Number, Quoted, None as Nothing, Variable, Not, Negate, Two, RowPlace, Statement, Let, Get, Put, Delete, If, IfElse, Repeat, Refuse, Reply, Statements, End, Then, Procedure, Procedures}
 use Rattle.coco_lex.specs.Lexeme.{spelled}
 
 abbrev pub operator_text : TwoSign → List ℕ
-operator_text Plus = codes " + "
-operator_text Less = codes " - "
-operator_text Times = codes " * "
-operator_text Over = codes " / "
-operator_text Modulo = codes " % "
-operator_text Equals = codes " == "
-operator_text Differs = codes " != "
-operator_text Below = codes " < "
+operator_text Add = codes " + "
+operator_text Subtract = codes " - "
+operator_text Multiply = codes " * "
+operator_text Divide = codes " / "
+operator_text Remainder = codes " % "
+operator_text Equal = codes " == "
+operator_text NotEqual = codes " != "
+operator_text Less = codes " < "
 operator_text AtMost = codes " <= "
-operator_text Above = codes " > "
+operator_text Greater = codes " > "
 operator_text AtLeast = codes " >= "
-operator_text Both = codes " and "
-operator_text Either = codes " or "
+operator_text And = codes " and "
+operator_text Or = codes " or "
 
 -- in quotes, with a backslash before each quote and backslash
 abbrev pub quoted : List ℕ → List ℕ
@@ -26,7 +26,7 @@ quoted content = codes "\"" ++ spelled content ++ codes "\""
 
 abbrev pub is_operator : Expression → Bool
 is_operator (Not e) = true
-is_operator (Minus e) = true
+is_operator (Negate e) = true
 is_operator (Two sign d e) = true
 is_operator _ = false
 
@@ -40,7 +40,7 @@ expression_text (Quoted content) = quoted content
 expression_text Nothing = codes "none"
 expression_text (Variable name) = name
 expression_text (Not e) = codes "not " ++ operand_text e (expression_text e)
-expression_text (Minus e) = codes "-" ++ operand_text e (expression_text e)
+expression_text (Negate e) = codes "-" ++ operand_text e (expression_text e)
 expression_text (Two sign d e) = operand_text d (expression_text d) ++ operator_text sign ++ operand_text e (expression_text e)
 
 abbrev pub place_text : RowPlace → List ℕ

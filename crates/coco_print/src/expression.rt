@@ -15,13 +15,13 @@ pub(crate) fn push_expr(out: &mut String, e: &Expr) -> Result<(), NoMemory>
     match e {
         Expr::Number(n) => push_number(out, *n),
         Expr::Text(text) => push_quoted(out, text.as_str()),
-        Expr::Nothing => push(out, "none"),
+        Expr::None => push(out, "none"),
         Expr::Var(name) => push(out, name.as_str()),
         Expr::Not(operand) => {
             push(out, "not ")?;
             push_operand(out, operand)
         }
-        Expr::Minus(operand) => {
+        Expr::Negate(operand) => {
             push(out, "-")?;
             push_operand(out, operand)
         }
@@ -49,26 +49,26 @@ fn push_operand(out: &mut String, e: &Expr) -> Result<(), NoMemory>
 fn is_operator(e: &Expr) -> bool
     ensures { result ≡ text.is_operator (expression_of e.now) }
 {
-    matches!(e, Expr::Not(_) | Expr::Minus(_) | Expr::Two { .. })
+    matches!(e, Expr::Not(_) | Expr::Negate(_) | Expr::Two { .. })
 }
 
 fn operator(op: TwoOp) -> &'static str
     ensures { result.now ≡ operator_text (sign_of op) }
 {
     match op {
-        TwoOp::Plus => " + ",
-        TwoOp::Less => " - ",
-        TwoOp::Times => " * ",
-        TwoOp::Over => " / ",
-        TwoOp::Modulo => " % ",
-        TwoOp::Equals => " == ",
-        TwoOp::Differs => " != ",
-        TwoOp::Below => " < ",
+        TwoOp::Add => " + ",
+        TwoOp::Subtract => " - ",
+        TwoOp::Multiply => " * ",
+        TwoOp::Divide => " / ",
+        TwoOp::Remainder => " % ",
+        TwoOp::Equal => " == ",
+        TwoOp::NotEqual => " != ",
+        TwoOp::Less => " < ",
         TwoOp::AtMost => " <= ",
-        TwoOp::Above => " > ",
+        TwoOp::Greater => " > ",
         TwoOp::AtLeast => " >= ",
-        TwoOp::Both => " and ",
-        TwoOp::Either => " or ",
+        TwoOp::And => " and ",
+        TwoOp::Or => " or ",
     }
 }
 

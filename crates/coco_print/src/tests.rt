@@ -65,19 +65,19 @@ fn assert_reply(rt: &impl Abort, alloc: Global, value: Expr, expected: &str) -> 
 fn each_operator_has_its_sign(rt: HostRuntime) -> Result<(), Fail> {
     let alloc = rt.alloc();
     for (op, expected) in [
-        (TwoOp::Plus, "a + b"),
-        (TwoOp::Less, "a - b"),
-        (TwoOp::Times, "a * b"),
-        (TwoOp::Over, "a / b"),
-        (TwoOp::Modulo, "a % b"),
-        (TwoOp::Equals, "a == b"),
-        (TwoOp::Differs, "a != b"),
-        (TwoOp::Below, "a < b"),
+        (TwoOp::Add, "a + b"),
+        (TwoOp::Subtract, "a - b"),
+        (TwoOp::Multiply, "a * b"),
+        (TwoOp::Divide, "a / b"),
+        (TwoOp::Remainder, "a % b"),
+        (TwoOp::Equal, "a == b"),
+        (TwoOp::NotEqual, "a != b"),
+        (TwoOp::Less, "a < b"),
         (TwoOp::AtMost, "a <= b"),
-        (TwoOp::Above, "a > b"),
+        (TwoOp::Greater, "a > b"),
         (TwoOp::AtLeast, "a >= b"),
-        (TwoOp::Both, "a and b"),
-        (TwoOp::Either, "a or b"),
+        (TwoOp::And, "a and b"),
+        (TwoOp::Or, "a or b"),
     ] {
         let value = Expr::two(alloc, op, var(&rt, "a"), var(&rt, "b"))?;
         assert_reply(&rt, alloc, value, expected)?;
@@ -88,18 +88,18 @@ fn each_operator_has_its_sign(rt: HostRuntime) -> Result<(), Fail> {
 #[test]
 fn operands_that_are_operators_stand_in_parentheses(rt: HostRuntime) -> Result<(), Fail> {
     let alloc = rt.alloc();
-    let product = Expr::two(alloc, TwoOp::Times, var(&rt, "a"), var(&rt, "b"))?;
-    let left = Expr::two(alloc, TwoOp::Plus, product, var(&rt, "c"))?;
+    let product = Expr::two(alloc, TwoOp::Multiply, var(&rt, "a"), var(&rt, "b"))?;
+    let left = Expr::two(alloc, TwoOp::Add, product, var(&rt, "c"))?;
     assert_reply(&rt, alloc, left, "(a * b) + c")?;
-    let difference = Expr::two(alloc, TwoOp::Less, var(&rt, "b"), var(&rt, "c"))?;
-    let right = Expr::two(alloc, TwoOp::Less, var(&rt, "a"), difference)?;
+    let difference = Expr::two(alloc, TwoOp::Subtract, var(&rt, "b"), var(&rt, "c"))?;
+    let right = Expr::two(alloc, TwoOp::Subtract, var(&rt, "a"), difference)?;
     assert_reply(&rt, alloc, right, "a - (b - c)")?;
-    let sum = Expr::two(alloc, TwoOp::Plus, var(&rt, "a"), var(&rt, "b"))?;
-    assert_reply(&rt, alloc, Expr::minus(alloc, sum)?, "-(a + b)")?;
+    let sum = Expr::two(alloc, TwoOp::Add, var(&rt, "a"), var(&rt, "b"))?;
+    assert_reply(&rt, alloc, Expr::negate(alloc, sum)?, "-(a + b)")?;
     let denied = Expr::not(alloc, var(&rt, "a"))?;
     assert_reply(&rt, alloc, Expr::not(alloc, denied)?, "not (not a)")?;
-    let five = Expr::minus(alloc, Expr::Number(5))?;
-    assert_reply(&rt, alloc, Expr::minus(alloc, five)?, "-(-5)")?;
+    let five = Expr::negate(alloc, Expr::Number(5))?;
+    assert_reply(&rt, alloc, Expr::negate(alloc, five)?, "-(-5)")?;
     Ok(())
 }
 
@@ -108,11 +108,11 @@ fn numbers_texts_and_none_stand_alone(rt: HostRuntime) -> Result<(), Fail> {
     let alloc = rt.alloc();
     assert_reply(&rt, alloc, Expr::Number(0), "0")?;
     assert_reply(&rt, alloc, Expr::Number(i64::MAX), "9223372036854775807")?;
-    assert_reply(&rt, alloc, Expr::Nothing, "none")?;
+    assert_reply(&rt, alloc, Expr::None, "none")?;
     assert_reply(&rt, alloc, text(&rt, ""), "\"\"")?;
     assert_reply(&rt, alloc, text(&rt, "a\"b\\c # é"), "\"a\\\"b\\\\c # é\"")?;
-    assert_reply(&rt, alloc, Expr::not(alloc, Expr::Nothing)?, "not none")?;
-    assert_reply(&rt, alloc, Expr::minus(alloc, Expr::Number(5))?, "-5")?;
+    assert_reply(&rt, alloc, Expr::not(alloc, Expr::None)?, "not none")?;
+    assert_reply(&rt, alloc, Expr::negate(alloc, Expr::Number(5))?, "-5")?;
     Ok(())
 }
 
@@ -200,7 +200,7 @@ fn two(
 }
 
 fn is_none(rt: &impl Abort, alloc: Global, name: &str) -> Result<Expr, NoMemory> {
-    Expr::two(alloc, TwoOp::Equals, var(rt, name), Expr::Nothing)
+    Expr::two(alloc, TwoOp::Equal, var(rt, name), Expr::None)
 }
 
 fn open_proc(rt: &impl Abort, alloc: Global) -> Result<Proc, NoMemory> {
@@ -214,20 +214,20 @@ fn open_proc(rt: &impl Abort, alloc: Global) -> Result<Proc, NoMemory> {
 }
 
 fn move_proc(rt: &impl Abort, alloc: Global) -> Result<Proc, NoMemory> {
-    let same = two(rt, alloc, TwoOp::Equals, "a", "b")?;
+    let same = two(rt, alloc, TwoOp::Equal, "a", "b")?;
     let no_x = is_none(rt, alloc, "x")?;
     let no_y = is_none(rt, alloc, "y")?;
-    let missing = Expr::two(alloc, TwoOp::Either, no_x, no_y)?;
-    let short = two(rt, alloc, TwoOp::Below, "x", "n")?;
+    let missing = Expr::two(alloc, TwoOp::Or, no_x, no_y)?;
+    let short = two(rt, alloc, TwoOp::Less, "x", "n")?;
     let body = [
         refuse_if(alloc, same, 3)?,
         get(rt, "x", "a"),
         get(rt, "y", "b"),
         refuse_if(alloc, missing, 1)?,
         refuse_if(alloc, short, 2)?,
-        put(rt, "a", two(rt, alloc, TwoOp::Less, "x", "n")?),
-        put(rt, "b", two(rt, alloc, TwoOp::Plus, "y", "n")?),
-        Stmt::Reply(two(rt, alloc, TwoOp::Less, "x", "n")?),
+        put(rt, "a", two(rt, alloc, TwoOp::Subtract, "x", "n")?),
+        put(rt, "b", two(rt, alloc, TwoOp::Add, "y", "n")?),
+        Stmt::Reply(two(rt, alloc, TwoOp::Subtract, "x", "n")?),
     ];
     let body = block(alloc, body)?;
     Ok(Proc {

@@ -9,7 +9,7 @@ use Rattle.coco_ast.specs.Builtins.{builtins}
 use Rattle.coco_ast.specs.Fitting.{Fits}
 use Rattle.coco_ast.specs.Keyed.{Rows, value_at}
 use Rattle.coco_ast.specs.Meaning.{Datum, Computed, run, row_key, combined}
-use Rattle.coco_ast.specs.Tree.{Plus}
+use Rattle.coco_ast.specs.Tree.{Add}
 use Rattle.coco_ast.proofs.BuiltinCalls.{IsBuiltinCall, gets, puts, adds, builtin_call}
 use Rattle.coco_ast.proofs.BuiltinRuns.{got, stored, added, summed, or_zero, run-get, run-put, run-add}
 
@@ -26,12 +26,12 @@ key-of-whole None = refl
 key-of-whole (Some (Int n)) = refl
 key-of-whole (Some (Text t)) = refl
 
-plus-whole-right : (a b : Datum) → combined Plus a b ≡ combined Plus a (whole b)
+plus-whole-right : (a b : Datum) → combined Add a b ≡ combined Add a (whole b)
 plus-whole-right a None = refl
 plus-whole-right a (Some (Int n)) = refl
 plus-whole-right a (Some (Text t)) = refl
 
-pub plus-whole-left : (a b : Datum) → combined Plus (whole a) b ≡ combined Plus a b
+pub plus-whole-left : (a b : Datum) → combined Add (whole a) b ≡ combined Add a b
 plus-whole-left None b = refl
 plus-whole-left (Some (Int n)) b = refl
 plus-whole-left (Some (Text t)) b = refl

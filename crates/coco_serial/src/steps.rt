@@ -1,6 +1,6 @@
 ghost use Rattle.std.specs.Prelude.{◌≡◌, option_map};
 ghost use Rattle.coco_ast.specs.Meaning.{row_key, combined};
-ghost use Rattle.coco_ast.specs.Tree.{Plus};
+ghost use Rattle.coco_ast.specs.Tree.{Add};
 ghost use Rattle.coco_types.specs.declared.value.Value.TheVariants.{Int};
 
 use coco_types::{Cause, Key, Value};
@@ -20,7 +20,7 @@ pub fn key_of(table: u16, row: Option<i64>) -> Result<Key, Cause>
 
 /// The sum of two numbers. None stands for a value that is no number; the left one is tried first.
 pub fn sum(left: Option<i64>, right: Option<i64>) -> Result<Option<Value>, Cause>
-    ensures { result ≡ combined Plus (option_map Int left) (option_map Int right) }
+    ensures { result ≡ combined Add (option_map Int left) (option_map Int right) }
 {
     match (left, right) {
         (Some(left), Some(right)) => match left.checked_add(right) {
