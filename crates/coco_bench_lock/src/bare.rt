@@ -1,3 +1,5 @@
+//! A machine without a lock that copies its calls as a journaled one does.
+
 ghost use Rattle.std.specs.Prelude.{◌≡◌, ◌++◌, ◌∷◌, [], length, OnOk, OnErr};
 ghost use Rattle.coco_journaled.specs.Passes.{entry, placed};
 

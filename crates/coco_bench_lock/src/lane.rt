@@ -1,3 +1,5 @@
+//! A thread's way to its shards: one pass of each.
+
 ghost use Rattle.std.specs.Prelude.{◌≡◌, ◌++◌, ◌∷◌, [], All, IfSome, MatchOption, OnOk, OnErr};
 ghost use Rattle.coco_bench_lock.specs.Reads.{read_of, asks};
 

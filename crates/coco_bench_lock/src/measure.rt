@@ -1,3 +1,5 @@
+//! The time that so many steps take.
+
 ghost use Rattle.std.specs.Prelude.{◌≡◌, ◌<◌, ◌≤◌, All, IfOk, length, vec_len};
 
 use crate::bare::Bare;

@@ -1,3 +1,5 @@
+//! Threads that read all rows, each by its lane.
+
 ghost use Rattle.std.specs.Prelude.{◌≡◌, ◌<◌, length, vec_len};
 
 use crate::lane::{Desk, Lane};

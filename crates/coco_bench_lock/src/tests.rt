@@ -1,3 +1,5 @@
+//! Two threads that read the rows of one shard.
+
 ghost use Rattle.std.specs.Prelude.{◌≡◌, []};
 
 use crate::lane::{Lane, read_of};

@@ -120,10 +120,7 @@ fn every_way_ends(rt: HostRuntime) -> Result<(), Fail> {
     let rows = [
         (Block::new(alloc), Some((0, NoReply))),
         (one(alloc, Stmt::Refuse(9))?, None),
-        (
-            two(alloc, Stmt::Reply(Expr::None), delete(&rt, "t"))?,
-            None,
-        ),
+        (two(alloc, Stmt::Reply(Expr::None), delete(&rt, "t"))?, None),
         (one(alloc, delete(&rt, "t"))?, Some((0, NoReply))),
         (
             one(alloc, repeat(&rt, 1, one(alloc, Stmt::Refuse(9))?))?,

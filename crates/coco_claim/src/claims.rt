@@ -1,3 +1,5 @@
+//! The counter, and the seats that draw its numbers.
+
 ghost use Rattle.std.specs.Prelude.{◌≡◌, ℕ, ◌+◌, ◌<◌, ◌≤◌, length, ◌++◌, ◌∷◌, [], IsTrue, IfOk, IfSome, MatchBool, All, Any, vec_len, is_none};
 ghost use Rattle.coco_claim.specs.Numbers.{times};
 ghost use Rattle.coco_claim.specs.Seats.{new_seats, has_ended, Draws, times_drawn};

@@ -1,3 +1,5 @@
+//! Draws by one seat, and by two threads.
+
 ghost use Rattle.std.specs.Prelude.{◌≡◌, ◌<◌, ◌≤◌, length, All, IsTrue, IfOk, vec_len};
 ghost use Rattle.coco_claim.specs.Seats.{has_ended};
 

@@ -1,3 +1,5 @@
+//! The trait of gates, and the one that holds nobody.
+
 ghost use Rattle.std.specs.Prelude.{◌≡◌, ℕ};
 
 /// A place that workers pass on their way. At point 1 an attempt has begun, at point 2 an attempt has committed.

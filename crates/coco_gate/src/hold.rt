@@ -1,3 +1,5 @@
+//! A gate that holds two workers until both have come.
+
 ghost use Rattle.std.specs.Prelude.{◌≡◌, ◌≤◌, ◌<◌};
 
 use crate::Gate;

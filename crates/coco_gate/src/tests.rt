@@ -1,3 +1,5 @@
+//! One worker who passes, and two threads who meet.
+
 use crate::{Gate, HoldGate, OpenGate};
 use std::test::Fail;
 use std::thread;

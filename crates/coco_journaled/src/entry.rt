@@ -1,3 +1,5 @@
+//! Entries of a journal, calls with their places, and what a closed lock leaves.
+
 use coco_types::{Machine, Sequence};
 
 /// One call of a machine: which pass asked, what, and what the machine answered.

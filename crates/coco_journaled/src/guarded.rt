@@ -1,3 +1,5 @@
+//! What stands behind the lock: the machine with its journal.
+
 use crate::entry::Entry;
 use coco_seen::Stores;
 use coco_types::Machine;

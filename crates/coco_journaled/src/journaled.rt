@@ -1,3 +1,5 @@
+//! The journaled lock: steps of a machine under a lock, each entered once and at its place.
+
 ghost use Rattle.std.specs.Prelude.{◌≡◌, ℕ, ◌<◌, ◌≤◌, [], ◌∷◌, ◌++◌, map, length, true, false, All, Some, slice_get, IfOk, IfErr, OnOk, sum_by, vec_len, vec_capacity};
 ghost use Rattle.coco_seen.specs.Rules.{numbers, how_often, once_below};
 ghost use Rattle.coco_journaled.specs.Passes.{placed, entry_of, places, Rises, new_pass, pass_at, Steps, Looks};

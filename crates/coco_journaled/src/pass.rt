@@ -1,3 +1,5 @@
+//! A pass: the right to step a journaled machine, with the calls that were made by it.
+
 ghost use Rattle.std.specs.Prelude.{◌≡◌};
 
 use crate::entry::Placed;

@@ -1,3 +1,5 @@
+//! A counter behind the lock, by one thread and by two.
+
 ghost use Rattle.std.specs.Prelude.{◌≡◌, ◌+◌, ◌%◌, ◌^◌, []};
 
 use super::*;

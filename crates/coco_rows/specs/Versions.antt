@@ -1,3 +1,4 @@
+-- The newest value of a row, and a row at rest between two epochs.
 use Rattle.std.specs.Prelude.{Option, None}
 use Rattle.coco_types.specs.declared.value.Value.{Value}
 use Rattle.coco_rows.specs.declared.Newest.{Newest}

@@ -1,3 +1,5 @@
+//! A note: what one caller of a lock has seen and done.
+
 ghost use Rattle.std.specs.Prelude.{◌≡◌};
 ghost use Rattle.coco_seen.specs.Notes.{known, IsSeatOf};
 

@@ -1,3 +1,5 @@
+//! The lock: its value is taken, gets entries and is given back, and at the end all notes come together.
+
 ghost use Rattle.std.specs.Prelude.{◌≡◌, ℕ, ◌-◌, ◌<◌, ◌^◌, [], ◌∷◌, ◌++◌, map, length, true, false, All, Some, slice_get, MatchOption, sum_by, vec_len};
 ghost use mathlib.Core.List.{IsPrefix};
 ghost use Rattle.coco_seen.specs.Closes.{StandsFor};

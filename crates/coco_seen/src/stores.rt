@@ -1,3 +1,5 @@
+//! What a guarded value has to tell: its entries, and where it comes from.
+
 ghost use Rattle.std.specs.Prelude.{List};
 
 /// A value that stores a list of entries, and that comes from a root.

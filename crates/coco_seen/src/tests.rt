@@ -1,3 +1,5 @@
+//! A lock round a list of numbers, by one thread and by two.
+
 ghost use Rattle.std.specs.Prelude.{◌≡◌, false, []};
 
 use super::*;

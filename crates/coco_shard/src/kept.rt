@@ -1,3 +1,5 @@
+//! A row as a shard keeps it, with the note whether its key is listed as touched, and what an ask makes of it.
+
 ghost use Rattle.std.specs.Prelude.{◌≡◌, ◌||◌, true, false, IsSome};
 ghost use Rattle.coco_types.specs.RowKey.{RowKey};
 ghost use Rattle.coco_rows.specs.Versions.{at_rest, newest_of};

@@ -1,3 +1,5 @@
+//! What holds of the answers of a shard, whatever is asked.
+
 ghost use Rattle.std.specs.Prelude.{◌≡◌, List, Option};
 ghost use Rattle.coco_types.specs.RowKey.{RowKey};
 ghost use Rattle.coco_types.specs.declared.value.Value.{Value as Datum};

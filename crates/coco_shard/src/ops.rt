@@ -1,3 +1,5 @@
+//! The six operations on a row, as they are asked and answered.
+
 ghost use Rattle.std.specs.Prelude.{◌≡◌};
 
 use coco_types::{AttemptId, Key, Value};

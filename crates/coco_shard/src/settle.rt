@@ -1,3 +1,5 @@
+//! How a shard comes to rest at an epoch's end: each touched row promoted or reverted, without memory.
+
 ghost use Rattle.std.specs.Prelude.{◌≡◌, ◌+◌, ◌≤◌, cond, true, None, Some, length, sum_by, vec_capacity, is_some};
 ghost use Rattle.std.specs.Map.{remove_entry, set_value, values_of};
 ghost use Rattle.std.specs.BTreeMap.{is_at};

@@ -1,3 +1,5 @@
+//! The shard: rows under their keys, as a machine and for the steps that need no lock.
+
 ghost use Rattle.std.specs.Prelude.{◌≡◌, ◌≤◌, None, Some, true, IfOk, OnOk, OnErr};
 ghost use Rattle.std.specs.FinMap.{get, insert, empty};
 ghost use Rattle.coco_shard.specs.RowState.{resting, row_at, newest_at, stable_at, value_at, Holds, IsSettled, IsGreatestTime, ListsRows};

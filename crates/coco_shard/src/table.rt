@@ -1,3 +1,5 @@
+//! The operations on the map of rows, with the list of touched keys that always has room for every row.
+
 ghost use Rattle.std.specs.Prelude.{◌≡◌, ◌+◌, ◌^◌, ◌<◌, ◌≤◌, ◌++◌, ◌∷◌, [], if◌then◌else◌, cond, true, false, None, Some, IfNone, IfSome, IfOk, OnOk, OnErr, length, vec_len, vec_capacity};
 ghost use Rattle.std.specs.BTreeMap.{is_at};
 ghost use Rattle.coco_types.specs.RowKey.{RowKey, key_cmp};

@@ -1,3 +1,5 @@
+//! Words that are commands, and words that are none.
+
 use super::*;
 use std::test::Fail;
 
