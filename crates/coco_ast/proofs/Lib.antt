@@ -3,5 +3,7 @@ pub mod BuiltinCalls
 pub mod BuiltinLaws
 pub mod BuiltinRuns
 pub mod CheckedExamples
+pub mod KeyedLemmas
 pub mod WordTexts
 pub mod WorkedExamples
+pub mod WorkedHistories

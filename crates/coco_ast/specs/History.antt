@@ -1,5 +1,5 @@
 -- Histories of committed requests: epochs over a base, which kept replies are held, and what it is for a history to be ordered and serial.
-use Rattle.std.specs.Prelude.{◌≡◌, ◌⊎◌, ⊤, ℕ, ◌<◌, Bool, true, false, ◌||◌, not, if◌then◌else◌, nat_eq, nat_lt, max, List, [], ◌∷◌, ◌++◌, length, map, Option, None, Some}
+use Rattle.std.specs.Prelude.{◌≡◌, ◌⊎◌, ⊤, ℕ, ◌<◌, Bool, true, false, ◌||◌, not, if◌then◌else◌, nat_eq, nat_lt, nat_le, max, List, [], ◌∷◌, ◌++◌, length, map, Option, None, Some}
 use Rattle.std.specs.List.{filter, find, AllByRecursion, IsDistinct}
 use Rattle.std.specs.FinMap.{empty}
 use Rattle.coco_types.specs.declared.call.Done.{Done}
@@ -35,6 +35,21 @@ no_history = record { base = no_base; epochs = []; keep = None }
 
 abbrev pub followed_by : History → Epoch → History
 followed_by h e = record h { epochs = h.epochs ++ e ∷ [] }
+
+abbrev pub last_number : ℕ → List Epoch → ℕ
+last_number n [] = n
+last_number n (e ∷ es) = last_number e.number es
+
+-- the number of its last epoch, or of its base
+abbrev pub last_epoch : History → ℕ
+last_epoch h = last_number h.base.epoch h.epochs
+
+-- without the epochs behind this one
+abbrev pub up_to : ℕ → History → History
+up_to n h = record h { epochs = filter (λ e. nat_le e.number n) h.epochs }
+
+abbrev pub with_keep : Option ℕ → History → History
+with_keep keep h = record h { keep = keep }
 
 -- one base, one keep number, and the first epochs
 abbrev pub IsPrefixOf : History → History → Type 0
@@ -74,20 +89,26 @@ is_held None ds d = true
 is_held (Some k) ds d = nat_lt (epochs_above d.epoch ds) k
 
 -- the Dones whose replies are kept
-abbrev pub kept : History → List Done
-kept h = filter (is_held h.keep (all_dones h)) (all_dones h)
+abbrev pub kept_of : Option ℕ → List Done → List Done
+kept_of keep ds = filter (is_held keep ds) ds
 
-abbrev pub forgotten : History → List Done
-forgotten h = filter (λ d. not (is_held h.keep (all_dones h) d)) (all_dones h)
+abbrev pub forgotten_of : Option ℕ → List Done → List Done
+forgotten_of keep ds = filter (λ d. not (is_held keep ds d)) ds
 
 abbrev pub greatest_with : Option ℕ → List ℕ → Option ℕ
 greatest_with n [] = n
 greatest_with None (x ∷ xs) = greatest_with (Some x) xs
 greatest_with (Some n) (x ∷ xs) = greatest_with (Some (max n x)) xs
 
--- the greatest id that is no longer kept
+-- the greatest id that is no longer kept: of these Dones, or the one from before them
+abbrev pub floor_of : Option ℕ → Option ℕ → List Done → Option ℕ
+floor_of keep before ds = greatest_with before (ids_of (forgotten_of keep ds))
+
+abbrev pub kept : History → List Done
+kept h = kept_of h.keep (all_dones h)
+
 abbrev pub floor : History → Option ℕ
-floor h = greatest_with h.base.floor (ids_of (forgotten h))
+floor h = floor_of h.keep h.base.floor (all_dones h)
 
 -- the Done of an id
 abbrev pub done_of : ℕ → List Done → Option Done
@@ -151,8 +172,25 @@ pub record IsSerial (ps : Procedures) (h : History) : Type 0 where
 abbrev pub map_of : Procedures → History → Rows
 map_of ps h = rows_after ps h.base.rows (epoch_dones h)
 
--- ---- growth
-
 -- what a Done answers
 abbrev pub request_of : Done → Request
 request_of d = record { id = d.id; call = d.call }
+
+-- ---- compacted
+
+-- the map, the kept Dones and the floor become the base, under this epoch's number
+abbrev pub compacted : Procedures → ℕ → History → History
+compacted ps n h = record { base = record { epoch = n; rows = map_of ps h; kept = kept h; floor = floor h }; epochs = []; keep = h.keep }
+
+-- a line has the same class and the same answer after either
+pub record AnswerAlike (ps : Procedures) (g h : History) : Type 0 where
+  pub kept : kept g ≡ kept h
+  pub floor : floor g ≡ floor h
+  pub rows : map_of ps g ≡ map_of ps h
+
+abbrev pub followed_by_all : History → List Epoch → History
+followed_by_all h es = record h { epochs = h.epochs ++ es }
+
+-- and so it stays, whichever epochs follow both
+abbrev pub StayAlike : Procedures → History → History → Type 0
+StayAlike ps g h = (es : List Epoch) → IsOrdered (followed_by_all g es) → IsOrdered (followed_by_all h es) → AnswerAlike ps (followed_by_all g es) (followed_by_all h es)

@@ -4,12 +4,16 @@ pub mod CheckExamples
 pub mod Checks
 pub mod Examples
 pub mod Fitting
+pub mod Growth
 pub mod History
+pub mod HistoryExamples
 pub mod Keyed
 pub mod Meaning
 pub mod Messages
 pub mod NameView
 pub mod Numbering
+pub mod RunLaws
+pub mod Schedule
 pub mod Short
 pub mod Tree
 pub mod TreeCode

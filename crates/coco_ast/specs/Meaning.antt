@@ -1,8 +1,9 @@
 -- What a call of a procedure means: its reply, the map that it leaves, the keys that it needs and its writes, on one map.
 use Rattle.std.specs.Prelude.{ℕ, zero, suc, ◌+◌, ◌^◌, Bool, true, false, not, ◌&&◌, ◌||◌, if◌then◌else◌, nat_eq, nat_lt, List, [], ◌∷◌, ◌++◌, Option, None, Some, Result, Ok, Err, ℤ, pos, negsuc, ◌+ℤ◌, ◌-ℤ◌, ◌*ℤ◌, neg_ℤ, int_lt, int_le, int_div, int_rem}
-use Rattle.std.specs.Ordering.{int_eq}
+use Rattle.std.specs.List.{list_any}
+use Rattle.std.specs.Ordering.{int_eq, is_eq, match_ordering}
 use Rattle.std.specs.Cmp.Lexicographic.{pointwise}
-use Rattle.coco_types.specs.RowKey.{RowKey}
+use Rattle.coco_types.specs.RowKey.{RowKey, key_cmp}
 use Rattle.coco_types.specs.declared.value.Value.{Value}
 use Rattle.coco_types.specs.declared.value.Value.TheVariants.{Int, Text}
 use Rattle.coco_types.specs.declared.call.Cause.{Cause}
@@ -174,26 +175,19 @@ abbrev pub bound : List (List ℕ) → List Datum → Variables
 bound (p ∷ ps) (v ∷ vs) = (p, v) ∷ bound ps vs
 bound _ _ = []
 
--- of the accesses so far, one is of this key
 abbrev pub is_key : RowKey → RowKey → Bool
-is_key a b = nat_eq a.table b.table && nat_eq a.row b.row
-
-abbrev pub is_among : RowKey → List RowKey → Bool
-is_among k [] = false
-is_among k (x ∷ xs) = is_key k x || is_among k xs
+is_key a b = is_eq (key_cmp a b)
 
 -- the keys that are read before they are read or written, in the order of first need; seen are those before
 abbrev pub needs_after : List RowKey → List Access → List RowKey
 needs_after seen [] = []
-needs_after seen (Reads k ∷ xs) = if is_among k seen then needs_after seen xs else k ∷ needs_after (k ∷ seen) xs
+needs_after seen (Reads k ∷ xs) = if list_any (is_key k) seen then needs_after seen xs else k ∷ needs_after (k ∷ seen) xs
 needs_after seen (Writes k v ∷ xs) = needs_after (k ∷ seen) xs
 
 -- the keys that are written, ascending, each with its last value
 abbrev pub put_write : RowKey → Datum → List Write → List Write
 put_write k v [] = record { key = k; value = v } ∷ []
-put_write k v (w ∷ ws) =
-    if is_key k w.key then record { key = k; value = v } ∷ ws
-    else (if nat_lt k.table w.key.table || (nat_eq k.table w.key.table && nat_lt k.row w.key.row) then record { key = k; value = v } ∷ w ∷ ws else w ∷ put_write k v ws)
+put_write k v (w ∷ ws) = match_ordering (key_cmp k w.key) (record { key = k; value = v } ∷ w ∷ ws) (record { key = k; value = v } ∷ ws) (w ∷ put_write k v ws)
 
 abbrev pub writes_after : List Write → List Access → List Write
 writes_after ws [] = ws

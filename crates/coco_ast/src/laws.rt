@@ -1,4 +1,4 @@
-//! What holds of the meaning of procedures, whatever the program does.
+//! What holds of the meaning of procedures and of histories, whatever the program does.
 
 ghost use Rattle.std.specs.Prelude.{Bool};
 ghost use Rattle.coco_ast.specs.BuiltinForms.{BuiltinForms};
@@ -6,6 +6,10 @@ ghost use Rattle.coco_ast.specs.CheckExamples.{CheckExamples};
 ghost use Rattle.coco_ast.specs.Examples.{Examples};
 ghost use Rattle.coco_ast.specs.Keyed.{Rows};
 ghost use Rattle.coco_ast.specs.Meaning.{Datum};
+
+pub mod histories;
+
+pub use histories::history_examples;
 
 /// What the runs of the built-in procedures come to, on any map and by any arguments.
 pub fn builtin_runs()
