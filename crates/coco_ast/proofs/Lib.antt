@@ -3,7 +3,11 @@ pub mod BuiltinCalls
 pub mod BuiltinLaws
 pub mod BuiltinRuns
 pub mod CheckedExamples
+pub mod Depending
 pub mod KeyedLemmas
+pub mod Leading
+pub mod RunsPutWrites
 pub mod WordTexts
 pub mod WorkedExamples
 pub mod WorkedHistories
+pub mod Writing

@@ -54,7 +54,6 @@ new = record { distinct = (tt, tt); unkept = (refl, tt); above = (omega arith, t
 old : AreNew (with_keep (Some 1) two_epochs) (request_of (get_done 3 0) ∷ []) → ⊥
 old h = omega (arith, h.above.0)
 
-
 pub history_examples : HistoryExamples
 history_examples = record {
   two = refl;

@@ -8,8 +8,10 @@ ghost use Rattle.coco_ast.specs.Keyed.{Rows};
 ghost use Rattle.coco_ast.specs.Meaning.{Datum};
 
 pub mod histories;
+pub mod runs;
 
 pub use histories::history_examples;
+pub use runs::{runs_depend_on_needs, runs_put_writes};
 
 /// What the runs of the built-in procedures come to, on any map and by any arguments.
 pub fn builtin_runs()
