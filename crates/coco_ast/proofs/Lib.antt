@@ -4,6 +4,7 @@ pub mod BuiltinLaws
 pub mod BuiltinRuns
 pub mod CheckedExamples
 pub mod Depending
+pub mod Ending
 pub mod KeyedLemmas
 pub mod Leading
 pub mod RunsPutWrites

@@ -11,7 +11,7 @@ pub mod histories;
 pub mod runs;
 
 pub use histories::history_examples;
-pub use runs::{runs_depend_on_needs, runs_put_writes};
+pub use runs::{calls_end_soon, runs_depend_on_needs, runs_put_writes};
 
 /// What the runs of the built-in procedures come to, on any map and by any arguments.
 pub fn builtin_runs()

@@ -1,8 +1,10 @@
 //! What holds of the run of every call of every tree.
 
+ghost use Rattle.coco_ast.specs.Checks.{IsAccepted};
+ghost use Rattle.coco_ast.specs.Fitting.{Fits};
 ghost use Rattle.coco_ast.specs.Keyed.{Rows};
 ghost use Rattle.coco_ast.specs.Meaning.{run};
-ghost use Rattle.coco_ast.specs.RunLaws.{DependsOnNeeds, IsPutOver};
+ghost use Rattle.coco_ast.specs.RunLaws.{DependsOnNeeds, EndsSoon, IsPutOver};
 ghost use Rattle.coco_ast.specs.Tree.{Procedures};
 ghost use Rattle.coco_types.specs.declared.call.Call.{Call};
 
@@ -15,4 +17,10 @@ pub fn runs_put_writes()
 /// there give the same reply, needs and writes.
 pub fn runs_depend_on_needs()
     ensures { (ps : Procedures) (call : Call) → DependsOnNeeds ps call }
+{}
+
+/// A call that fits an accepted tree ends by a reply or a refusal, and reads and writes at most 64
+/// keys in all.
+pub fn calls_end_soon()
+    ensures { (ps : Procedures) → IsAccepted ps → (call : Call) (m : Rows) → Fits ps call → EndsSoon ps call m }
 {}
