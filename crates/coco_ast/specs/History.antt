@@ -2,6 +2,7 @@
 use Rattle.std.specs.Prelude.{◌≡◌, ◌⊎◌, ⊤, ℕ, ◌<◌, Bool, true, false, ◌||◌, not, if◌then◌else◌, nat_eq, nat_lt, nat_le, max, List, [], ◌∷◌, ◌++◌, length, map, Option, None, Some}
 use Rattle.std.specs.List.{filter, find, AllByRecursion, IsDistinct}
 use Rattle.std.specs.FinMap.{empty}
+use Rattle.std.specs.Set.{distinct_count}
 use Rattle.coco_types.specs.declared.call.Done.{Done}
 use Rattle.coco_types.specs.declared.call.Request.{Request}
 use Rattle.coco_ast.specs.Tree.{Procedures}
@@ -71,18 +72,9 @@ all_dones h = h.base.kept ++ epoch_dones h
 abbrev pub ids_of : List Done → List ℕ
 ids_of = map (λ d. d.id)
 
-abbrev pub is_in : ℕ → List ℕ → Bool
-is_in n [] = false
-is_in n (x ∷ xs) = nat_eq n x || is_in n xs
-
--- each number once
-abbrev pub distinct : List ℕ → List ℕ
-distinct [] = []
-distinct (x ∷ xs) = if is_in x xs then distinct xs else x ∷ distinct xs
-
 -- how many epochs with Dones among these are above this one
 abbrev pub epochs_above : ℕ → List Done → ℕ
-epochs_above n ds = length (distinct (filter (λ m. nat_lt n m) (map (λ d. d.epoch) ds)))
+epochs_above n ds = distinct_count nat_eq (filter (λ m. nat_lt n m) (map (λ d. d.epoch) ds))
 
 abbrev pub is_held : Option ℕ → List Done → Done → Bool
 is_held None ds d = true
