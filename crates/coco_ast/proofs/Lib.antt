@@ -5,8 +5,11 @@ pub mod BuiltinRuns
 pub mod CheckedExamples
 pub mod Depending
 pub mod Ending
+pub mod GrowthLemmas
+pub mod KeptLemmas
 pub mod KeyedLemmas
 pub mod Leading
+pub mod Lists
 pub mod RunsPutWrites
 pub mod WordTexts
 pub mod WorkedExamples

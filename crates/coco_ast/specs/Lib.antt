@@ -5,6 +5,7 @@ pub mod Checks
 pub mod Examples
 pub mod Fitting
 pub mod Growth
+pub mod GrowthLaws
 pub mod History
 pub mod HistoryExamples
 pub mod Keyed
