@@ -12,7 +12,8 @@ use Rattle.coco_ast.specs.Tree.{Procedure, Procedures}
 use Rattle.coco_ast.specs.Builtins.{get_proc, put_proc, add_proc}
 use Rattle.coco_ast.specs.Checks.{IsAccepted, HasNoError, behind_builtins, is_among}
 use Rattle.coco_ast.specs.Meaning.{procedure_at}
-use Rattle.coco_ast.specs.Numbering.{IsNamed}
+use Rattle.coco_ast.specs.Numbering.{IsNamed, IsNumberOf}
+use Rattle.coco_ast.specs.Words.{is_word}
 use Rattle.coco_ast.specs.Views.{procedure_of, procedures_of}
 use Rattle.coco_ast.specs.declared.error.CheckKind.TheVariants.{Twice}
 use Rattle.coco_ast.specs.declared.tree.Proc.{Proc}
@@ -127,13 +128,14 @@ module _ (t : Procs) (x : List ℕ) where
       λ i p e. subst (λ (u : Procedures). slice_get u.procs i ≡ Some p) a.whole (sym (procedure_at-get (procedures_of t).procs i) ∙ e) in
       one_place a.text a.sound m n h.0 k.0 (at m h.0 h.1) (at n k.0 k.1) (h.2 ∙ sym k.2)
 
-abbrev pub IsNumberOf : Procs → List ℕ → Option ℕ → Type 0
-IsNumberOf t x r = MatchOption r ((k : ℕ) (p : Proc) → slice_get t.procs k ≡ Some p → p.name ≡ x → ⊥) (λ n. (p : Proc) × (slice_get t.procs n ≡ Some p) × (p.name ≡ x))
-
-pub number_found : (t : Procs) (x : List ℕ) (r : Option ℕ) → IsNumberOf t x r → IfSome r (λ n. IsNamed (procedures_of t) n x)
+pub number_found : (t : Procs) (x : List ℕ) (r : Option ℕ) → IsNumberOf t.procs x r → IfSome r (λ n. IsNamed (procedures_of t) n x)
 number_found t x None h = tt
 number_found t x (Some n) h = named t x n h.0 h.1 h.2
 
-pub number_only : (t : Procs) (x : List ℕ) → IsAccepted (procedures_of t) → (r : Option ℕ) → IsNumberOf t x r → (n : ℕ) → IsNamed (procedures_of t) n x → r ≡ Some n
+pub number_only : (t : Procs) (x : List ℕ) → IsAccepted (procedures_of t) → (r : Option ℕ) → IsNumberOf t.procs x r → (n : ℕ) → IsNamed (procedures_of t) n x → r ≡ Some n
 number_only t x a None h n k = absurd (unnamed t x h n k)
 number_only t x a (Some m) h n k = ap Some (same_number t x a m n (named t x m h.0 h.1 h.2) k)
+
+-- what is no word is no procedure's name
+pub number_of_no_word : (ps : List Proc) (x : List ℕ) → ((k : ℕ) (p : Proc) → slice_get ps k ≡ Some p → is_word p.name ≡ true) → is_word x ≡ false → IsNumberOf ps x None
+number_of_no_word ps x words other k p there same = let e : true ≡ false = sym (words k p there) ∙ ap is_word same ∙ other in cc

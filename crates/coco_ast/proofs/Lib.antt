@@ -6,6 +6,7 @@ pub mod CheckedExamples
 pub mod Depending
 pub mod Ending
 pub mod GrowthLemmas
+pub mod Indexing
 pub mod KeptLemmas
 pub mod KeyedLemmas
 pub mod Leading

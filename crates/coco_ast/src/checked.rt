@@ -1,13 +1,17 @@
-ghost use Rattle.std.specs.Prelude.{◌≡◌, ℕ, ◌<◌, ◌≤◌, ◌^◌, IfSome, MatchOption, slice_get, length};
+//! Trees without errors, and what is asked of them.
+
+ghost use Rattle.std.specs.Prelude.{◌≡◌, ℕ, ◌≤◌, IfOk, IfSome, slice_get, length};
 ghost use Rattle.std.specs.Option.{option_map};
 ghost use Rattle.coco_ast.specs.Checks.{IsAccepted};
 ghost use Rattle.coco_ast.specs.Fitting.{any_writes, writes_in};
 ghost use Rattle.coco_ast.specs.Meaning.{procedure_at};
 ghost use Rattle.coco_ast.specs.Numbering.{IsNamed};
 ghost use Rattle.coco_ast.specs.Views.{procedure_of, procedures_of, statement_of, statements_of};
-ghost use Rattle.coco_ast.specs.declared.tree.Proc.{Proc};
 
-use crate::{Proc, Procs, Stmt};
+use crate::index::{Numbers, numbers_of};
+use crate::{Name, Proc, Procs, Stmt};
+use coco_types::NoMemory;
+use std::alloc::Global;
 use std::marker::Model;
 
 /// The tables and procedures of a text without errors, with the built-in ones in front. Contracts
@@ -15,10 +19,12 @@ use std::marker::Model;
 #[derive(Debug, Drop)]
 pub struct Checked {
     procs: Procs,
+    numbers: Numbers,
 }
 
 impl Model for Checked {
     ghost use Rattle.coco_ast.specs.Checks.{IsAccepted};
+    ghost use Rattle.coco_ast.specs.Numbering.{IsIndexOf};
     ghost use Rattle.coco_ast.specs.Tree.{Procedures};
     ghost use Rattle.coco_ast.specs.TreeCode.{procedures_code};
     ghost use Rattle.coco_ast.specs.Views.{procedures_of};
@@ -29,16 +35,20 @@ impl Model for Checked {
 
     ghost view = { λ c. procedures_of c.procs };
 
-    ghost invariant = { λ c. IsAccepted (procedures_of c.procs) };
+    ghost invariant = { λ c. IsAccepted (procedures_of c.procs) × IsIndexOf c.procs.procs c.numbers };
 }
 
 impl Checked {
-    /// An accepted tree. It takes no memory.
-    pub fn of(tree: Procs) -> Checked
+    /// An accepted tree.
+    pub fn of(alloc: Global, tree: Procs) -> Result<Checked, NoMemory>
         requires { IsAccepted (procedures_of tree) }
-        ensures { result ≡ procedures_of tree }
+        ensures { IfOk result (λ c. c ≡ procedures_of tree) }
     {
-        Checked { procs: tree }
+        let numbers = numbers_of(alloc, tree.procs.as_slice())?;
+        Ok(Checked {
+            procs: tree,
+            numbers,
+        })
     }
 
     pub fn tree(&self) -> &Procs
@@ -53,7 +63,11 @@ impl Checked {
         ensures found { IfSome result (λ n. IsNamed self.now n name.now) }
         ensures only { (n : ℕ) → IsNamed self.now n name.now → result ≡ Some n }
     {
-        place_of(self.procs.procs.as_slice(), name)
+        let numbers = &self.numbers;
+        match Name::of(name.as_bytes()) {
+            None => None,
+            Some(name) => numbers.get(&name).copied(),
+        }
     }
 
     /// How many parameters a procedure has.
@@ -100,21 +114,6 @@ impl Checked {
     {
         self.procs.procs.as_slice().get(proc_no as usize)
     }
-}
-
-// The place of the first procedure of this name.
-fn place_of(procs: &[Proc], name: &str) -> Option<u16>
-    requires { length procs.now < 2 ^ 16 }
-    ensures { MatchOption result
-        ((k : ℕ) (p : Proc) → slice_get procs.now k ≡ Some p → p.name ≡ name.now → ⊥)
-        (λ n. (p : Proc) × (slice_get procs.now n ≡ Some p) × (p.name ≡ name.now)) }
-{
-    for (i, proc) in procs.iter().enumerate() {
-        if proc.name.as_str() == name {
-            return Some(i as u16);
-        }
-    }
-    None
 }
 
 #[cycle(writes)]

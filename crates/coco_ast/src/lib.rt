@@ -4,6 +4,7 @@
 pub mod builtin;
 pub mod checked;
 pub mod error;
+mod index;
 pub mod laws;
 pub mod name;
 pub mod tree;

@@ -49,6 +49,14 @@ impl Name {
         Some(Name { len, bytes })
     }
 
+    pub(crate) fn copied(&self) -> Name
+        ensures value { result ≡ self.now }
+        ensures word { is_word result ≡ true }
+    {
+        let Name { len, bytes } = *self;
+        Name { len, bytes }
+    }
+
     pub fn as_bytes(&self) -> &[u8]
         ensures value { result.now ≡ self.now }
         ensures word { is_word result.now ≡ true }

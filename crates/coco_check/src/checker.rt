@@ -33,7 +33,7 @@ pub fn check(alloc: Global, procs: Procs) -> Result<Checked, CheckFault>
     let first = builtins(alloc)?;
     find_error(alloc, &first, &procs)?;
     let tree = joined(first, procs)?;
-    Ok(Checked::of(tree))
+    Ok(Checked::of(alloc, tree)?)
 }
 
 fn find_error(alloc: Global, first: &Procs, procs: &Procs) -> Result<(), CheckFault>

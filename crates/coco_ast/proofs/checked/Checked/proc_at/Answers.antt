@@ -19,4 +19,4 @@ pub returns-clause-value : goal.returns-clause-value
 returns-clause-value c = found c
 
 pub returns-clause-params : goal.returns-clause-params
-returns-clause-params c = few_found c.args.self.now (subst IsAccepted c.self.view_is c.self.invariant) c.args.proc_no c.get.result (found c)
+returns-clause-params c = few_found c.args.self.now (subst IsAccepted c.self.view_is c.self.invariant.0) c.args.proc_no c.get.result (found c)
