@@ -6,12 +6,14 @@ pub mod CheckedExamples
 pub mod Depending
 pub mod Ending
 pub mod GrowthLemmas
+pub mod Growths
 pub mod Indexing
 pub mod KeptLemmas
 pub mod KeyedLemmas
 pub mod Leading
 pub mod Lists
 pub mod RunsPutWrites
+pub mod ScheduleLemmas
 pub mod WordTexts
 pub mod WorkedExamples
 pub mod WorkedHistories

@@ -3,7 +3,7 @@ use Rattle.std.specs.Prelude.{◌≡◌, ℕ, ◌<◌, List, [], ◌++◌, map, 
 use Rattle.std.specs.List.{AllByRecursion, IsDistinct}
 use Rattle.coco_types.specs.declared.call.Done.{Done}
 use Rattle.coco_types.specs.declared.call.Request.{Request}
-use Rattle.coco_ast.specs.Growth.{AreNew, GrowsBy, IsEpochOf}
+use Rattle.coco_ast.specs.Growth.{AreNew, GrowsByAll, IsEpochOf}
 use Rattle.coco_ast.specs.History.{History, Epoch, AreTimed, IsOrdered, IsPrefixOf, IsSerial, RepliesAreRuns, all_dones, done_of, epoch_dones, floor, floor_of, followed_by, kept, kept_of, last_epoch, map_of, no_base, rows_after}
 use Rattle.coco_ast.specs.Schedule.{IsNext}
 use Rattle.coco_ast.specs.Tree.{Procedures}
@@ -19,6 +19,15 @@ pub record Keeps (h : History) (requests : List Request) (g : History) : Type 0 
   pub stays : (id : ℕ) (d : Done) → done_of id (all_dones h) ≡ Some d → done_of id (all_dones g) ≡ Some d
   pub ordered : IsOrdered h → AreNew h requests → IsOrdered g
   pub answered : IsOrdered g → AllByRecursion (IsAnswered (all_dones g)) requests
+
+-- of a history and what it grew to by one list of requests after another
+pub record KeepsOn (h g : History) : Type 0 where
+  pub prefix : IsPrefixOf h g
+  pub stays : (id : ℕ) (d : Done) → done_of id (all_dones h) ≡ Some d → done_of id (all_dones g) ≡ Some d
+
+-- to grow by some lists and then by others is to grow by all of them
+abbrev pub GrowsThrough : History → List (List Request) → List (List Request) → History → Type 0
+GrowsThrough h first more g = (between : History) × GrowsByAll h first between × GrowsByAll between more g
 
 -- of a history and one more epoch
 pub record Follows (ps : Procedures) (h : History) (e : Epoch) : Type 0 where

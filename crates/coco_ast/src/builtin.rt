@@ -1,3 +1,5 @@
+//! The built-in table and procedures.
+
 ghost use Rattle.std.specs.Prelude.{◌≡◌, true, codes, pos, IfOk};
 ghost use Rattle.coco_ast.specs.Builtins as trees;
 ghost use Rattle.coco_ast.specs.Builtins.{main_row};

@@ -1,3 +1,5 @@
+//! What is wrong with a tree, and how it is printed.
+
 use std::error::Error;
 use std::fmt;
 

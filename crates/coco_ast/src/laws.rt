@@ -10,7 +10,9 @@ ghost use Rattle.coco_ast.specs.Meaning.{Datum};
 pub mod histories;
 pub mod runs;
 
-pub use histories::{growth_keeps, history_examples, kept_follows};
+pub use histories::{
+    compacted_alike, growth_keeps, growths_keep, history_examples, kept_follows, scheduled_growth,
+};
 pub use runs::{calls_end_soon, runs_depend_on_needs, runs_put_writes};
 
 /// What the runs of the built-in procedures come to, on any map and by any arguments.

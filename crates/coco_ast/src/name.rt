@@ -1,3 +1,5 @@
+//! Names, held in place.
+
 ghost use Rattle.std.specs.Prelude.{◌≡◌, List, ℕ, false, true, ◌<◌, ◌≤◌, ◌++◌, length, drop, MatchOption};
 ghost use Rattle.std.specs.List.{list_all};
 ghost use Rattle.coco_ast.specs.Short.{in_place};

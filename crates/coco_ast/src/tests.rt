@@ -1,3 +1,5 @@
+//! Names, built-in procedures and expressions as they are made.
+
 use crate::{Expr, Name, TwoOp, builtins};
 use std::test::Fail;
 

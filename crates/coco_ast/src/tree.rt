@@ -1,3 +1,5 @@
+//! The trees of procedures.
+
 ghost use Rattle.std.specs.Prelude.{◌≡◌, IfOk};
 ghost use Rattle.coco_ast.specs.Tree.{Not, Negate, Two};
 ghost use Rattle.coco_ast.specs.Views.{expression_of, sign_of};
