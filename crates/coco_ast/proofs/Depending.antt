@@ -6,11 +6,11 @@ use Rattle.coco_types.specs.declared.value.Value.TheVariants.{Int}
 use Rattle.coco_types.specs.declared.call.Call.{Call}
 use Rattle.coco_types.specs.declared.call.Reply.TheVariants.{Ok as Answers, Refused}
 use Rattle.coco_ast.specs.Keyed.{Rows, value_at, write_at, AgreeOn}
-use Rattle.coco_ast.specs.Meaning.{Datum, Computed, Access, Reads, Writes, State, Flow, Goes, Ends, Refuses, set_variable, read_row, write_row, with, after, turns, statement_flow, statements_flow, value_of, key_of, and_then, number_of, is_true, is_key, needs_after, writes_after, Run, run, run_of, flow_of, opened, procedure_at}
+use Rattle.coco_ast.specs.Meaning.{Datum, Computed, Access, Reads, Writes, State, Flow, Goes, Ends, Refuses, set_variable, read_row, write_row, with, after, turns, statement_flow, statements_flow, value_of, key_of, and_then, number_of, is_true, is_key, needs_after, writes_after, run, run_of, flow_of, opened, procedure_at}
 use Rattle.coco_ast.specs.RunLaws.{RunAlike, DependsOnNeeds, accesses_of}
-use Rattle.coco_ast.specs.Checks.{statement_weight, key_weight}
+use Rattle.coco_ast.specs.Checks.{key_weight}
 use Rattle.coco_ast.specs.Tree.{Statement, Let, Get, Put, Delete, If, IfElse, Repeat, Refuse, Reply, Statements, End, Then, Procedure, Procedures}
-use Rattle.coco_ast.proofs.Leading.{LeadsTo, statement_leads, statements_lead, turns_lead}
+use Rattle.coco_ast.proofs.Leading.{LeadsTo, statements_lead, turns_lead}
 use Rattle.coco_ast.proofs.Writing.{value_written, same_key}
 
 -- ---- accesses of a key

@@ -1,5 +1,5 @@
 -- A history and one more epoch: its Dones, its order, its replies.
-use Rattle.std.proofs.Common.{◌≡◌, refl, sym, ap, ◌∙◌, subst, inl, inr, append-nil, append_assoc, ℕ, ◌+◌, ◌<◌, ◌≤◌, max, Bool, true, false, not, cond, nat_eq, List, [], ◌∷◌, ◌++◌, map, Option, None, Some, arith, filter, IsPermutation}
+use Rattle.std.proofs.Common.{◌≡◌, refl, sym, ap, ◌∙◌, subst, inl, append-nil, append_assoc, ℕ, ◌<◌, ◌≤◌, max, Bool, true, false, not, cond, nat_eq, List, [], ◌∷◌, ◌++◌, map, Option, None, Some, arith, filter, IsPermutation}
 use Rattle.std.specs.List.{AllByRecursion, IsDistinct}
 use Rattle.std.specs.Cmp.{nat_eq_equiv}
 use Rattle.std.specs.Option.{option_or}

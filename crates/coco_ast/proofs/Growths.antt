@@ -1,10 +1,9 @@
 -- Growth by one list of requests after another, and the compacted history.
-use Rattle.std.proofs.Common.{◌≡◌, refl, sym, ap, ◌∙◌, subst, append-nil, append_assoc, ◌↔◌, ℕ, List, [], ◌∷◌, ◌++◌, Some}
-use Rattle.coco_types.specs.declared.call.Done.{Done}
+use Rattle.std.proofs.Common.{◌≡◌, refl, sym, ap, ◌∙◌, subst, append-nil, append_assoc, ◌↔◌, ℕ, List, [], ◌∷◌, ◌++◌}
 use Rattle.coco_types.specs.declared.call.Request.{Request}
 use Rattle.coco_ast.specs.Growth.{GrowsBy, GrowsByAll, GrowsInTurn}
 use Rattle.coco_ast.specs.GrowthLaws.{GrowsThrough, KeepsOn}
-use Rattle.coco_ast.specs.History.{AnswerAlike, Epoch, History, IsOrdered, IsPrefixOf, StayAlike, all_dones, compacted, dones_in, epoch_dones, floor_of, followed_by_all, kept, kept_of, rows_after}
+use Rattle.coco_ast.specs.History.{Epoch, History, IsPrefixOf, StayAlike, all_dones, compacted, dones_in, epoch_dones, floor_of, followed_by_all, kept_of, rows_after}
 use Rattle.coco_ast.specs.Tree.{Procedures}
 use Rattle.coco_ast.proofs.GrowthLemmas.{growth_keeps, rows_after-append}
 use Rattle.coco_ast.proofs.KeptLemmas.{floor_behind, kept_behind}

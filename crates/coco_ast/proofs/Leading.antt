@@ -1,6 +1,5 @@
 -- What statements lead to: which accesses they add, how many at most, and the map that these make.
-use Rattle.std.proofs.Common.{◌≡◌, ℕ, zero, suc, ◌+◌, ◌*◌, ◌≤◌, max, Bool, true, false, if◌then◌else◌, List, [], ◌∷◌, ◌++◌, length, Option, None, Ok, Err, ℤ, pos, Some, refl, sym, ap, ◌∙◌, append-nil, append_assoc, length-append, le_refl, suc-mul, subst, arith}
-use Rattle.coco_types.specs.RowKey.{RowKey}
+use Rattle.std.proofs.Common.{◌≡◌, ℕ, zero, suc, ◌+◌, ◌*◌, ◌≤◌, max, Bool, true, false, if◌then◌else◌, List, [], ◌∷◌, ◌++◌, length, None, Ok, Err, pos, Some, refl, sym, ap, ◌∙◌, append-nil, append_assoc, length-append, suc-mul, subst, arith}
 use Rattle.coco_types.specs.declared.value.Value.TheVariants.{Int}
 use Rattle.coco_ast.specs.Checks.{statement_weight, key_weight}
 use Rattle.coco_ast.specs.Keyed.{Rows, write_at}

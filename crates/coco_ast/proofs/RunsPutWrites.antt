@@ -6,7 +6,7 @@ use Rattle.coco_ast.specs.Keyed.{Rows, put_over}
 use Rattle.coco_ast.specs.Meaning.{Datum, State, Variables, Flow, bound, writes_after, Goes, Ends, Refuses, run, run_of, flow_of, opened, procedure_at}
 use Rattle.coco_ast.specs.RunLaws.{IsPutOver}
 use Rattle.coco_ast.specs.Tree.{Procedure, Procedures}
-use Rattle.coco_ast.proofs.Leading.{rows_by, Leads, LeadsTo, stays, statements_lead}
+use Rattle.coco_ast.proofs.Leading.{rows_by, Leads, LeadsTo, statements_lead}
 use Rattle.coco_ast.proofs.Writing.{put_over_writes}
 
 state_puts : (w : ℕ) (m : Rows) (t : State) → Leads w m [] t → t.rows ≡ put_over m (writes_after [] t.accesses)

@@ -1,14 +1,12 @@
 -- The words of histories compute each example.
-use Rattle.std.proofs.Common.{◌≡◌, refl, sym, ap, ◌∙◌, true, false, ℕ, List, [], ◌∷◌, Option, None, Some, inl, arith, nat_eq}
-use Rattle.std.specs.FinMap.{get-insert, get-retain_keys}
+use Rattle.std.proofs.Common.{◌≡◌, refl, true, false, [], ◌∷◌, Some, inl, arith}
+use Rattle.std.specs.FinMap.{get-insert}
 use Rattle.std.specs.List.{IsDistinct}
-use Rattle.coco_types.proofs.KeyMaps.{keys_total, keys_exact}
-use Rattle.coco_types.specs.RowKey.{RowKey}
+use Rattle.coco_types.proofs.KeyMaps.{keys_total}
 use Rattle.coco_ast.specs.Builtins.{builtins}
 use Rattle.coco_ast.specs.Growth.{GrowsBy, AreNew}
-use Rattle.coco_ast.specs.History.{History, followed_by, with_keep, IsPrefixOf, IsOrdered, IsSerial, map_of, request_of, compacted}
+use Rattle.coco_ast.specs.History.{followed_by, with_keep, IsPrefixOf, IsOrdered, IsSerial, map_of, request_of}
 use Rattle.coco_ast.specs.HistoryExamples.{HistoryExamples, two_epochs, three_epochs, compacted_two, five_is_70, epoch_of, get_done}
-use Rattle.coco_ast.specs.Keyed.{Rows, value_at, on_partition}
 use Rattle.coco_ast.specs.Meaning.{run}
 use Rattle.coco_ast.proofs.KeyedLemmas.{value_on_partition}
 

@@ -1,5 +1,5 @@
 -- How a history grows by requests: one epoch for each list of them that isn't empty. Which numbers and times its Dones get, beyond their order, is the schedule's to say.
-use Rattle.std.specs.Prelude.{◌≡◌, ℕ, ◌<◌, List, [], ◌∷◌, map, None, nat_eq}
+use Rattle.std.specs.Prelude.{◌≡◌, ◌<◌, List, [], ◌∷◌, map, None, nat_eq}
 use Rattle.std.specs.List.{AllByRecursion, IsDistinct}
 use Rattle.std.specs.List.Sorted.{IsPermutation}
 use Rattle.coco_types.specs.declared.call.Request.{Request}

@@ -1,11 +1,10 @@
 -- What a history has of the one that it grew from.
-use Rattle.std.specs.Prelude.{◌≡◌, ℕ, ◌<◌, List, [], ◌++◌, map, None, Some, nat_eq}
-use Rattle.std.specs.List.{AllByRecursion, IsDistinct}
+use Rattle.std.specs.Prelude.{◌≡◌, ℕ, ◌<◌, List, ◌++◌, None, Some}
+use Rattle.std.specs.List.{AllByRecursion}
 use Rattle.coco_types.specs.declared.call.Done.{Done}
 use Rattle.coco_types.specs.declared.call.Request.{Request}
 use Rattle.coco_ast.specs.Growth.{AreNew, GrowsByAll, IsEpochOf}
 use Rattle.coco_ast.specs.History.{History, Epoch, AreTimed, IsOrdered, IsPrefixOf, IsSerial, RepliesAreRuns, all_dones, done_of, epoch_dones, floor, floor_of, followed_by, kept, kept_of, last_epoch, map_of, no_base, rows_after}
-use Rattle.coco_ast.specs.Schedule.{IsNext}
 use Rattle.coco_ast.specs.Tree.{Procedures}
 
 -- the request has its Done

@@ -1,14 +1,13 @@
 -- Small histories, and what is kept, forgotten, ordered and serial in them.
-use Rattle.std.specs.Prelude.{◌≡◌, ℕ, true, false, List, [], ◌∷◌, map, None, Some, pos, Option}
+use Rattle.std.specs.Prelude.{◌≡◌, ℕ, false, List, [], ◌∷◌, map, None, Some, pos, Option}
 use Rattle.std.specs.FinMap.{empty, insert}
-use Rattle.coco_types.specs.RowKey.{RowKey}
 use Rattle.coco_types.specs.declared.call.Done.{Done}
 use Rattle.coco_types.specs.declared.call.Reply.TheVariants.{Ok as Answers}
 use Rattle.coco_types.specs.declared.value.Value.TheVariants.{Int}
 use Rattle.coco_ast.specs.Builtins.{builtins}
 use Rattle.coco_ast.specs.BuiltinForms.{get_call, put_call}
 use Rattle.coco_ast.specs.Growth.{GrowsBy, AreNew}
-use Rattle.coco_ast.specs.History.{History, Epoch, no_history, followed_by, with_keep, up_to, last_epoch, all_dones, kept, floor, done_of, ids_of, IsPrefixOf, IsOrdered, IsSerial, map_of, compacted, request_of}
+use Rattle.coco_ast.specs.History.{History, Epoch, no_history, followed_by, with_keep, up_to, last_epoch, kept, floor, done_of, ids_of, IsPrefixOf, IsOrdered, IsSerial, map_of, compacted, request_of}
 use Rattle.coco_ast.specs.Keyed.{Rows, value_at, on_partition}
 use Rattle.coco_ast.specs.Meaning.{Datum}
 

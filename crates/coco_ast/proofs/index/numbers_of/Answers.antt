@@ -1,7 +1,5 @@
-use Rattle.std.proofs.Common.{length, refl, subst, ◌≡◌, sym, true}
+use Rattle.std.proofs.Common.{length, refl, ◌≡◌}
 use Rattle.std.proofs.lemmas.Option.{slice_get_read}
-use Rattle.std.specs.BTreeMap.{Updates}
-use Rattle.coco_ast.specs.Words.{is_word}
 use Rattle.coco_ast.proofs.Indexing.{index_more, index_whole}
 use Rattle.coco_ast.proofs.index.numbers_of.Goals as goal
 
