@@ -1,9 +1,12 @@
 -- Growth by one list of requests after another, and the compacted history.
-use Rattle.std.proofs.Common.{◌≡◌, refl, sym, ap, ◌∙◌, subst, append-nil, append_assoc, ◌↔◌, ℕ, List, [], ◌∷◌, ◌++◌}
+use Rattle.std.proofs.Common.{◌≡◌, refl, sym, ap, ◌∙◌, subst, append-nil, append_assoc, ◌↔◌, ℕ, Bool, true, false, cond, nat_eq, filter, List, [], ◌∷◌, ◌++◌, None, Some, arith}
+use Rattle.std.specs.List.{AllByRecursion, IsDistinct}
+use Rattle.std.proofs.lemmas.Bool.Decides.{nat_tests}
+use Rattle.coco_types.specs.declared.call.Done.{Done}
 use Rattle.coco_types.specs.declared.call.Request.{Request}
 use Rattle.coco_ast.specs.Growth.{GrowsBy, GrowsByAll, GrowsInTurn}
-use Rattle.coco_ast.specs.GrowthLaws.{GrowsThrough, KeepsOn}
-use Rattle.coco_ast.specs.History.{Epoch, History, IsPrefixOf, StayAlike, all_dones, compacted, dones_in, epoch_dones, floor_of, followed_by_all, kept_of, rows_after}
+use Rattle.coco_ast.specs.GrowthLaws.{GrowsThrough, KeepsOn, KeptAreDones}
+use Rattle.coco_ast.specs.History.{Epoch, History, IsPrefixOf, StayAlike, all_dones, compacted, done_of, dones_in, epoch_dones, floor_of, followed_by_all, ids_of, is_held, kept_of, rows_after}
 use Rattle.coco_ast.specs.Tree.{Procedures}
 use Rattle.coco_ast.proofs.GrowthLemmas.{growth_keeps, rows_after-append}
 use Rattle.coco_ast.proofs.KeptLemmas.{floor_behind, kept_behind}
@@ -37,6 +40,42 @@ module _ (Grows : History → List Request → History → Type 0) where
 
 pub growths_split : (h : History) (first more : List (List Request)) (g : History) → GrowsByAll h (first ++ more) g ↔ GrowsThrough h first more g
 growths_split h first more g = (turns_split GrowsBy h first more g, λ through. turns_joined GrowsBy h first more through.0 g through.1 through.2)
+
+-- ---- kept Dones
+
+nobody : (id : ℕ) (ds : List Done) → AllByRecursion (λ x. nat_eq id x ≡ false) (ids_of ds) → done_of id ds ≡ None
+nobody id [] apart = refl
+nobody id (d ∷ ds) apart = ap (λ b. cond b (Some d) (done_of id ds)) apart.0 ∙ nobody id ds apart.1
+
+passing_apart : (p : Done → Bool) (id : ℕ) (ds : List Done) → AllByRecursion (λ x. nat_eq id x ≡ false) (ids_of ds) → AllByRecursion (λ x. nat_eq id x ≡ false) (ids_of (filter p ds))
+passing_apart p id [] apart = tt
+passing_apart p id (d ∷ ds) apart =
+    elim (p d) as (λ b. AllByRecursion (λ x. nat_eq id x ≡ false) (ids_of (cond b (d ∷ filter p ds) (filter p ds)))) [
+      | true ↦ (apart.0, passing_apart p id ds apart.1)
+      | false ↦ passing_apart p id ds apart.1
+    ]
+
+same_id : (m n : ℕ) → nat_eq m n ≡ true → m ≡ n
+same_id m n h = grind (arith, nat_tests)
+
+one_more_passing : (p : Done → Bool) (id : ℕ) (d x : Done) (xs : List Done) → AllByRecursion (λ y. nat_eq x.id y ≡ false) (ids_of xs) → (done_of id (filter p xs) ≡ Some d → done_of id xs ≡ Some d)
+    → (b c : Bool) → nat_eq id x.id ≡ c → done_of id (cond b (x ∷ filter p xs) (filter p xs)) ≡ Some d → cond c (Some x) (done_of id xs) ≡ Some d
+one_more_passing p id d x xs apart rest true true e found = sym (ap (λ c. cond c (Some x) (done_of id (filter p xs))) e) ∙ found
+one_more_passing p id d x xs apart rest true false e found = rest (sym (ap (λ c. cond c (Some x) (done_of id (filter p xs))) e) ∙ found)
+one_more_passing p id d x xs apart rest false true e found =
+    let gone = nobody x.id (filter p xs) (passing_apart p x.id xs apart) in
+    let none : None ≡ Some d = sym gone ∙ ap (λ i. done_of i (filter p xs)) (sym (same_id id x.id e)) ∙ found in
+    cc
+one_more_passing p id d x xs apart rest false false e found = rest found
+
+-- what is found among those that pass is found among all, where ids are distinct
+passing_found : (p : Done → Bool) (id : ℕ) (d : Done) (ds : List Done) → IsDistinct nat_eq (ids_of ds) → done_of id (filter p ds) ≡ Some d → done_of id ds ≡ Some d
+unfolding IsDistinct
+passing_found p id d [] once found = found
+passing_found p id d (x ∷ xs) once found = one_more_passing p id d x xs once.0 (passing_found p id d xs once.1) (p x) (nat_eq id x.id) refl found
+
+pub kept_are_dones : (h : History) → KeptAreDones h
+kept_are_dones h ordered id d found = passing_found (is_held h.keep (all_dones h)) id d (all_dones h) ordered.once found
 
 -- ---- compacted
 

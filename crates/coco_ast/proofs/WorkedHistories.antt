@@ -1,5 +1,5 @@
 -- The words of histories compute each example.
-use Rattle.std.proofs.Common.{◌≡◌, refl, true, false, [], ◌∷◌, Some, inl, arith}
+use Rattle.std.proofs.Common.{◌≡◌, ℕ, Option, refl, true, false, [], ◌∷◌, Some, inl, arith}
 use Rattle.std.specs.FinMap.{get-insert}
 use Rattle.std.specs.List.{IsDistinct}
 use Rattle.coco_types.proofs.KeyMaps.{keys_total}
@@ -11,7 +11,7 @@ use Rattle.coco_ast.specs.Meaning.{run}
 use Rattle.coco_ast.proofs.KeyedLemmas.{value_on_partition}
 
 other_keep : IsPrefixOf (with_keep (Some 1) two_epochs) (with_keep (Some 2) three_epochs) → ⊥
-other_keep h = let e : Some 1 ≡ Some 2 = h.1 in cc
+other_keep h = let e : ◌≡◌ {A = Option ℕ} (Some 1) (Some 2) = h.1 in cc
 
 ordered : IsOrdered (with_keep (Some 1) three_epochs)
 unfolding IsDistinct

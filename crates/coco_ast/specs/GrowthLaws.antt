@@ -43,6 +43,10 @@ pub record Follows (ps : Procedures) (h : History) (e : Epoch) : Type 0 where
 abbrev pub NewHaveNoDone : History → List Request → Type 0
 NewHaveNoDone h requests = AreNew h requests → AllByRecursion (λ r. done_of r.id (all_dones h) ≡ None) requests
 
+-- the kept Done of an id is its Done
+abbrev pub KeptAreDones : History → Type 0
+KeptAreDones h = IsOrdered h → (id : ℕ) (d : Done) → done_of id (kept h) ≡ Some d → done_of id (all_dones h) ≡ Some d
+
 -- without a keep number all Dones are kept, and nothing but what the base has forgotten is old
 pub record KeepsAll (h : History) : Type 0 where
   pub held : kept h ≡ all_dones h

@@ -3,7 +3,7 @@
 ghost use Rattle.std.specs.Prelude.{◌≡◌, ◌↔◌, ◌++◌, ℕ, List, None, map, nat_eq};
 ghost use Rattle.std.specs.List.{AllByRecursion, IsDistinct};
 ghost use Rattle.coco_ast.specs.Growth.{GrowsBy, GrowsByAll};
-ghost use Rattle.coco_ast.specs.GrowthLaws.{Follows, GrowsThrough, IsGrowth, Keeps, KeepsAll, KeepsOn, NewHaveNoDone};
+ghost use Rattle.coco_ast.specs.GrowthLaws.{Follows, GrowsThrough, IsGrowth, Keeps, KeepsAll, KeepsOn, KeptAreDones, NewHaveNoDone};
 ghost use Rattle.coco_ast.specs.History.{Epoch, History, StayAlike, compacted};
 ghost use Rattle.coco_ast.specs.HistoryExamples.{HistoryExamples};
 ghost use Rattle.coco_ast.specs.Schedule.{IsNext};
@@ -23,10 +23,12 @@ pub fn growth_keeps()
 {}
 
 /// What a history with one more epoch keeps and has forgotten, and its map, follow from those of the
-/// history before. Without a keep number all is kept.
+/// history before. Without a keep number all is kept. What is kept
+/// under an id is its Done.
 pub fn kept_follows()
     ensures one_more { (ps : Procedures) (h : History) (e : Epoch) → Follows ps h e }
     ensures all { (h : History) → h.keep ≡ None → KeepsAll h }
+    ensures found { (h : History) → KeptAreDones h }
 {}
 
 /// An epoch on the schedule, for requests with ids of their own, is one that the history grows by.
