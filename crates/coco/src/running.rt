@@ -10,7 +10,7 @@ ghost use Rattle.coco.specs.Running.{FitsAll};
 
 use crate::order::TimedRequest;
 use coco_serial::Executor;
-use coco_types::{Done, NoMemory, Request};
+use coco_types::{Done, KeptReply, NoMemory, Request};
 use std::alloc::Global;
 
 /// Runs the requests of one epoch in this order, each on what the one before left, and gives their records.
@@ -28,12 +28,17 @@ pub fn run_all(
 {
     let mut dones = Vec::with_capacity(alloc, order.len())?;
     for timed in order {
-        dones.push(run_one(executor, epoch, timed)?)?;
+        dones.push(run_one(alloc, executor, epoch, timed)?)?;
     }
     Ok(dones)
 }
 
-fn run_one(executor: &mut Executor, epoch: u64, timed: TimedRequest) -> Result<Done, NoMemory>
+fn run_one(
+    alloc: Global,
+    executor: &mut Executor,
+    epoch: u64,
+    timed: TimedRequest,
+) -> Result<Done, NoMemory>
     requires fits { Fits builtins timed.request.call }
     ensures reply { IfOk result (λ done. done.reply ≡ (run builtins done.call executor.old).reply) }
     ensures rows { IfOk result (λ done. executor.new ≡ (run builtins done.call executor.old).rows) }
@@ -44,7 +49,7 @@ fn run_one(executor: &mut Executor, epoch: u64, timed: TimedRequest) -> Result<D
         time,
         request: Request { id, call },
     } = timed;
-    let reply = executor.apply(&call)?;
+    let reply = KeptReply::of(alloc, &executor.apply(&call)?)?;
     Ok(Done {
         id,
         call,

@@ -15,7 +15,6 @@ pub mod NameView
 pub mod Numbering
 pub mod RunLaws
 pub mod Schedule
-pub mod Short
 pub mod Tree
 pub mod TreeCode
 pub mod Views

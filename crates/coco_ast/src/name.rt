@@ -1,10 +1,10 @@
-//! Names, held in place.
+//! Names of procedures, tables and variables, held in place.
 
-ghost use Rattle.std.specs.Prelude.{◌≡◌, List, ℕ, false, true, ◌<◌, ◌≤◌, ◌++◌, length, drop, MatchOption};
+ghost use Rattle.std.specs.Prelude.{◌≡◌, false, true, MatchOption};
 ghost use Rattle.std.specs.List.{list_all};
-ghost use Rattle.coco_ast.specs.Short.{in_place};
 ghost use Rattle.coco_ast.specs.Words.{is_word_start, is_word_byte, is_spelled_as_word, is_word};
 
+use coco_types::padding::padded;
 use std::cmp::Ordering;
 use std::fmt;
 use std::marker::Model;
@@ -22,7 +22,8 @@ pub struct Name {
 
 impl Model for Name {
     ghost use Rattle.std.specs.Prelude.{◌≡◌, List, ℕ, true, length, take};
-    ghost use Rattle.coco_ast.specs.Short.{in_place, IsInPlace};
+    ghost use Rattle.coco_types.specs.Padded.{padded, IsPadded};
+    ghost use Rattle.coco_ast.specs.declared.name.TheConstants.{MOST_NAME_BYTES};
     ghost use Rattle.coco_ast.specs.Words.{is_word};
     ghost use Rattle.coco_ast.specs.NameView.{name-view};
 
@@ -30,9 +31,9 @@ impl Model for Name {
 
     ghost view = { λ t. take t.len t.bytes };
 
-    ghost invariant = { λ t. IsInPlace t.len t.bytes × (is_word (take t.len t.bytes) ≡ true) };
+    ghost invariant = { λ t. IsPadded MOST_NAME_BYTES t.len t.bytes × (is_word (take t.len t.bytes) ≡ true) };
 
-    ghost inverse = { λ xs. record { len = length xs; bytes = in_place xs } };
+    ghost inverse = { λ xs. record { len = length xs; bytes = padded MOST_NAME_BYTES xs } };
 
     ghost inverse_ok = { λ t h. name-view t h.0 };
 }
@@ -46,7 +47,7 @@ impl Name {
         if len > MOST_NAME_BYTES || !is_word_spelling(bytes) {
             return None;
         }
-        let bytes = copied_in_place(bytes);
+        let bytes = padded(bytes);
         let len = len as u8;
         Some(Name { len, bytes })
     }
@@ -101,25 +102,6 @@ fn continues_word(b: u8) -> bool
     ensures { result ≡ is_word_byte b }
 {
     starts_word(b) || b.is_ascii_digit()
-}
-
-// The bytes, with zeros behind them.
-fn copied_in_place(from: &[u8]) -> [u8; MOST_NAME_BYTES]
-    requires { length from.now ≤ 32 }
-    ensures { result ≡ in_place from.now }
-{
-    let mut bytes = [0u8; MOST_NAME_BYTES];
-    put_front(&mut bytes, from);
-    bytes
-}
-
-// Writes over the first bytes, and leaves the others.
-fn put_front(into: &mut [u8], from: &[u8])
-    requires { length from.now ≤ length into.old }
-    ensures { into.new ≡ from.now ++ drop (length from.now) into.old }
-{
-    let (front, _) = into.split_at_mut(from.len());
-    front.copy_from_slice(from);
 }
 
 impl PartialEq for Name {

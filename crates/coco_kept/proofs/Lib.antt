@@ -1,3 +1,2 @@
-pub mod CallEq
 pub mod CallerLemmas
 pub mod Entries

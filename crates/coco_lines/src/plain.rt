@@ -13,7 +13,7 @@ ghost use Rattle.coco_lines.specs.Plain.{Holds, Taken};
 
 use crate::LineError;
 use crate::builtins::builtin;
-use coco_types::args::MOST_ARGS;
+use coco_types::limits::MOST_ARGUMENTS;
 use coco_types::{Args, Call, Request, Text, Value};
 use fast_float::Numeral;
 use json::{Reader, Scratch, Value as Tree};
@@ -146,7 +146,7 @@ fn args_of(alloc: Global, items: &[Tree<'_>]) -> Option<Args>
     ensures value { IfSome result (λ args. option_and_then args_of (of_items (items_view items.now)) ≡ Some args) }
     ensures count { IfSome result (λ args. length args ≡ length items.now) }
 {
-    if items.len() > MOST_ARGS {
+    if items.len() > MOST_ARGUMENTS {
         return None;
     }
     let mut args = Args::with_room(alloc, items.len()).ok()?;

@@ -3,7 +3,7 @@ use crate::{
     write_done, write_error,
 };
 use coco_io::MemorySource;
-use coco_types::{Args, Call, Cause, Done, NoMemory, Reply, Text, Value};
+use coco_types::{Args, Call, Cause, Done, KeptReply, NoMemory, Reply, Text, Value};
 use std::alloc::{AllocError, Global};
 use std::test::Fail;
 
@@ -358,8 +358,8 @@ fn a_line_asks_for_its_request(rt: HostRuntime) -> Result<(), Fail> {
     Ok(())
 }
 
-fn done(alloc: Global, time: u64, reply: Reply) -> Done {
-    Done {
+fn done(alloc: Global, time: u64, reply: &Reply) -> Result<Done, NoMemory> {
+    Ok(Done {
         id: 2,
         call: Call {
             proc_no: 0,
@@ -368,8 +368,8 @@ fn done(alloc: Global, time: u64, reply: Reply) -> Done {
         },
         epoch: 1,
         time,
-        reply,
-    }
+        reply: KeptReply::of(alloc, reply)?,
+    })
 }
 
 #[test]
@@ -410,7 +410,7 @@ fn a_record_is_said_as_compact_json(rt: HostRuntime) -> Result<(), Fail> {
         ),
     ];
     for (reply, text) in &cases {
-        let mut said = done_text(rt.alloc(), &done(rt.alloc(), 3, *reply))?;
+        let mut said = done_text(rt.alloc(), &done(rt.alloc(), 3, reply)?)?;
         assert!(rt; said.pop() == Some(b'\n'));
         assert!(rt; said.as_slice() == text.as_bytes());
     }
@@ -431,7 +431,7 @@ fn texts_stand_one_behind_the_other(rt: HostRuntime) -> Result<(), Fail> {
     ] {
         write_error(&mut out, error, number)?;
     }
-    write_done(&mut out, &done(rt.alloc(), 0, Reply::Ok(None)))?;
+    write_done(&mut out, &done(rt.alloc(), 0, &Reply::Ok(None))?)?;
     let all = r#"{"error":"long","line":1}
 {"error":"json","line":2}
 {"error":"shape","line":3}

@@ -5,7 +5,7 @@ ghost use Rattle.serde_json.specs.Written.{outline};
 ghost use Rattle.coco_lines.specs.Texts.{value_json, cause_word, reply_key, reply_json, done_json, error_word, error_json, done_text, error_text};
 
 use crate::LineError;
-use coco_types::{Cause, Done, NoMemory, Reply, Value};
+use coco_types::{Cause, Done, KeptReply, Lent, NoMemory, Packed};
 use json::Writer;
 use std::alloc::{AllocError, Global};
 use std::mem;
@@ -111,32 +111,32 @@ fn put_count(writer: &mut Writer, name: &str, count: u64) -> Result<(), AllocErr
     writer.u64(count)
 }
 
-fn put_reply(alloc: Global, writer: &mut Writer, reply: &Reply) -> Result<(), AllocError>
+fn put_reply(alloc: Global, writer: &mut Writer, reply: &KeptReply) -> Result<(), AllocError>
     ensures ok { OnOk result (writer.new.tokens
         ≡ writer.old.tokens ++ key (reply_key reply.now) ∷ json_tokens (outline (reply_json reply.now))) }
     ensures before { writer.new.before ≡ writer.old.before }
 {
-    match reply {
-        Reply::Ok(value) => {
+    match reply.answer() {
+        Ok(value) => {
             writer.key("ok")?;
             put_value(writer, value)
         }
-        Reply::Refused(cause) => {
+        Err(cause) => {
             writer.key("refused")?;
-            put_cause(alloc, writer, *cause)
+            put_cause(alloc, writer, cause)
         }
     }
 }
 
-fn put_value(writer: &mut Writer, value: &Option<Value>) -> Result<(), AllocError>
+fn put_value(writer: &mut Writer, value: &Packed) -> Result<(), AllocError>
     ensures ok { OnOk result (writer.new.tokens
         ≡ writer.old.tokens ++ json_tokens (outline (value_json value.now))) }
     ensures before { writer.new.before ≡ writer.old.before }
 {
-    match value {
+    match value.lend() {
         None => writer.null(),
-        Some(Value::Int(n)) => writer.i64(*n),
-        Some(Value::Text(text)) => writer.string(text.as_str()),
+        Some(Lent::Int(number)) => writer.i64(number),
+        Some(Lent::Text(text)) => writer.string(text.as_str()),
     }
 }
 

@@ -18,7 +18,8 @@ use Rattle.coco_shard.specs.declared.ops.Answer.TheVariants.{Got, Locked, Marked
 use Rattle.coco_shard.specs.RowState.{RowState, resting, row_at, with_row}
 use Rattle.coco_shard.specs.Table.{answer_in, answer_at, after_ask, left_by, key_of, leaves_row}
 use Rattle.coco_shard.specs.Kept.{Follows, state_of, kept_at, shown, view_of}
-use Rattle.coco_shard.proofs.Keys.{get_key, get_put, same_keyed, is_key, one_key, keys_total}
+use Rattle.coco_types.proofs.Keys.{is_key, one_key, keys_total}
+use Rattle.coco_types.proofs.KeyMaps.{get_key, get_put, same_keyed}
 
 -- what a row says, where there is one
 abbrev pub state_in : Option Kept → Option RowState

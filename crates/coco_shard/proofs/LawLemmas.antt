@@ -15,7 +15,7 @@ use Rattle.coco_shard.specs.declared.ops.Answer.TheVariants.{Locked, Marked, Cha
 use Rattle.coco_shard.specs.RowState.{RowState, ShardState, resting, row_at, with_row, Holds}
 use Rattle.coco_shard.specs.Table.{key_of, answer_at, answer_in, after_ask, left_by, unless_marked, where_mine, is_mark_of}
 use Rattle.coco_shard.specs.Law.{Entry, installed_by, extended_by, marked_by, install_of, extension_of, mark_of, last_found, extensions_since, greatest, law_row, IsLawful, journal_of, after_asks}
-use Rattle.coco_shard.proofs.Keys.{is_key, one_key, keys_total}
+use Rattle.coco_types.proofs.Keys.{is_key, one_key, keys_total}
 
 -- ---- one entry more
 

@@ -1,4 +1,3 @@
-pub mod Keys
 pub mod Entries
 pub mod Whole
 pub mod Steps

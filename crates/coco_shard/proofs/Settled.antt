@@ -12,7 +12,7 @@ use Rattle.coco_types.specs.declared.value.Value.{Value}
 use Rattle.coco_rows.specs.Versions.{at_rest}
 use Rattle.coco_shard.specs.declared.kept.Kept.{Kept}
 use Rattle.coco_shard.specs.Kept.{kept_at, version_of, rested, settled, waits, IsWhole}
-use Rattle.coco_shard.proofs.Keys.{is_key, one_key, key_itself, key_swap}
+use Rattle.coco_types.proofs.Keys.{is_key, one_key, key_itself, key_swap}
 use Rattle.coco_shard.proofs.Entries.{set_at}
 
 two_sides : true ≡ false → ⊥

@@ -11,7 +11,8 @@ use Rattle.coco_shard.specs.declared.ops.Answer.TheVariants.{Got, Locked, Change
 use Rattle.coco_shard.specs.RowState.{RowState, ShardState, resting, row_at, with_row, Holds, IsSettled}
 use Rattle.coco_shard.specs.Table.{after_ask, answer_at, left_by, unless_marked, installed, extended}
 use Rattle.coco_shard.specs.Kept.{view_of}
-use Rattle.coco_shard.proofs.Keys.{is_key, get_put, get_put_same, put_put}
+use Rattle.coco_types.proofs.Keys.{is_key}
+use Rattle.coco_types.proofs.KeyMaps.{get_put, get_put_same, put_put}
 
 abbrev tail : AttemptId
 tail = record { worker = 0; number = 0 }

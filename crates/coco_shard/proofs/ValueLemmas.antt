@@ -17,7 +17,7 @@ use Rattle.coco_rows.specs.Versions.{at_rest}
 use Rattle.coco_shard.specs.declared.kept.Kept.{Kept}
 use Rattle.coco_shard.specs.RowState.{resting, row_at, value_at, Holds, ListsRows, IsGreatestTime}
 use Rattle.coco_shard.specs.Kept.{kept_at, version_of, entry_of, values_in, most_rts, settled, view_of, state_of}
-use Rattle.coco_shard.proofs.Keys.{is_key, key_itself, keys_total}
+use Rattle.coco_types.proofs.Keys.{is_key, key_itself, keys_total}
 use Rattle.coco_shard.proofs.Entries.{get_view, state_in, row_in, no_row_in}
 
 abbrev IsRising : List (RowKey × Kept) → Type 0

@@ -12,7 +12,7 @@ use Rattle.std.proofs.lemmas.List.Folds.{list_any-append}
 use Rattle.coco_types.specs.RowKey.{RowKey, key_cmp}
 use Rattle.coco_shard.specs.declared.kept.Kept.{Kept}
 use Rattle.coco_shard.specs.Kept.{kept_at, waits, IsWhole, IsSound}
-use Rattle.coco_shard.proofs.Keys.{is_key, one_key, key_itself, keys_total}
+use Rattle.coco_types.proofs.Keys.{is_key, one_key, key_itself, keys_total}
 use Rattle.coco_shard.proofs.Entries.{set_at}
 
 -- the list with a key at its end, where it is touched for the first time

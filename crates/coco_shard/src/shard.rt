@@ -28,11 +28,12 @@ impl Model for Shard {
     ghost use Rattle.std.specs.Prelude.{vec_capacity};
     ghost use Rattle.coco_types.specs.RowKey.{key_cmp};
     ghost use Rattle.coco_shard.specs.RowState.{RowState};
-    ghost use Rattle.coco_shard.specs.Codes.{coded_key, coded_row};
+    ghost use Rattle.coco_types.specs.Codes.{key_code};
+    ghost use Rattle.coco_shard.specs.Codes.{row_code};
 
     ghost Value = { map.FinMap key_cmp RowState };
 
-    ghost coded = { map.code coded_key coded_row };
+    ghost coded = { map.code key_code row_code };
 
     ghost use Rattle.coco_shard.specs.Kept.{view_of, IsWhole};
 

@@ -1,3 +1,4 @@
-pub mod ArgumentLemmas
+pub mod CallEquality
 pub mod KeyMaps
+pub mod Keys
 pub mod PaddedLemmas

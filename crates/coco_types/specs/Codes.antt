@@ -1,10 +1,11 @@
--- Keys and values as data, for maps that are a model's value.
+-- Keys, values and attempts as data, for maps that are a model's value.
 use Rattle.std.specs.Prelude.{◌≡◌, ◌⊎◌, ℕ, ℤ, List, refl}
 use Rattle.std.proofs.Common.{inl, inr}
 use Rattle.std.specs.Coded.{Coded, code_by, coded×, coded⊎, coded_ℕ, coded_ℤ, coded_list}
 use Rattle.coco_types.specs.RowKey.{RowKey}
 use Rattle.coco_types.specs.declared.value.Value.{Value}
 use Rattle.coco_types.specs.declared.value.Value.TheVariants.{Int, Text}
+use Rattle.coco_types.specs.declared.call.AttemptId.{AttemptId}
 
 abbrev pub key_code : Coded RowKey
 key_code = code_by (ℕ × ℕ) (coded× coded_ℕ coded_ℕ) (λ k. (k.table, k.row)) (λ p. record { table = p.0; row = p.1 }) (λ _. refl)
@@ -23,3 +24,6 @@ of_parts-parts_of (Text bytes) = refl
 
 abbrev pub value_code : Coded Value
 value_code = code_by (ℤ ⊎ List ℕ) (coded⊎ coded_ℤ (coded_list coded_ℕ)) parts_of of_parts of_parts-parts_of
+
+abbrev pub attempt_code : Coded AttemptId
+attempt_code = code_by (ℕ × ℕ) (coded× coded_ℕ coded_ℕ) (λ a. (a.worker, a.number)) (λ p. record { worker = p.0; number = p.1 }) (λ _. refl)

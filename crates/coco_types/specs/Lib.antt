@@ -1,5 +1,8 @@
 pub mod Arguments
 pub mod Codes
+pub mod KeptReplies
+pub mod Limits
+pub mod Packing
 pub mod Padded
-pub mod PaddedText
 pub mod RowKey
+pub mod TextView

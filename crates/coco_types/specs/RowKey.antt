@@ -1,3 +1,4 @@
+-- Keys of rows, and their order.
 use Rattle.std.specs.Prelude.{ℕ}
 use Rattle.std.specs.declared.cmp.Ordering.{Ordering}
 use Rattle.std.specs.Ordering.{nat_cmp, ordering_then}

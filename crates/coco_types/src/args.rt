@@ -1,66 +1,28 @@
+//! The arguments of a call.
 ghost use Rattle.std.specs.Prelude.{◌≡◌, ◌<◌, ◌≤◌, ◌==◌, [], ◌∷◌, ◌++◌, length, slice_get, option_and_then, IfOk, OnOk, OnErr};
-ghost use Rattle.coco_types.specs.Arguments.{value_of, int_of};
+ghost use Rattle.coco_types.specs.Arguments.{int_of};
 
-use crate::{NoMemory, Text, Value};
+use crate::limits::MOST_ARGUMENTS;
+use crate::{NoMemory, Packed, Value};
 use std::alloc::Global;
 use std::marker::Model;
-
-/// How many arguments a call may have.
-pub const MOST_ARGS: usize = 16;
-
-// An argument as it is kept. Its text is on the heap, so that the others take little room.
-#[derive(Debug, PartialEq, Eq, Drop)]
-enum Arg {
-    Absent,
-    Int(i64),
-    Text(Box<Text>),
-}
-
-impl Arg {
-    // The argument with its text on this heap.
-    fn of(alloc: Global, argument: &Option<Value>) -> Result<Arg, NoMemory>
-        ensures { IfOk result (λ arg. value_of arg ≡ argument.now) }
-    {
-        match argument {
-            None => Ok(Arg::Absent),
-            Some(Value::Int(number)) => Ok(Arg::Int(*number)),
-            Some(Value::Text(text)) => Ok(Arg::Text(boxed(alloc, text)?)),
-        }
-    }
-
-    fn value(&self) -> Option<Value>
-        ensures { result ≡ value_of self.now }
-    {
-        match self {
-            Arg::Absent => None,
-            Arg::Int(number) => Some(Value::Int(*number)),
-            Arg::Text(text) => Some(Value::Text(*text.as_ref())),
-        }
-    }
-}
-
-fn boxed(alloc: Global, text: &Text) -> Result<Box<Text>, NoMemory>
-    ensures { IfOk result (λ boxed. boxed.value ≡ text.now) }
-{
-    Ok(Box::new(alloc, *text)?)
-}
 
 /// The arguments of a call, at most 16. Contracts see their list.
 #[derive(Debug, Drop)]
 pub struct Args {
-    items: Vec<Arg>,
+    items: Vec<Packed>,
 }
 
 impl Model for Args {
-    ghost use Rattle.std.specs.Prelude.{List, ◌≤◌, length, map, Option};
+    ghost use Rattle.std.specs.Prelude.{List, ◌≤◌, length, Option};
     ghost use Rattle.coco_types.specs.declared.value.Value.{Value as Datum};
-    ghost use Rattle.coco_types.specs.Arguments.{value_of};
+    ghost use Rattle.coco_types.specs.Limits.{most_arguments};
 
     ghost Value = { List (Option Datum) };
 
-    ghost view = { λ a. map value_of a.items.items };
+    ghost view = { λ a. a.items.items };
 
-    ghost invariant = { λ a. length a.items.items ≤ 16 };
+    ghost invariant = { λ a. length a.items.items ≤ most_arguments };
 }
 
 impl Args {
@@ -83,19 +45,19 @@ impl Args {
 
     /// Adds an argument at the end.
     pub fn push(&mut self, argument: Option<Value>) -> Result<(), NoMemory>
-        requires { length self.old < 16 }
+        requires { length self.old < MOST_ARGUMENTS }
         ensures ok { OnOk result (self.new ≡ self.old ++ argument ∷ []) }
         ensures err { OnErr result (self.new ≡ self.old) }
     {
         let alloc = *self.items.allocator();
-        self.items.push(Arg::of(alloc, &argument)?)?;
+        self.items.push(Packed::of(alloc, &argument)?)?;
         Ok(())
     }
 
     /// How many there are.
     pub fn len(&self) -> usize
         ensures len { result ≡ length self.now }
-        ensures most { length self.now ≤ 16 }
+        ensures most { length self.now ≤ MOST_ARGUMENTS }
     {
         self.items.len()
     }
@@ -111,28 +73,26 @@ impl Args {
         ensures { result ≡ slice_get self.now place }
     {
         let argument = self.items.get(place)?;
-        Some(argument.value())
+        Some(argument.get())
     }
 
     /// The whole number at a place. None where the argument is none or a text, or where there are fewer.
     pub fn int(&self, place: usize) -> Option<i64>
         ensures { result ≡ option_and_then int_of (slice_get self.now place) }
     {
-        match self.items.get(place)? {
-            Arg::Int(number) => Some(*number),
-            Arg::Absent | Arg::Text(_) => None,
-        }
+        let argument = self.items.get(place)?;
+        argument.int()
     }
 
     /// The same arguments once more.
     pub fn try_clone(&self) -> Result<Args, NoMemory>
         ensures { IfOk result (λ copy. copy ≡ self.now) }
     {
-        let mut copy = Args::with_room(*self.items.allocator(), self.len())?;
+        let mut items = Vec::with_capacity(*self.items.allocator(), self.items.len())?;
         for argument in &self.items {
-            copy.push(argument.value())?;
+            items.push(argument.try_clone()?)?;
         }
-        Ok(copy)
+        Ok(Args { items })
     }
 }
 

@@ -1,13 +1,14 @@
+//! Calls of procedures, what they answer and write, and their records once they are committed.
 ghost use Rattle.std.specs.Prelude.{◌≡◌, IfOk};
 
-use crate::{Args, Key, NoMemory, Sequence, Value};
+use crate::{Args, KeptReply, Key, NoMemory, Sequence, Value};
 
 /// A call of a procedure. A snapshot call reads the versions of the last committed epoch.
 #[derive(Debug, PartialEq, Eq, Drop)]
 pub struct Call {
     pub proc_no: u16,
-    pub args: Args,
     pub snapshot: bool,
+    pub args: Args,
 }
 
 impl Call {
@@ -17,8 +18,8 @@ impl Call {
     {
         Ok(Call {
             proc_no: self.proc_no,
-            args: self.args.try_clone()?,
             snapshot: self.snapshot,
+            args: self.args.try_clone()?,
         })
     }
 }
@@ -66,7 +67,7 @@ pub struct Done {
     pub call: Call,
     pub epoch: u64,
     pub time: u64,
-    pub reply: Reply,
+    pub reply: KeptReply,
 }
 
 pub type Dones = Sequence<Done>;
@@ -81,7 +82,7 @@ impl Done {
             call: self.call.try_clone()?,
             epoch: self.epoch,
             time: self.time,
-            reply: self.reply,
+            reply: self.reply.try_clone()?,
         })
     }
 }

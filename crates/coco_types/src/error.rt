@@ -1,3 +1,4 @@
+//! Errors that many layers pass on.
 use std::alloc::{AllocError, AllocFailed};
 use std::error::Error;
 use std::fmt;

@@ -1,3 +1,4 @@
+//! Keys of rows.
 ghost use Rattle.std.specs.Prelude.{◌≡◌};
 ghost use Rattle.coco_types.specs.RowKey.{key_cmp};
 

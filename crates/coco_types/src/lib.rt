@@ -4,8 +4,12 @@
 pub mod args;
 pub mod call;
 pub mod error;
+pub mod kept_reply;
 pub mod key;
+pub mod limits;
 pub mod machine;
+pub mod packed;
+pub mod padding;
 pub mod sequence;
 pub mod text;
 pub mod value;
@@ -15,8 +19,10 @@ pub use call::{
     AttemptId, Call, Cause, Done, Dones, MapRows, Piece, Pieces, Reply, Request, Write, Writes,
 };
 pub use error::{Failed, NoMemory, OutFault};
+pub use kept_reply::KeptReply;
 pub use key::Key;
 pub use machine::Machine;
+pub use packed::{Lent, Packed};
 pub use sequence::{Bytes, Sequence};
 pub use text::Text;
 pub use value::Value;

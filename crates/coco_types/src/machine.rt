@@ -1,3 +1,4 @@
+//! Deterministic objects.
 ghost use Rattle.std.specs.Prelude.{◌≡◌, IfOk, OnErr};
 
 use crate::NoMemory;

@@ -1,3 +1,4 @@
+//! Lists.
 ghost use Rattle.std.specs.Prelude.{◌≡◌, List, [], ◌∷◌, ◌++◌, length, OnOk, OnErr, ◌==◌};
 
 use crate::NoMemory;

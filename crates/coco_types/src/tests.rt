@@ -1,4 +1,7 @@
-use crate::{Args, Call, Done, Failed, Key, NoMemory, OutFault, Reply, Sequence, Text, Value};
+use crate::{
+    Args, Call, Cause, Done, Failed, KeptReply, Key, NoMemory, OutFault, Reply, Sequence, Text,
+    Value,
+};
 use std::alloc::Global;
 use std::test::Fail;
 
@@ -89,7 +92,7 @@ fn a_copied_record_is_equal_and_a_changed_one_is_not(rt: HostRuntime) -> Result<
         call: call(rt.alloc(), 1, 5, false)?,
         epoch: 2,
         time: 3,
-        reply: stored,
+        reply: KeptReply::of(rt.alloc(), &stored)?,
     };
     assert_eq!(rt; original.try_clone()?, original);
     let changes = [
@@ -101,6 +104,7 @@ fn a_copied_record_is_equal_and_a_changed_one_is_not(rt: HostRuntime) -> Result<
     ];
     for (id, epoch, time, reply) in changes {
         let call = call(rt.alloc(), 1, 5, false)?;
+        let reply = KeptReply::of(rt.alloc(), &reply)?;
         let changed = Done {
             id,
             call,
@@ -109,6 +113,28 @@ fn a_copied_record_is_equal_and_a_changed_one_is_not(rt: HostRuntime) -> Result<
             reply,
         };
         assert_ne!(rt; changed, original);
+    }
+    Ok(())
+}
+
+#[test]
+fn a_kept_reply_is_the_reply(rt: HostRuntime) -> Result<(), Fail> {
+    let text = Text::of("seven").ok_or("too long")?;
+    let replies = [
+        Reply::Ok(None),
+        Reply::Ok(Some(Value::Int(i64::MIN))),
+        Reply::Ok(Some(Value::Text(text))),
+        Reply::Refused(Cause::User(7)),
+        Reply::Refused(Cause::Kind),
+    ];
+    for (i, reply) in replies.iter().enumerate() {
+        let kept = KeptReply::of(rt.alloc(), reply)?;
+        let copy = kept.try_clone()?;
+        assert_eq!(rt; copy.get(), *reply);
+        for (j, other) in replies.iter().enumerate() {
+            let other = KeptReply::of(rt.alloc(), other)?;
+            assert_eq!(rt; other == copy, i == j);
+        }
     }
     Ok(())
 }

@@ -1,3 +1,4 @@
+//! What a row holds.
 use crate::Text;
 
 /// What a row may hold: a whole number or a text.

@@ -1,5 +1,5 @@
 use super::*;
-use coco_types::{Args, Reply, Value};
+use coco_types::{Args, KeptReply, Reply, Value};
 use std::test::Fail;
 
 fn call(alloc: Global, row: i64) -> Result<Call, NoMemory> {
@@ -20,14 +20,14 @@ fn bare_call(alloc: Global) -> Call {
     }
 }
 
-fn done(id: u64, call: Call) -> Done {
-    Done {
+fn done(alloc: Global, id: u64, call: Call) -> Result<Done, NoMemory> {
+    Ok(Done {
         id,
         call,
         epoch: 1,
         time: id,
-        reply: Reply::Ok(None),
-    }
+        reply: KeptReply::of(alloc, &Reply::Ok(None))?,
+    })
 }
 
 // Adds a record where its id is new and there is a place left.
@@ -47,7 +47,7 @@ fn records_are_found_by_id_and_by_place(rt: HostRuntime) -> Result<(), Fail> {
     let mut kept = Kept::new(alloc);
     assert!(rt; kept.is_empty());
     for id in [7, 3] {
-        keep(&mut kept, done(id, call(alloc, 5)?))?;
+        keep(&mut kept, done(alloc, id, call(alloc, 5)?)?)?;
     }
     assert_eq!(rt; kept.len(), 2);
     assert_eq!(rt; kept.get(3).map(|d| d.time), Some(3));
@@ -63,7 +63,7 @@ fn records_are_found_by_id_and_by_place(rt: HostRuntime) -> Result<(), Fail> {
 fn a_known_id_is_the_same_only_with_an_equal_call(rt: HostRuntime) -> Result<(), Fail> {
     let alloc = rt.alloc();
     let mut kept = Kept::new(alloc);
-    keep(&mut kept, done(7, call(alloc, 5)?))?;
+    keep(&mut kept, done(alloc, 7, call(alloc, 5)?)?)?;
     assert_eq!(rt; kept.find(7, &call(alloc, 5)?), Found::Same);
     assert_eq!(rt; kept.find(7, &call(alloc, 6)?), Found::Reused);
     assert_eq!(rt; kept.find(7, &bare_call(alloc)), Found::Reused);
@@ -77,7 +77,7 @@ fn a_full_store_still_knows_its_ids(rt: HostRuntime) -> Result<(), Fail> {
     let mut kept = Kept::new(alloc);
     for id in 0..1_048_576u64 {
         assert!(rt; !kept.is_full());
-        keep(&mut kept, done(id, bare_call(alloc)))?;
+        keep(&mut kept, done(alloc, id, bare_call(alloc))?)?;
     }
     assert!(rt; kept.is_full());
     assert_eq!(rt; kept.find(1_000_000, &bare_call(alloc)), Found::Same);

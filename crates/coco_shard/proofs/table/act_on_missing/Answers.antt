@@ -3,7 +3,7 @@ use Rattle.std.specs.Option.{unwrap_or}
 use Rattle.coco_shard.specs.Kept.{kept_at, state_of}
 use Rattle.coco_shard.specs.declared.kept.Kept.{Kept}
 use Rattle.coco_shard.specs.Table.{answer_at, left_by}
-use Rattle.coco_shard.proofs.Keys.{is_key}
+use Rattle.coco_types.proofs.Keys.{is_key}
 use Rattle.coco_shard.proofs.Entries.{made_view, unmade_view, missing_answer}
 use Rattle.coco_shard.proofs.table.act_on_missing.Goals as goal
 

@@ -1,6 +1,6 @@
 use Rattle.std.proofs.Common.{ap, sym, ◌∙◌, true≢false}
 use Rattle.std.specs.Option.{option_copied}
-use Rattle.coco_kept.proofs.CallEq.{call_Decides}
+use Rattle.coco_types.proofs.CallEquality.{call_Decides}
 use Rattle.coco_kept.proofs.kept.Kept.find.Goals as goal
 
 pub returns-in-Some : goal.returns-in-Some

@@ -1,3 +1,4 @@
+-- `==` on values, on arguments and on calls decides whether they are the same.
 use Rattle.std.proofs.Common.{◌≡◌, Bool, true, false, ◌&&◌, List, Option, None, Some, refl, ap}
 use Rattle.std.specs.Bool.{Decides}
 use Rattle.std.specs.Cmp.{signed_Decides, unsigned_Decides, booleans_Decides}
@@ -9,7 +10,6 @@ use Rattle.coco_types.specs.declared.call.Call.{Call}
 use Rattle.coco_types.specs.contracts.value.ValuePartialEq.TheImpl as value
 use Rattle.coco_types.specs.contracts.call.CallPartialEq.TheImpl as call
 
--- `==` on values, on arguments and on calls decides whether they are the same
 pub value_Decides : (x y : Value) → Decides (value.ghosts.eq x y) (x ≡ y)
 value_Decides (Int a) (Int b) = (λ h. ap Int ((signed_Decides a b).0 h), λ e. (signed_Decides a b).1 (cc))
 value_Decides (Int a) (Text t) = (λ h. cc, λ e. cc)
@@ -37,11 +37,11 @@ pub call_Decides : (x y : Call) → Decides (call.ghosts.eq x y) (x ≡ y)
 call_Decides x y = (
   λ h. let p = both _ _ h in let q = both _ _ p.1 in λ i. record {
     proc_no = (unsigned_Decides x.proc_no y.proc_no).0 p.0 i;
-    args = (args_Decides x.args y.args).0 q.0 i;
-    snapshot = (booleans_Decides x.snapshot y.snapshot).0 q.1 i;
+    snapshot = (booleans_Decides x.snapshot y.snapshot).0 q.0 i;
+    args = (args_Decides x.args y.args).0 q.1 i;
   },
   λ e. all _ _ _
       ((unsigned_Decides x.proc_no y.proc_no).1 (ap (λ c. c.proc_no) e))
-      ((args_Decides x.args y.args).1 (ap (λ c. c.args) e))
-      ((booleans_Decides x.snapshot y.snapshot).1 (ap (λ c. c.snapshot) e)),
+      ((booleans_Decides x.snapshot y.snapshot).1 (ap (λ c. c.snapshot) e))
+      ((args_Decides x.args y.args).1 (ap (λ c. c.args) e)),
 )

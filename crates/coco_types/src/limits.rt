@@ -1,0 +1,46 @@
+//! The limits that several crates share, each named once.
+
+/// How many requests a store without a keep number keeps.
+pub const MOST_KEPT: u64 = 1_048_576;
+
+/// How many arguments a call may have.
+pub const MOST_ARGUMENTS: usize = 16;
+
+/// How many bytes a text may have.
+pub const MOST_TEXT_BYTES: usize = 256;
+
+/// How many keys a call may touch.
+pub const MOST_KEYS: u64 = 64;
+
+/// How many lines an epoch may have.
+pub const MOST_BATCH_LINES: usize = 1_024;
+
+/// How many bytes a line may have, without its line feed.
+pub const MOST_LINE_BYTES: usize = 65_536;
+
+/// How many bytes the text of procedures may have.
+pub const MOST_PROCEDURE_BYTES: usize = 262_144;
+
+/// The greatest logical time.
+pub const MOST_TIME: u64 = 1 << 62;
+
+/// The numbers of epochs are below this one.
+pub const EPOCHS_END: u64 = 1 << 40;
+
+/// How many bytes one run reads of its input.
+pub const MOST_INPUT_BYTES: u64 = 1 << 62;
+
+/// How many nodes a store may have.
+pub const MOST_NODES: u8 = 8;
+
+/// How many partitions a store may have.
+pub const MOST_PARTITIONS: u8 = 64;
+
+/// How many copies of a partition there may be: one on each other node.
+pub const MOST_COPIES: u8 = MOST_NODES - 1;
+
+/// How many workers an epoch may have.
+pub const MOST_WORKERS: u8 = 16;
+
+/// How often an epoch may try a request.
+pub const MOST_ATTEMPTS: u8 = 8;
