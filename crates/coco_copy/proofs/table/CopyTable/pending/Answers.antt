@@ -1,0 +1,15 @@
+use Rattle.std.proofs.Common.{◌∙◌, ap, sym}
+use Rattle.std.specs.Option.{option_and_then}
+use Rattle.std.specs.FinMap.{get}
+use Rattle.coco_copy.specs.CopyState.{CopyState}
+use Rattle.coco_copy.specs.Kept.{pending_of}
+use Rattle.coco_copy.proofs.Parts.{get_part}
+use Rattle.coco_copy.proofs.table.CopyTable.pending.Goals as goal
+
+pub returns-in-Some : goal.returns-in-Some
+returns-in-Some c =
+    ap (option_and_then pending_of) c.in-Some.ensures.value ∙ sym (get_part pending_of c.self.inside.rows.entries c.args.key c.self.invariant.rising) ∙ ap (λ (s : CopyState). get s.pending c.args.key) c.self.view_is
+
+pub returns-in-None : goal.returns-in-None
+returns-in-None c =
+    ap (option_and_then pending_of) c.in-None.ensures.value ∙ sym (get_part pending_of c.self.inside.rows.entries c.args.key c.self.invariant.rising) ∙ ap (λ (s : CopyState). get s.pending c.args.key) c.self.view_is

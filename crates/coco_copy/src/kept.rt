@@ -1,0 +1,47 @@
+//! A row of a copy: its two versions, and what a put and an epoch's end make of them.
+
+ghost use Rattle.std.specs.Prelude.{◌≡◌, Some, true, is_some};
+ghost use Rattle.coco_copy.specs.Puts.{by_time};
+ghost use Rattle.coco_copy.specs.Kept.{version_of, rested};
+ghost use Rattle.coco_copy.specs.declared.ops.CopyAnswer.TheVariants.{Applied as Took};
+
+use crate::ops::CopyAnswer;
+use coco_types::Value;
+
+// A key's row: its stable value, and the time and value that pend for it.
+#[derive(Debug, Drop)]
+pub struct Kept {
+    pub stable: Option<Value>,
+    pub pending: Option<(u64, Option<Value>)>,
+}
+
+impl Kept {
+    // Takes a write of the current epoch, unless one of an equal or a greater time pends.
+    pub fn put(&mut self, time: u64, value: &Option<Value>) -> CopyAnswer
+        ensures answer { result ≡ by_time self.old.pending time }
+        ensures stable { self.new.stable ≡ self.old.stable }
+        ensures applied { result ≡ Took → self.new.pending ≡ Some (time, value.now) }
+        ensures unchanged { (result ≡ Took → ⊥) → self.new ≡ self.old }
+        ensures pends { is_some self.new.pending ≡ true }
+    {
+        if let Some((greatest, _)) = &self.pending
+            && time <= *greatest
+        {
+            return CopyAnswer::Older { time: *greatest };
+        }
+        self.pending = Some((time, *value));
+        CopyAnswer::Applied
+    }
+
+    // Ends the epoch with the pending value, or with the stable one, and says whether a value stands.
+    pub fn rest(&mut self, promotes: bool) -> bool
+        ensures kept { self.new ≡ rested (version_of promotes self.old) }
+        ensures stands { result ≡ is_some (version_of promotes self.old) }
+    {
+        if promotes && let Some((_, value)) = &self.pending {
+            self.stable = *value;
+        }
+        self.pending = None;
+        self.stable.is_some()
+    }
+}

@@ -1,0 +1,15 @@
+//! A copy of a partition's rows: the stable value of each key, and what was put for it in the current epoch.
+#![tactic(auto)]
+
+mod kept;
+pub mod law;
+pub mod ops;
+mod rows;
+mod settle;
+pub mod table;
+
+pub use ops::{CopyAnswer, CopyAsk};
+pub use table::CopyTable;
+
+#[cfg(test)]
+mod tests;

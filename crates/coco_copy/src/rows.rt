@@ -1,0 +1,166 @@
+//! The rows of a copy under their keys, beside the list of those that were put in this epoch.
+
+ghost use Rattle.std.specs.Prelude.{◌≡◌, ◌||◌, ℕ, ◌+◌, ◌^◌, ◌<◌, ◌≤◌, ◌++◌, ◌∷◌, [], if◌then◌else◌, cond, true, false, None, Some, IsSome, is_some, IfOk, OnOk, OnErr, option_and_then, length, vec_len, vec_capacity};
+ghost use Rattle.std.specs.BTreeMap.{is_at};
+ghost use Rattle.coco_types.specs.RowKey.{RowKey, key_cmp};
+ghost use Rattle.coco_copy.specs.declared.ops.CopyAsk.TheVariants.{Put};
+ghost use Rattle.coco_copy.specs.Kept.{IsWhole, entry_of, SetsStable, kept_at, part_of, pending_of, stable_of, view_of};
+ghost use Rattle.coco_copy.specs.CopyState.{with_value};
+ghost use Rattle.coco_copy.specs.Puts.{HasNothing, answer_in, after_ask, key_of};
+
+use crate::kept::Kept;
+use crate::ops::CopyAnswer;
+use crate::settle::drop_row;
+use coco_types::{Key, NoMemory, Value, Write};
+use std::alloc::Global;
+use std::collections::BTreeMap;
+
+// Takes a put of the current epoch.
+pub fn put(
+    rows: &mut BTreeMap<Key, Kept>,
+    listed: &mut Vec<Key>,
+    epoch: u64,
+    time: u64,
+    write: &Write,
+) -> Result<CopyAnswer, NoMemory>
+    requires { IsWhole rows.old.entries listed.old.items (vec_capacity listed.old) }
+    ensures whole { IsWhole rows.new.entries listed.new.items (vec_capacity listed.new) }
+    ensures answer { IfOk result (λ answer. answer ≡ answer_in (view_of epoch rows.old.entries) (Put epoch time write.now)) }
+    ensures state { OnOk result (view_of epoch rows.new.entries ≡ after_ask (view_of epoch rows.old.entries) (Put epoch time write.now)) }
+    ensures err { OnErr result (rows.new.entries ≡ rows.old.entries) }
+    ensures missing { OnErr result (HasNothing (view_of epoch rows.old.entries) (key_of (Put epoch time write.now))) }
+{
+    let key = write.key;
+    let Some(kept) = rows.get_mut(&key) else {
+        let made = Kept {
+            stable: None,
+            pending: Some((time, write.value)),
+        };
+        add_row(rows, listed, key, made)?;
+        return Ok(CopyAnswer::Applied);
+    };
+    let first = kept.pending.is_none();
+    let answer = kept.put(time, &write.value);
+    list_key(listed, key, first);
+    Ok(answer)
+}
+
+// Makes both rooms for a new row, and then puts it there.
+fn add_row(
+    rows: &mut BTreeMap<Key, Kept>,
+    listed: &mut Vec<Key>,
+    key: Key,
+    kept: Kept,
+) -> Result<(), NoMemory>
+    requires whole { IsWhole rows.old.entries listed.old.items (vec_capacity listed.old) }
+    requires missing { kept_at rows.old.entries key ≡ None }
+    requires stands { is_some kept.pending ≡ false → IsSome kept.stable }
+    ensures whole { IsWhole rows.new.entries listed.new.items (vec_capacity listed.new) }
+    ensures ok { OnOk result ((q : RowKey) → kept_at rows.new.entries q ≡ cond (is_at (key_cmp key) q) (Some kept) (kept_at rows.old.entries q)) }
+    ensures err { OnErr result (rows.new.entries ≡ rows.old.entries) }
+{
+    let pends = kept.pending.is_some();
+    make_room(listed, rows.len())?;
+    rows.insert(key, kept)?;
+    list_key(listed, key, pends);
+    Ok(())
+}
+
+// Makes room in the list for one key more than there are rows.
+fn make_room(listed: &mut Vec<Key>, rows: usize) -> Result<(), NoMemory>
+    requires few { rows < 2 ^ 63 }
+    requires each_once { vec_len listed.old ≤ rows }
+    ensures items { listed.new.items ≡ listed.old.items }
+    ensures ok { OnOk result (rows + 1 ≤ vec_capacity listed.new) }
+    ensures capacity { vec_capacity listed.old ≤ vec_capacity listed.new }
+{
+    listed.reserve(rows + 1 - listed.len())?;
+    Ok(())
+}
+
+// Lists a key for which something pends for the first time. The room is there.
+fn list_key(listed: &mut Vec<Key>, key: Key, first: bool)
+    requires { first ≡ true → vec_len listed.old < vec_capacity listed.old }
+    ensures items { listed.new.items ≡ (if first then listed.old.items ++ key ∷ [] else listed.old.items) }
+    ensures capacity { vec_capacity listed.old ≤ vec_capacity listed.new }
+{
+    if first {
+        let _ = listed.push(key);
+    }
+}
+
+// Sets the stable value of a key, or takes it away.
+pub fn load(
+    rows: &mut BTreeMap<Key, Kept>,
+    listed: &mut Vec<Key>,
+    key: Key,
+    value: &Option<Value>,
+) -> Result<(), NoMemory>
+    requires { IsWhole rows.old.entries listed.old.items (vec_capacity listed.old) }
+    ensures whole { IsWhole rows.new.entries listed.new.items (vec_capacity listed.new) }
+    ensures state { OnOk result ((epoch : ℕ) → view_of epoch rows.new.entries ≡ record (view_of epoch rows.old.entries) { stable = with_value (view_of epoch rows.old.entries).stable key value.now }) }
+    ensures err { OnErr result (rows.new.entries ≡ rows.old.entries) }
+    ensures missing { OnErr result ((epoch : ℕ) → HasNothing (view_of epoch rows.old.entries) key) }
+{
+    if !keeps_row(rows, key, value) {
+        drop_row(rows, key);
+        return Ok(());
+    }
+    if load_at(rows, key, value) {
+        return Ok(());
+    }
+    let made = Kept {
+        stable: *value,
+        pending: None,
+    };
+    add_row(rows, listed, key, made)
+}
+
+// Whether anything stands in the key's row with this stable value.
+fn keeps_row(rows: &BTreeMap<Key, Kept>, key: Key, value: &Option<Value>) -> bool
+    ensures { result ≡ (is_some value.now || is_some (option_and_then pending_of (kept_at rows.now.entries key))) }
+{
+    let pends = match rows.get(&key) {
+        Some(kept) => kept.pending.is_some(),
+        None => false,
+    };
+    value.is_some() || pends
+}
+
+// Sets the stable value of a row that is there, and says whether one is.
+fn load_at(rows: &mut BTreeMap<Key, Kept>, key: Key, value: &Option<Value>) -> bool
+    ensures missing { result ≡ false → (kept_at rows.old.entries key ≡ None) × (rows.new.entries ≡ rows.old.entries) }
+    ensures set { result ≡ true → SetsStable rows.old.entries rows.new.entries key value.now }
+{
+    match rows.get_mut(&key) {
+        Some(kept) => {
+            kept.stable = *value;
+            true
+        }
+        None => false,
+    }
+}
+
+// The keys that have a stable value, each with it.
+pub fn stable_rows(alloc: Global, rows: &BTreeMap<Key, Kept>) -> Result<Vec<(Key, Value)>, NoMemory>
+    ensures { IfOk result (λ values. values.items ≡ part_of stable_of rows.now.entries) }
+{
+    let mut values = Vec::new(alloc);
+    for (key, kept) in rows {
+        push_value(&mut values, *key, &kept.stable)?;
+    }
+    Ok(values)
+}
+
+fn push_value(
+    values: &mut Vec<(Key, Value)>,
+    key: Key,
+    value: &Option<Value>,
+) -> Result<(), NoMemory>
+    ensures { OnOk result (values.new.items ≡ values.old.items ++ entry_of key value.now) }
+{
+    if let Some(value) = value {
+        values.push((key, *value))?;
+    }
+    Ok(())
+}
