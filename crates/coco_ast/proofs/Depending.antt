@@ -1,6 +1,7 @@
 -- Runs on two maps that agree on what the first one needs are alike, but for their maps.
 use Rattle.std.proofs.Common.{◌≡◌, ℕ, zero, suc, ◌+◌, Bool, true, false, ◌||◌, cond, if◌then◌else◌, List, [], ◌∷◌, ◌++◌, Option, None, Some, Ok, Err, pos, refl, sym, ap, ◌∙◌, subst}
 use Rattle.std.specs.List.{list_any}
+use Rattle.coco_types.proofs.Keys.{one_key}
 use Rattle.coco_types.specs.RowKey.{RowKey}
 use Rattle.coco_types.specs.declared.value.Value.TheVariants.{Int}
 use Rattle.coco_types.specs.declared.call.Call.{Call}
@@ -11,7 +12,7 @@ use Rattle.coco_ast.specs.RunLaws.{RunAlike, DependsOnNeeds, accesses_of}
 use Rattle.coco_ast.specs.Checks.{key_weight}
 use Rattle.coco_ast.specs.Tree.{Statement, Let, Get, Put, Delete, If, IfElse, Repeat, Refuse, Reply, Statements, End, Then, Procedure, Procedures}
 use Rattle.coco_ast.proofs.Leading.{LeadsTo, statements_lead, turns_lead}
-use Rattle.coco_ast.proofs.Writing.{value_written, same_key}
+use Rattle.coco_ast.proofs.Writing.{value_written}
 
 -- ---- accesses of a key
 
@@ -88,7 +89,7 @@ module _ (m n : Rows) where
   alike_read : (xs : List Access) (r u : Rows) (k : RowKey) → Alike xs r u → value_at r k ≡ value_at u k → Alike (xs ++ Reads k ∷ []) r u
   alike_read xs r u k alike here q agree =
       elim (is_key q k) as (λ b. is_key q k ≡ b → value_at r q ≡ value_at u q) [
-        | true ↦ λ e. subst (λ (j : RowKey). value_at r j ≡ value_at u j) (sym (same_key q k e)) here
+        | true ↦ λ e. subst (λ (j : RowKey). value_at r j ≡ value_at u j) (sym (one_key q k e)) here
         | false ↦ λ e. alike q (λ unseen. agree (unseen_push q xs (Reads k) e unseen))
       ] refl
 

@@ -1,7 +1,7 @@
 -- Maps under keys: what one has behind a write, and on a partition.
 use Rattle.std.proofs.Common.{◌≡◌, ℕ, ◌%◌, nat_eq, cond, None, sym, ap}
 use Rattle.std.specs.FinMap.{get-retain_keys}
-use Rattle.coco_types.proofs.KeyMaps.{keys_exact}
+use Rattle.coco_types.proofs.Keys.{keys_exact}
 use Rattle.coco_types.specs.RowKey.{RowKey}
 use Rattle.coco_ast.specs.Keyed.{Rows, value_at, on_partition}
 

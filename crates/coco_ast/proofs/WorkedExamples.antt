@@ -1,6 +1,6 @@
 -- The meaning computes each example.
 use Rattle.std.proofs.Common.{refl}
-use Rattle.coco_types.proofs.KeyMaps.{keys_total}
+use Rattle.coco_types.proofs.Keys.{keys_total}
 use Rattle.std.specs.FinMap.{get-insert, get-remove}
 use Rattle.coco_ast.specs.Keyed.{Rows}
 use Rattle.coco_ast.specs.Meaning.{run}

@@ -2,7 +2,7 @@
 use Rattle.std.proofs.Common.{◌≡◌, ℕ, Option, refl, true, false, [], ◌∷◌, Some, inl, arith}
 use Rattle.std.specs.FinMap.{get-insert}
 use Rattle.std.specs.List.{IsDistinct}
-use Rattle.coco_types.proofs.KeyMaps.{keys_total}
+use Rattle.coco_types.proofs.Keys.{keys_total}
 use Rattle.coco_ast.specs.Builtins.{builtins}
 use Rattle.coco_ast.specs.Growth.{GrowsBy, AreNew}
 use Rattle.coco_ast.specs.History.{followed_by, with_keep, IsPrefixOf, IsOrdered, IsSerial, map_of, request_of}

@@ -3,8 +3,9 @@ use Rattle.std.proofs.Common.{◌≡◌, Bool, true, false, cond, List, [], ◌�
 use Rattle.std.specs.Bool.{⊤}
 use Rattle.std.specs.List.{AllByRecursion}
 use Rattle.std.specs.Ordering.{match_ordering, ordering_reverse}
-use Rattle.std.specs.FinMap.{get-insert, get-remove, same_map}
-use Rattle.coco_types.proofs.KeyMaps.{keys_total, keys_exact}
+use Rattle.std.specs.FinMap.{get-insert, get-remove}
+use Rattle.coco_types.proofs.KeyMaps.{same_keyed}
+use Rattle.coco_types.proofs.Keys.{keys_total, keys_exact, one_key}
 use Rattle.coco_types.specs.RowKey.{RowKey, key_cmp}
 use Rattle.coco_types.specs.declared.call.Write.{Write}
 use Rattle.coco_ast.specs.Keyed.{Rows, value_at, write_at, put_over}
@@ -18,16 +19,13 @@ pub value_written : (m : Rows) (k : RowKey) (v : Datum) (q : RowKey) → value_a
 value_written m k None q = get-remove keys_total m k q
 value_written m k (Some v) q = get-insert keys_total m k v q
 
-same_rows : (m n : Rows) → ((q : RowKey) → value_at m q ≡ value_at n q) → m ≡ n
-same_rows m n alike = same_map keys_total keys_exact m n alike
-
 twice : (b : Bool) (v w o : Datum) → cond b v (cond b w o) ≡ cond b v o
 twice true v w o = refl
 twice false v w o = refl
 
 -- of two writes of a key the later stays
 written_again : (m : Rows) (k : RowKey) (v w : Datum) → write_at (write_at m k w) k v ≡ write_at m k v
-written_again m k v w = same_rows _ _ (λ q.
+written_again m k v w = same_keyed _ _ (λ q.
     value_written (write_at m k w) k v q ∙ ap (cond (is_key q k) v) (value_written m k w q) ∙ twice (is_key q k) v w (value_at m q) ∙ sym (value_written m k v q))
 
 either : (a b : Bool) (v w o : Datum) → (a ≡ true → b ≡ true → ⊥) → cond a v (cond b w o) ≡ cond b w (cond a v o)
@@ -40,20 +38,12 @@ is_less Less l e = let h : false ≡ true = e in cc
 is_less Equal l e = let h : Equal ≡ Less = l in cc
 is_less Greater l e = let h : Greater ≡ Less = l in cc
 
-is_equal : (o : Ordering) → is_eq o ≡ true → o ≡ Equal
-is_equal Less e = let h : false ≡ true = e in cc
-is_equal Equal e = refl
-is_equal Greater e = let h : false ≡ true = e in cc
-
-pub same_key : (k q : RowKey) → is_key k q ≡ true → k ≡ q
-same_key k q e = keys_exact k q (is_equal (key_cmp k q) e)
-
 -- writes of two keys, in either order
 written_apart : (m : Rows) (k j : RowKey) (v w : Datum) → key_cmp k j ≡ Less → write_at (write_at m j w) k v ≡ write_at (write_at m k v) j w
-written_apart m k j v w below = same_rows _ _ (λ q.
+written_apart m k j v w below = same_keyed _ _ (λ q.
     value_written (write_at m j w) k v q ∙ ap (cond (is_key q k) v) (value_written m j w q)
     ∙ either (is_key q k) (is_key q j) v w (value_at m q)
-    (λ at_k at_j. is_less (key_cmp k j) below (ap is_eq (ap (λ (x : RowKey). key_cmp x j) (sym (same_key q k at_k))) ∙ at_j))
+    (λ at_k at_j. is_less (key_cmp k j) below (ap is_eq (ap (λ (x : RowKey). key_cmp x j) (sym (one_key q k at_k))) ∙ at_j))
     ∙ sym (value_written (write_at m k v) j w q ∙ ap (cond (is_key q j) w) (value_written m k v q)))
 
 -- ---- writes in order
