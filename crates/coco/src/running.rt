@@ -10,7 +10,7 @@ ghost use Rattle.coco.specs.Running.{FitsAll};
 
 use crate::order::TimedRequest;
 use coco_serial::Executor;
-use coco_types::{Done, KeptReply, NoMemory, Request};
+use coco_types::{Call, Done, KeptReply, NoMemory, Request};
 use std::alloc::Global;
 
 /// Runs the requests of one epoch in this order, each on what the one before left, and gives their records.
@@ -49,7 +49,7 @@ fn run_one(
         time,
         request: Request { id, call },
     } = timed;
-    let reply = KeptReply::of(alloc, &executor.apply(&call)?)?;
+    let reply = reply_to(alloc, executor, &call)?;
     Ok(Done {
         id,
         call,
@@ -57,4 +57,15 @@ fn run_one(
         time,
         reply,
     })
+}
+
+fn reply_to(alloc: Global, executor: &mut Executor, call: &Call) -> Result<KeptReply, NoMemory>
+    requires fits { Fits builtins call.now }
+    ensures reply { IfOk result (λ reply. reply ≡ (run builtins call.now executor.old).reply) }
+    ensures rows { IfOk result (λ _. executor.new ≡ (run builtins call.now executor.old).rows) }
+{
+    match executor.apply(call) {
+        Ok(reply) => KeptReply::of(alloc, &reply),
+        Err(NoMemory) => Err(NoMemory),
+    }
 }

@@ -1,6 +1,6 @@
 use Rattle.std.proofs.Common.{ap, sym, ◌∙◌, true≢false}
 use Rattle.std.specs.Option.{option_copied}
-use Rattle.coco_kept.proofs.CallEq.{call_Decides}
+use Rattle.coco_types.proofs.CallEquality.{call_Decides}
 use Rattle.coco.proofs.ClassLemmas.{known_again, reused_again}
 use Rattle.coco.proofs.classify.class_of_request.Goals as goal
 
