@@ -1,6 +1,6 @@
-use Rattle.std.proofs.Common.{◌≡◌, ℕ, ◌+◌, ◌-◌, List, [], ◌++◌, length, take, drop, Some, None, Option, refl, sym, ap, ◌∙◌, arith, length-drop, append-nil, append_assoc}
+use Rattle.std.proofs.Common.{◌≡◌, ℕ, ◌+◌, ◌-◌, List, [], ◌++◌, length, take, drop, Some, None, is_some, Option, refl, sym, ap, ◌∙◌, arith, length-drop, append-nil, append_assoc}
 use Rattle.std.proofs.Math.Seq.{drop-append_seam, take-append_seam, take-add, take-length}
-use Rattle.std.specs.Io.KnownBytes.{prepend_known, append_known}
+use Rattle.std.specs.Io.KnownBytes.{prepend_known, append_known, Keeps, Appends, Consumes}
 
 -- known bytes, after bs was taken from their front
 pub known-after : (old new : Option (List ℕ)) (bs xs : List ℕ) → old ≡ prepend_known bs new → old ≡ Some xs → new ≡ Some (drop (length bs) xs)
@@ -13,6 +13,27 @@ pub known-taken : (old new : Option (List ℕ)) (bs xs : List ℕ) → old ≡ p
 known-taken None new bs xs taken is = grind arith
 known-taken (Some ys) None bs xs taken is = grind arith
 known-taken (Some ys) (Some zs) bs xs taken is = grind (arith, take-append_seam bs zs)
+
+-- what is known at both moments or at neither stays
+pub Keeps-known : (old new : Option (List ℕ)) → is_some old ≡ is_some new → Keeps old new → new ≡ old
+Keeps-known None None both keeps = refl
+Keeps-known None (Some ys) both keeps = cc
+Keeps-known (Some xs) None both keeps = absurd keeps
+Keeps-known (Some xs) (Some ys) both keeps = ap Some keeps
+
+-- what is known at both moments or at neither loses the bytes at its front
+pub Consumes-known : (old new : Option (List ℕ)) (bs : List ℕ) → is_some old ≡ is_some new → Consumes old new bs → old ≡ prepend_known bs new
+Consumes-known None None bs both taken = refl
+Consumes-known None (Some ys) bs both taken = cc
+Consumes-known (Some xs) None bs both taken = absurd taken
+Consumes-known (Some xs) (Some ys) bs both taken = ap Some taken
+
+-- what is known at both moments or at neither grows by the bytes
+pub Appends-known : (old new : Option (List ℕ)) (bs : List ℕ) → is_some old ≡ is_some new → Appends old new bs → new ≡ append_known old bs
+Appends-known None None bs both added = refl
+Appends-known None (Some ys) bs both added = cc
+Appends-known (Some xs) None bs both added = absurd added
+Appends-known (Some xs) (Some ys) bs both added = ap Some added
 
 -- taking nothing
 pub prepend_known-nil : (known : Option (List ℕ)) → prepend_known [] known ≡ known

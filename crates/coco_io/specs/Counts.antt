@@ -1,3 +1,4 @@
+-- What calls do to a count of faults.
 use Rattle.std.specs.Prelude.{◌≡◌, ℕ, ◌-◌, ◌^◌, ◌<◌, ◌⊎◌, Result, Ok, Err}
 use Rattle.coco_types.specs.declared.error.Failed.{Failed}
 use Rattle.coco_types.specs.declared.error.OutFault.{OutFault}

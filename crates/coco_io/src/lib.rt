@@ -1,13 +1,17 @@
-//! Where bytes come from and where they go: sources and sinks that count their faults, in memory and over the standard streams.
+//! Where bytes come from and where they go: sources and sinks that count their faults, in memory and over streams.
 #![tactic(auto)]
 
+pub mod calls;
 pub mod plan;
 pub mod sink;
 pub mod source;
+pub mod standard;
 pub mod stream;
 #[cfg(test)]
 mod tests;
+pub mod trace;
 
 pub use plan::FaultPlan;
-pub use sink::{MemorySink, Sink, StdSink, write_all};
-pub use source::{MemorySource, Source, StdSource};
+pub use sink::{MemorySink, Sink, write_all};
+pub use source::{MemorySource, Source};
+pub use standard::{ReaderSource, StdSink, StdSource, WriterSink};

@@ -1,3 +1,4 @@
+//! Which calls of an object in memory fail.
 ghost use Rattle.std.specs.Prelude.{◌≡◌};
 ghost use Rattle.coco_io.specs.Plan.{next_fails, after_call};
 

@@ -1,3 +1,4 @@
+//! Where bytes are written to: the trait, bytes in memory, and the writing of a whole piece.
 ghost use Rattle.std.specs.Prelude.{◌≡◌, ℕ, ◌<◌, ◌≤◌, List, Option, Some, None, [], ◌++◌, length, take, IfOk, OnErr, OnOk};
 ghost use Rattle.std.specs.Io.KnownBytes.{append_known};
 ghost use Rattle.coco_io.specs.Counts.{CountsWrite};
@@ -5,7 +6,6 @@ ghost use Rattle.coco_io.specs.Plan.{next_fails, after_call};
 ghost use Rattle.coco_io.specs.SinkState.{WritesByPlan};
 
 use crate::FaultPlan;
-use crate::stream::write_some;
 use coco_types::OutFault;
 use std::alloc::Global;
 use std::marker::Model;
@@ -92,41 +92,6 @@ impl Sink for MemorySink {
 
     fn faults(&self) -> u64 {
         self.plan.faults()
-    }
-}
-
-/// The standard error stream. It doesn't tell its bytes.
-#[derive(Drop)]
-pub struct StdSink {
-    rt: HostRuntime,
-    faults: u64,
-}
-
-impl StdSink {
-    pub fn new(rt: HostRuntime) -> Self
-        ensures { result.faults ≡ 0 }
-    {
-        StdSink { rt, faults: 0 }
-    }
-}
-
-impl Sink for StdSink {
-    ghost contents = { λ _. None };
-
-    ghost faults = { λ s. s.faults };
-
-    fn write(&mut self, from: &[u8]) -> Result<usize, OutFault> {
-        match write_some(&mut self.rt.stderr(), from) {
-            Some(count) => Ok(count),
-            None => {
-                self.faults = self.faults.saturating_add(1);
-                Err(OutFault::Failed)
-            }
-        }
-    }
-
-    fn faults(&self) -> u64 {
-        self.faults
     }
 }
 
