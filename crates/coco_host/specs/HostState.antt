@@ -1,3 +1,4 @@
+-- What contracts see of a host in memory.
 use Rattle.std.specs.Prelude.{◌≡◌, ℕ, min, List, true, false, Result, Ok, Err}
 use Rattle.coco_types.specs.declared.error.OutFault.{OutFault}
 use Rattle.coco_types.specs.declared.error.OutFault.TheVariants.{Failed, NoMemory}

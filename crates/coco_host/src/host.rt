@@ -1,3 +1,4 @@
+//! What a store stands on, as a trait, and the saying of a whole piece.
 ghost use Rattle.std.specs.Prelude.{◌≡◌, ℕ, ◌<◌, ◌≤◌, List, Option, length, take, IfOk, OnOk, OnErr};
 ghost use Rattle.std.specs.Io.KnownBytes.{append_known};
 ghost use Rattle.coco_io.specs.Counts.{CountsWrite};

@@ -1,3 +1,4 @@
+//! A host in memory.
 ghost use Rattle.std.specs.Prelude.{◌≡◌, ◌<◌, ◌≤◌, Some, [], ◌++◌, length, take, IfOk, OnErr};
 ghost use Rattle.coco_io.specs.Counts.{CountsWrite};
 ghost use Rattle.coco_host.specs.HostState.{SaysByPlan};

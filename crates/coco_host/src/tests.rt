@@ -1,3 +1,4 @@
+//! Hosts say pieces however they are cut.
 use crate::{FolderHost, Host, MemoryHost, say_all};
 use coco_types::OutFault;
 use std::test::Fail;

@@ -1,10 +1,7 @@
-use Rattle.std.proofs.Common.{arith, ◌∙◌}
-use Rattle.coco_io.proofs.KnownLemmas.{append_known-more}
+use Rattle.coco_io.proofs.PartLemmas.{Took-more}
 use Rattle.coco_host.proofs.host.say_all.Goals as goal
 
 pub loop-done-preserved : goal.loop-done-preserved
-loop-done-preserved g c = record {
-  within = grind (arith, c.in_ok-done.ensures.count);
-  said = append_known-more _ _ _ _ _ _ c.loop-done.invariant.said c.in_ok-done.ensures.bytes;
-  counted = c.in_ok-done.ensures.counts ∙ c.loop-done.invariant.counted;
-}
+loop-done-preserved g c =
+    let said = c.in_ok-done.ensures in
+    Took-more _ _ _ _ _ _ _ _ _ c.loop-done.invariant said.count said.bytes said.counts
