@@ -1,0 +1,22 @@
+-- The values that lent ones are, and what was computed of them.
+use Rattle.std.specs.Prelude.{ℤ, Some, None, Result, Ok, Err}
+use Rattle.coco_types.specs.declared.value.Value.TheVariants.{Int, Text}
+use Rattle.coco_types.specs.declared.call.Cause.{Cause}
+use Rattle.coco_ast.specs.Meaning.{Datum, Computed}
+use Rattle.coco_eval.specs.declared.lent.Lent.{Lent}
+use Rattle.coco_eval.specs.declared.lent.Lent.TheVariants as lent
+
+abbrev pub datum_of : Lent → Datum
+datum_of lent.None = None
+datum_of (lent.Int n) = Some (Int n)
+datum_of (lent.Text text) = Some (Text text.now)
+
+-- what was computed, by the value that was lent
+abbrev pub computed_of : Result Lent Cause → Computed Datum
+computed_of (Ok v) = Ok (datum_of v)
+computed_of (Err c) = Err c
+
+-- the same, where it is a whole number
+abbrev pub whole_of : Computed ℤ → Computed Datum
+whole_of (Ok n) = Ok (Some (Int n))
+whole_of (Err c) = Err c

@@ -1,0 +1,11 @@
+pub mod Advance
+pub mod EvaluationCode
+pub mod Keeping
+pub mod Lending
+pub mod Moves
+pub mod Needs
+pub mod Outcomes
+pub mod Places
+pub mod Preparing
+pub mod Slots
+pub mod Standing

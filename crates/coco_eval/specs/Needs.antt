@@ -1,0 +1,16 @@
+-- What a step answers of the standing that it leaves.
+use Rattle.std.specs.Prelude.{◌≡◌, ⊤, ◌+◌, ◌≤◌, List, length}
+use Rattle.coco_types.specs.declared.call.Write.{Write}
+use Rattle.coco_eval.specs.Standing.{Standing, Ready, Asks, Ended, Evaluation}
+use Rattle.coco_eval.specs.declared.run.Need.{Need}
+use Rattle.coco_eval.specs.declared.run.Need.TheVariants as need
+
+abbrev pub IsNeedOf : Standing → Need → Type 0
+IsNeedOf s (need.Read k) = s ≡ Asks k
+IsNeedOf s (need.Ended reply) = (writes : List Write) × (s ≡ Ended reply writes)
+
+-- with the one that is asked for it has read and written at most 64 keys
+abbrev pub HasFewKeys : Evaluation → Standing → Type 0
+HasFewKeys e Ready = ⊤
+HasFewKeys e (Asks k) = length e.given + 1 ≤ 64
+HasFewKeys e (Ended reply writes) = length e.given + length writes ≤ 64

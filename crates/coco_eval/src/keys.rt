@@ -1,0 +1,107 @@
+//! Keys: those that places name, and what is known of one.
+ghost use Rattle.std.specs.Prelude.{◌≡◌, ◌+◌, ◌<◌, ◌≤◌, ◌^◌, length, vec_capacity, vec_len, MatchResult, slice_set, insert};
+ghost use Rattle.std.specs.Option.{option_copied};
+ghost use Rattle.coco_ast.specs.Meaning.{Datum, key_of, place_of as table_number, put_write, row_key};
+ghost use Rattle.coco_ast.specs.Views.{place_of};
+ghost use Rattle.coco_eval.specs.Lending.{datum_of};
+ghost use Rattle.coco_eval.specs.Places.{written_at, given_at};
+ghost use Rattle.coco_eval.specs.Slots.{variables_of};
+
+use crate::lent::Lent;
+use crate::machine::Given;
+use crate::values::value;
+use crate::variables::Variable;
+use coco_ast::{Name, Place};
+use coco_types::{Cause, Key, Value, Write};
+use std::cmp::Ordering;
+
+/// The key of a place.
+pub fn key(tables: &[Name], variables: &[Variable], place: &Place) -> Result<Key, Cause>
+    requires { length tables.now < 2 ^ 16 }
+    ensures { result ≡ key_of tables.now (variables_of variables.now) (place_of place.now) }
+{
+    match value(&place.row, variables) {
+        Ok(row) => row_key(table_number(tables, &place.table), &row),
+        Err(cause) => Err(cause),
+    }
+}
+
+fn table_number(tables: &[Name], name: &Name) -> u16
+    requires { length tables.now < 2 ^ 16 }
+    ensures { result ≡ table_number tables.now name.now }
+{
+    for (i, table) in tables.iter().enumerate() {
+        if *table == *name {
+            return i as u16;
+        }
+    }
+    tables.len() as u16
+}
+
+fn row_key(table: u16, row: &Lent<'_>) -> Result<Key, Cause>
+    ensures { result ≡ row_key table (datum_of row.now) }
+{
+    match row {
+        Lent::Int(row) => match u64::try_from(*row) {
+            Ok(row) => Ok(Key { table, row }),
+            Err(_) => Err(Cause::BadRow),
+        },
+        Lent::None | Lent::Text(_) => Err(Cause::Kind),
+    }
+}
+
+/// What was written under a key.
+pub fn written(writes: &[Write], key: Key) -> Option<&Option<Value>>
+    ensures { option_copied result ≡ written_at writes.now key }
+{
+    for write in writes {
+        if key.compare(&write.key) == Ordering::Equal {
+            return Some(&write.value);
+        }
+    }
+    None
+}
+
+/// What was given for a key.
+pub fn given(values: &[Given], key: Key) -> Option<&Option<Value>>
+    ensures { option_copied result ≡ given_at values.now key }
+{
+    for given in values {
+        if key.compare(&given.key) == Ordering::Equal {
+            return Some(&given.value);
+        }
+    }
+    None
+}
+
+/// Puts a write into a list that rises by key, in the place of an earlier one of its key.
+pub fn put(writes: &mut Vec<Write>, key: Key, value: &Option<Value>)
+    requires { vec_len writes.old < vec_capacity writes.old }
+    ensures list { writes.new.items ≡ put_write key value.now writes.old.items }
+    ensures len { length writes.new.items ≤ length writes.old.items + 1 }
+    ensures room { vec_capacity writes.old ≤ vec_capacity writes.new }
+{
+    let write = Write { key, value: *value };
+    match place_among(writes, key) {
+        Ok(at) => writes[at] = write,
+        Err(at) => {
+            let _ = writes.insert(at, write);
+        }
+    }
+}
+
+// The place of a key, or where a write of it would stand.
+fn place_among(writes: &[Write], key: Key) -> Result<usize, usize>
+    ensures { MatchResult result
+        (λ i. (i < length writes.now) × ((d : Datum) → put_write key d writes.now ≡ slice_set writes.now i (record { key = key; value = d })))
+        (λ i. (i ≤ length writes.now) × ((d : Datum) → put_write key d writes.now ≡ insert writes.now i (record { key = key; value = d }))) }
+{
+    for (i, write) in writes.iter().enumerate() {
+        match key.compare(&write.key) {
+            Ordering::Less => return Err(i),
+            Ordering::Equal => return Ok(i),
+            Ordering::Greater => {}
+        }
+    }
+    Err(writes.len())
+}

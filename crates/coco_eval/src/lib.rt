@@ -1,0 +1,16 @@
+//! The evaluator: runs a procedure, and stops where it needs the value of a row.
+#![tactic(auto)]
+
+mod advance;
+mod keys;
+mod lent;
+mod machine;
+mod noted;
+mod room;
+mod run;
+mod statements;
+mod values;
+mod variables;
+
+pub use machine::Given;
+pub use run::{Need, Run};

@@ -1,0 +1,164 @@
+//! The values of expressions.
+ghost use Rattle.std.specs.Prelude.{◌≡◌, not, neg_ℤ};
+ghost use Rattle.coco_ast.specs.Meaning.{value_of, combined, numbers, number_of, and_then, is_true, truth, within_range};
+ghost use Rattle.coco_ast.specs.Tree.{Add, Subtract, Multiply, Divide, Remainder};
+ghost use Rattle.coco_ast.specs.Views.{expression_of, sign_of};
+ghost use Rattle.coco_eval.specs.Lending.{datum_of, computed_of, whole_of};
+ghost use Rattle.coco_eval.specs.Slots.{variables_of};
+
+use crate::lent::{Lent, are_same, number};
+use crate::variables::{Variable, value_at};
+use coco_ast::{Expr, TwoOp};
+use coco_types::Cause;
+
+/// What an expression comes to. The value is lent from the expression or from the variables.
+pub fn value<'a>(expr: &'a Expr, variables: &'a [Variable]) -> Result<Lent<'a>, Cause>
+    ensures { computed_of result ≡ value_of (variables_of variables.now) (expression_of expr.now) }
+{
+    match expr {
+        Expr::Number(number) => Ok(Lent::Int(*number)),
+        Expr::Text(text) => Ok(Lent::Text(text)),
+        Expr::None => Ok(Lent::None),
+        Expr::Var(name) => Ok(value_at(variables, name)),
+        Expr::Not(operand) => match value(operand, variables) {
+            Ok(operand) => whole(inverted(&operand)),
+            Err(cause) => Err(cause),
+        },
+        Expr::Negate(operand) => match value(operand, variables) {
+            Ok(operand) => whole(negated(&operand)),
+            Err(cause) => Err(cause),
+        },
+        Expr::Two { op, left, right } => {
+            let left = match value(left, variables) {
+                Ok(left) => left,
+                Err(cause) => return Err(cause),
+            };
+            match value(right, variables) {
+                Ok(right) => whole(combination(*op, &left, &right)),
+                Err(cause) => Err(cause),
+            }
+        }
+    }
+}
+
+fn whole<'a>(computed: Result<i64, Cause>) -> Result<Lent<'a>, Cause>
+    ensures { computed_of result ≡ whole_of computed }
+{
+    match computed {
+        Ok(number) => Ok(Lent::Int(number)),
+        Err(cause) => Err(cause),
+    }
+}
+
+fn inverted(operand: &Lent<'_>) -> Result<i64, Cause>
+    ensures { whole_of result ≡ and_then (number_of (datum_of operand.now)) (λ z. truth (not (is_true z))) }
+{
+    match number(operand) {
+        Ok(number) => Ok(as_number(number == 0)),
+        Err(cause) => Err(cause),
+    }
+}
+
+fn negated(operand: &Lent<'_>) -> Result<i64, Cause>
+    ensures { whole_of result ≡ and_then (number_of (datum_of operand.now)) (λ z. within_range (neg_ℤ z)) }
+{
+    match number(operand) {
+        Ok(number) => match number.checked_neg() {
+            Some(number) => Ok(number),
+            None => Err(Cause::Overflow),
+        },
+        Err(cause) => Err(cause),
+    }
+}
+
+// What an operator makes of its two operands.
+fn combination(op: TwoOp, left: &Lent<'_>, right: &Lent<'_>) -> Result<i64, Cause>
+    ensures { whole_of result ≡ combined (sign_of op) (datum_of left.now) (datum_of right.now) }
+{
+    match op {
+        TwoOp::Equal => Ok(as_number(are_same(left, right))),
+        TwoOp::NotEqual => Ok(as_number(!are_same(left, right))),
+        _ => match (left, right) {
+            (Lent::Int(left), Lent::Int(right)) => of_numbers(op, *left, *right),
+            _ => Err(Cause::Kind),
+        },
+    }
+}
+
+fn of_numbers(op: TwoOp, left: i64, right: i64) -> Result<i64, Cause>
+    ensures { whole_of result ≡ numbers (sign_of op) left right }
+{
+    match op {
+        TwoOp::Add => sum(left, right),
+        TwoOp::Subtract => difference(left, right),
+        TwoOp::Multiply => product(left, right),
+        TwoOp::Divide => quotient(left, right),
+        TwoOp::Remainder => remainder(left, right),
+        TwoOp::Equal => Ok(as_number(left == right)),
+        TwoOp::NotEqual => Ok(as_number(left != right)),
+        TwoOp::Less => Ok(as_number(left < right)),
+        TwoOp::AtMost => Ok(as_number(left <= right)),
+        TwoOp::Greater => Ok(as_number(left > right)),
+        TwoOp::AtLeast => Ok(as_number(left >= right)),
+        TwoOp::And => Ok(as_number(left != 0 && right != 0)),
+        TwoOp::Or => Ok(as_number(left != 0 || right != 0)),
+    }
+}
+
+fn sum(left: i64, right: i64) -> Result<i64, Cause>
+    ensures { whole_of result ≡ numbers Add left right }
+{
+    match left.checked_add(right) {
+        Some(sum) => Ok(sum),
+        None => Err(Cause::Overflow),
+    }
+}
+
+fn difference(left: i64, right: i64) -> Result<i64, Cause>
+    ensures { whole_of result ≡ numbers Subtract left right }
+{
+    match left.checked_sub(right) {
+        Some(difference) => Ok(difference),
+        None => Err(Cause::Overflow),
+    }
+}
+
+fn product(left: i64, right: i64) -> Result<i64, Cause>
+    ensures { whole_of result ≡ numbers Multiply left right }
+{
+    match left.checked_mul(right) {
+        Some(product) => Ok(product),
+        None => Err(Cause::Overflow),
+    }
+}
+
+fn quotient(left: i64, right: i64) -> Result<i64, Cause>
+    ensures { whole_of result ≡ numbers Divide left right }
+{
+    if right == 0 {
+        return Err(Cause::ZeroDivide);
+    }
+    match left.checked_div(right) {
+        Some(quotient) => Ok(quotient),
+        None => Err(Cause::Overflow),
+    }
+}
+
+fn remainder(left: i64, right: i64) -> Result<i64, Cause>
+    ensures { whole_of result ≡ numbers Remainder left right }
+{
+    if right == 0 {
+        return Err(Cause::ZeroDivide);
+    }
+    match left.checked_rem(right) {
+        Some(remainder) => Ok(remainder),
+        None => Err(Cause::Overflow),
+    }
+}
+
+// 1 or 0.
+fn as_number(holds: bool) -> i64
+    ensures { whole_of (Ok result) ≡ truth holds }
+{
+    if holds { 1 } else { 0 }
+}
