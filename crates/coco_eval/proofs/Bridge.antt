@@ -3,16 +3,15 @@ use Rattle.std.proofs.Common.{◌≡◌, ℕ, zero, suc, ◌+◌, Bool, true, fa
 use Rattle.std.specs.Prelude.{is_some, unwrap_or}
 use Rattle.std.specs.List.{list_any}
 use Rattle.std.specs.Ordering.{match_ordering}
-use Rattle.std.specs.Cmp.{eq_by_cmp_equiv}
 use Rattle.std.specs.Cmp.Lexicographic.{pointwise, bytes_decides}
 use Rattle.std.proofs.lemmas.Bool.{and_parts}
 use Rattle.std.proofs.lemmas.List.{append-nil, map-append}
-use Rattle.coco_types.proofs.KeyMaps.{keys_total, keys_exact}
+use Rattle.coco_types.proofs.Keys.{keys_exact, one_key, key_itself}
 use Rattle.coco_types.specs.RowKey.{RowKey, key_cmp}
 use Rattle.coco_types.specs.declared.call.Reply.TheVariants.{Ok as Answers, Refused}
 use Rattle.coco_types.specs.declared.call.Write.{Write}
 use Rattle.coco_types.specs.declared.value.Value.TheVariants.{Int}
-use Rattle.coco_ast.proofs.Writing.{value_written, same_key}
+use Rattle.coco_ast.proofs.Writing.{value_written}
 use Rattle.coco_ast.specs.Keyed.{Rows, value_at}
 use Rattle.coco_ast.specs.Meaning.{Datum, Computed, Variables, variable_at, value_of, and_then, number_of, is_true, truth, within_range, combined, key_of, row_key, place_of, is_key, Access, Reads, Writes, State, Flow, Goes, Ends, Refuses, set_variable, read_row, write_row, with, after, turns, statement_flow, statements_flow, needs_after, put_write, writes_after}
 use Rattle.coco_ast.specs.Tree.{Expression, Number, Quoted, None as Nothing, Variable, Not, Negate, Two, RowPlace, Statement, Let, Get, Put, Delete, If, IfElse, Repeat, Refuse, Reply as Replies, Statements, End, Then}
@@ -79,9 +78,6 @@ key_of-same ts vs ws same p = ap (λ (c : Computed Datum). and_then c (λ v. row
 
 -- ---- writes and what was given
 
-own_key : (k : RowKey) → is_key k k ≡ true
-own_key k = (eq_by_cmp_equiv keys_total).refl k
-
 written_at-put : (k : RowKey) (v : Datum) (ws : List Write) (q : RowKey) → written_at (put_write k v ws) q ≡ cond (is_key q k) (Some v) (written_at ws q)
 written_at-put k v [] q = refl
 written_at-put k v (w ∷ ws) q = step (written_at-put k v ws q) (key_cmp k w.key) refl
@@ -93,7 +89,7 @@ written_at-put k v (w ∷ ws) q = step (written_at-put k v ws q) (key_cmp k w.ke
     step rest Greater e =
         ap (cond (is_key q w.key) (Some w.value)) rest
         ∙ either (is_key q w.key) (is_key q k) (Some w.value) (Some v) (written_at ws q)
-        (λ at_w at_k. let h : is_eq (key_cmp k w.key) ≡ true = ap (λ (j : RowKey). is_key k j) (sym (same_key q w.key at_w) ∙ same_key q k at_k) ∙ own_key k in
+        (λ at_w at_k. let h : is_eq (key_cmp k w.key) ≡ true = ap (λ (j : RowKey). is_key k j) (sym (one_key q w.key at_w) ∙ one_key q k at_k) ∙ key_itself k in
         let g : false ≡ true = sym (ap is_eq e) ∙ h in cc)
 
 given_at-more : (gs : List Given) (g : Given) (q : RowKey) → given_at (gs ++ g ∷ []) q ≡ or_else (given_at gs q) (cond (is_key q g.key) (Some g.value) None)
@@ -229,7 +225,7 @@ module _ (m : Rows) (slots : Variables) where
         seen = λ q. ap (list_any (is_key q)) (seen_after-append s.accesses (Reads k ∷ []) [] ∙ ap (λ (b : Bool). cond b (seen_after [] s.accesses) (k ∷ seen_after [] s.accesses)) seen)
             ∙ ap (λ (b : Bool). is_key q k || b) (a.seen q)
             ∙ sym (ap (λ (o : Option Datum). is_some (or_else (written_at c.writes q) o)) (given_at-more c.given (record { key = k; value = d }) q) ∙ known_some (written_at c.writes q) (given_at c.given q) (is_key q k) d);
-        given = λ q e h. ⊎_elim (λ old. a.given q e old) (λ new. sym new.1 ∙ ap (value_at m) (sym (same_key q k new.0)))
+        given = λ q e h. ⊎_elim (λ old. a.given q e old) (λ new. sym new.1 ∙ ap (value_at m) (sym (one_key q k new.0)))
             (or_given (given_at c.given q) (is_key q k) d e (sym (given_at-more c.given (record { key = k; value = d }) q) ∙ h));
       }
 

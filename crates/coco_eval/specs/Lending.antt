@@ -3,16 +3,16 @@ use Rattle.std.specs.Prelude.{ℤ, Some, None, Result, Ok, Err}
 use Rattle.coco_types.specs.declared.value.Value.TheVariants.{Int, Text}
 use Rattle.coco_types.specs.declared.call.Cause.{Cause}
 use Rattle.coco_ast.specs.Meaning.{Datum, Computed}
-use Rattle.coco_eval.specs.declared.lent.Lent.{Lent}
-use Rattle.coco_eval.specs.declared.lent.Lent.TheVariants as lent
+use Rattle.coco_eval.specs.declared.operand.Operand.{Operand}
+use Rattle.coco_eval.specs.declared.operand.Operand.TheVariants as operand
 
-abbrev pub datum_of : Lent → Datum
-datum_of lent.None = None
-datum_of (lent.Int n) = Some (Int n)
-datum_of (lent.Text text) = Some (Text text.now)
+abbrev pub datum_of : Operand → Datum
+datum_of operand.None = None
+datum_of (operand.Int n) = Some (Int n)
+datum_of (operand.Text text) = Some (Text text.now)
 
 -- what was computed, by the value that was lent
-abbrev pub computed_of : Result Lent Cause → Computed Datum
+abbrev pub computed_of : Result Operand Cause → Computed Datum
 computed_of (Ok v) = Ok (datum_of v)
 computed_of (Err c) = Err c
 

@@ -7,8 +7,8 @@ ghost use Rattle.coco_eval.specs.Lending.{datum_of};
 ghost use Rattle.coco_eval.specs.Places.{written_at, given_at};
 ghost use Rattle.coco_eval.specs.Slots.{variables_of};
 
-use crate::lent::Lent;
 use crate::machine::Given;
+use crate::operand::Operand;
 use crate::values::value;
 use crate::variables::Variable;
 use coco_ast::{Name, Place};
@@ -38,15 +38,15 @@ fn table_number(tables: &[Name], name: &Name) -> u16
     tables.len() as u16
 }
 
-fn row_key(table: u16, row: &Lent<'_>) -> Result<Key, Cause>
+fn row_key(table: u16, row: &Operand<'_>) -> Result<Key, Cause>
     ensures { result ≡ row_key table (datum_of row.now) }
 {
     match row {
-        Lent::Int(row) => match u64::try_from(*row) {
+        Operand::Int(row) => match u64::try_from(*row) {
             Ok(row) => Ok(Key { table, row }),
             Err(_) => Err(Cause::BadRow),
         },
-        Lent::None | Lent::Text(_) => Err(Cause::Kind),
+        Operand::None | Operand::Text(_) => Err(Cause::Kind),
     }
 }
 

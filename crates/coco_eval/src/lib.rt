@@ -3,9 +3,9 @@
 
 mod advance;
 mod keys;
-mod lent;
 mod machine;
 mod noted;
+mod operand;
 mod room;
 mod run;
 mod statements;

@@ -30,3 +30,8 @@ impl<V> Drop for Noted<V> {
         let Self { marker: _ } = self;
     }
 }
+
+// It has no bytes.
+unsafe impl<V> Send for Noted<V> {}
+
+unsafe impl<V> Sync for Noted<V> {}

@@ -9,11 +9,9 @@ ghost use Rattle.coco_eval.specs.Slots.{variables_of, has_slot, has_slots, has_s
 use crate::machine::{Frame, Given, Machine};
 use crate::variables::Variable;
 use coco_ast::{Name, Proc, Stmt};
+use coco_types::limits::MOST_KEYS;
 use coco_types::{Args, Key, NoMemory, Reply, Write, Writes};
 use std::alloc::Global;
-
-/// How many keys a run may read and write.
-pub const MOST_KEYS: usize = 64;
 
 /// Lists whose room the next run takes.
 #[derive(Drop)]
@@ -80,8 +78,8 @@ impl Room {
         spare.clear();
         bind(&mut variables, proc.params.as_slice(), args)?;
         let deep = collect(&mut variables, &proc.body)?;
-        given.reserve(MOST_KEYS)?;
-        writes.reserve(MOST_KEYS)?;
+        given.reserve(MOST_KEYS as usize)?;
+        writes.reserve(MOST_KEYS as usize)?;
         path.reserve(deep)?;
         spare.reserve(deep)?;
         let settled = Writes::new(*given.allocator());

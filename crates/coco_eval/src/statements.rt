@@ -9,8 +9,8 @@ ghost use Rattle.coco_eval.specs.Moves.{kept_of, MovesBlock, MovesGet, MovesOne,
 ghost use Rattle.coco_eval.specs.Places.{Goes, Ends, with, with_variable, with_write, newest, turns, runs, from, chosen, goes_on_repeat, goes_on, weight_get, weight_repeat, weight_one, weight_on, depth_one, depth, are_bounded_in, are_bounded};
 
 use crate::keys::{given, key, put, written};
-use crate::lent::{number, owned};
 use crate::machine::{Frame, Given, Machine, Stop, Way};
+use crate::operand::{number, owned};
 use crate::variables::set;
 use coco_ast::{Expr, Name, Place, Stmt};
 use coco_types::{Cause, Key, Reply, Value};

@@ -6,19 +6,19 @@ ghost use Rattle.coco_ast.specs.Views.{expression_of, sign_of};
 ghost use Rattle.coco_eval.specs.Lending.{datum_of, computed_of, whole_of};
 ghost use Rattle.coco_eval.specs.Slots.{variables_of};
 
-use crate::lent::{Lent, are_same, number};
+use crate::operand::{Operand, are_same, number};
 use crate::variables::{Variable, value_at};
 use coco_ast::{Expr, TwoOp};
 use coco_types::Cause;
 
 /// What an expression comes to. The value is lent from the expression or from the variables.
-pub fn value<'a>(expr: &'a Expr, variables: &'a [Variable]) -> Result<Lent<'a>, Cause>
+pub fn value<'a>(expr: &'a Expr, variables: &'a [Variable]) -> Result<Operand<'a>, Cause>
     ensures { computed_of result ≡ value_of (variables_of variables.now) (expression_of expr.now) }
 {
     match expr {
-        Expr::Number(number) => Ok(Lent::Int(*number)),
-        Expr::Text(text) => Ok(Lent::Text(text)),
-        Expr::None => Ok(Lent::None),
+        Expr::Number(number) => Ok(Operand::Int(*number)),
+        Expr::Text(text) => Ok(Operand::Text(text)),
+        Expr::None => Ok(Operand::None),
         Expr::Var(name) => Ok(value_at(variables, name)),
         Expr::Not(operand) => match value(operand, variables) {
             Ok(operand) => whole(inverted(&operand)),
@@ -41,16 +41,16 @@ pub fn value<'a>(expr: &'a Expr, variables: &'a [Variable]) -> Result<Lent<'a>, 
     }
 }
 
-fn whole<'a>(computed: Result<i64, Cause>) -> Result<Lent<'a>, Cause>
+fn whole<'a>(computed: Result<i64, Cause>) -> Result<Operand<'a>, Cause>
     ensures { computed_of result ≡ whole_of computed }
 {
     match computed {
-        Ok(number) => Ok(Lent::Int(number)),
+        Ok(number) => Ok(Operand::Int(number)),
         Err(cause) => Err(cause),
     }
 }
 
-fn inverted(operand: &Lent<'_>) -> Result<i64, Cause>
+fn inverted(operand: &Operand<'_>) -> Result<i64, Cause>
     ensures { whole_of result ≡ and_then (number_of (datum_of operand.now)) (λ z. truth (not (is_true z))) }
 {
     match number(operand) {
@@ -59,7 +59,7 @@ fn inverted(operand: &Lent<'_>) -> Result<i64, Cause>
     }
 }
 
-fn negated(operand: &Lent<'_>) -> Result<i64, Cause>
+fn negated(operand: &Operand<'_>) -> Result<i64, Cause>
     ensures { whole_of result ≡ and_then (number_of (datum_of operand.now)) (λ z. within_range (neg_ℤ z)) }
 {
     match number(operand) {
@@ -72,14 +72,14 @@ fn negated(operand: &Lent<'_>) -> Result<i64, Cause>
 }
 
 // What an operator makes of its two operands.
-fn combination(op: TwoOp, left: &Lent<'_>, right: &Lent<'_>) -> Result<i64, Cause>
+fn combination(op: TwoOp, left: &Operand<'_>, right: &Operand<'_>) -> Result<i64, Cause>
     ensures { whole_of result ≡ combined (sign_of op) (datum_of left.now) (datum_of right.now) }
 {
     match op {
         TwoOp::Equal => Ok(as_number(are_same(left, right))),
         TwoOp::NotEqual => Ok(as_number(!are_same(left, right))),
         _ => match (left, right) {
-            (Lent::Int(left), Lent::Int(right)) => of_numbers(op, *left, *right),
+            (Operand::Int(left), Operand::Int(right)) => of_numbers(op, *left, *right),
             _ => Err(Cause::Kind),
         },
     }

@@ -4,7 +4,7 @@ ghost use Rattle.coco_ast.specs.Meaning.{variable_at};
 ghost use Rattle.coco_eval.specs.Lending.{datum_of};
 ghost use Rattle.coco_eval.specs.Slots.{variables_of, set_at};
 
-use crate::lent::{Lent, lend};
+use crate::operand::{Operand, lend};
 use coco_ast::Name;
 use coco_types::Value;
 
@@ -16,7 +16,7 @@ pub struct Variable {
 }
 
 /// The value of the variable of a name.
-pub fn value_at<'a>(variables: &'a [Variable], name: &Name) -> Lent<'a>
+pub fn value_at<'a>(variables: &'a [Variable], name: &Name) -> Operand<'a>
     ensures { datum_of result ≡ variable_at (variables_of variables.now) name.now }
 {
     for variable in variables {
@@ -24,7 +24,7 @@ pub fn value_at<'a>(variables: &'a [Variable], name: &Name) -> Lent<'a>
             return lend(&variable.value);
         }
     }
-    Lent::None
+    Operand::None
 }
 
 /// Sets the variable of a name, where there is one.

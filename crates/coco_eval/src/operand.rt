@@ -8,50 +8,50 @@ use coco_types::{Cause, Text, Value};
 
 /// A value, or none. Its text stays where it stands.
 #[derive(Clone, Copy)]
-pub enum Lent<'a> {
+pub enum Operand<'a> {
     None,
     Int(i64),
     Text(&'a Text),
 }
 
 /// A value, lent.
-pub fn lend(value: &Option<Value>) -> Lent<'_>
+pub fn lend(value: &Option<Value>) -> Operand<'_>
     ensures { datum_of result ≡ value.now }
 {
     match value {
-        None => Lent::None,
-        Some(Value::Int(number)) => Lent::Int(*number),
-        Some(Value::Text(text)) => Lent::Text(text),
+        None => Operand::None,
+        Some(Value::Int(number)) => Operand::Int(*number),
+        Some(Value::Text(text)) => Operand::Text(text),
     }
 }
 
 /// The value once more.
-pub fn owned(value: &Lent<'_>) -> Option<Value>
+pub fn owned(value: &Operand<'_>) -> Option<Value>
     ensures { result ≡ datum_of value.now }
 {
     match value {
-        Lent::None => None,
-        Lent::Int(number) => Some(Value::Int(*number)),
-        Lent::Text(text) => Some(Value::Text(**text)),
+        Operand::None => None,
+        Operand::Int(number) => Some(Value::Int(*number)),
+        Operand::Text(text) => Some(Value::Text(**text)),
     }
 }
 
-pub fn number(value: &Lent<'_>) -> Result<i64, Cause>
+pub fn number(value: &Operand<'_>) -> Result<i64, Cause>
     ensures { result ≡ number_of (datum_of value.now) }
 {
     match value {
-        Lent::Int(number) => Ok(*number),
-        Lent::None | Lent::Text(_) => Err(Cause::Kind),
+        Operand::Int(number) => Ok(*number),
+        Operand::None | Operand::Text(_) => Err(Cause::Kind),
     }
 }
 
-pub fn are_same(left: &Lent<'_>, right: &Lent<'_>) -> bool
+pub fn are_same(left: &Operand<'_>, right: &Operand<'_>) -> bool
     ensures { result ≡ same (datum_of left.now) (datum_of right.now) }
 {
     match (left, right) {
-        (Lent::None, Lent::None) => true,
-        (Lent::Int(left), Lent::Int(right)) => left == right,
-        (Lent::Text(left), Lent::Text(right)) => are_same_text(left, right),
+        (Operand::None, Operand::None) => true,
+        (Operand::Int(left), Operand::Int(right)) => left == right,
+        (Operand::Text(left), Operand::Text(right)) => are_same_text(left, right),
         _ => false,
     }
 }
