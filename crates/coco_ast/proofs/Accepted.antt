@@ -1,15 +1,15 @@
 -- What an accepted tree has: few procedures with few parameters, each of a name of its own.
-use Rattle.std.proofs.Common.{◌≡◌, ℕ, zero, suc, ◌+◌, ◌<◌, ◌≤◌, ◌⊎◌, inl, inr, Bool, true, false, ◌||◌, nat_eq, List, [], ◌∷◌, length, map, take, Option, None, Some, MatchOption, IfSome, slice_get, refl, sym, ap, ◌∙◌, subst, arith, ⊎_elim, Bor}
+use Rattle.std.proofs.Common.{◌≡◌, ℕ, zero, suc, ◌+◌, ◌<◌, ◌≤◌, ◌⊎◌, inl, inr, Bool, true, false, ◌||◌, nat_eq, List, [], ◌∷◌, length, map, take, Option, None, Some, MatchOption, IfSome, slice_get, refl, sym, ap, ◌∙◌, subst, arith, ⊎_elim, Bor, codes}
 use Rattle.std.specs.List.{All, HoldsAt}
 use Rattle.std.specs.Cmp.Lexicographic.{pointwise, bytes_decides}
 use Rattle.std.specs.Option.{option_map}
 use Rattle.std.proofs.lemmas.Option.{slice_get-map}
-use Rattle.std.proofs.lemmas.List.Elements.{All-cons, All-get_or}
+use Rattle.std.proofs.lemmas.List.Elements.{All-cons, All-get_or, All-nil}
 use Rattle.std.proofs.lemmas.Option.{get_or_from_slice_get, slice_get_within, slice_get_past, slice_get-get_or}
 use Rattle.std.proofs.lemmas.Bool.{cases_lt}
 use Rattle.std.proofs.Math.Nat.{eq-or-lt_of_le}
 use Rattle.coco_ast.specs.Tree.{Procedure, Procedures}
-use Rattle.coco_ast.specs.Builtins.{get_proc, put_proc, add_proc}
+use Rattle.coco_ast.specs.Builtins.{get_proc, put_proc, add_proc, builtins}
 use Rattle.coco_ast.specs.Checks.{IsAccepted, HasNoError, behind_builtins, is_among}
 use Rattle.coco_ast.specs.Meaning.{procedure_at}
 use Rattle.coco_ast.specs.Numbering.{IsNamed, IsNumberOf}
@@ -139,3 +139,21 @@ number_only t x a (Some m) h n k = ap Some (same_number t x a m n (named t x m h
 -- what is no word is no procedure's name
 pub number_of_no_word : (ps : List Proc) (x : List ℕ) → ((k : ℕ) (p : Proc) → slice_get ps k ≡ Some p → is_word p.name ≡ true) → is_word x ≡ false → IsNumberOf ps x None
 number_of_no_word ps x words other k p there same = let e : true ≡ false = sym (words k p there) ∙ ap is_word same ∙ other in cc
+
+-- ---- the built-in procedures alone
+
+no_two_tables : (n : ℕ) (x : List ℕ) → slice_get (codes "main" ∷ []) n ≡ Some x → is_among (take n (codes "main" ∷ [])) x ≡ true → ⊥
+no_two_tables zero x there among = let e : false ≡ true = among in cc
+no_two_tables (suc n) x there among = let e : ◌≡◌ {A = Option (List ℕ)} None (Some x) = there in cc
+
+no_error : HasNoError (record { tables = []; procs = [] })
+no_error e (inl table) = no_two_tables e.item table.twice.0 table.twice.1 table.twice.2
+no_error e (inr procedure) = let none : ◌≡◌ {A = Option Procedure} None (Some procedure.procedure) = procedure.there in cc
+
+pub builtins_accepted : IsAccepted builtins
+builtins_accepted = record {
+  text = record { tables = []; procs = [] };
+  whole = refl;
+  sound = no_error;
+  limits = record { tables = omega arith; procs = omega arith; params = All-nil (λ (p : Procedure). length p.params ≤ 16) };
+}

@@ -2,6 +2,7 @@
 
 ghost use Rattle.std.specs.Prelude.{◌≡◌, ℕ, ◌≤◌, IfOk, IfSome, slice_get, length};
 ghost use Rattle.std.specs.Option.{option_map};
+ghost use Rattle.coco_ast.specs.Builtins as trees;
 ghost use Rattle.coco_ast.specs.Checks.{IsAccepted};
 ghost use Rattle.coco_ast.specs.Fitting.{any_writes, writes_in};
 ghost use Rattle.coco_ast.specs.Meaning.{procedure_at};
@@ -9,7 +10,7 @@ ghost use Rattle.coco_ast.specs.Numbering.{IsNamed};
 ghost use Rattle.coco_ast.specs.Views.{procedure_of, procedures_of, statement_of, statements_of};
 
 use crate::index::{Numbers, numbers_of};
-use crate::{Name, Proc, Procs, Stmt};
+use crate::{Name, Proc, Procs, Stmt, builtins};
 use coco_types::NoMemory;
 use std::alloc::Global;
 use std::marker::Model;
@@ -51,6 +52,14 @@ impl Checked {
         })
     }
 
+    /// The built-in procedures alone.
+    pub fn built_in(alloc: Global) -> Result<Checked, NoMemory>
+        ensures { IfOk result (λ c. c ≡ trees.builtins) }
+    {
+        let tree = builtins(alloc)?;
+        Checked::of(alloc, tree)
+    }
+
     pub fn tree(&self) -> &Procs
         ensures value { procedures_of result.now ≡ self.now }
         ensures accepted { IsAccepted self.now }
@@ -72,7 +81,8 @@ impl Checked {
 
     /// How many parameters a procedure has.
     pub fn params(&self, proc_no: u16) -> Option<u8>
-        ensures { result ≡ option_map (λ p. length p.params) (procedure_at self.now.procs proc_no) }
+        ensures value { result ≡ option_map (λ p. length p.params) (procedure_at self.now.procs proc_no) }
+        ensures few { IfSome result (λ n. n ≤ 16) }
     {
         match self.proc_at(proc_no) {
             None => None,
