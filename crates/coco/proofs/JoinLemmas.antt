@@ -4,10 +4,9 @@ use Rattle.std.specs.List.{AllByRecursion, IsDistinct}
 use Rattle.std.proofs.lemmas.Cmp.{nat_eq_equiv}
 use Rattle.coco_types.specs.declared.call.Done.{Done}
 use Rattle.coco_types.specs.declared.call.Request.{Request}
-use Rattle.coco.specs.Allowing.{MayJoin}
-use Rattle.coco.specs.Asking.{AreNew}
-use Rattle.coco.specs.Classes.{request_under}
-use Rattle.coco.proofs.RunningLemmas.{all_more}
+use Rattle.coco_ast.specs.Tree.{Procedures}
+use Rattle.coco.specs.Asking.{MayCommit, MayJoin, request_under}
+use Rattle.coco.proofs.ExecutionLemmas.{all_more}
 
 unknown_step : (b : Bool) (q : Request) (rest : Option Request) → cond b (Some q) rest ≡ None → (b ≡ false) × (rest ≡ None)
 unknown_step true q rest h = let e : ◌≡◌ {A = Option Request} (Some q) None = h in cc
@@ -28,8 +27,8 @@ distinct_more (q ∷ before) r none once =
     let parts = unknown_step (nat_eq r.id q.id) q (request_under r.id before) none in
     (others_differ q before r parts.0 once.0, distinct_more before r parts.1 once.1)
 
-pub joined : (held : List Done) (before : List Request) (r : Request) → AreNew held before → MayJoin held before r → AreNew held (before ++ r ∷ [])
-joined held before r new may = record {
+pub joined : (procs : Procedures) (held : List Done) (before : List Request) (r : Request) → MayCommit procs held before → MayJoin procs held before r → MayCommit procs held (before ++ r ∷ [])
+joined procs held before r new may = record {
   fit = all_more _ before r new.fit may.fits;
   distinct = distinct_more before r may.not_before new.distinct;
   absent = all_more _ before r new.absent may.not_kept;

@@ -5,7 +5,7 @@ use Rattle.std.specs.Option.{option_or}
 use Rattle.std.proofs.lemmas.Cmp.{nat_eq_equiv}
 use Rattle.coco_types.specs.declared.call.Done.{Done}
 use Rattle.coco_ast.specs.History.{done_of, ids_of}
-use Rattle.coco.proofs.Growing.{done_of-append}
+use Rattle.coco_ast.proofs.GrowthLemmas.{done_of-append}
 
 still_absent : (xs : List Done) (d e : Done) → nat_eq d.id e.id ≡ false → done_of e.id xs ≡ None → done_of e.id (xs ++ d ∷ []) ≡ None
 still_absent xs d e differ none =

@@ -1,13 +1,10 @@
 pub mod AnswerLemmas
 pub mod BatchLemmas
-pub mod Batching
 pub mod ClassLemmas
 pub mod CommitLemmas
-pub mod FreshLemmas
-pub mod Growing
+pub mod EndingLemmas
+pub mod ExecutionLemmas
 pub mod JoinLemmas
 pub mod KeepingLemmas
-pub mod OneReplyLemmas
-pub mod RunningLemmas
-pub mod ServingLemmas
-pub mod StatusLemmas
+pub mod NewRequestLemmas
+pub mod RunLemmas

@@ -1,5 +1,7 @@
+//! What lines are answered with.
+
 ghost use Rattle.std.specs.Prelude.{◌≡◌, ◌<◌, ◌++◌, ℕ, length, OnOk, OnErr, take};
-ghost use Rattle.coco.specs.Answering.{texts_of, text_of_answer};
+ghost use Rattle.coco.specs.Answering.{answers_text, answer_text};
 
 use coco_kept::Kept;
 use coco_lines::{LineError, write_done, write_error};
@@ -14,9 +16,9 @@ pub enum Answer {
 
 /// Puts the texts of the answers at the end of a buffer. Out of memory, the texts of the first of them are there.
 pub fn write_answers(out: &mut Vec<u8>, kept: &Kept, answers: &[Answer]) -> Result<(), NoMemory>
-    ensures ok { OnOk result (out.new.items ≡ out.old.items ++ texts_of kept.now.dones answers.now) }
+    ensures ok { OnOk result (out.new.items ≡ out.old.items ++ answers_text kept.now.dones answers.now) }
     ensures err { OnErr result ((count : ℕ) × (count < length answers.now)
-        × (out.new.items ≡ out.old.items ++ texts_of kept.now.dones (take count answers.now))) }
+        × (out.new.items ≡ out.old.items ++ answers_text kept.now.dones (take count answers.now))) }
 {
     for answer in answers {
         write_answer(out, kept, *answer)?;
@@ -25,7 +27,7 @@ pub fn write_answers(out: &mut Vec<u8>, kept: &Kept, answers: &[Answer]) -> Resu
 }
 
 fn write_answer(out: &mut Vec<u8>, kept: &Kept, answer: Answer) -> Result<(), NoMemory>
-    ensures ok { OnOk result (out.new.items ≡ out.old.items ++ text_of_answer kept.now.dones answer) }
+    ensures ok { OnOk result (out.new.items ≡ out.old.items ++ answer_text kept.now.dones answer) }
     ensures err { OnErr result (out.new.items ≡ out.old.items) }
 {
     match answer {

@@ -1,18 +1,21 @@
-ghost use Rattle.std.specs.Prelude.{◌≡◌, ◌+◌, ◌≤◌, ◌<◌, ◌^◌, ◌++◌, ◌∷◌, [], ℕ, List, Some, Err, length, true, IfOk, OnOk};
-ghost use Rattle.coco_lines.specs.Reads.{rest_of, body_of, Counts, Takes};
+//! The lines of a batch, read and taken in by their classes.
+
+ghost use Rattle.std.specs.Prelude.{◌≡◌, ◌+◌, ◌≤◌, ◌<◌, ◌^◌, ◌++◌, ◌∷◌, [], ℕ, List, Some, Err, length, true, IfOk, IfErr, OnOk};
+ghost use Rattle.coco_lines.specs.Classes.{IsClass, new_in};
+ghost use Rattle.coco_lines.specs.Reads.{IsSpent, body_of, Counts};
+ghost use Rattle.coco_lines.specs.declared.class.Class.{Class as LineClass};
 ghost use Rattle.coco.specs.Answering.{answer_of};
-ghost use Rattle.coco.specs.Asking.{AreNew};
-ghost use Rattle.coco.specs.BatchReading.{ReadsBatch};
-ghost use Rattle.coco.specs.Classes.{IsClassOfLine, fresh_in};
-ghost use Rattle.coco.specs.declared.class.Class.{Class as LineClass};
+ghost use Rattle.coco.specs.Asking.{MayCommit};
+ghost use Rattle.coco.specs.BatchReading.{BreaksOff, ReadsBatch};
+ghost use Rattle.coco.specs.Standing.{known_of};
 
 use crate::answer::Answer;
-use crate::class::Class;
 use crate::classify::class_of;
-use crate::fresh::Fresh;
+use crate::new_requests::NewRequests;
+use coco_ast::Checked;
 use coco_io::Source;
 use coco_kept::Kept;
-use coco_lines::{Line, LineFault, Reader, Scratch};
+use coco_lines::{Class, Line, LineFault, Reader, Scratch};
 use coco_types::NoMemory;
 use std::alloc::Global;
 
@@ -20,7 +23,7 @@ use std::alloc::Global;
 #[derive(Drop)]
 pub struct Batch {
     pub answers: Vec<Answer>,
-    pub fresh: Fresh,
+    pub fresh: NewRequests,
 }
 
 impl Batch {
@@ -31,7 +34,7 @@ impl Batch {
     {
         Ok(Batch {
             answers: Vec::with_capacity(alloc, size)?,
-            fresh: Fresh::with_room(alloc, size)?,
+            fresh: NewRequests::with_room(alloc, size)?,
         })
     }
 
@@ -40,24 +43,25 @@ impl Batch {
         &mut self,
         alloc: Global,
         scratch: &mut Scratch,
+        procs: &Checked,
         kept: &Kept,
         line: Line,
     ) -> Result<(), NoMemory>
-        requires new { AreNew kept.now.dones self.old.fresh }
+        requires new { MayCommit procs.now kept.now.dones self.old.fresh }
         ensures line { (bytes : List ℕ) → line.body ≡ body_of bytes → OnOk result ((c : LineClass)
-            × IsClassOfLine kept.now.dones self.old.fresh bytes c
+            × IsClass procs.now (known_of kept.now.dones self.old.fresh) bytes c
             × (self.new.answers.items ≡ self.old.answers.items ++ answer_of line.number c ∷ [])
-            × (self.new.fresh ≡ self.old.fresh ++ fresh_in c)) }
+            × (self.new.fresh ≡ self.old.fresh ++ new_in c)) }
         ensures one { OnOk result (length self.new.answers.items ≡ length self.old.answers.items + 1) }
-        ensures new { OnOk result (AreNew kept.now.dones self.new.fresh) }
+        ensures new { OnOk result (MayCommit procs.now kept.now.dones self.new.fresh) }
     {
-        let answer = match class_of(alloc, scratch, kept, &self.fresh, &line.body)? {
-            Class::Fails(error) => Answer::Error {
+        let answer = match class_of(alloc, scratch, procs, kept, &self.fresh, &line.body)? {
+            Class::Refused(error) => Answer::Error {
                 error,
                 number: line.number,
             },
-            Class::Known(id) => Answer::Reply(id),
-            Class::Fresh(request) => {
+            Class::Same(id) => Answer::Reply(id),
+            Class::New(request) => {
                 let id = request.id;
                 self.fresh.push(request)?;
                 Answer::Reply(id)
@@ -72,6 +76,7 @@ impl Batch {
 pub fn read_batch<S: Source>(
     alloc: Global,
     scratch: &mut Scratch,
+    procs: &Checked,
     reader: &mut Reader,
     source: &mut S,
     kept: &Kept,
@@ -79,21 +84,24 @@ pub fn read_batch<S: Source>(
 ) -> Result<Batch, LineFault>
     requires few { length kept.now.dones ≤ 1048576 }
     requires given { reader.old.given ≤ 2 ^ 62 }
-    ensures text { (text : List ℕ) → rest_of reader.old (S.remaining source.old) ≡ Some text
-        → IfOk result (ReadsBatch kept.now.dones reader.old.given size text (rest_of reader.new (S.remaining source.new))) }
-    ensures new { IfOk result (λ batch. AreNew kept.now.dones batch.fresh) }
-    ensures few { IfOk result (λ batch. length batch.answers.items ≤ size) }
+    ensures batch { IfOk result (ReadsBatch procs.now (known_of kept.now.dones []) reader.old reader.new
+        (record { given = S.given source.old; left = S.remaining source.old; at_end = S.at_end source.old })
+        (record { given = S.given source.new; left = S.remaining source.new; at_end = S.at_end source.new }) size) }
+    ensures breaks { IfErr result (BreaksOff reader.old reader.new
+        (record { given = S.given source.old; left = S.remaining source.old; at_end = S.at_end source.old })
+        (record { given = S.given source.new; left = S.remaining source.new; at_end = S.at_end source.new }) size) }
+    ensures new { IfOk result (λ batch. MayCommit procs.now kept.now.dones batch.fresh) }
     ensures given { IfOk result (λ batch. reader.new.given ≡ reader.old.given + length batch.answers.items) }
     ensures within { IfOk result (λ _. reader.new.given ≤ 2 ^ 62) }
-    ensures takes { Takes reader.old reader.new (S.remaining source.old) (S.remaining source.new) }
+    ensures end { (reader.old.ended ≡ true → IsSpent (record { given = S.given source.old; left = S.remaining source.old; at_end = S.at_end source.old }))
+        → reader.new.ended ≡ true → IsSpent (record { given = S.given source.new; left = S.remaining source.new; at_end = S.at_end source.new }) }
     ensures counts { Counts result (S.faults source.old) (S.faults source.new) }
     ensures too_much { result ≡ Err LineFault.TooMuch → reader.new.taken ≡ 2 ^ 62 }
-    ensures none { IfOk result (λ batch. length batch.answers.items < size → reader.new.ended ≡ true) }
 {
     let mut batch = Batch::with_room(alloc, size as usize)?;
     for _place in 0..size {
         match reader.next(source)? {
-            Some(line) => batch.take(alloc, scratch, kept, line)?,
+            Some(line) => batch.take(alloc, scratch, procs, kept, line)?,
             None => return Ok(batch),
         }
     }

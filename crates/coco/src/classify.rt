@@ -1,55 +1,61 @@
-ghost use Rattle.std.specs.Prelude.{◌≡◌, ◌+◌, ℕ, List, length, IfOk};
-ghost use Rattle.coco_lines.specs.Reads.{body_of};
-ghost use Rattle.coco_ast.specs.Builtins.{builtins};
-ghost use Rattle.coco_ast.specs.Fitting.{Fits};
-ghost use Rattle.coco.specs.Allowing.{IsAllowed};
-ghost use Rattle.coco.specs.Classes.{IsClassOfLine, IsClassOfRequest, known_call};
+//! The class of a line, by the kept records and the new requests of its batch before it.
 
-use crate::class::Class;
-use crate::fresh::Fresh;
-use coco_kept::{Found, Kept, MOST_DONES};
-use coco_lines::{Body, LineError, RequestFault, Scratch, request};
+ghost use Rattle.std.specs.Prelude.{◌≡◌, ◌+◌, ℕ, List, length, None, IfOk};
+ghost use Rattle.coco_ast.specs.Fitting.{Fits};
+ghost use Rattle.coco_lines.specs.Classes.{IsClass, request_tests};
+ghost use Rattle.coco_lines.specs.Reading.{first_that_fits};
+ghost use Rattle.coco_lines.specs.Reads.{body_of};
+ghost use Rattle.coco.specs.Asking.{IsAllowed, MayCommit};
+ghost use Rattle.coco.specs.Standing.{known_of};
+
+use crate::new_requests::NewRequests;
+use coco_ast::Checked;
+use coco_kept::{Found, Kept};
+use coco_lines::{Body, Class, LineError, RequestFault, Scratch, request};
+use coco_types::limits::MOST_KEPT;
 use coco_types::{NoMemory, Request};
 use std::alloc::Global;
 
-/// The class of a line, for the kept records and the new requests of its batch before it. The scratch is the
-/// memory that reading takes, kept from line to line.
+/// The class of a line. The scratch is the memory that reading takes, kept from line to line.
 pub fn class_of(
     alloc: Global,
     scratch: &mut Scratch,
+    procs: &Checked,
     kept: &Kept,
-    fresh: &Fresh,
+    fresh: &NewRequests,
     body: &Body,
 ) -> Result<Class, NoMemory>
-    ensures class { (line : List ℕ) → body.now ≡ body_of line → IfOk result (IsClassOfLine kept.now.dones fresh.now line) }
-    ensures allowed { IfOk result (IsAllowed kept.now.dones fresh.now) }
+    requires { MayCommit procs.now kept.now.dones fresh.now }
+    ensures class { (line : List ℕ) → body.now ≡ body_of line → IfOk result (IsClass procs.now (known_of kept.now.dones fresh.now) line) }
+    ensures allowed { IfOk result (IsAllowed procs.now kept.now.dones fresh.now) }
 {
     let bytes = match body {
-        Body::Long => return Ok(Class::Fails(LineError::Long)),
+        Body::Long => return Ok(Class::Refused(LineError::Long)),
         Body::Whole(bytes) => bytes,
     };
-    match request(alloc, scratch, bytes.as_slice()) {
-        Ok(request) => Ok(class_of_request(kept, fresh, request)),
-        Err(RequestFault::Line(error)) => Ok(Class::Fails(error)),
+    match request(alloc, scratch, procs, bytes.as_slice()) {
+        Ok(request) => Ok(class_of_request(procs, kept, fresh, request)),
+        Err(RequestFault::Line(error)) => Ok(Class::Refused(error)),
         Err(RequestFault::NoMemory) => Err(NoMemory),
     }
 }
 
-fn class_of_request(kept: &Kept, fresh: &Fresh, request: Request) -> Class
-    requires fits { Fits builtins request.call }
-    ensures class { IsClassOfRequest (known_call kept.now.dones fresh.now request.id)
-        (length kept.now.dones + length fresh.now) request result }
-    ensures allowed { IsAllowed kept.now.dones fresh.now result }
+fn class_of_request(procs: &Checked, kept: &Kept, fresh: &NewRequests, request: Request) -> Class
+    requires new { MayCommit procs.now kept.now.dones fresh.now }
+    requires fits { Fits procs.now request.call }
+    ensures class { first_that_fits (request_tests (known_of kept.now.dones fresh.now) (Some request)) ≡ Some result }
+    ensures allowed { IsAllowed procs.now kept.now.dones fresh.now result }
 {
+    let held = kept.len();
     match kept.find(request.id, &request.call) {
-        Found::Same => return Class::Known(request.id),
-        Found::Reused => return Class::Fails(LineError::Reused),
+        Found::Same => return Class::Same(request.id),
+        Found::Reused => return Class::Refused(LineError::Reused),
         Found::New => {}
     }
     match fresh.call_of(request.id) {
-        Some(call) if *call == request.call => Class::Known(request.id),
-        Some(_) => Class::Fails(LineError::Reused),
-        None if fresh.len() as u64 >= MOST_DONES - kept.len() => Class::Fails(LineError::Full),
-        None => Class::Fresh(request),
+        Some(call) if *call == request.call => Class::Same(request.id),
+        Some(_) => Class::Refused(LineError::Reused),
+        None if fresh.len() as u64 >= MOST_KEPT - held => Class::Refused(LineError::Full),
+        None => Class::New(request),
     }
 }

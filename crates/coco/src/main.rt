@@ -2,16 +2,15 @@
 #![tactic(auto)]
 
 pub mod answer;
+pub mod answer_lines;
 pub mod batch;
-pub mod class;
 pub mod classify;
-pub mod fresh;
-pub mod laws;
-pub mod order;
-pub mod run;
-pub mod running;
-pub mod serve;
-pub mod session;
+pub mod commit_and_say;
+pub mod commit_order;
+pub mod ending;
+pub mod execution;
+pub mod held_history;
+pub mod new_requests;
 #[cfg(test)]
 mod tests;
 pub mod top;
@@ -19,18 +18,19 @@ pub mod top;
 use coco_host::FolderHost;
 use coco_io::{StdSink, StdSource};
 use coco_types::NoMemory;
-use std::env;
+use ending::Ending;
+use std::env::{self, Args};
 use std::io::ErrorKind;
 use std::process::ExitCode;
-use top::{BAD_COMMAND_LINE, OUT_OF_MEMORY, coco, complain};
+use top::coco;
 
 fn main(rt: HostRuntime) -> ExitCode {
     let mut errs = StdSink::new(rt);
     let status = match start(rt, &mut errs) {
         Ok(status) => status,
-        Err(NoMemory) => {
-            complain(&mut errs, OUT_OF_MEMORY);
-            OUT_OF_MEMORY
+        Err(ending) => {
+            ending.complain(&mut errs);
+            ending.status()
         }
     };
     ExitCode::from(status)
@@ -38,16 +38,27 @@ fn main(rt: HostRuntime) -> ExitCode {
 
 // The program's words are its own name, the store's folder, which is `.` where it isn't there, and then
 // those of the command.
-fn start(rt: HostRuntime, errs: &mut StdSink) -> Result<u8, NoMemory> {
+fn start(rt: HostRuntime, errs: &mut StdSink) -> Result<u8, Ending> {
     let alloc = rt.alloc();
-    let mut arguments = match env::args(&rt) {
+    let arguments = match env::args(&rt) {
         Ok(arguments) => arguments,
         Err(error) if error.kind() == ErrorKind::InvalidData => {
-            complain(errs, BAD_COMMAND_LINE);
-            return Ok(BAD_COMMAND_LINE);
+            return Err(Ending::BadCommandLine);
         }
-        Err(_) => return Err(NoMemory),
+        Err(_) => return Err(Ending::NoMemory),
     };
+    match prepared(rt, arguments) {
+        Ok((mut host, words)) => {
+            let mut input = StdSource::new(rt);
+            Ok(coco(&rt, alloc, words.as_slice(), &mut host, &mut input, errs))
+        }
+        Err(NoMemory) => Err(Ending::NoMemory),
+    }
+}
+
+// The host of the folder, and the command's words.
+fn prepared(rt: HostRuntime, mut arguments: Args) -> Result<(FolderHost, Vec<String>), NoMemory> {
+    let alloc = rt.alloc();
     let _program = arguments.next();
     let folder = match arguments.next() {
         Some(folder) => folder,
@@ -57,7 +68,5 @@ fn start(rt: HostRuntime, errs: &mut StdSink) -> Result<u8, NoMemory> {
     for word in arguments {
         words.push(word)?;
     }
-    let mut host = FolderHost::new(rt, folder.as_str())?;
-    let mut input = StdSource::new(rt);
-    Ok(coco(&rt, alloc, words.as_slice(), &mut host, &mut input, errs))
+    Ok((FolderHost::new(rt, folder.as_str())?, words))
 }

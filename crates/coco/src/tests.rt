@@ -1,3 +1,5 @@
+//! The top call on objects in memory: worked rows, and one call failing after another.
+
 use crate::top::coco;
 use coco_host::MemoryHost;
 use coco_io::{MemorySink, MemorySource};
@@ -5,231 +7,169 @@ use coco_types::NoMemory;
 use std::alloc::Global;
 use std::test::Fail;
 
-// Does what the words ask, and gives the status.
-fn done(
+// What a call left: its status, the bytes said, and the line on the error stream.
+#[derive(Drop)]
+struct Left {
+    status: u8,
+    host: MemoryHost,
+    errs: MemorySink,
+}
+
+// A call on these words and this text, with the read, the say and the write to the error stream of these
+// numbers failing, and so many bytes at once.
+fn call(
     alloc: Global,
-    words: &[&str],
-    host: &mut MemoryHost,
-    input: &mut MemorySource,
-    errs: &mut MemorySink,
-) -> Result<u8, NoMemory> {
+    words: &str,
+    text: &str,
+    fails: [u64; 3],
+    most: u32,
+) -> Result<Left, NoMemory> {
     let mut all = Vec::new(alloc);
-    for word in words {
+    for word in words.split_whitespace() {
         all.push(String::from_str(alloc, word)?)?;
     }
-    Ok(coco(&(), alloc, all.as_slice(), host, input, errs))
-}
-
-// An input, a host and an error stream of which the calls with these numbers fail.
-fn input(alloc: Global, text: &str, fails: &[u64]) -> Result<MemorySource, NoMemory> {
     let bytes = Vec::from_slice(alloc, text.as_bytes())?;
-    Ok(MemorySource::new(bytes, Vec::from_slice(alloc, fails)?))
+    let mut input = MemorySource::new(bytes, Vec::from_slice(alloc, &fails[..1])?);
+    input.short_reads(most.max(1) as usize);
+    let mut host = MemoryHost::new(alloc, Vec::from_slice(alloc, &fails[1..2])?);
+    host.short_says(most.max(1));
+    let mut errs = MemorySink::new(alloc, Vec::from_slice(alloc, &fails[2..])?);
+    let status = coco(&(), alloc, all.as_slice(), &mut host, &mut input, &mut errs);
+    Ok(Left { status, host, errs })
 }
 
-fn host(alloc: Global, fails: &[u64]) -> Result<MemoryHost, NoMemory> {
-    Ok(MemoryHost::new(alloc, Vec::from_slice(alloc, fails)?))
-}
+const NEVER: u64 = u64::MAX;
 
-fn errs(alloc: Global, fails: &[u64]) -> Result<MemorySink, NoMemory> {
-    Ok(MemorySink::new(alloc, Vec::from_slice(alloc, fails)?))
-}
-
-const PUT_AND_GET: &str = r#"{"args":[5,70],"call":"put","id":1}
+// Each row: the batch's size, the lines, and behind an arrow the answers.
+const ROWS: &str = r#"1
+{"args":[5,70],"call":"put","id":1}
 {"args":[5],"call":"get","id":2}
-"#;
-
-const FIRST: &str = r#"{"epoch":1,"id":1,"ok":70,"time":1}
-"#;
-
-const BOTH: &str = r#"{"epoch":1,"id":1,"ok":70,"time":1}
+->
+{"epoch":1,"id":1,"ok":70,"time":1}
 {"epoch":2,"id":2,"ok":70,"time":1}
-"#;
-
-const BOTH_AT_ONCE: &str = r#"{"epoch":1,"id":1,"ok":70,"time":1}
-{"epoch":1,"id":2,"ok":70,"time":2}
-"#;
-
-#[test]
-fn worked_rows_are_answered(rt: HostRuntime) -> Result<(), Fail> {
-    let cases: [(&str, &str, &str); 13] = [
-        ("1", "", ""),
-        ("1", PUT_AND_GET, BOTH),
-        ("2", PUT_AND_GET, BOTH_AT_ONCE),
-        (
-            "2",
-            r#"{"args":[5,70],"call":"put","id":1}
-{"args":[5],"call":"get","id":2,"snapshot":true}"#,
-            r#"{"epoch":1,"id":1,"ok":70,"time":1}
+=
+2
+{"args":[5,70],"call":"put","id":1}
+{"args":[5],"call":"get","id":2,"snapshot":true}
+->
+{"epoch":1,"id":1,"ok":70,"time":1}
 {"epoch":1,"id":2,"ok":null,"time":0}
-"#,
-        ),
-        (
-            "2",
-            r#"{"args":[5],"call":"get","id":1}
-{"args":[5,7],"call":"put","id":2}"#,
-            r#"{"epoch":1,"id":1,"ok":null,"time":1}
-{"epoch":1,"id":2,"ok":7,"time":2}
-"#,
-        ),
-        (
-            "1",
-            r#"{"args":[5,9223372036854775807],"call":"put","id":1}
+=
+1
+{"args":[5,9223372036854775807],"call":"put","id":1}
 {"args":[5,1],"call":"add","id":2}
-{"args":[5],"call":"get","id":3}"#,
-            r#"{"epoch":1,"id":1,"ok":9223372036854775807,"time":1}
+{"args":[5],"call":"get","id":3}
+->
+{"epoch":1,"id":1,"ok":9223372036854775807,"time":1}
 {"epoch":2,"id":2,"refused":"overflow","time":1}
 {"epoch":3,"id":3,"ok":9223372036854775807,"time":1}
-"#,
-        ),
-        (
-            "2",
-            r#"{"args":[5,70],"call":"put","id":1}
+=
+2
 {"args":[5,70],"call":"put","id":1}
-{"args":[5,70],"call":"put","id":1}"#,
-            r#"{"epoch":1,"id":1,"ok":70,"time":1}
-{"epoch":1,"id":1,"ok":70,"time":1}
-{"epoch":1,"id":1,"ok":70,"time":1}
-"#,
-        ),
-        (
-            "2",
-            r#"{"args":[5,70],"call":"put","id":1}
+{"args":[5,70],"call":"put","id":1}
+{"args":[5,70],"call":"put","id":1}
 {"args":[5,71],"call":"put","id":1}
-{"args":[5],"call":"get","id":1}"#,
-            r#"{"epoch":1,"id":1,"ok":70,"time":1}
-{"error":"reused","line":2}
-{"error":"reused","line":3}
-"#,
-        ),
-        (
-            "1",
-            r#"{"args":[5,70],"call":"put","id":1}"#,
-            r#"{"epoch":1,"id":1,"ok":70,"time":1}
-"#,
-        ),
-        (
-            "4",
-            r#"{"args":[5],"call":"get","id":9,"snapshot":true}
+->
+{"epoch":1,"id":1,"ok":70,"time":1}
+{"epoch":1,"id":1,"ok":70,"time":1}
+{"epoch":1,"id":1,"ok":70,"time":1}
+{"error":"reused","line":4}
+=
+4
+{"args":[5],"call":"get","id":9,"snapshot":true}
 {"args":[5,1],"call":"add","id":3}
 {"args":[5],"call":"get","id":8,"snapshot":true}
 {"args":[5,1],"call":"add","id":2}
-{"args":[5],"call":"get","id":7,"snapshot":true}"#,
-            r#"{"epoch":1,"id":9,"ok":null,"time":0}
+{"args":[5],"call":"get","id":7,"snapshot":true}
+->
+{"epoch":1,"id":9,"ok":null,"time":0}
 {"epoch":1,"id":3,"ok":1,"time":1}
 {"epoch":1,"id":8,"ok":null,"time":0}
 {"epoch":1,"id":2,"ok":2,"time":2}
 {"epoch":2,"id":7,"ok":2,"time":0}
-"#,
-        ),
-        (
-            "1",
-            r#"{"args":[-1],"call":"get","id":1}
-{"args":["a"],"call":"get","id":2}"#,
-            r#"{"epoch":1,"id":1,"refused":"bad row","time":1}
-{"epoch":2,"id":2,"refused":"kind","time":1}
-"#,
-        ),
-        (
-            "2",
-            r#"
+=
+2
 {
 []
 {"args":[5],"call":"find","id":1}
 {"args":[5,6],"call":"get","id":1}
 {"args":[5,6],"call":"put","id":1,"snapshot":true}
-{"args":[5,70],"call":"put","id":1}"#,
-            r#"{"error":"json","line":1}
-{"error":"json","line":2}
-{"error":"shape","line":3}
-{"error":"name","line":4}
-{"error":"args","line":5}
-{"error":"snapshot","line":6}
-{"epoch":1,"id":1,"ok":70,"time":1}
-"#,
-        ),
-        (
-            "1",
-            r#"{"args":[5,null],"call":"put","id":18446744073709551615}
-{"args":[5,"é"],"call":"put","id":0}"#,
-            r#"{"epoch":1,"id":18446744073709551615,"ok":null,"time":1}
-{"epoch":2,"id":0,"ok":"é","time":1}
-"#,
-        ),
-    ];
-    for (epoch, text, said) in &cases {
-        for (read, say) in [(1usize, 1u32), (100_000, 100_000)] {
-            let mut input = input(rt.alloc(), text, &[])?;
-            input.short_reads(read);
-            let mut host = host(rt.alloc(), &[])?;
-            host.short_says(say);
-            let mut errs = errs(rt.alloc(), &[])?;
-            let words = ["run", "--epoch", *epoch];
-            let status = done(rt.alloc(), &words, &mut host, &mut input, &mut errs)?;
-            assert_eq!(rt; status, 0, "{text}");
-            assert_eq!(rt; host.said(), said.as_bytes(), "{text}");
-            assert_eq!(rt; errs.bytes(), b"".as_slice());
+{"args":[-1],"call":"get","id":1}
+{"args":["é"],"call":"get","id":18446744073709551615}
+->
+{"error":"json","line":1}
+{"error":"shape","line":2}
+{"error":"name","line":3}
+{"error":"args","line":4}
+{"error":"snapshot","line":5}
+{"epoch":1,"id":1,"refused":"bad row","time":1}
+{"epoch":2,"id":18446744073709551615,"refused":"kind","time":1}"#;
+
+#[test]
+fn worked_rows_are_answered(rt: HostRuntime) -> Result<(), Fail> {
+    for row in ROWS.split("\n=\n") {
+        let Some((asked, said)) = row.split_once("\n->\n") else {
+            return Err(Fail::new("a row without answers"));
+        };
+        let Some((size, text)) = asked.split_once('\n') else {
+            return Err(Fail::new("a row without lines"));
+        };
+        let words = format!(in rt.alloc(); "run --epoch {size}")?;
+        for most in [1u32, 100_000] {
+            let left = call(rt.alloc(), words.as_str(), text, [NEVER; 3], most)?;
+            assert_eq!(rt; left.status, 0, "{row}");
+            assert!(rt;
+                left.host.said().strip_suffix(b"\n") == Some(said.as_bytes()),
+                "{row}"
+            );
+            assert!(rt; left.errs.bytes().is_empty());
         }
     }
     Ok(())
 }
 
-// The text has two lines of 36 and 33 bytes, each read gives one byte, and the 70th meets the end.
+const TEXT: &str = r#"{"args":[5,70],"call":"put","id":1}
+{"args":[5],"call":"get","id":2}
+"#;
+
+// The text has two lines of 36 and 33 bytes, each read gives one byte, and the 70th meets the end; the
+// answer of each line has 36 bytes.
 #[test]
 fn a_failing_read_leaves_the_answers_of_whole_batches(rt: HostRuntime) -> Result<(), Fail> {
-    let cases = [
-        ("1", 0u64, 36u64, 2, "", "coco: read fault\n"),
-        ("1", 36, 69, 2, FIRST, "coco: read fault\n"),
-        ("1", 69, 70, 2, BOTH, "coco: read fault\n"),
-        ("1", 70, 72, 0, BOTH, ""),
-        ("2", 0, 69, 2, "", "coco: read fault\n"),
-        ("2", 69, 70, 2, BOTH_AT_ONCE, "coco: read fault\n"),
-        ("2", 70, 72, 0, BOTH_AT_ONCE, ""),
-        ("3", 0, 70, 2, "", "coco: read fault\n"),
-        ("3", 70, 72, 0, BOTH_AT_ONCE, ""),
-    ];
-    for (epoch, from, to, wanted, said, line) in cases {
-        for call in from..to {
-            let mut input = input(rt.alloc(), PUT_AND_GET, &[call])?;
-            input.short_reads(1);
-            let mut host = host(rt.alloc(), &[])?;
-            let mut errs = errs(rt.alloc(), &[])?;
-            let words = ["run", "--epoch", epoch];
-            let status = done(rt.alloc(), &words, &mut host, &mut input, &mut errs)?;
-            assert_eq!(rt; status, wanted, "read {call} fails");
-            assert_eq!(rt; host.said(), said.as_bytes(), "read {call} fails");
-            assert_eq!(rt; errs.bytes(), line.as_bytes());
+    for (words, first, second) in [
+        ("run --epoch 1", 36u64, 69),
+        ("run --epoch 2", 69, 69),
+        ("run", 70, 70),
+    ] {
+        for read in 0..72 {
+            let left = call(rt.alloc(), words, TEXT, [read, NEVER, NEVER], 1)?;
+            let answered = if read < first {
+                0
+            } else if read < second {
+                36
+            } else {
+                72
+            };
+            assert_eq!(rt; left.host.said().len(), answered, "read {read} fails");
+            let line: &str = if read < 70 { "coco: read fault\n" } else { "" };
+            assert_eq!(rt; left.errs.bytes(), line.as_bytes());
+            assert_eq!(rt; left.status, if read < 70 { 2 } else { 0 });
         }
     }
     Ok(())
 }
 
-// The answers have 72 bytes, 36 of each line.
 #[test]
 fn a_failing_say_leaves_a_front_of_the_answers(rt: HostRuntime) -> Result<(), Fail> {
-    for (most, epoch, each, answers) in [
-        (1u32, "1", 1u64, BOTH),
-        (1, "2", 1, BOTH_AT_ONCE),
-        (8, "2", 8, BOTH_AT_ONCE),
-        (10, "100", 10, BOTH_AT_ONCE),
-        (1_000, "1", 36, BOTH),
-    ] {
-        for call in 0..73u64 {
-            let mut input = input(rt.alloc(), PUT_AND_GET, &[])?;
-            let mut host = host(rt.alloc(), &[call])?;
-            host.short_says(most);
-            let mut errs = errs(rt.alloc(), &[])?;
-            let words = ["run", "--epoch", epoch];
-            let status = done(rt.alloc(), &words, &mut host, &mut input, &mut errs)?;
-            let front = call.saturating_mul(each).min(72) as usize;
-            assert_eq!(rt; host.said().len(), front, "call {call} fails");
-            assert!(rt; answers.as_bytes().starts_with(host.said()));
-            if front < 72 {
-                assert_eq!(rt; status, 3, "call {call} fails");
-                assert_eq!(rt; errs.bytes(), b"coco: reply stream fault\n".as_slice());
-            } else {
-                assert_eq!(rt; status, 0, "call {call} fails");
-                assert_eq!(rt; errs.bytes(), b"".as_slice());
-            }
+    for most in [1u32, 8, 36] {
+        for say in 0..73u64 {
+            let left = call(rt.alloc(), "run --epoch 1", TEXT, [NEVER, say, NEVER], most)?;
+            let whole = left.host.said().len() == 72;
+            assert!(rt;
+                whole || left.host.said().len() as u64 <= say.saturating_mul(u64::from(most))
+            );
+            assert_eq!(rt; left.status, if whole { 0 } else { 3 }, "say {say} fails");
+            assert_eq!(rt; left.errs.bytes().is_empty(), whole);
         }
     }
     Ok(())
@@ -237,23 +177,17 @@ fn a_failing_say_leaves_a_front_of_the_answers(rt: HostRuntime) -> Result<(), Fa
 
 #[test]
 fn other_words_are_no_command(rt: HostRuntime) -> Result<(), Fail> {
-    let cases: [&[&str]; 5] = [
-        &[],
-        &["help"],
-        &["run", "--"],
-        &["run", "--epoch", "0"],
-        &["run", "--epoch=1", "--epoch=2"],
-    ];
-    for words in cases {
-        for (call, line) in [(0u64, ""), (1, "coco: bad command line\n")] {
-            let mut input = input(rt.alloc(), PUT_AND_GET, &[])?;
-            let mut host = host(rt.alloc(), &[])?;
-            let mut errs = errs(rt.alloc(), &[call])?;
-            let status = done(rt.alloc(), words, &mut host, &mut input, &mut errs)?;
-            assert_eq!(rt; status, 1);
-            assert_eq!(rt; host.said(), b"".as_slice());
-            assert_eq!(rt; errs.bytes(), line.as_bytes());
-        }
+    for words in [
+        "",
+        "help",
+        "run --",
+        "run --epoch 0",
+        "run --epoch=1 --epoch=2",
+    ] {
+        let left = call(rt.alloc(), words, TEXT, [NEVER; 3], 100)?;
+        assert_eq!(rt; left.status, 1);
+        assert!(rt; left.host.said().is_empty());
+        assert_eq!(rt; left.errs.bytes(), b"coco: bad command line\n".as_slice());
     }
     Ok(())
 }

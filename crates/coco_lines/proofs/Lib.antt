@@ -1,9 +1,13 @@
+pub mod ClassLemmas
 pub mod CutLemmas
+pub mod FitLemmas
 pub mod GatheringLemmas
+pub mod GrowingLemmas
 pub mod LinesLemmas
 pub mod NumberLemmas
 pub mod PlainLemmas
+pub mod RankLemmas
 pub mod ReadingLemmas
 pub mod ReadsLemmas
+pub mod ReplyLemmas
 pub mod TextLemmas
-pub mod FitLemmas

@@ -1,11 +1,10 @@
 -- What a member of a plain line adds to its parts, and what they ask for in the end.
-use Rattle.std.proofs.Common.{◌≡◌, ℕ, ◌&&◌, Bool, true, false, true≢false, nat_eq, List, [], length, Option, None, Some, Ok, IfSome, Ordering, Less, Equal, Greater, nat_cmp, Bor, refl, sym, ap, subst, ◌∙◌, codes}
+use Rattle.std.proofs.Common.{◌≡◌, ℕ, ◌&&◌, Bool, true, false, true≢false, nat_eq, List, [], length, Option, Some, IfSome, Ordering, Less, Equal, Greater, nat_cmp, Bor, refl, sym, ap, subst, ◌∙◌, codes}
 use Rattle.std.specs.Option.{option_map, option_and_then}
 use Rattle.std.specs.Ordering.{match_ordering}
 use Rattle.std.specs.Str.{bytes_eq}
 use Rattle.std.specs.Cmp.Lexicographic.{slice_cmp}
 use Rattle.std.proofs.lemmas.Bool.{eq-eqb}
-use Rattle.std.proofs.lemmas.Option.{same_Some}
 use Rattle.std.proofs.lemmas.Slice.Eq.{bytes_eq-Decides}
 use Rattle.json.specs.Json as json
 use Rattle.json.specs.Lex.{tokens}
@@ -15,12 +14,12 @@ use Rattle.serde_json.specs.Find.{get_member, as_array, as_number, as_str, as_u6
 use Rattle.serde_json.specs.Read.{of_json, read}
 use Rattle.serde_json.proofs.Views.{get_member-put, get_member-put_other}
 use Rattle.coco_types.specs.declared.value.Value.{Value}
-use Rattle.coco_lines.specs.Signature.{Signature, builtins, find_named}
-use Rattle.coco_lines.specs.Reading.{Asked, is_member, only_members, snapshot_of, asked_of, args_of, fitting_args, request_of}
+use Rattle.coco_ast.specs.Tree.{Procedures}
+use Rattle.coco_lines.specs.Reading.{is_member, only_members, snapshot_of, args_of, fitting_args, find_named, request_in}
 use Rattle.coco_lines.specs.Plain.{args_in, u64_in, Holds}
 use Rattle.coco_lines.specs.declared.plain.Parts.{Parts}
-use Rattle.coco_lines.proofs.ReadingLemmas.{asked_of-all}
-use Rattle.coco_lines.proofs.FitLemmas.{args_length}
+use Rattle.coco_lines.proofs.ReadingLemmas.{asked_of-all, asks_for, known}
+use Rattle.coco_lines.proofs.FitLemmas.{args_length, found_in}
 
 -- ---- a member of a request, put into the object
 
@@ -94,45 +93,28 @@ module _ (p : Parts) (ms : Members) (h : Holds p ms) where
 
 -- ---- the request of all parts
 
-pub found_in : {A B : Type 0} (f : A → Option B) (o : Option A) (b : B) → option_and_then f o ≡ Some b → (a : A) × (o ≡ Some a) × (f a ≡ Some b)
-found_in {A} {B} f None b is = let e : ◌≡◌ {A = Option B} None (Some b) = is in absurd (cc)
-found_in f (Some a) b is = (a, refl, is)
-
-known : (proc_no params : ℕ) (writes : Bool) (o : Option (ℕ × Signature)) → Some proc_no ≡ option_map (λ f. f.0) o → Some params ≡ option_map (λ f. f.1.params) o → Some writes ≡ option_map (λ f. f.1.writes) o
-    → (f : ℕ × Signature) × (o ≡ Some f) × (f.0 ≡ proc_no) × (f.1.params ≡ params) × (f.1.writes ≡ writes)
-known proc_no params writes None a b c = let e : Some proc_no ≡ None = a in absurd (cc)
-known proc_no params writes (Some f) a b c = (f, refl, same_Some _ _ (sym a), same_Some _ _ (sym b), same_Some _ _ (sym c))
-
 fitting : (params : ℕ) (items : Items) (args : List (Option Value)) → items_len items ≡ params → args_of items ≡ Some args → fitting_args params items ≡ Some args
 fitting params items args many is =
     let counted : nat_eq (items_len items) params ≡ true = eq-eqb _ _ many in
     rw (counted, is)
 
-resolved : (procs : List Signature) (value : Data) (asked : Asked) (f : ℕ × Signature) (args : List (Option Value)) → asked_of value ≡ Some asked → find_named procs asked.call ≡ Some f
-    → fitting_args f.1.params asked.args ≡ Some args → asked.snapshot && f.1.writes ≡ false
-    → request_of procs value ≡ Ok (record { id = asked.id; call = record { proc_no = f.0; args = args; snapshot = asked.snapshot } })
-resolved procs value asked f args asks named fits runs = rw (asks, named, fits, runs)
-
 part : {X : Type 0} (o : Option X) (x : X) (P : X → Type 0) → o ≡ Some x → IfSome o P → P x
 part o x P is holds = let all : IfSome (Some x) P = subst (λ q. IfSome q P) is holds in all
 
 module _ (p : Parts) (ms : Members) (args : List (Option Value)) (call : Bor (List ℕ)) (id : ℕ) (h : Holds p ms) (has_args : p.args ≡ Some args) (has_call : p.call ≡ Some call) (has_id : p.id ≡ Some id) where
-  pub asks : (proc_no params : ℕ) (writes : Bool) → Some proc_no ≡ option_map (λ f. f.0) (find_named builtins call.now) → Some params ≡ option_map (λ f. f.1.params) (find_named builtins call.now)
-      → Some writes ≡ option_map (λ f. f.1.writes) (find_named builtins call.now) → p.count ≡ params → p.snapshot && writes ≡ false
-      → request_of builtins (object ms) ≡ Ok (record { id = id; call = record { proc_no = proc_no; args = args; snapshot = p.snapshot } })
-  asks proc_no params writes numbered taking writing many may =
+  pub asks : (procs : Procedures) (proc_no params : ℕ) → Some proc_no ≡ option_map (λ f. f.0) (find_named procs call.now) → Some params ≡ option_map (λ f. length f.1.params) (find_named procs call.now)
+      → p.count ≡ params → request_in procs (Some (object ms)) ≡ Some (record { id = id; call = record { proc_no = proc_no; args = args; snapshot = p.snapshot } })
+  asks procs proc_no params numbered taking many =
       let arguments = found_in args_in (get_member (codes "args") ms) args (part p.args args _ has_args h.args) in
       let listed = found_in args_of (as_array arguments.0) args arguments.2 in
       let call_is = part p.call call (λ c. option_and_then as_str (get_member (codes "call") ms) ≡ Some c.now) has_call h.call in
       let id_is = found_in u64_in (get_member (codes "id") ms) id (part p.id id _ has_id h.id) in
-      let f = known proc_no params writes (find_named builtins call.now) numbered taking writing in
+      let f = known proc_no params (find_named procs call.now) numbered taking in
       let asked = asked_of-all (object ms) ms listed.0 call.now id p.snapshot refl (sym h.only)
       (ap (option_and_then as_array) arguments.1 ∙ listed.1) call_is (ap (λ o. option_and_then as_u64 (option_and_then as_number o)) id_is.1 ∙ id_is.2) h.snapshot in
-      let counted : items_len listed.0 ≡ f.0.1.params = sym (args_length listed.0 args listed.2) ∙ part p.args args _ has_args h.count ∙ many ∙ sym f.3 in
-      let runs : p.snapshot && f.0.1.writes ≡ false = rw f.4 may in
-      resolved builtins (object ms) (record { args = listed.0; call = call.now; id = id; snapshot = p.snapshot }) f.0 args (sym asked) f.1
-      (fitting f.0.1.params listed.0 args counted listed.2) runs
-      ∙ ap (λ n. Ok (record { id = id; call = record { proc_no = n; args = args; snapshot = p.snapshot } })) f.2
+      let counted : items_len listed.0 ≡ length f.0.1.params = sym (args_length listed.0 args listed.2) ∙ part p.args args _ has_args h.count ∙ many ∙ sym f.3 in
+      asks_for procs (object ms) (record { args = listed.0; call = call.now; id = id; snapshot = p.snapshot }) f.0 args asked f.1 (fitting (length f.0.1.params) listed.0 args counted listed.2)
+      ∙ ap (λ n. Some (record { id = id; call = record { proc_no = n; args = args; snapshot = p.snapshot } })) f.2
 
 -- ---- texts, trees and what they ask for
 

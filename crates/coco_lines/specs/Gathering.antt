@@ -1,9 +1,8 @@
 -- How a line is gathered from a buffer and a source; for private clauses.
-use Rattle.std.specs.Prelude.{◌≡◌, ℕ, ◌+◌, ◌-◌, ◌^◌, ◌<◌, ◌⊎◌, List, [], ◌∷◌, ◌++◌, length, Bool, true, false, if◌then◌else◌, Option, ⊤}
+use Rattle.std.specs.Prelude.{◌≡◌, ℕ, ◌+◌, ◌-◌, ◌^◌, ◌<◌, ◌⊎◌, List, [], ◌∷◌, ◌++◌, length, Bool, true, false, if◌then◌else◌, ⊤}
 use Rattle.std.specs.Bool.{MatchBool}
-use Rattle.std.specs.Io.KnownBytes.{prepend_known, IsAtEnd}
 use Rattle.coco_lines.specs.ReaderState.{ReaderState}
-use Rattle.coco_lines.specs.Reads.{HasNoFeed, body_of}
+use Rattle.coco_lines.specs.Reads.{Gives, HasNoFeed, IsSpent, SourceMoment, body_of}
 use Rattle.coco_lines.specs.declared.reader.Body.{Body}
 use Rattle.coco_lines.specs.declared.error.LineFault.{LineFault}
 use Rattle.coco_lines.specs.declared.error.LineFault.TheVariants as fault
@@ -18,17 +17,17 @@ Cuts old new body longer fed =
     MatchBool fed ((piece : List ℕ) × (old ≡ piece ++ 10 ∷ new) × HasNoFeed piece × Extends body longer piece) ((new ≡ []) × HasNoFeed old × Extends body longer old)
 
 -- of the bytes that were pending and those that the source gave, the first are the line's, and the rest stand behind them
-pub record Gathering (old new : ReaderState) (told left : Option (List ℕ)) (body : Body) (rest : List ℕ) : Type 0 where
+pub record Gathering (old new : ReaderState) (before after : SourceMoment) (body : Body) (rest : List ℕ) : Type 0 where
   pub gave : List ℕ
   pub line : List ℕ
-  pub told_is : told ≡ prepend_known gave left
+  pub gives : Gives before after gave
   pub text : old.pending ++ gave ≡ line ++ rest
   pub body_is : body ≡ body_of line
   pub no_feed : HasNoFeed line
   pub taken : new.taken ≡ old.taken + length gave
   pub given : new.given ≡ old.given
-  pub none_behind : old.ended ≡ true → (gave ≡ []) × (new.ended ≡ true)
-  pub at_end : new.ended ≡ true → (old.ended ≡ true) ⊎ (IsAtEnd left × (new.taken < 2 ^ 62))
+  pub none_behind : old.ended ≡ true → (gave ≡ []) × (new.ended ≡ true) × (after ≡ before)
+  pub at_end : new.ended ≡ true → (old.ended ≡ true) ⊎ (IsSpent after × (new.taken < 2 ^ 62))
 
 -- how often a reader can still read
 abbrev pub reads_left : ReaderState → ℕ

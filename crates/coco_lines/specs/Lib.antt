@@ -1,8 +1,12 @@
+pub mod Answers
+pub mod Batches
+pub mod Classes
 pub mod Gathering
+pub mod Growing
 pub mod Lines
 pub mod Plain
 pub mod ReaderState
 pub mod Reading
 pub mod Reads
-pub mod Signature
+pub mod Replies
 pub mod Texts

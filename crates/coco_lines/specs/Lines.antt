@@ -2,6 +2,9 @@
 use Rattle.std.specs.Prelude.{ℕ, List, [], ◌∷◌, length, ◌==◌, if◌then◌else◌}
 use Rattle.std.specs.List.{slice_split}
 
+abbrev pub Line : Type 0
+Line = List ℕ
+
 -- the parts between line feeds; an empty part behind the last one is no line
 abbrev pub without_empty_last : List (List ℕ) → List (List ℕ)
 without_empty_last [] = []
@@ -12,6 +15,12 @@ without_empty_last (x ∷ y ∷ more) = x ∷ without_empty_last (y ∷ more)
 unfoldable pub lines_of : List ℕ → List (List ℕ)
 lines_of bytes = without_empty_last (slice_split (λ b. b == 10) bytes)
 
--- a longer line is refused, and not held whole
-abbrev pub most_bytes : ℕ
-most_bytes = 65536
+-- the parts but the last, behind which no line feed stands
+abbrev pub without_last : List Line → List Line
+without_last [] = []
+without_last (x ∷ []) = []
+without_last (x ∷ y ∷ more) = x ∷ without_last (y ∷ more)
+
+-- the lines that each end in a byte 10
+unfoldable pub ended_lines_of : List ℕ → List Line
+ended_lines_of bytes = without_last (slice_split (λ b. b == 10) bytes)

@@ -1,5 +1,6 @@
--- What one line asks for, or the first class of lines that it falls into.
-use Rattle.std.specs.Prelude.{ℕ, ◌==◌, ◌&&◌, ◌||◌, List, [], ◌∷◌, length, Bool, true, false, nat_le, if◌then◌else◌, Option, Some, None, option_map, option_and_then, Result, Ok, Err, codes}
+-- What one line asks of the procedures of a tree, and by which error its reading refuses it.
+use Rattle.std.specs.Prelude.{ℕ, ◌+◌, ◌==◌, ◌&&◌, ◌||◌, List, [], ◌∷◌, ◌++◌, length, Bool, true, false, nat_le, if◌then◌else◌, Option, Some, None, option_map, option_and_then, codes}
+use Rattle.std.specs.Option.{is_none}
 use Rattle.std.specs.Str.{is_utf8, bytes_eq}
 use Rattle.serde_json.specs.Data.{Data, null, boolean, number, string, array, object, Items, no_items, item, Members, no_members, member}
 use Rattle.serde_json.specs.Events.{items_len}
@@ -8,9 +9,13 @@ use Rattle.serde_json.specs.Read.{read}
 use Rattle.coco_types.specs.declared.value.Value.{Value}
 use Rattle.coco_types.specs.declared.value.Value.TheVariants.{Int, Text}
 use Rattle.coco_types.specs.declared.call.Request.{Request}
-use Rattle.coco_lines.specs.Signature.{Signature, find_named}
+use Rattle.coco_ast.specs.Fitting.{any_writes}
+use Rattle.coco_ast.specs.Meaning.{procedure_at}
+use Rattle.coco_ast.specs.Tree.{Procedure, Procedures}
 use Rattle.coco_lines.specs.declared.error.LineError.{LineError}
 use Rattle.coco_lines.specs.declared.error.LineError.TheVariants as error
+
+-- ---- a JSON value as a request
 
 -- the value that a line's bytes are, where they are UTF-8 and one JSON text
 abbrev pub json_of : List ℕ → Option Data
@@ -48,6 +53,14 @@ asked_of value =
     (option_and_then as_array (get (codes "args") value))
     else None) (as_object value)
 
+-- the first procedure of this name, with its number, where the first of the list has number n
+abbrev pub find_from : ℕ → List Procedure → List ℕ → Option (ℕ × Procedure)
+find_from n [] name = None
+find_from n (p ∷ ps) name = if bytes_eq p.name name then Some (n, p) else find_from (n + 1) ps name
+
+abbrev pub find_named : Procedures → List ℕ → Option (ℕ × Procedure)
+find_named procs name = find_from 0 procs.procs name
+
 -- an argument: null is none; a whole number of 64 bits with a sign, or a text of at most 256 bytes
 abbrev pub arg_of : Data → Option (Option Value)
 arg_of null = Some None
@@ -65,24 +78,55 @@ args_of (item value others) = option_and_then (λ arg. option_map (λ args. arg 
 abbrev pub fitting_args : ℕ → Items → Option (List (Option Value))
 fitting_args params items = if items_len items == params then args_of items else None
 
--- what is there goes on, and the error stands for what isn't
-abbrev pub or_error : {A B : Type 0} → LineError → Option A → (A → Result B LineError) → Result B LineError
-or_error e None next = Err e
-or_error e (Some found) next = next found
+-- the request, where a procedure has the name and the arguments fit its parameters
+abbrev pub request_of : Procedures → Asked → Option Request
+request_of procs asked =
+    option_and_then (λ (found : ℕ × Procedure). option_map (λ args.
+    record { id = asked.id; call = record { proc_no = found.0; args = args; snapshot = asked.snapshot } })
+    (fitting_args (length found.1.params) asked.args)) (find_named procs asked.call)
 
--- the request that a JSON value is, or the first of the errors shape, name, args and snapshot that it has
-abbrev pub request_of : List Signature → Data → Result Request LineError
-request_of procs value =
-    or_error error.Shape (asked_of value) (λ asked.
-    or_error error.Name (find_named procs asked.call) (λ found.
-    or_error error.Args (fitting_args found.1.params asked.args) (λ args.
-    if asked.snapshot && found.1.writes then Err error.Snapshot
-    else Ok (record { id = asked.id; call = record { proc_no = found.0; args = args; snapshot = asked.snapshot } }))))
+-- ---- the tests of a reading
 
--- the request of a text, or its first error
-abbrev pub read_text : List Signature → List ℕ → Result Request LineError
-read_text procs text = or_error error.Json (read text) (request_of procs)
+abbrev pub asked_in : Option Data → Option Asked
+asked_in value = option_and_then asked_of value
 
--- the request of a line that isn't long, or its first error
-unfoldable pub read_line : List Signature → List ℕ → Result Request LineError
-read_line procs line = or_error error.Json (json_of line) (request_of procs)
+abbrev pub named_in : Procedures → Option Data → Option (ℕ × Procedure)
+named_in procs value = option_and_then (λ (asked : Asked). find_named procs asked.call) (asked_in value)
+
+abbrev pub request_in : Procedures → Option Data → Option Request
+request_in procs value = option_and_then (request_of procs) (asked_in value)
+
+abbrev pub has_writes : Option Procedure → Bool
+has_writes None = false
+has_writes (Some p) = any_writes p.body
+
+-- a snapshot call of a procedure that writes
+abbrev pub is_forbidden : Procedures → Option Request → Bool
+is_forbidden procs None = false
+is_forbidden procs (Some r) = r.call.snapshot && has_writes (procedure_at procs.procs r.call.proc_no)
+
+-- the first whose test holds
+abbrev pub first_that_fits : {A : Type 0} → List (Bool × A) → Option A
+first_that_fits [] = None
+first_that_fits (t ∷ ts) = if t.0 then Some t.1 else first_that_fits ts
+
+-- the errors that a line may have as a request of these procedures, each with its test, in the order in which they are tried
+abbrev pub asking_tests : Procedures → Option Data → List (Bool × LineError)
+asking_tests procs value =
+    (is_none value, error.Json) ∷ (is_none (asked_in value), error.Shape) ∷ (is_none (named_in procs value), error.Name) ∷ (is_none (request_in procs value), error.Args) ∷ []
+
+-- and behind them that of a snapshot call
+abbrev pub reading_tests : Procedures → Option Data → List (Bool × LineError)
+reading_tests procs value = asking_tests procs value ++ (is_forbidden procs (request_in procs value), error.Snapshot) ∷ []
+
+-- the request that a line asks for, which may be a snapshot call of any procedure
+unfoldable pub request_on : Procedures → List ℕ → Option Request
+request_on procs line = request_in procs (json_of line)
+
+-- the first error of a line that isn't long, but for the test of snapshot calls
+unfoldable pub asking_error : Procedures → List ℕ → Option LineError
+asking_error procs line = first_that_fits (asking_tests procs (json_of line))
+
+-- the first error of a line that isn't long
+unfoldable pub reading_error : Procedures → List ℕ → Option LineError
+reading_error procs line = first_that_fits (reading_tests procs (json_of line))

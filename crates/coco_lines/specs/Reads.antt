@@ -1,8 +1,11 @@
--- What one call of a reader gives, by the text that is left to it.
-use Rattle.std.specs.Prelude.{◌≡◌, ℕ, ◌+◌, ◌^◌, ◌<◌, ◌⊎◌, List, [], ◌∷◌, ◌++◌, length, ◌==◌, false, nat_le, if◌then◌else◌, Option, Some, None, Result, Ok, Err, All, MatchOption, ⊤}
-use Rattle.std.specs.Io.KnownBytes.{prepend_known}
+-- What one call of a reader gives, by the bytes that were pending and those that its source gave.
+use Rattle.std.specs.Prelude.{◌≡◌, ℕ, ◌+◌, ◌^◌, ◌<◌, List, [], ◌∷◌, ◌++◌, length, ◌==◌, Bool, true, false, nat_le, if◌then◌else◌, Option, Some, None, Result, Ok, Err, All, MatchOption, ⊤}
+use Rattle.std.specs.List.{AllByRecursion}
+use Rattle.std.specs.Io.KnownBytes.{prepend_known, IsAtEnd}
+use Rattle.coco_types.specs.declared.limits.TheConstants.{MOST_LINE_BYTES}
 use Rattle.coco_io.specs.Counts.{Rose}
-use Rattle.coco_lines.specs.Lines.{most_bytes, lines_of}
+use Rattle.coco_io.specs.Giving.{Gave}
+use Rattle.coco_lines.specs.Lines.{Line as Bytes}
 use Rattle.coco_lines.specs.ReaderState.{ReaderState}
 use Rattle.coco_lines.specs.declared.reader.Body.{Body}
 use Rattle.coco_lines.specs.declared.reader.Body.TheVariants.{Long, Whole}
@@ -10,37 +13,71 @@ use Rattle.coco_lines.specs.declared.reader.Line.{Line}
 use Rattle.coco_lines.specs.declared.error.LineFault.{LineFault}
 use Rattle.coco_lines.specs.declared.error.LineFault.TheVariants as fault
 
+-- ---- sources
+
+-- what contracts see of a source at one moment: the bytes given so far, those that are left, where it tells them, and whether it is at its end
+pub record SourceMoment : Type 0 where
+  pub given : List ℕ
+  pub left : Option (List ℕ)
+  pub at_end : Bool
+
+-- between two moments it gave these bytes, the first of those that were left
+pub record Gives (before after : SourceMoment) (bytes : List ℕ) : Type 0 where
+  pub given : Gave before.given after.given bytes
+  pub left : before.left ≡ prepend_known bytes after.left
+
+-- nothing happened between them
+abbrev pub IsSameMoment : SourceMoment → SourceMoment → Type 0
+IsSameMoment before after = after ≡ before
+
+-- it gave all its bytes, and has said so
+pub record IsSpent (s : SourceMoment) : Type 0 where
+  pub at_end : s.at_end ≡ true
+  pub left : IsAtEnd s.left
+
+-- ---- lines
+
 -- no byte is a line feed
 abbrev pub HasNoFeed : List ℕ → Type 0
 HasNoFeed bytes = All (λ b. (b == 10) ≡ false) bytes
 
--- the text left: what is pending, and behind it what the source has left, where it tells it
-abbrev pub rest_of : ReaderState → Option (List ℕ) → Option (List ℕ)
-rest_of s told = if s.ended then Some [] else prepend_known s.pending told
-
 -- a line's bytes, where there aren't too many of them
 abbrev pub body_of : List ℕ → Body
-body_of bytes = if nat_le (length bytes) most_bytes then Whole bytes else Long
+body_of bytes = if nat_le (length bytes) MOST_LINE_BYTES then Whole bytes else Long
 
--- the bytes are the text's first line, and more is the text behind it: a line ends before a byte 10, or with the text
-abbrev pub IsFirstLine : List ℕ → List ℕ → List ℕ → Type 0
-IsFirstLine bytes text more = HasNoFeed bytes × ((text ≡ bytes ++ 10 ∷ more) ⊎ ((text ≡ bytes) × (0 < length bytes) × (more ≡ [])))
+-- the bytes are the text's first line, and these are behind it: a line ends before a byte 10, or with the input
+pub data IsFirstLine (line text behind : List ℕ) (ended : Bool) : Type 0 where
+  Fed : HasNoFeed line → text ≡ line ++ 10 ∷ behind → IsFirstLine line text behind ended
+  Last : HasNoFeed line → 0 < length line → text ≡ line → behind ≡ [] → ended ≡ true → IsFirstLine line text behind ended
 
--- with so many lines given before: the first line of the text, or its end; after a fault no whole line was lost
-abbrev pub Reads : ℕ → List ℕ → Result (Option Line) LineFault → Option (List ℕ) → Type 0
-Reads given text (Ok None) rest = (text ≡ []) × (rest ≡ Some [])
-Reads given text (Ok (Some line)) rest =
-    (bytes more : List ℕ) × IsFirstLine bytes text more × (lines_of text ≡ bytes ∷ lines_of more) × (rest ≡ Some more)
-    × (line ≡ record { number = given + 1; body = body_of bytes })
-Reads given text (Err e) rest = (held more : List ℕ) × HasNoFeed held × (text ≡ held ++ more) × (rest ≡ Some more)
+-- these lines, each with the byte 10 behind it
+abbrev pub fed : List Bytes → List ℕ
+fed [] = []
+fed (l ∷ ls) = l ++ 10 ∷ fed ls
+
+-- the lines are the first of the text, and these bytes are behind them; the last line may have ended with the input
+pub data AreFirstLines (lines : List Bytes) (text behind : List ℕ) (ended : Bool) : Type 0 where
+  AllFed : AllByRecursion HasNoFeed lines → text ≡ fed lines ++ behind → AreFirstLines lines text behind ended
+  LastEnded : (front : List Bytes) (last : Bytes) → AllByRecursion HasNoFeed front → HasNoFeed last → 0 < length last → lines ≡ front ++ last ∷ [] → text ≡ fed front ++ last
+      → behind ≡ [] → ended ≡ true → AreFirstLines lines text behind ended
+
+-- with so many lines given before: the first line of the text, or the end of the input; after a fault no whole line was lost
+abbrev pub IsNext : ℕ → List ℕ → Result (Option Line) LineFault → List ℕ → Bool → Type 0
+IsNext given text (Ok None) behind ended = (text ≡ []) × (behind ≡ []) × (ended ≡ true)
+IsNext given text (Ok (Some line)) behind ended = (bytes : Bytes) × IsFirstLine bytes text behind ended × (line ≡ record { number = given + 1; body = body_of bytes })
+IsNext given text (Err e) behind ended = (held : List ℕ) × HasNoFeed held × (text ≡ held ++ behind)
+
+-- a call took the bytes that the source gave, and gives the next line of what was pending and these
+pub record Reads (old new : ReaderState) (before after : SourceMoment) (result : Result (Option Line) LineFault) : Type 0 where
+  pub bytes : List ℕ
+  pub gives : Gives before after bytes
+  pub taken : new.taken ≡ old.taken + length bytes
+  pub none_behind : old.ended ≡ true → (bytes ≡ []) × (new.ended ≡ true)
+  pub next : IsNext old.given (old.pending ++ bytes) result new.pending new.ended
 
 -- a line has the next number
 abbrev pub Numbers : Option Line → ReaderState → ReaderState → Type 0
 Numbers o old new = MatchOption o (new.given ≡ old.given) (λ line. (line.number ≡ old.given + 1) × (new.given ≡ old.given + 1))
-
--- the source gave some bytes, and so many more were taken
-abbrev pub Takes : ReaderState → ReaderState → Option (List ℕ) → Option (List ℕ) → Type 0
-Takes old new told left = (gave : List ℕ) × (told ≡ prepend_known gave left) × (new.taken ≡ old.taken + length gave)
 
 -- it has to read: there is no whole line, and the end wasn't met
 abbrev pub MustRead : ReaderState → Type 0

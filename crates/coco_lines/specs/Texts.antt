@@ -52,6 +52,7 @@ error_word error.Args = codes "args"
 error_word error.Snapshot = codes "snapshot"
 error_word error.Reused = codes "reused"
 error_word error.Full = codes "full"
+error_word error.Old = codes "old"
 
 abbrev pub error_json : LineError → ℕ → Data
 error_json e line = object (member (codes "error") (string (error_word e)) (member (codes "line") (count_json line) no_members))

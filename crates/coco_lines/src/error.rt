@@ -1,3 +1,5 @@
+//! Why a line is refused, and why there is none.
+
 use coco_types::NoMemory;
 
 /// Why a line is refused.
@@ -19,6 +21,8 @@ pub enum LineError {
     Reused,
     /// No more requests can be kept.
     Full,
+    /// Its id is at most the greatest one that was forgotten.
+    Old,
 }
 
 /// Why a line gives no request.

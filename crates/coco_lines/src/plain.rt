@@ -1,18 +1,19 @@
-// The usual line, looked at in a tree of borrowed texts. Only a request is decided here; what isn't plain is left to the full reading.
+//! The usual line, looked at in a tree of borrowed texts. Only a request is decided here; what isn't plain
+//! is left to the full reading.
+
 ghost use Rattle.std.specs.Prelude.{◌≡◌, ◌<◌, ◌≤◌, ◌++◌, ◌∷◌, ◌==◌, [], length, slice_index, IsTrue, Option, true, false, Some, Ok, IfSome, option_and_then, codes};
 ghost use Rattle.fast_float.specs.Text.{scan};
 ghost use Rattle.json.specs.Value.{value_view, items_view, members_view};
 ghost use Rattle.serde_json.specs.Data.{Data, Members, no_members, object, unsigned, negative};
 ghost use Rattle.serde_json.specs.Find.{as_i64};
-ghost use Rattle.serde_json.specs.Read.{of_json, of_items, of_members, number_from, number_of};
+ghost use Rattle.serde_json.specs.Read.{of_json, of_items, of_members, number_from, number_of, read};
 ghost use Rattle.coco_types.specs.declared.value.Value.{Value as Datum};
 ghost use Rattle.coco_types.specs.declared.value.Value.TheVariants as datum;
-ghost use Rattle.coco_lines.specs.Signature.{builtins};
-ghost use Rattle.coco_lines.specs.Reading.{or_error, arg_of, args_of, read_text, request_of};
+ghost use Rattle.coco_lines.specs.Reading.{arg_of, args_of, request_in};
 ghost use Rattle.coco_lines.specs.Plain.{Holds, Taken};
 
-use crate::LineError;
-use crate::builtins::builtin;
+use crate::requests::named;
+use coco_ast::Checked;
 use coco_types::limits::MOST_ARGUMENTS;
 use coco_types::{Args, Call, Request, Text, Value};
 use fast_float::Numeral;
@@ -23,22 +24,27 @@ use std::alloc::Global;
 const MOST_LEVELS: usize = 127;
 
 // The request that a plain line asks for. None says nothing of the line.
-pub(crate) fn plain_request(alloc: Global, scratch: &mut Scratch, text: &str) -> Option<Request>
-    ensures { IfSome result (λ request. read_text builtins text.now ≡ Ok request) }
+pub(crate) fn plain_request(
+    alloc: Global,
+    scratch: &mut Scratch,
+    procs: &Checked,
+    text: &str,
+) -> Option<Request>
+    ensures { IfSome result (λ request. request_in procs.now (read text.now) ≡ Some request) }
 {
     let mut reader = Reader::new(text, scratch).ok()?;
     let tree = Tree::read(alloc, &mut reader, MOST_LEVELS).ok()?;
     if reader.next().is_some() {
         return None;
     }
-    request_in(alloc, &tree)
+    request_in(alloc, procs, &tree)
 }
 
-fn request_in(alloc: Global, tree: &Tree<'_>) -> Option<Request>
-    ensures { IfSome result (λ request. or_error LineError.Json (of_json (value_view tree.now)) (request_of builtins) ≡ Ok request) }
+fn request_in(alloc: Global, procs: &Checked, tree: &Tree<'_>) -> Option<Request>
+    ensures { IfSome result (λ request. request_in procs.now (of_json (value_view tree.now)) ≡ Some request) }
 {
     match tree {
-        Tree::Object(members) => parts_of(alloc, members.as_slice())?.request(),
+        Tree::Object(members) => parts_of(alloc, members.as_slice())?.request(procs),
         _ => None,
     }
 }
@@ -124,11 +130,11 @@ impl<'a> Parts<'a> {
     }
 
     // The request, where all its parts are there and fit a procedure.
-    fn request(self) -> Option<Request>
-        ensures { IfSome result (λ request. (ms : Members) → Holds self.entry ms → request_of builtins (object ms) ≡ Ok request) }
+    fn request(self, procs: &Checked) -> Option<Request>
+        ensures { IfSome result (λ request. (ms : Members) → Holds self.entry ms → request_in procs.now (Some (object ms)) ≡ Some request) }
     {
-        let found = builtin(self.call?)?;
-        if self.count != found.params || self.snapshot && found.writes {
+        let found = named(procs, self.call?)?;
+        if self.count != found.params {
             return None;
         }
         Some(Request {

@@ -1,21 +1,17 @@
+//! The lines of a source, one by one.
+
 ghost use Rattle.std.specs.Prelude.{◌≡◌, ◌≢◌, ◌⊎◌, ◌+◌, ◌≤◌, ◌<◌, ◌^◌, ℕ, List, [], ◌∷◌, length, ◌==◌, true, false, Some, None, Ok, Err, IfOk, IfErr, IsErr, OnOk, OnErr, IsTrue, if◌then◌else◌};
-ghost use Rattle.std.specs.Io.KnownBytes.{prepend_known, IsAtEnd};
-ghost use Rattle.coco_lines.specs.Reads.{HasNoFeed, rest_of, body_of, Reads, Numbers, Takes, MustRead, Stops, Counts};
+ghost use Rattle.coco_lines.specs.Reads.{HasNoFeed, Gives, IsSpent, IsSameMoment, body_of, Reads, Numbers, MustRead, Stops, Counts};
 ghost use Rattle.coco_lines.specs.Gathering.{Extends, Cuts, Gathering, Halts, reads_left};
 
 use crate::LineFault;
 use crate::held::Held;
 use coco_io::Source;
+use coco_types::limits::{MOST_INPUT_BYTES, MOST_LINE_BYTES};
 use coco_types::{Bytes, NoMemory};
 use memchr::memchr;
 use std::alloc::Global;
 use std::marker::Model;
-
-/// How many bytes a line may have, without its line feed.
-pub const MOST_BYTES: usize = 65_536;
-
-/// How many bytes a reader takes at most.
-pub const MOST_TAKEN: u64 = 1 << 62;
 
 /// The bytes of a line without its line feed, where there aren't too many of them.
 #[derive(Debug, Drop)]
@@ -69,20 +65,18 @@ impl Reader {
 
     /// The next line, or none at the end of the input. After a fault the reader isn't used again.
     pub fn next<S: Source>(&mut self, source: &mut S) -> Result<Option<Line>, LineFault>
-        ensures lines { (text : List ℕ) → rest_of self.old (S.remaining source.old) ≡ Some text
-            → Reads self.old.given text result (rest_of self.new (S.remaining source.new)) }
+        ensures reads { Reads self.old self.new (record { given = S.given source.old; left = S.remaining source.old; at_end = S.at_end source.old })
+            (record { given = S.given source.new; left = S.remaining source.new; at_end = S.at_end source.new }) result }
         ensures numbers { IfOk result (λ o. Numbers o self.old self.new) }
 
         // The reader stands at the source's end, once it has met it.
-        ensures end { (self.old.ended ≡ true → IsAtEnd (S.remaining source.old))
-            → self.new.ended ≡ true → IsAtEnd (S.remaining source.new) }
-        ensures none { result ≡ Ok None → self.new.ended ≡ true }
+        ensures end { (self.old.ended ≡ true → IsSpent (record { given = S.given source.old; left = S.remaining source.old; at_end = S.at_end source.old }))
+            → self.new.ended ≡ true → IsSpent (record { given = S.given source.new; left = S.remaining source.new; at_end = S.at_end source.new }) }
 
         // Where it has to read and the limit is reached, there is no line and no end.
         ensures too_much { self.old.taken ≡ 2 ^ 62 → MustRead self.old → IsErr result }
         ensures met { self.old.ended ≡ false → self.new.ended ≡ true → self.new.taken < 2 ^ 62 }
 
-        ensures takes { Takes self.old self.new (S.remaining source.old) (S.remaining source.new) }
         ensures stops { IfErr result (λ e. Stops e self.old self.new) }
         ensures limit { self.new.taken ≤ 2 ^ 62 }
         ensures few { self.new.given ≤ self.new.taken }
@@ -102,11 +96,14 @@ impl Reader {
     // The bytes up to the next line feed or the end of the input. The feed is left out; true where there was one.
     fn gather<S: Source>(&mut self, source: &mut S) -> Result<(Body, bool), LineFault>
         ensures fed { IfOk result (λ r. r.1 ≡ true → Gathering self.old self.new
-            (S.remaining source.old) (S.remaining source.new) r.0 (10 ∷ self.new.pending)) }
+            (record { given = S.given source.old; left = S.remaining source.old; at_end = S.at_end source.old })
+            (record { given = S.given source.new; left = S.remaining source.new; at_end = S.at_end source.new }) r.0 (10 ∷ self.new.pending)) }
         ensures end { IfOk result (λ r. r.1 ≡ false → Gathering self.old self.new
-            (S.remaining source.old) (S.remaining source.new) r.0 [] × (self.new.pending ≡ []) × (self.new.ended ≡ true)) }
+            (record { given = S.given source.old; left = S.remaining source.old; at_end = S.at_end source.old })
+            (record { given = S.given source.new; left = S.remaining source.new; at_end = S.at_end source.new }) r.0 [] × (self.new.pending ≡ []) × (self.new.ended ≡ true)) }
         ensures err { OnErr result ((body : Body) × Gathering self.old self.new
-            (S.remaining source.old) (S.remaining source.new) body self.new.pending) }
+            (record { given = S.given source.old; left = S.remaining source.old; at_end = S.at_end source.old })
+            (record { given = S.given source.new; left = S.remaining source.new; at_end = S.at_end source.new }) body self.new.pending) }
         ensures stops { IfErr result (λ e. Halts e self.new) }
         ensures counts { Counts result (S.faults source.old) (S.faults source.new) }
         ensures is_state { IsReaderState self.old × IsReaderState self.new }
@@ -150,24 +147,25 @@ impl Reader {
     fn fill<S: Source>(&mut self, source: &mut S) -> Result<(), LineFault>
         requires none { self.old.pending ≡ [] }
         requires open { self.old.ended ≡ false }
-        ensures bytes { OnOk result (S.remaining source.old
-            ≡ prepend_known self.new.pending (S.remaining source.new)) }
+        ensures gives { OnOk result (Gives (record { given = S.given source.old; left = S.remaining source.old; at_end = S.at_end source.old })
+            (record { given = S.given source.new; left = S.remaining source.new; at_end = S.at_end source.new }) self.new.pending) }
         ensures taken { OnOk result (self.new.taken ≡ self.old.taken + length self.new.pending) }
         ensures end { OnOk result (self.new.ended ≡ true
-            → IsAtEnd (S.remaining source.new) × (self.new.taken < 2 ^ 62)) }
+            → IsSpent (record { given = S.given source.new; left = S.remaining source.new; at_end = S.at_end source.new }) × (self.new.taken < 2 ^ 62)) }
         ensures fewer { OnOk result (reads_left self.new < reads_left self.old) }
         ensures given { self.new.given ≡ self.old.given }
         ensures err { OnErr result (self.new ≡ self.old) }
-        ensures left { OnErr result (S.remaining source.new ≡ S.remaining source.old) }
+        ensures same { OnErr result (IsSameMoment (record { given = S.given source.old; left = S.remaining source.old; at_end = S.at_end source.old })
+            (record { given = S.given source.new; left = S.remaining source.new; at_end = S.at_end source.new })) }
         ensures counts { Counts result (S.faults source.old) (S.faults source.new) }
         ensures failed { result ≡ Err LineFault.Failed → self.new.taken < 2 ^ 62 }
         ensures too_much { result ≡ Err LineFault.TooMuch → self.new.taken ≡ 2 ^ 62 }
         ensures state { IsReaderState self.new }
     {
-        if self.taken == MOST_TAKEN {
+        if self.taken == MOST_INPUT_BYTES {
             return Err(LineFault::TooMuch);
         }
-        let count = self.held.refill(source, MOST_TAKEN - self.taken)?;
+        let count = self.held.refill(source, MOST_INPUT_BYTES - self.taken)?;
         self.taken += count as u64;
         self.ended = count == 0;
         Ok(())
@@ -182,7 +180,7 @@ fn extended(body: Body, piece: &[u8]) -> Result<Body, NoMemory>
         Body::Long => Ok(Body::Long),
         Body::Whole(bytes) => {
             let mut bytes = bytes.into_vec();
-            if bytes.len().saturating_add(piece.len()) > MOST_BYTES {
+            if bytes.len().saturating_add(piece.len()) > MOST_LINE_BYTES {
                 return Ok(Body::Long);
             }
             bytes.extend_from_slice(piece)?;

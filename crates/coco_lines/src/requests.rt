@@ -1,17 +1,18 @@
-ghost use Rattle.std.specs.Prelude.{◌≡◌, ◌≤◌, ℕ, Bool, Option, Some, None, Ok, Err, length, option_map, option_and_then, string_bytes, IfOk};
+//! What a line asks of the procedures: its request, or the first error that it has.
+
+ghost use Rattle.std.specs.Prelude.{◌≡◌, ◌≤◌, ℕ, Bool, Option, Some, None, Ok, Err, length, option_map, option_and_then, string_bytes, IfOk, IfSome};
 ghost use Rattle.std.specs.BTreeMap.{keys};
 ghost use Rattle.std.specs.List.{list_all};
 ghost use Rattle.serde_json.specs.Find.{get, as_array, as_number, as_str, as_u64};
 ghost use Rattle.serde_json.specs.Read.{read};
 ghost use Rattle.serde_json.specs.View.{view, items_view, members_view};
-ghost use Rattle.coco_lines.specs.Signature.{builtins};
-ghost use Rattle.coco_lines.specs.Reading.{is_member, only_members, snapshot_of, asked_of, arg_of, args_of, fitting_args, request_of, read_line, read_text};
-ghost use Rattle.coco_ast.specs.Builtins.{builtins as procedures};
 ghost use Rattle.coco_ast.specs.Fitting.{Fits};
+ghost use Rattle.coco_ast.specs.Meaning.{procedure_at};
+ghost use Rattle.coco_lines.specs.Reading.{is_member, only_members, snapshot_of, asked_of, find_named, arg_of, args_of, fitting_args, request_of, request_in, has_writes, first_that_fits, asking_tests, request_on, asking_error, reading_error};
 
-use crate::builtins::builtin;
 use crate::plain::plain_request;
 use crate::{LineError, RequestFault};
+use coco_ast::Checked;
 use coco_types::{Args, Call, NoMemory, Request, Text, Value};
 use json::Scratch;
 use serde_json::{Category, Map, Value as Json};
@@ -20,28 +21,86 @@ use std::alloc::Global;
 /// The request that a line asks for. A line that is no request is refused by the first class that it falls into.
 ///
 /// The scratch is the memory that reading takes, kept from line to line.
-pub fn request(alloc: Global, scratch: &mut Scratch, line: &[u8]) -> Result<Request, RequestFault>
-    ensures ok { IfOk result (λ request. read_line builtins line.now ≡ Ok request) }
-    ensures fits { IfOk result (λ request. Fits procedures request.call) }
-    ensures line { (e : LineError) → result ≡ Err (RequestFault.Line e) → read_line builtins line.now ≡ Err e }
+pub fn request(
+    alloc: Global,
+    scratch: &mut Scratch,
+    procs: &Checked,
+    line: &[u8],
+) -> Result<Request, RequestFault>
+    ensures ok { IfOk result (λ request. request_on procs.now line.now ≡ Some request) }
+    ensures sound { IfOk result (λ _. reading_error procs.now line.now ≡ None) }
+    ensures fits { IfOk result (λ request. Fits procs.now request.call) }
+    ensures line { (e : LineError) → result ≡ Err (RequestFault.Line e) → reading_error procs.now line.now ≡ Some e }
+{
+    let request = asked_request(alloc, scratch, procs, line)?;
+    if request.call.snapshot && writes(procs, request.call.proc_no) {
+        return Err(RequestFault::Line(LineError::Snapshot));
+    }
+    Ok(request)
+}
+
+/// The same, but that a snapshot call may be of any procedure.
+pub fn asked_request(
+    alloc: Global,
+    scratch: &mut Scratch,
+    procs: &Checked,
+    line: &[u8],
+) -> Result<Request, RequestFault>
+    ensures ok { IfOk result (λ request. request_on procs.now line.now ≡ Some request) }
+    ensures line { (e : LineError) → result ≡ Err (RequestFault.Line e) → asking_error procs.now line.now ≡ Some e }
 {
     let Ok(text) = str::from_utf8(line) else {
         return Err(RequestFault::Line(LineError::Json));
     };
-    match plain_request(alloc, scratch, text) {
+    match plain_request(alloc, scratch, procs, text) {
         Some(request) => Ok(request),
-        None => any_request(alloc, text),
+        None => any_request(alloc, procs, text),
     }
+}
+
+// Whether a procedure contains `put` or `delete`.
+fn writes(procs: &Checked, proc_no: u16) -> bool
+    ensures { result ≡ has_writes (procedure_at procs.now.procs proc_no) }
+{
+    match procs.writes(proc_no) {
+        Some(writes) => writes,
+        None => false,
+    }
+}
+
+// What a line has to know of a procedure.
+#[derive(Clone, Copy)]
+pub(crate) struct Known {
+    pub(crate) proc_no: u16,
+    pub(crate) params: usize,
+}
+
+// The procedure of this name, where there is one.
+pub(crate) fn named(procs: &Checked, name: &str) -> Option<Known>
+    ensures number { option_map (λ n. n.proc_no) result ≡ option_map (λ f. f.0) (find_named procs.now name.now) }
+    ensures params { option_map (λ n. n.params) result ≡ option_map (λ f. length f.1.params) (find_named procs.now name.now) }
+    ensures few { IfSome result (λ n. n.params ≤ 16) }
+{
+    let Some(proc_no) = procs.proc_no(name) else {
+        return None;
+    };
+    let Some(params) = procs.params(proc_no) else {
+        return None;
+    };
+    Some(Known {
+        proc_no,
+        params: params as usize,
+    })
 }
 
 // It isn't inlined, for its frame is large.
 #[inline(never)]
-fn any_request(alloc: Global, text: &str) -> Result<Request, RequestFault>
-    ensures ok { IfOk result (λ request. read_text builtins text.now ≡ Ok request) }
-    ensures line { (e : LineError) → result ≡ Err (RequestFault.Line e) → read_text builtins text.now ≡ Err e }
+fn any_request(alloc: Global, procs: &Checked, text: &str) -> Result<Request, RequestFault>
+    ensures ok { IfOk result (λ request. request_in procs.now (read text.now) ≡ Some request) }
+    ensures line { (e : LineError) → result ≡ Err (RequestFault.Line e) → first_that_fits (asking_tests procs.now (read text.now)) ≡ Some e }
 {
     let value = json_of(alloc, text)?;
-    request_of(alloc, &value)
+    request_of(alloc, procs, &value)
 }
 
 fn json_of(alloc: Global, text: &str) -> Result<Json, RequestFault>
@@ -57,22 +116,19 @@ fn json_of(alloc: Global, text: &str) -> Result<Json, RequestFault>
     }
 }
 
-fn request_of(alloc: Global, value: &Json) -> Result<Request, RequestFault>
-    ensures ok { IfOk result (λ request. request_of builtins (view value.now) ≡ Ok request) }
-    ensures line { (e : LineError) → result ≡ Err (RequestFault.Line e) → request_of builtins (view value.now) ≡ Err e }
+fn request_of(alloc: Global, procs: &Checked, value: &Json) -> Result<Request, RequestFault>
+    ensures ok { IfOk result (λ request. request_in procs.now (Some (view value.now)) ≡ Some request) }
+    ensures line { (e : LineError) → result ≡ Err (RequestFault.Line e) → first_that_fits (asking_tests procs.now (Some (view value.now))) ≡ Some e }
 {
     let Some(asked) = asked_of(value) else {
         return Err(RequestFault::Line(LineError::Shape));
     };
-    let Some(found) = builtin(asked.call) else {
+    let Some(found) = named(procs, asked.call) else {
         return Err(RequestFault::Line(LineError::Name));
     };
     let Some(args) = fitting_args(alloc, found.params, asked.args)? else {
         return Err(RequestFault::Line(LineError::Args));
     };
-    if asked.snapshot && found.writes {
-        return Err(RequestFault::Line(LineError::Snapshot));
-    }
     Ok(Request {
         id: asked.id,
         call: Call {

@@ -1,214 +1,105 @@
+//! Lines, their requests, and the texts of answers.
+
 use crate::{
-    Body, LineError, LineFault, Reader, RequestFault, Scratch, done_text, error_text, request,
-    write_done, write_error,
+    Body, LineError, LineFault, Reader, RequestFault, Scratch, asked_request, done_text,
+    error_text, request, write_done, write_error,
 };
+use coco_ast::Checked;
 use coco_io::MemorySource;
-use coco_types::{Args, Call, Cause, Done, KeptReply, NoMemory, Reply, Text, Value};
+use coco_types::{Args, Call, Cause, Done, KeptReply, NoMemory, Reply, Request, Text, Value};
 use std::alloc::{AllocError, Global};
 use std::test::Fail;
 
-// The class that refuses a line, none for a request.
-fn class(alloc: Global, scratch: &mut Scratch, line: &[u8]) -> Result<Option<LineError>, NoMemory> {
-    match request(alloc, scratch, line) {
-        Ok(_) => Ok(None),
-        Err(RequestFault::Line(error)) => Ok(Some(error)),
+// The first word of each row is the class of the line behind it.
+const CLASSES: &str = r#"json 
+json {
+json {} {}
+json {"args":["\ud800"],"call":"get","id":1}
+json {"args":[1e999],"call":"get","id":1}
+shape []
+shape {}
+shape {"args":[5],"call":"get"}
+shape {"args":[5],"id":1}
+shape {"call":"get","id":1}
+shape {"args":5,"call":"get","id":1}
+shape {"args":[5],"call":"get","id":-1}
+shape {"args":[5],"call":"get","id":-0}
+shape {"args":[5],"call":"get","id":1.0}
+shape {"args":[5],"call":"get","id":1e3}
+shape {"args":[5],"call":"get","id":18446744073709551616}
+shape {"args":[5],"call":"get","id":1,"snapshot":null}
+shape {"args":[5],"call":"get","id":1,"more":1}
+name {"args":[],"call":"got","id":1}
+args {"args":[],"call":"get","id":1}
+args {"args":[true],"call":"get","id":1}
+args {"args":[1.0],"call":"get","id":1}
+args {"args":[9223372036854775808],"call":"get","id":1}
+args {"args":[1],"call":"put","id":1,"snapshot":true}
+snapshot {"args":[1,2],"call":"add","id":1,"snapshot":true}
+request {"args":[1],"call":"get","id":1,"snapshot":true}
+request {"args":[1],"call":"get","id":"x","id":1}
+request {"args":["\ud83d\ude00"],"call":"get","id":18446744073709551615}
+request  {"id":1, "call":"put", "args":[-9223372036854775808,null]} 
+json {"args":[5],"call":"get","id":1}x
+json {"args":["\ude00"],"call":"get","id":1}
+json {"args":["\ud83d\u0061"],"call":"get","id":1}
+json {"args":["\x61"],"call":"get","id":1}
+json {"args":["\u00"],"call":"get","id":1}
+json {"args":[05],"call":"get","id":1}
+shape {"args":[5],"call":"get","id":null}
+shape {"args":[5],"call":"get","id":"1"}
+shape {"args":[5],"call":7,"id":1}
+shape {"args":[5],"call":"get","id":1,"snapshot":1}
+shape {"args":[5],"call":"get","id":1,"Snapshot":true}
+shape {"args":[5],"call":"get","id":1,"id":"x"}
+name {"args":[5],"call":"","id":1}
+name {"args":[5],"call":"get","call":"Get","id":1}
+args {"args":[5],"args":[],"call":"get","id":1}
+args {"args":[1,2,3],"call":"add","id":1}
+args {"args":[-0],"call":"get","id":1}
+args {"args":[-9223372036854775809],"call":"get","id":1}
+args {"args":[[5]],"call":"get","id":1}
+request {"args":[],"args":[5],"call":"got","call":"get","id":1}
+request {"\u0061rgs":[9223372036854775807],"call":"\u0067et","id":0}
+request {"args":["\"\\\/\b\f\n\r\t\u0000"],"call":"get","id":1}
+args {"args":[1e3],"call":"get","id":1}
+args {"args":[18446744073709551615],"call":"get","id":1}
+args {"args":[18446744073709551616],"call":"get","id":1}
+shape {"args":[5],"call":"get","id":-9223372036854775808}
+request {"args":[5],"call":"get","id":9223372036854775808}
+shape {"args":[5],"call":"get","id":1,"snapshot":false,"snapshot":0}
+"#;
+
+// The request of a line by the built-in procedures, or the word of its class.
+fn read(alloc: Global, line: &[u8]) -> Result<Result<Request, &'static str>, NoMemory> {
+    let procs = Checked::built_in(alloc)?;
+    let mut scratch = Scratch::new(alloc);
+    match request(alloc, &mut scratch, &procs, line) {
+        Ok(request) => Ok(Ok(request)),
         Err(RequestFault::NoMemory) => Err(NoMemory),
+        Err(RequestFault::Line(LineError::Json)) => Ok(Err("json")),
+        Err(RequestFault::Line(LineError::Shape)) => Ok(Err("shape")),
+        Err(RequestFault::Line(LineError::Name)) => Ok(Err("name")),
+        Err(RequestFault::Line(LineError::Args)) => Ok(Err("args")),
+        Err(RequestFault::Line(LineError::Snapshot)) => Ok(Err("snapshot")),
+        Err(RequestFault::Line(_)) => Ok(Err("another")),
+    }
+}
+
+fn class(alloc: Global, line: &[u8]) -> Result<&'static str, NoMemory> {
+    match read(alloc, line)? {
+        Ok(_) => Ok("request"),
+        Err(word) => Ok(word),
     }
 }
 
 #[test]
 fn lines_fall_into_the_first_class_that_fits(rt: HostRuntime) -> Result<(), Fail> {
-    let cases: [(&str, Option<LineError>); 57] = [
-        ("", Some(LineError::Json)),
-        ("{", Some(LineError::Json)),
-        ("{} {}", Some(LineError::Json)),
-        (
-            r#"{"args":["\ud800"],"call":"get","id":1}"#,
-            Some(LineError::Json),
-        ),
-        (
-            r#"{"args":[1e999],"call":"get","id":1}"#,
-            Some(LineError::Json),
-        ),
-        ("[]", Some(LineError::Shape)),
-        ("{}", Some(LineError::Shape)),
-        (r#"{"args":[5],"call":"get"}"#, Some(LineError::Shape)),
-        (r#"{"args":[5],"id":1}"#, Some(LineError::Shape)),
-        (r#"{"call":"get","id":1}"#, Some(LineError::Shape)),
-        (r#"{"args":5,"call":"get","id":1}"#, Some(LineError::Shape)),
-        (
-            r#"{"args":[5],"call":"get","id":-1}"#,
-            Some(LineError::Shape),
-        ),
-        (
-            r#"{"args":[5],"call":"get","id":-0}"#,
-            Some(LineError::Shape),
-        ),
-        (
-            r#"{"args":[5],"call":"get","id":1.0}"#,
-            Some(LineError::Shape),
-        ),
-        (
-            r#"{"args":[5],"call":"get","id":1e3}"#,
-            Some(LineError::Shape),
-        ),
-        (
-            r#"{"args":[5],"call":"get","id":18446744073709551616}"#,
-            Some(LineError::Shape),
-        ),
-        (
-            r#"{"args":[5],"call":"get","id":1,"snapshot":null}"#,
-            Some(LineError::Shape),
-        ),
-        (
-            r#"{"args":[5],"call":"get","id":1,"more":1}"#,
-            Some(LineError::Shape),
-        ),
-        (r#"{"args":[],"call":"got","id":1}"#, Some(LineError::Name)),
-        (r#"{"args":[],"call":"get","id":1}"#, Some(LineError::Args)),
-        (
-            r#"{"args":[true],"call":"get","id":1}"#,
-            Some(LineError::Args),
-        ),
-        (
-            r#"{"args":[1.0],"call":"get","id":1}"#,
-            Some(LineError::Args),
-        ),
-        (
-            r#"{"args":[9223372036854775808],"call":"get","id":1}"#,
-            Some(LineError::Args),
-        ),
-        (
-            r#"{"args":[1],"call":"put","id":1,"snapshot":true}"#,
-            Some(LineError::Args),
-        ),
-        (
-            r#"{"args":[1,2],"call":"add","id":1,"snapshot":true}"#,
-            Some(LineError::Snapshot),
-        ),
-        (r#"{"args":[1],"call":"get","id":1,"snapshot":true}"#, None),
-        (r#"{"args":[1],"call":"get","id":"x","id":1}"#, None),
-        (
-            r#"{"args":["\ud83d\ude00"],"call":"get","id":18446744073709551615}"#,
-            None,
-        ),
-        (
-            r#" {"id":1, "call":"put", "args":[-9223372036854775808,null]} "#,
-            None,
-        ),
-        (
-            r#"{"args":[5],"call":"get","id":1}x"#,
-            Some(LineError::Json),
-        ),
-        (
-            r#"{"args":["\ude00"],"call":"get","id":1}"#,
-            Some(LineError::Json),
-        ),
-        (
-            r#"{"args":["\ud83d\u0061"],"call":"get","id":1}"#,
-            Some(LineError::Json),
-        ),
-        (
-            r#"{"args":["\x61"],"call":"get","id":1}"#,
-            Some(LineError::Json),
-        ),
-        (
-            r#"{"args":["\u00"],"call":"get","id":1}"#,
-            Some(LineError::Json),
-        ),
-        (
-            r#"{"args":[05],"call":"get","id":1}"#,
-            Some(LineError::Json),
-        ),
-        (
-            r#"{"args":[5],"call":"get","id":null}"#,
-            Some(LineError::Shape),
-        ),
-        (
-            r#"{"args":[5],"call":"get","id":"1"}"#,
-            Some(LineError::Shape),
-        ),
-        (r#"{"args":[5],"call":7,"id":1}"#, Some(LineError::Shape)),
-        (
-            r#"{"args":[5],"call":"get","id":1,"snapshot":1}"#,
-            Some(LineError::Shape),
-        ),
-        (
-            r#"{"args":[5],"call":"get","id":1,"Snapshot":true}"#,
-            Some(LineError::Shape),
-        ),
-        (
-            r#"{"args":[5],"call":"get","id":1,"id":"x"}"#,
-            Some(LineError::Shape),
-        ),
-        (r#"{"args":[5],"call":"","id":1}"#, Some(LineError::Name)),
-        (
-            r#"{"args":[5],"call":"get","call":"Get","id":1}"#,
-            Some(LineError::Name),
-        ),
-        (
-            r#"{"args":[5],"args":[],"call":"get","id":1}"#,
-            Some(LineError::Args),
-        ),
-        (
-            r#"{"args":[1,2,3],"call":"add","id":1}"#,
-            Some(LineError::Args),
-        ),
-        (
-            r#"{"args":[-0],"call":"get","id":1}"#,
-            Some(LineError::Args),
-        ),
-        (
-            r#"{"args":[-9223372036854775809],"call":"get","id":1}"#,
-            Some(LineError::Args),
-        ),
-        (
-            r#"{"args":[[5]],"call":"get","id":1}"#,
-            Some(LineError::Args),
-        ),
-        (
-            r#"{"args":[],"args":[5],"call":"got","call":"get","id":1}"#,
-            None,
-        ),
-        (
-            r#"{"\u0061rgs":[9223372036854775807],"call":"\u0067et","id":0}"#,
-            None,
-        ),
-        (
-            r#"{"args":["\"\\\/\b\f\n\r\t\u0000"],"call":"get","id":1}"#,
-            None,
-        ),
-        (
-            r#"{"args":[1e3],"call":"get","id":1}"#,
-            Some(LineError::Args),
-        ),
-        (
-            r#"{"args":[18446744073709551615],"call":"get","id":1}"#,
-            Some(LineError::Args),
-        ),
-        (
-            r#"{"args":[18446744073709551616],"call":"get","id":1}"#,
-            Some(LineError::Args),
-        ),
-        (
-            r#"{"args":[5],"call":"get","id":-9223372036854775808}"#,
-            Some(LineError::Shape),
-        ),
-        (
-            r#"{"args":[5],"call":"get","id":9223372036854775808}"#,
-            None,
-        ),
-        (
-            r#"{"args":[5],"call":"get","id":1,"snapshot":false,"snapshot":0}"#,
-            Some(LineError::Shape),
-        ),
-    ];
-    let mut scratch = Scratch::new(rt.alloc());
-    for (line, error) in &cases {
-        assert!(rt;
-            class(rt.alloc(), &mut scratch, line.as_bytes())? == *error,
-            "{line}"
-        );
+    for row in CLASSES.lines() {
+        let Some((word, line)) = row.split_once(' ') else {
+            return Err(Fail::new("a row without a class"));
+        };
+        assert_eq!(rt; class(rt.alloc(), line.as_bytes())?, word, "{line}");
     }
     for line in [
         b"\xff".as_slice(),
@@ -218,7 +109,7 @@ fn lines_fall_into_the_first_class_that_fits(rt: HostRuntime) -> Result<(), Fail
         b"\0",
         b"\"a\tb\"",
     ] {
-        assert!(rt; class(rt.alloc(), &mut scratch, line)? == Some(LineError::Json));
+        assert_eq!(rt; class(rt.alloc(), line)?, "json");
     }
     Ok(())
 }
@@ -240,121 +131,68 @@ fn repeated(
 }
 
 #[test]
-fn texts_have_at_most_256_bytes_and_lists_127_levels(rt: HostRuntime) -> Result<(), Fail> {
-    let start = r#"{"id":1,"call":"get","args":[""#;
-    let end = r#""]}"#;
+fn texts_have_256_bytes_and_lists_127_levels(rt: HostRuntime) -> Result<(), Fail> {
     let cases = [
-        (start, "x", 256usize, end, None),
-        (start, "x", 257, end, Some(LineError::Args)),
-        (start, "é", 128, end, None),
-        (start, "é", 129, end, Some(LineError::Args)),
-        (start, r"\u00e9", 128, end, None),
-        (start, r"\u00e9", 129, end, Some(LineError::Args)),
-        (start, r"\\", 256, end, None),
-        (start, r"\\", 257, end, Some(LineError::Args)),
-        ("", "[", 200, "", Some(LineError::Json)),
-        ("[", "[],", 1_000, "5]", Some(LineError::Shape)),
+        (
+            r#"{"call":"get","id":1,"args":["x"#,
+            "x",
+            255,
+            r#""]}"#,
+            "request",
+        ),
+        (
+            r#"{"call":"get","id":1,"args":["x"#,
+            "x",
+            256,
+            r#""]}"#,
+            "args",
+        ),
+        ("", "[", 127, "", "json"),
+        (r#"{"call":"get","id":1,"args":"#, "[", 200, "", "json"),
     ];
-    let mut scratch = Scratch::new(rt.alloc());
-    for (start, piece, count, end, error) in cases {
+    for (start, piece, count, end, word) in cases {
         let line = repeated(rt.alloc(), start, piece, count, end)?;
-        assert!(rt;
-            class(rt.alloc(), &mut scratch, line.as_slice())? == error,
-            "{count} times {piece}"
-        );
+        assert_eq!(rt; class(rt.alloc(), line.as_slice())?, word, "{count}");
     }
-    for (levels, error) in [
-        (127usize, LineError::Shape),
-        (128, LineError::Json),
-        (200, LineError::Json),
-    ] {
-        let mut line = repeated(rt.alloc(), "", "[", levels, "")?;
-        let ends = repeated(rt.alloc(), "", "]", levels, "")?;
-        line.extend_from_slice(ends.as_slice())?;
-        assert!(rt;
-            class(rt.alloc(), &mut scratch, line.as_slice())? == Some(error),
-            "{levels} levels"
-        );
-    }
+    let line = repeated(
+        rt.alloc(),
+        r#"{"call":"get","id":1,"args":["#,
+        "1,",
+        100,
+        "1]}",
+    )?;
+    assert_eq!(rt; class(rt.alloc(), line.as_slice())?, "args");
     Ok(())
-}
-
-// A call with one argument or two.
-fn called(
-    alloc: Global,
-    proc_no: u16,
-    first: Option<Value>,
-    second: Option<Option<Value>>,
-    snapshot: bool,
-) -> Result<Call, NoMemory> {
-    let mut args = Args::new(alloc);
-    args.push(first)?;
-    if let Some(second) = second {
-        args.push(second)?;
-    }
-    Ok(Call {
-        proc_no,
-        args,
-        snapshot,
-    })
 }
 
 #[test]
 fn a_line_asks_for_its_request(rt: HostRuntime) -> Result<(), Fail> {
-    let text = Text::of("a\n😀é").map(Value::Text);
-    let cases: [(&str, u64, u16, Option<Value>, Option<Option<Value>>, bool); 5] = [
-        (
-            r#"{"args":[5,"a\n\ud83d\ude00\u00e9"],"call":"put","id":7,"snapshot":false}"#,
-            7,
-            1,
-            Some(Value::Int(5)),
-            Some(text),
-            false,
-        ),
-        (
-            r#" {"snapshot":true , "id":18446744073709551615,"args":[9223372036854775807],"call":"get" } "#,
-            u64::MAX,
-            0,
-            Some(Value::Int(i64::MAX)),
-            None,
-            true,
-        ),
-        (
-            r#"{"args":[-9223372036854775808,null],"c\u0061ll":"\u0070ut","id":0}"#,
-            0,
-            1,
-            Some(Value::Int(i64::MIN)),
-            Some(None),
-            false,
-        ),
-        (
-            r#"{"args":[7],"args":[-1,0],"call":"put","call":"add","id":4,"id":3,"snapshot":true,"snapshot":false}"#,
-            3,
-            2,
-            Some(Value::Int(-1)),
-            Some(Some(Value::Int(0))),
-            false,
-        ),
-        (
-            r#"{"snapshot":false,"args":[[]],"args":[1],"call":"put","call":"get","id":"4","id":3,"snapshot":true}"#,
-            3,
-            0,
-            Some(Value::Int(1)),
-            None,
-            true,
-        ),
-    ];
-    let mut scratch = Scratch::new(rt.alloc());
-    for (line, id, proc_no, first, second, snapshot) in &cases {
-        let Ok(request) = request(rt.alloc(), &mut scratch, line.as_bytes()) else {
-            return Err(Fail::new("no request"));
-        };
-        assert!(rt; request.id == *id, "{line}");
-        assert!(rt;
-            request.call == called(rt.alloc(), *proc_no, *first, *second, *snapshot)?,
-            "{line}"
-        );
-    }
+    let alloc = rt.alloc();
+    let line =
+        r#"{"args":[-9223372036854775808,null],"call":"get","c\u0061ll":"\u0070ut","id":4,"id":18446744073709551615}"#;
+    let Ok(request) = read(alloc, line.as_bytes())? else {
+        return Err(Fail::new("no request"));
+    };
+    let mut args = Args::new(alloc);
+    args.push(Some(Value::Int(i64::MIN)))?;
+    args.push(None)?;
+    let call = Call {
+        proc_no: 1,
+        args,
+        snapshot: false,
+    };
+    assert!(rt; request == Request { id: u64::MAX, call });
+    Ok(())
+}
+
+#[test]
+fn a_snapshot_call_of_any_procedure_may_be_asked_for(rt: HostRuntime) -> Result<(), Fail> {
+    let alloc = rt.alloc();
+    let procs = Checked::built_in(alloc)?;
+    let line = br#"{"args":[1,2],"call":"put","id":7,"snapshot":true}"#;
+    let mut scratch = Scratch::new(alloc);
+    let asked = asked_request(alloc, &mut scratch, &procs, line);
+    assert!(rt; asked.is_ok_and(|request| request.call.snapshot && request.call.proc_no == 1));
     Ok(())
 }
 
@@ -374,45 +212,26 @@ fn done(alloc: Global, time: u64, reply: &Reply) -> Result<Done, NoMemory> {
 
 #[test]
 fn a_record_is_said_as_compact_json(rt: HostRuntime) -> Result<(), Fail> {
-    let cases: [(Reply, &str); 9] = [
-        (
-            Reply::Ok(Some(Value::Int(70))),
-            r#"{"epoch":1,"id":2,"ok":70,"time":3}"#,
-        ),
-        (
-            Reply::Ok(Some(Value::Int(-5))),
-            r#"{"epoch":1,"id":2,"ok":-5,"time":3}"#,
-        ),
-        (Reply::Ok(None), r#"{"epoch":1,"id":2,"ok":null,"time":3}"#),
+    let cases: [(Reply, &str); 8] = [
+        (Reply::Ok(Some(Value::Int(-5))), r#""ok":-5"#),
+        (Reply::Ok(None), r#""ok":null"#),
         (
             Reply::Ok(Text::of("a\"\\\n\u{1}é").map(Value::Text)),
-            r#"{"epoch":1,"id":2,"ok":"a\"\\\n\u0001é","time":3}"#,
+            r#""ok":"a\"\\\n\u0001é""#,
         ),
-        (
-            Reply::Refused(Cause::User(2)),
-            r#"{"epoch":1,"id":2,"refused":"user 2","time":3}"#,
-        ),
-        (
-            Reply::Refused(Cause::Overflow),
-            r#"{"epoch":1,"id":2,"refused":"overflow","time":3}"#,
-        ),
+        (Reply::Refused(Cause::User(2)), r#""refused":"user 2""#),
+        (Reply::Refused(Cause::Overflow), r#""refused":"overflow""#),
         (
             Reply::Refused(Cause::ZeroDivide),
-            r#"{"epoch":1,"id":2,"refused":"zero divide","time":3}"#,
+            r#""refused":"zero divide""#,
         ),
-        (
-            Reply::Refused(Cause::Kind),
-            r#"{"epoch":1,"id":2,"refused":"kind","time":3}"#,
-        ),
-        (
-            Reply::Refused(Cause::BadRow),
-            r#"{"epoch":1,"id":2,"refused":"bad row","time":3}"#,
-        ),
+        (Reply::Refused(Cause::Kind), r#""refused":"kind""#),
+        (Reply::Refused(Cause::BadRow), r#""refused":"bad row""#),
     ];
-    for (reply, text) in &cases {
-        let mut said = done_text(rt.alloc(), &done(rt.alloc(), 3, reply)?)?;
-        assert!(rt; said.pop() == Some(b'\n'));
-        assert!(rt; said.as_slice() == text.as_bytes());
+    for (reply, member) in &cases {
+        let said = done_text(rt.alloc(), &done(rt.alloc(), 3, reply)?)?;
+        let text = format!(in rt.alloc(); "{{\"epoch\":1,\"id\":2,{member},\"time\":3}}\n")?;
+        assert!(rt; said.as_slice() == text.as_bytes(), "{member}");
     }
     Ok(())
 }
@@ -427,7 +246,8 @@ fn texts_stand_one_behind_the_other(rt: HostRuntime) -> Result<(), Fail> {
         (LineError::Args, 5),
         (LineError::Snapshot, 6),
         (LineError::Reused, 7),
-        (LineError::Full, u64::MAX),
+        (LineError::Full, 8),
+        (LineError::Old, u64::MAX),
     ] {
         write_error(&mut out, error, number)?;
     }
@@ -439,7 +259,8 @@ fn texts_stand_one_behind_the_other(rt: HostRuntime) -> Result<(), Fail> {
 {"error":"args","line":5}
 {"error":"snapshot","line":6}
 {"error":"reused","line":7}
-{"error":"full","line":18446744073709551615}
+{"error":"full","line":8}
+{"error":"old","line":18446744073709551615}
 {"epoch":1,"id":2,"ok":null,"time":0}
 "#;
     assert!(rt; out.as_slice() == all.as_bytes());
@@ -527,17 +348,5 @@ fn a_line_of_more_than_65536_bytes_is_long(rt: HostRuntime) -> Result<(), Fail> 
     assert!(rt; given(rt.alloc(), &mut source)?.as_slice() == b"L|a|.".as_slice());
     let mut source = MemorySource::new(long_text(rt.alloc(), 65_536)?, Vec::new(rt.alloc()));
     assert!(rt; given(rt.alloc(), &mut source)?.len() == 65_536 + 4);
-    Ok(())
-}
-
-#[test]
-fn lines_are_numbered_from_1(rt: HostRuntime) -> Result<(), Fail> {
-    let bytes = Vec::from_slice(rt.alloc(), b"a\nb")?;
-    let mut source = MemorySource::new(bytes, Vec::new(rt.alloc()));
-    let mut reader = Reader::new(rt.alloc());
-    for number in [1u64, 2] {
-        let line = reader.next(&mut source).unwrap_or(None);
-        assert!(rt; line.is_some_and(|line| line.number == number));
-    }
     Ok(())
 }

@@ -1,3 +1,5 @@
+//! The texts of answers.
+
 ghost use Rattle.std.specs.Prelude.{◌≡◌, ◌++◌, ◌∷◌, [], codes, decimal, take, IfOk, OnOk, OnErr, IsOk};
 ghost use Rattle.json.specs.Token.{key, string, number};
 ghost use Rattle.json.specs.Tree.{json_tokens};
@@ -175,5 +177,6 @@ fn word_of(error: LineError) -> &'static str
         LineError::Snapshot => "snapshot",
         LineError::Reused => "reused",
         LineError::Full => "full",
+        LineError::Old => "old",
     }
 }

@@ -1,30 +1,31 @@
-use Rattle.std.proofs.Common.{◌≡◌, ◌∙◌, Err, ap}
-use Rattle.std.proofs.lemmas.Result.{IfOk-weaker}
-use Rattle.coco_lines.specs.declared.error.LineError.TheVariants.{Json}
-use Rattle.coco_lines.specs.Signature.{builtins}
-use Rattle.coco_lines.proofs.FitLemmas.{answers_fit, text_fits}
-use Rattle.coco_lines.proofs.ReadingLemmas.{json_of-none, read_line-none, read_line-text}
+use Rattle.std.proofs.Common.{◌≡◌, ◌∙◌, true, false, Some, Err, ap, sym}
+use Rattle.std.proofs.lemmas.Result.{err_from_is_err_and}
+use Rattle.coco_ast.specs.Meaning.{procedure_at}
+use Rattle.coco_lines.specs.Reading.{is_forbidden, has_writes}
+use Rattle.coco_lines.specs.declared.error.LineError.TheVariants.{Snapshot}
+use Rattle.coco_lines.specs.declared.error.RequestFault.TheVariants.{Line}
+use Rattle.coco_lines.proofs.FitLemmas.{line_fits}
+use Rattle.coco_lines.proofs.ReadingLemmas.{asking_first, reading_none, reading_forbidden}
+use Rattle.coco_lines.proofs.requests.request.Goals.{Joined-else-request, else-request-via-then-request+else-writes, else-request-via-else-request}
 use Rattle.coco_lines.proofs.requests.request.Goals as goal
 
-pub returns-in_default-clause-line : goal.returns-in_default-clause-line
-returns-in_default-clause-line c = λ e is.
-    let json : Json ≡ e = cc in
-    read_line-none builtins c.args.line.now (json_of-none c.args.line.now (λ utf8. absurd (c.in_default.ensures.cases.0 utf8))) ∙ ap Err json
+pub returns-in_err-request-clause-line : goal.returns-in_err-request-clause-line
+returns-in_err-request-clause-line c = λ e is.
+    let p = err_from_is_err_and c.from_residual.result c.from_residual.ensures.1 in
+    let same : c.in_err-request.field-0.0 ≡ Line e = cc (p.1, p.2) in
+    asking_first c.args.procs.now c.args.line.now e (c.in_err-request.ensures.line e (ap Err same))
 
-pub returns-in-Some-clause-ok : goal.returns-in-Some-clause-ok
-returns-in-Some-clause-ok c = read_line-text builtins c.args.line.now c.in-Ok.text.now c.in-Ok.ensures.cases.0 c.in-Ok.ensures.cases.1 ∙ c.in-Some.ensures
+pub returns-then-writes-clause-line : goal.returns-then-writes-clause-line
+returns-then-writes-clause-line c = λ e is.
+    let snapshot : Snapshot ≡ e = cc in
+    let writes : has_writes (procedure_at c.args.procs.now.procs c.in_ok-request.request.call.proc_no) ≡ true = sym c.if-writes.ensures in
+    reading_forbidden c.args.procs.now c.args.line.now c.in_ok-request.request c.in_ok-request.ensures.ok (rw c.if-request.true writes) ∙ ap Some snapshot
 
-pub returns-in-Some-clause-fits : goal.returns-in-Some-clause-fits
-returns-in-Some-clause-fits c = text_fits c.in-Ok.text.now c.in-Some.request c.in-Some.ensures
+may : (c : Joined-else-request) → is_forbidden c.args.procs.now (Some c.in_ok-request.request) ≡ false
+may c = elim c.else-request.branch [ else-request-via-then-request+else-writes w ↦ rw w.if-request.true (sym w.if-writes.ensures) | else-request-via-else-request w ↦ rw w.if-request.false ]
 
-pub returns-in-None-clause-ok : goal.returns-in-None-clause-ok
-returns-in-None-clause-ok c =
-    let text = read_line-text builtins c.args.line.now c.in-Ok.text.now c.in-Ok.ensures.cases.0 c.in-Ok.ensures.cases.1 in
-    IfOk-weaker c.any_request.result _ _ (λ request is. text ∙ is) c.any_request.ensures.ok
+pub returns-clause-sound : goal.returns-clause-sound
+returns-clause-sound c = reading_none c.args.procs.now c.args.line.now c.in_ok-request.request c.in_ok-request.ensures.ok (may c)
 
-pub returns-in-None-clause-fits : goal.returns-in-None-clause-fits
-returns-in-None-clause-fits c = answers_fit c.in-Ok.text.now c.any_request.result c.any_request.ensures.ok
-
-pub returns-in-None-clause-line : goal.returns-in-None-clause-line
-returns-in-None-clause-line c = λ e is.
-    read_line-text builtins c.args.line.now c.in-Ok.text.now c.in-Ok.ensures.cases.0 c.in-Ok.ensures.cases.1 ∙ c.any_request.ensures.line e is
+pub returns-clause-fits : goal.returns-clause-fits
+returns-clause-fits c = line_fits c.args.procs.now c.args.line.now c.in_ok-request.request c.in_ok-request.ensures.ok (may c)

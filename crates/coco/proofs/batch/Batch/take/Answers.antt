@@ -1,16 +1,16 @@
 use Rattle.std.proofs.Common.{ap, sym, subst, ◌∙◌}
-use Rattle.coco.specs.Allowing.{IsAllowed}
-use Rattle.coco.specs.Asking.{AreNew}
+use Rattle.coco.specs.Asking.{IsAllowed, MayCommit}
 use Rattle.coco.specs.declared.batch.Batch.{Batch}
 use Rattle.coco.proofs.JoinLemmas.{joined}
 use Rattle.coco.proofs.batch.Batch.take.Goals as goal
-use Rattle.coco.proofs.batch.Batch.take.Goals.{in-Fails, in-Known, in-Fresh+in_ok-push-in-Fresh}
+use Rattle.coco.proofs.batch.Batch.take.Goals.{in-Refused, in-Same, in-New+in_ok-push-in-New}
 
 pub returns-clause-new : goal.returns-clause-new
 returns-clause-new c =
+    let procs = c.args.procs.now in
     let held = c.args.kept.now.dones in elim c.match-branch-2.branch [
-      | in-Fails w ↦ subst (AreNew held) (sym (ap (λ (b : Batch). b.fresh) w.self-is)) c.requires.new
-      | in-Known w ↦ subst (AreNew held) (sym (ap (λ (b : Batch). b.fresh) w.self-is)) c.requires.new
-      | in-Fresh+in_ok-push-in-Fresh w ↦ subst (AreNew held) (sym (ap (λ (b : Batch). b.fresh) w.self-is ∙ w.in_ok-push-in-Fresh.ensures.ok))
-          (joined held c.args.self.now.fresh w.in-Fresh.request c.requires.new (subst (IsAllowed held c.args.self.now.fresh) w.in-Fresh.is c.in_ok-error.ensures.allowed))
+      | in-Refused w ↦ subst (MayCommit procs held) (sym (ap (λ (b : Batch). b.fresh) w.self-is)) c.requires.new
+      | in-Same w ↦ subst (MayCommit procs held) (sym (ap (λ (b : Batch). b.fresh) w.self-is)) c.requires.new
+      | in-New+in_ok-push-in-New w ↦ subst (MayCommit procs held) (sym (ap (λ (b : Batch). b.fresh) w.self-is ∙ w.in_ok-push-in-New.ensures.ok))
+          (joined procs held c.args.self.now.fresh w.in-New.request c.requires.new (subst (IsAllowed procs held c.args.self.now.fresh) w.in-New.is c.in_ok-error.ensures.allowed))
     ]

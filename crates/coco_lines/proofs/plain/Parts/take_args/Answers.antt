@@ -5,7 +5,8 @@ use Rattle.json.proofs.Trees.{view-Array}
 use Rattle.serde_json.specs.Data.{array}
 use Rattle.serde_json.specs.Read.{of_json, of_items}
 use Rattle.coco_lines.specs.Reading.{args_of}
-use Rattle.coco_lines.proofs.PlainLemmas.{found_in, with_args}
+use Rattle.coco_lines.proofs.FitLemmas.{found_in}
+use Rattle.coco_lines.proofs.PlainLemmas.{with_args}
 use Rattle.coco_lines.proofs.plain.Parts.take_args.Goals as goal
 
 pub returns : goal.returns

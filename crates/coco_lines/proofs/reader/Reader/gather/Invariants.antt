@@ -8,7 +8,7 @@ decreases-loop-longer g l = reads_left l.self
 
 abbrev pub invariant-loop-longer : goal.invariant-loop-longer
 invariant-loop-longer g l = record {
-  gathering : Gathering l.fn.self l.self (g.S.Source.remaining l.fn.source) (g.S.Source.remaining l.source) l.body l.self.pending;
+  gathering : Gathering l.fn.self l.self (record { given = g.S.Source.given l.fn.source; left = g.S.Source.remaining l.fn.source; at_end = g.S.Source.at_end l.fn.source }) (record { given = g.S.Source.given l.source; left = g.S.Source.remaining l.source; at_end = g.S.Source.at_end l.source }) l.body l.self.pending;
   faults : g.S.Source.faults l.source ≡ g.S.Source.faults l.fn.source;
   was_state : IsReaderState l.fn.self;
   is_state : IsReaderState l.self;

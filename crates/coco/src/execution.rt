@@ -1,0 +1,69 @@
+//! Runs the requests of an epoch one after another.
+
+ghost use Rattle.std.specs.Prelude.{◌≡◌, ◌+◌, ◌<◌, ◌^◌, [], ◌++◌, length, map, IfOk, OnOk};
+ghost use Rattle.std.specs.List.{AllByRecursion};
+ghost use Rattle.coco_types.specs.declared.call.Done.{Done as Record};
+ghost use Rattle.coco_ast.specs.Builtins.{builtins};
+ghost use Rattle.coco_ast.specs.Fitting.{Fits};
+ghost use Rattle.coco_ast.specs.History.{RepliesAreRuns, rows_after};
+ghost use Rattle.coco_ast.specs.Meaning.{run};
+ghost use Rattle.coco_ast.specs.Schedule.{timed_of};
+ghost use Rattle.coco.specs.Ordering.{FitAll};
+
+use coco_serial::Executor;
+use coco_types::{Call, Done, KeptReply, NoMemory, Request};
+use std::alloc::Global;
+
+/// Runs the requests of one epoch in this order, each on what the one before left, and gives their records.
+pub fn run_in_order(
+    alloc: Global,
+    executor: &mut Executor,
+    epoch: u64,
+    order: Vec<(u64, Request)>,
+) -> Result<Vec<Done>, NoMemory>
+    requires fit { FitAll builtins order.items }
+    ensures replies { IfOk result (λ dones. RepliesAreRuns builtins executor.old dones.items) }
+    ensures rows { IfOk result (λ dones. executor.new ≡ rows_after builtins executor.old dones.items) }
+    ensures order { IfOk result (λ dones. map timed_of dones.items ≡ order.items) }
+    ensures epoch { IfOk result (λ dones. AllByRecursion (λ (d : Record). d.epoch ≡ epoch) dones.items) }
+{
+    let mut dones = Vec::with_capacity(alloc, order.len())?;
+    for timed in order {
+        dones.push(run_one(alloc, executor, epoch, timed)?)?;
+    }
+    Ok(dones)
+}
+
+fn run_one(
+    alloc: Global,
+    executor: &mut Executor,
+    epoch: u64,
+    timed: (u64, Request),
+) -> Result<Done, NoMemory>
+    requires fits { Fits builtins timed.1.call }
+    ensures reply { IfOk result (λ done. done.reply ≡ (run builtins done.call executor.old).reply) }
+    ensures rows { IfOk result (λ done. executor.new ≡ (run builtins done.call executor.old).rows) }
+    ensures request { IfOk result (λ done. timed_of done ≡ timed) }
+    ensures epoch { IfOk result (λ done. done.epoch ≡ epoch) }
+{
+    let (time, Request { id, call }) = timed;
+    let reply = reply_to(alloc, executor, &call)?;
+    Ok(Done {
+        id,
+        call,
+        epoch,
+        time,
+        reply,
+    })
+}
+
+fn reply_to(alloc: Global, executor: &mut Executor, call: &Call) -> Result<KeptReply, NoMemory>
+    requires fits { Fits builtins call.now }
+    ensures reply { IfOk result (λ reply. reply ≡ (run builtins call.now executor.old).reply) }
+    ensures rows { IfOk result (λ _. executor.new ≡ (run builtins call.now executor.old).rows) }
+{
+    match executor.apply(call) {
+        Ok(reply) => KeptReply::of(alloc, &reply),
+        Err(NoMemory) => Err(NoMemory),
+    }
+}

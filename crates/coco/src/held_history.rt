@@ -1,0 +1,76 @@
+//! What a run holds of its history, and how it grows by an epoch.
+
+ghost use Rattle.std.specs.Prelude.{◌≡◌, ◌+◌, ◌<◌, ◌≤◌, ℕ, [], ◌++◌, length, None, OnOk, nat_eq, map};
+ghost use Rattle.std.specs.List.{AllByRecursion, IsDistinct};
+ghost use Rattle.coco_types.specs.declared.call.Done.{Done as Record};
+ghost use Rattle.coco_ast.specs.Builtins.{builtins};
+ghost use Rattle.coco_ast.specs.History.{done_of, ids_of};
+
+use crate::execution::run_in_order;
+use crate::new_requests::NewRequests;
+use coco_kept::Kept;
+use coco_serial::Executor;
+use coco_types::{Done, NoMemory};
+use std::alloc::Global;
+
+/// The rows, the kept records, and the number of the last epoch.
+#[derive(Drop)]
+pub struct HeldHistory {
+    pub executor: Executor,
+    pub kept: Kept,
+    pub last_epoch: u64,
+    ghost counted: { last_epoch ≤ length kept.dones },
+    ghost few: { length kept.dones ≤ 1048576 },
+}
+
+impl HeldHistory {
+    ghost use Rattle.coco_ast.specs.History.{no_history};
+    ghost use Rattle.coco.specs.Standing.{Stands};
+    ghost use Rattle.coco.specs.Asking.{MayCommit};
+    ghost use Rattle.coco.specs.Saying.{Commits};
+
+    /// The history of a new store.
+    pub fn new(alloc: Global) -> HeldHistory
+        ensures { Stands builtins result no_history }
+    {
+        HeldHistory {
+            executor: Executor::new(alloc),
+            kept: Kept::new(alloc),
+            last_epoch: 0,
+        }
+    }
+
+    /// Runs the new requests of a batch as one epoch, and keeps their records. Out of memory, the history
+    /// is of no further use.
+    pub fn commit(&mut self, alloc: Global, fresh: NewRequests) -> Result<(), NoMemory>
+        requires { MayCommit builtins self.old.kept.dones fresh }
+        ensures { OnOk result (Commits builtins fresh self.old self.new) }
+    {
+        if fresh.len() == 0 {
+            return Ok(());
+        }
+        let epoch = self.last_epoch + 1;
+        let order = fresh.into_commit_order(alloc)?;
+        let dones = run_in_order(alloc, &mut self.executor, epoch, order)?;
+        keep_all(alloc, &mut self.kept, dones)?;
+        self.last_epoch = epoch;
+        Ok(())
+    }
+}
+
+/// Keeps these records behind the others. Out of memory, some of them may be kept.
+fn keep_all(alloc: Global, kept: &mut Kept, dones: Vec<Done>) -> Result<(), NoMemory>
+    requires distinct { IsDistinct nat_eq (ids_of dones.items) }
+    requires absent { AllByRecursion (λ (d : Record). done_of d.id kept.old.dones ≡ None) dones.items }
+    requires few { length kept.old.dones + length dones.items ≤ 1048576 }
+    ensures ok { OnOk result (kept.new.dones ≡ kept.old.dones ++ dones.items) }
+    ensures grows { length kept.old.dones ≤ length kept.new.dones }
+    ensures few { length kept.new.dones ≤ 1048576 }
+{
+    let ids: Vec<u64> = dones.iter().map(|done| done.id).collect(alloc)?;
+    kept.reserve(ids.as_slice())?;
+    for done in dones {
+        kept.add(done);
+    }
+    Ok(())
+}

@@ -1,0 +1,34 @@
+//! What holds of classes, growth and answers, whatever the program does.
+
+ghost use Rattle.std.specs.Prelude.{◌≡◌, ℕ, List};
+ghost use Rattle.coco_ast.specs.History.{History, IsOrdered, all_dones};
+ghost use Rattle.coco_ast.specs.Tree.{Procedures};
+ghost use Rattle.coco_lines.specs.Answers.{answers_in};
+ghost use Rattle.coco_lines.specs.Batches.{Batch, joined};
+ghost use Rattle.coco_lines.specs.Growing.{GrowsByBatches};
+ghost use Rattle.coco_lines.specs.Replies.{ClassLinesAlike, HasNoLaterDone, HaveReplies};
+ghost use Rattle.coco_lines.specs.declared.class.Class.{Class as LineClass};
+
+/// A line's class depends on the opening history, the cutting into batches and the lines up to it alone: two
+/// histories that grew by the same batches give all lines, those that come next included, the same classes.
+pub fn one_class()
+    ensures { (procs : Procedures) (before : History) (batches : List Batch) (cs ds : List (List LineClass)) (g k : History)
+        → HasNoLaterDone before → GrowsByBatches procs before batches cs g → GrowsByBatches procs before batches ds k
+        → ClassLinesAlike procs g cs k ds }
+{}
+
+/// The answers of lines that a history has grown by stay when it grows further.
+pub fn answers_stay()
+    ensures { (procs : Procedures) (before : History) (batches more : List Batch) (cs ds : List (List LineClass)) (g k : History) (first : ℕ)
+        → GrowsByBatches procs before batches cs g → GrowsByBatches procs g more ds k
+        → answers_in k first (joined cs) ≡ answers_in g first (joined cs) }
+{}
+
+/// An id has one Done and one reply: a history that grew by batches stays ordered, and has the Done of every
+/// line that is replied to.
+pub fn one_reply()
+    ensures ordered { (procs : Procedures) (before : History) (batches : List Batch) (cs : List (List LineClass)) (after : History)
+        → IsOrdered before → GrowsByBatches procs before batches cs after → IsOrdered after }
+    ensures replies { (procs : Procedures) (before : History) (batches : List Batch) (cs : List (List LineClass)) (after : History)
+        → GrowsByBatches procs before batches cs after → HaveReplies procs (all_dones after) (joined batches) (joined cs) }
+{}
