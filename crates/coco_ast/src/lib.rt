@@ -12,7 +12,7 @@ pub mod tree;
 pub use builtin::builtins;
 pub use checked::Checked;
 pub use error::{CheckError, CheckKind};
-pub use name::{MOST_NAME_BYTES, Name};
+pub use name::{MOST_NAME_BYTES, Name, continues_word, starts_word};
 pub use tree::{Block, Expr, Names, Place, Proc, ProcList, Procs, Stmt, TwoOp};
 
 #[cfg(test)]

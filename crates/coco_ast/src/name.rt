@@ -92,13 +92,15 @@ fn all_continue_word(bytes: &[u8]) -> bool
     bytes.iter().all(|b| continues_word(*b))
 }
 
-fn starts_word(b: u8) -> bool
+/// Whether a word may begin with this byte.
+pub fn starts_word(b: u8) -> bool
     ensures { result ≡ is_word_start b }
 {
     b.is_ascii_alphabetic() || b == b'_'
 }
 
-fn continues_word(b: u8) -> bool
+/// Whether a word may go on with this byte.
+pub fn continues_word(b: u8) -> bool
     ensures { result ≡ is_word_byte b }
 {
     starts_word(b) || b.is_ascii_digit()

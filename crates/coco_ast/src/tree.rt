@@ -1,7 +1,7 @@
 //! The trees of procedures.
 
 ghost use Rattle.std.specs.Prelude.{◌≡◌, IfOk};
-ghost use Rattle.coco_ast.specs.Tree.{Not, Negate, Two};
+ghost use Rattle.coco_ast.specs.Tree.{Quoted, Not, Negate, Two};
 ghost use Rattle.coco_ast.specs.Views.{expression_of, sign_of};
 
 use crate::Name;
@@ -26,11 +26,12 @@ pub enum TwoOp {
     Or,
 }
 
-/// An expression. `None` is the word `none`.
+/// An expression. `None` is the word `none`. A text stands on the heap, since most expressions have
+/// none.
 #[derive(Debug, Drop)]
 pub enum Expr {
     Number(i64),
-    Text(Text),
+    Text(Box<Text>),
     None,
     Var(Name),
     Not(Box<Expr>),
@@ -43,6 +44,13 @@ pub enum Expr {
 }
 
 impl Expr {
+    pub fn text(alloc: Global, text: Text) -> Result<Expr, NoMemory>
+        ensures { IfOk result (λ e. expression_of e ≡ Quoted text) }
+    {
+        let text = Box::new(alloc, text)?;
+        Ok(Expr::Text(text))
+    }
+
     pub fn not(alloc: Global, operand: Expr) -> Result<Expr, NoMemory>
         ensures { IfOk result (λ e. expression_of e ≡ Not (expression_of operand)) }
     {

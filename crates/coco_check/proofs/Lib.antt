@@ -1,5 +1,4 @@
 pub mod Answering
-pub mod Counts
 pub mod FirstErrors
 pub mod NameSets
 pub mod Procedures

@@ -11,6 +11,8 @@ use Rattle.coco_ast.specs.declared.error.CheckKind.TheVariants.{UnknownName, Twi
 use Rattle.coco_ast.specs.Tree.{Statement, Let, Get, Put, Delete, If, IfElse, Repeat, Refuse, Reply, Statements, Procedure, Procedures}
 use Rattle.coco_ast.specs.Builtins.{builtins}
 use Rattle.coco_ast.specs.Checks.{Placed, own_tables, own_variables, set_by, statements_in, counted_weight, ends}
+use Rattle.coco_types.specs.declared.limits.TheConstants.{MOST_KEYS}
+use Rattle.coco_check.specs.declared.statement.TheConstants.{MOST_BOUND, MOST_TURNS}
 use Rattle.coco_check.specs.declared.fault.BodyFault.{BodyFault}
 use Rattle.coco_check.specs.declared.fault.BodyFault.TheVariants as body
 use Rattle.coco_check.specs.declared.fault.CheckFault.{CheckFault}
@@ -47,7 +49,7 @@ added names (Some i) = Err i
 -- ---- one statement
 
 abbrev pub is_bad_bound : ℕ → ℕ → Bool
-is_bad_bound around n = nat_eq n 0 || (nat_lt 64 n || nat_lt 4096 (around * n))
+is_bad_bound around n = nat_eq n 0 || (nat_lt MOST_BOUND n || nat_lt MOST_TURNS (around * n))
 
 abbrev pub repeats_badly : ℕ → Statement → Bool
 repeats_badly around (Let x e) = false
@@ -100,7 +102,7 @@ walk tables w (s ∷ ss) = and_then (step tables w s) (λ v. walk tables v ss)
 
 abbrev pub header_kind : Bool → Statements → Option CheckKind
 header_kind is_twice body =
-    if is_twice then Some Twice else (if nat_lt 64 (counted_weight body) then Some (TooManyKeys (counted_weight body)) else (if ends body then None else Some NoReply))
+    if is_twice then Some Twice else (if nat_lt MOST_KEYS (counted_weight body) then Some (TooManyKeys (counted_weight body)) else (if ends body then None else Some NoReply))
 
 abbrev pub fault_of : Result Walk Fault → Option Fault
 fault_of (Ok w) = None

@@ -1,3 +1,5 @@
+//! The statements of a procedure, one after the other, and the variables known behind each.
+
 ghost use Rattle.std.specs.Prelude.{◌≡◌, ◌+◌, ◌<◌, ◌≤◌, ◌^◌, length, OnOk};
 ghost use Rattle.std.specs.Option.{option_to_list};
 ghost use Rattle.coco_ast.specs.Checks.{and_within, in_order, set_by};

@@ -1,3 +1,5 @@
+//! A whole tree: its tables, its procedures, and the tree behind the built-in ones.
+
 ghost use Rattle.std.specs.Prelude.{◌≡◌, ◌+◌, ◌<◌, ◌≤◌, ◌^◌, ◌⊎◌, ◌++◌, [], map, length, IfOk, IfErr, IsErrAnd, MatchResult};
 ghost use Rattle.std.specs.List.{All};
 ghost use Rattle.coco_ast.specs.Builtins.{builtins as built_in};

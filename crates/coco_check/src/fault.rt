@@ -1,3 +1,5 @@
+//! Why a tree isn't accepted, and how that is printed.
+
 ghost use Rattle.std.specs.Prelude.{◌≡◌};
 ghost use Rattle.coco_check.specs.Search.{fault_at};
 

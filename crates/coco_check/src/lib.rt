@@ -12,10 +12,3 @@ mod statement;
 pub use checker::check;
 pub use coco_ast::{CheckError, CheckKind};
 pub use fault::CheckFault;
-
-#[cfg(test)]
-mod limits;
-#[cfg(test)]
-mod tests;
-#[cfg(test)]
-mod trees;

@@ -1,3 +1,5 @@
+//! How many keys a block may need, and whether each way through it ends.
+
 ghost use Rattle.std.specs.Prelude.{◌≡◌, min};
 ghost use Rattle.coco_ast.specs.Checks.{counted_weight, statement_weight, ends, ends_at};
 ghost use Rattle.coco_ast.specs.Views.{statement_of, statements_of};

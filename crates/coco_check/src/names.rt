@@ -1,3 +1,5 @@
+//! Sets of names.
+
 ghost use Rattle.std.specs.Prelude.{◌≡◌, ◌<◌, length, IfOk, IfSome};
 ghost use Rattle.coco_check.specs.Search.{adding, added};
 

@@ -1,3 +1,5 @@
+//! A procedure as a whole, and then its body.
+
 ghost use Rattle.std.specs.Prelude.{◌≡◌, ◌<◌, ◌^◌, [], length, not};
 ghost use Rattle.coco_ast.specs.Checks.{in_order, statements_in};
 ghost use Rattle.coco_ast.specs.Views.{procedure_of, statements_of};
@@ -9,10 +11,8 @@ use crate::fault::BodyFault;
 use crate::measure::{block_ends, block_weight};
 use crate::names::{NameSet, add_all};
 use coco_ast::{Proc, Stmt};
+use coco_types::limits::MOST_KEYS;
 use std::alloc::Global;
-
-/// How many keys a procedure may need.
-pub const MOST_KEYS: u64 = 64;
 
 // The first fault of a procedure, where these tables are declared.
 pub(crate) fn check_proc(

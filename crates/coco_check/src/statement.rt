@@ -1,3 +1,5 @@
+//! What is wrong with a statement itself.
+
 ghost use Rattle.std.specs.Prelude.{◌≡◌, ◌≤◌, not, ◌&&◌};
 ghost use Rattle.coco_ast.specs.Checks.{own_tables, own_variables, set_by, variables_of};
 ghost use Rattle.coco_ast.specs.Views.{expression_of, place_of, statement_of};

@@ -12,7 +12,8 @@ use Rattle.std.proofs.lemmas.List.Sums.{AllPass-from_list_all}
 use Rattle.std.specs.Char.{is_ascii_digit}
 use Rattle.std.specs.Str.Parse.{digits_value}
 use Rattle.std.proofs.lemmas.Bool.{ne_eqb, cases_lt, eq-eqb, eqb-true}
-use Rattle.coco_lex.specs.Bytes.{quote, is_word_start, is_word_byte}
+use Rattle.coco_ast.specs.Words.{is_word_start, is_word_byte}
+use Rattle.coco_lex.specs.Bytes.{quote}
 use Rattle.coco_lex.specs.Lexeme.{IsWord, IsDigits, IsQuoted, IsSymbol, IsLexeme, IsLongest, of_symbol, keywords}
 use Rattle.coco_lex.specs.Tokens.{IsFront, KeepsLimits}
 use Rattle.coco_lex.specs.Refusal.{IsFault}

@@ -7,7 +7,8 @@ use Rattle.std.proofs.lemmas.Bool.Decides.{nat_tests}
 use Rattle.std.proofs.lemmas.List.Elements.{All-contains}
 use Rattle.std.proofs.lemmas.List.Sums.{AllPass-from_list_all}
 use Rattle.std.proofs.lemmas.Str.Parse.{digit_from_value}
-use Rattle.coco_lex.specs.Bytes.{quote, is_word_start}
+use Rattle.coco_ast.specs.Words.{is_word_start}
+use Rattle.coco_lex.specs.Bytes.{quote}
 use Rattle.coco_lex.specs.Lexeme.{IsWord, IsDigits, IsText, IsSymbol, IsLexeme, of_word, of_digits, of_text, of_symbol}
 
 pub data Class : Type 0 where

@@ -10,7 +10,7 @@ use Rattle.std.proofs.lemmas.List.Elements.{All-from_get_or}
 use Rattle.std.proofs.lemmas.List.Sums.{prefix_len_passes, prefix_len_stops, prefix_len-le-length}
 use Rattle.std.proofs.lemmas.Str.{digit_value_digit}
 use Rattle.std.proofs.lemmas.Str.Parse.{digit_at}
-use Rattle.coco_lex.specs.Bytes.{is_word_start, is_word_byte}
+use Rattle.coco_ast.specs.Words.{is_word_start, is_word_byte}
 use Rattle.coco_lex.specs.Lexeme.{IsWord, IsDigits, IsLongest, of_word, of_digits}
 use Rattle.coco_lex.proofs.Heads.{class_of_start, class_of_digit, only_word, only_digits}
 

@@ -1,4 +1,4 @@
--- what separates tokens
+-- What separates tokens.
 use Rattle.std.specs.Prelude.{◌≡◌, ◌≢◌, ℕ, ◌<◌, ◌≤◌, ◌⊎◌, List, length, slice_index, IsTrue}
 use Rattle.coco_lex.specs.Bytes.{is_blank, number_sign, line_feed}
 

@@ -1,8 +1,9 @@
--- what the tokens of a procedure text look like, each by its bytes alone
+-- What the tokens of a procedure text look like, each by its bytes alone.
 use Rattle.std.specs.Prelude.{◌≡◌, ℕ, ◌<◌, ◌≤◌, ◌||◌, ◌==◌, if◌then◌else◌, List, [], ◌∷◌, ◌++◌, length, take, IsTrue, All, Contains, codes}
 use Rattle.std.specs.List.{flat_map, AllPass}
 use Rattle.std.specs.Str.Parse.{IsNumeral}
-use Rattle.coco_lex.specs.Bytes.{quote, backslash, is_word_start, is_word_byte}
+use Rattle.coco_ast.specs.Words.{is_word_start, is_word_byte}
+use Rattle.coco_lex.specs.Bytes.{quote, backslash}
 
 abbrev pub IsWord : List ℕ → Type 0
 IsWord [] = ⊥

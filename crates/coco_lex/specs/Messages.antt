@@ -1,4 +1,4 @@
--- how refusals are printed
+-- How refusals are printed.
 use Rattle.std.specs.Prelude.{ℕ, List, ◌++◌, codes, decimal}
 use Rattle.coco_lex.specs.declared.error.LexError.{LexError}
 use Rattle.coco_lex.specs.declared.error.LexFault.{LexFault}

@@ -1,11 +1,14 @@
--- where and why a procedure text has no tokens
+-- Where and why a procedure text has no tokens.
 use Rattle.std.specs.Prelude.{◌≡◌, ◌≢◌, ℕ, ◌+◌, ◌%◌, ◌<◌, ◌≤◌, ◌⊎◌, List, ◌∷◌, length, take, drop, slice_index, All, IsUtf8, Result, Ok, Err}
 use Rattle.std.specs.List.{suffix_len}
 use Rattle.std.specs.Str.{IsValidUpTo}
 use Rattle.std.specs.Str.Parse.{digits_value}
+use Rattle.coco_ast.specs.declared.name.TheConstants.{MOST_NAME_BYTES}
 use Rattle.coco_lex.specs.Bytes.{quote, backslash, is_backslash}
 use Rattle.coco_lex.specs.Lexeme.{IsWord, IsDigits, IsQuoted, IsLexeme, IsLongest, spelled}
 use Rattle.coco_lex.specs.Tokens.{AreTokens, Follow}
+use Rattle.coco_types.specs.declared.limits.TheConstants.{MOST_TEXT_BYTES}
+use Rattle.coco_lex.specs.declared.limits.TheConstants.{MOST_NUMBER}
 use Rattle.coco_lex.specs.declared.token.Token.{Token}
 use Rattle.coco_lex.specs.declared.error.LexError.{LexError}
 use Rattle.coco_lex.specs.declared.error.LexFault.{LexFault}
@@ -41,11 +44,11 @@ pub record Opens (rest : List ℕ) (n : ℕ) (content : List ℕ) : Type 0 where
 abbrev pub IsFault : List ℕ → LexKind → ℕ → Type 0
 IsFault rest Utf8 n = ⊥
 IsFault rest Stray n = (n ≡ 0) × (slice_index rest 0 ≢ quote) × ((m : ℕ) → ¬ (IsLexeme (take m rest)))
-IsFault rest LongName n = (n ≡ 0) × ((m : ℕ) × IsLongest rest m × IsWord (take m rest) × (32 < m))
-IsFault rest WideNumber n = (n ≡ 0) × ((m : ℕ) × IsLongest rest m × IsDigits (take m rest) × (9223372036854775807 < digits_value 10 (take m rest)))
+IsFault rest LongName n = (n ≡ 0) × ((m : ℕ) × IsLongest rest m × IsWord (take m rest) × (MOST_NAME_BYTES < m))
+IsFault rest WideNumber n = (n ≡ 0) × ((m : ℕ) × IsLongest rest m × IsDigits (take m rest) × (MOST_NUMBER < digits_value 10 (take m rest)))
 IsFault rest OpenText n = (n ≡ 0) × (slice_index rest 0 ≡ quote) × (¬ (IsClosed rest))
 IsFault rest BadText n = IsClosed rest × (n < length rest) × IsBadAt rest n × ((content : List ℕ) × Opens rest n content)
-IsFault rest LongText n = (n ≡ 0) × ((m : ℕ) × (content : List ℕ) × IsLongest rest m × IsQuoted content (take m rest) × (256 < length content))
+IsFault rest LongText n = (n ≡ 0) × ((m : ℕ) × (content : List ℕ) × IsLongest rest m × IsQuoted content (take m rest) × (MOST_TEXT_BYTES < length content))
 
 -- this is wrong with what stands at a place
 pub record IsFaultAt (text : List ℕ) (from : ℕ) (e : LexError) : Type 0 where

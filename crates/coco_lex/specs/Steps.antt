@@ -1,4 +1,4 @@
--- what the small functions of the lexer find
+-- What the small functions of the lexer find.
 use Rattle.std.specs.Prelude.{◌≡◌, ◌≢◌, ℕ, ◌+◌, ◌-◌, ◌<◌, ◌≤◌, ◌⊎◌, List, ◌++◌, length, take, slice_index, IsTrue}
 use Rattle.coco_lex.specs.Bytes.{quote, is_blank, number_sign, line_feed}
 use Rattle.coco_lex.specs.Lexeme.{escaped}

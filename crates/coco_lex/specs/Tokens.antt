@@ -1,17 +1,20 @@
--- the tokens of a procedure text
+-- The tokens of a procedure text.
 use Rattle.std.specs.Prelude.{ℕ, ◌-◌, ◌<◌, ◌≤◌, List, [], ◌∷◌, length, take, drop, Contains, IsUtf8}
 use Rattle.std.specs.Str.Parse.{digits_value}
+use Rattle.coco_ast.specs.declared.name.TheConstants.{MOST_NAME_BYTES}
 use Rattle.coco_lex.specs.Gap.{IsGap}
 use Rattle.coco_lex.specs.Lexeme.{IsWord, IsDigits, IsText, IsQuoted, IsSymbol, IsLongest, keywords}
+use Rattle.coco_types.specs.declared.limits.TheConstants.{MOST_TEXT_BYTES}
+use Rattle.coco_lex.specs.declared.limits.TheConstants.{MOST_NUMBER}
 use Rattle.coco_lex.specs.declared.token.Token.{Token}
 use Rattle.coco_lex.specs.declared.token.TokenKind.{TokenKind}
 use Rattle.coco_lex.specs.declared.token.TokenKind.TheVariants.{Keyword, Name, Number, Text, Symbol}
 
 -- how long a word or a text's content may be, and how great a number
 pub record KeepsLimits (bytes : List ℕ) : Type 0 where
-  pub word : IsWord bytes → length bytes ≤ 32
-  pub number : IsDigits bytes → digits_value 10 bytes ≤ 9223372036854775807
-  pub text : (content : List ℕ) → IsQuoted content bytes → length content ≤ 256
+  pub word : IsWord bytes → length bytes ≤ MOST_NAME_BYTES
+  pub number : IsDigits bytes → digits_value 10 bytes ≤ MOST_NUMBER
+  pub text : (content : List ℕ) → IsQuoted content bytes → length content ≤ MOST_TEXT_BYTES
 
 abbrev pub IsOfKind : TokenKind → List ℕ → Type 0
 IsOfKind Keyword bytes = Contains keywords bytes

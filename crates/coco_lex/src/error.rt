@@ -1,3 +1,5 @@
+//! Why a text has no tokens, and how that is printed.
+
 use std::alloc::AllocFailed;
 use std::error::Error;
 use std::fmt;

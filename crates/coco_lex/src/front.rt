@@ -1,15 +1,20 @@
+//! The token at the front of a rest of the text, or what is wrong there.
+
 ghost use Rattle.std.specs.Prelude.{◌≡◌, ◌≢◌, ℕ, ◌<◌, ◌≤◌, ◌↔◌, length, map, slice_index, take, IsTrue, IsFalse, MatchResult, Contains, codes};
 ghost use Rattle.std.specs.Char.{is_ascii_digit};
 ghost use Rattle.std.specs.List.{prefix_len};
 ghost use Rattle.std.specs.Str.Parse.{digits_value};
-ghost use Rattle.coco_lex.specs.Bytes.{quote, is_word_start, is_word_byte};
+ghost use Rattle.coco_ast.specs.Words.{is_word_start, is_word_byte};
+ghost use Rattle.coco_lex.specs.Bytes.{quote};
 ghost use Rattle.coco_lex.specs.Lexeme.{IsDigits, IsSymbol, keywords};
 ghost use Rattle.coco_lex.specs.Tokens.{IsFront};
 ghost use Rattle.coco_lex.specs.Refusal.{IsFault};
 
 use crate::error::LexKind;
+use crate::limits::MOST_NUMBER;
 use crate::quoted::quoted_front;
 use crate::token::TokenKind;
+use coco_ast::{MOST_NAME_BYTES, continues_word, starts_word};
 use std::str::from_utf8;
 
 // What stands at the front of a rest of the text: a token of this kind and length in bytes.
@@ -26,11 +31,7 @@ pub(crate) struct Fault {
     pub(crate) offset: usize,
 }
 
-const MOST_WORD_BYTES: usize = 32;
-
-const MOST_NUMBER: u64 = 9223372036854775807;
-
-const KEYWORDS: [&[u8]; 16] = [
+static KEYWORDS: [&[u8]; 16] = [
     b"table", b"proc", b"let", b"get", b"put", b"delete", b"if", b"else", b"repeat", b"as",
     b"refuse", b"reply", b"none", b"not", b"and", b"or",
 ];
@@ -44,7 +45,7 @@ pub(crate) fn front_of(rest: &[u8]) -> Result<Front, Fault>
     ensures { MatchResult result (λ f. IsFront rest.now f.kind f.len) (λ f. IsFault rest.now f.kind f.offset) }
 {
     let first = rest[0];
-    if is_word_start(first) {
+    if starts_word(first) {
         word(rest)
     } else if first.is_ascii_digit() {
         number(rest)
@@ -60,7 +61,7 @@ fn word(rest: &[u8]) -> Result<Front, Fault>
     ensures { MatchResult result (λ f. IsFront rest.now f.kind f.len) (λ f. IsFault rest.now f.kind f.offset) }
 {
     let len = word_len(rest);
-    if len > MOST_WORD_BYTES {
+    if len > MOST_NAME_BYTES {
         return Err(Fault {
             kind: LexKind::LongName,
             offset: 0,
@@ -111,22 +112,10 @@ fn symbol(rest: &[u8]) -> Result<Front, Fault>
     })
 }
 
-fn is_word_start(b: u8) -> bool
-    ensures { result ≡ is_word_start b }
-{
-    b.is_ascii_alphabetic() || b == b'_'
-}
-
-fn is_word_byte(b: u8) -> bool
-    ensures { result ≡ is_word_byte b }
-{
-    is_word_start(b) || b.is_ascii_digit()
-}
-
 fn word_len(rest: &[u8]) -> usize
     ensures { result ≡ prefix_len is_word_byte rest.now }
 {
-    rest.iter().take_while(|b| is_word_byte(**b)).count()
+    rest.iter().take_while(|b| continues_word(**b)).count()
 }
 
 fn digits_len(rest: &[u8]) -> usize
@@ -150,7 +139,7 @@ fn is_one_of(words: &[&[u8]], word: &[u8]) -> bool
 // Whether the digits stand for a greater number than a token may.
 fn is_wide(digits: &[u8]) -> bool
     requires { IsDigits digits.now }
-    ensures { IsTrue result ↔ (9223372036854775807 < digits_value 10 digits.now) }
+    ensures { IsTrue result ↔ (MOST_NUMBER < digits_value 10 digits.now) }
 {
     let Ok(digits) = from_utf8(digits) else {
         return true;

@@ -1,3 +1,5 @@
+//! Blanks and comments, which separate tokens.
+
 ghost use Rattle.std.specs.Prelude.{◌<◌, ◌≤◌, length};
 ghost use Rattle.coco_lex.specs.Gap.{IsGap};
 ghost use Rattle.coco_lex.specs.Steps.{IsSeparator, IsComment};

@@ -1,3 +1,5 @@
+//! All tokens of a text, in order, or its first refusal.
+
 ghost use Rattle.std.specs.Prelude.{◌≡◌, ℕ, ◌<◌, ◌≤◌, ◌⊎◌, List, length, Result, Err, IfOk, IfErr, IsErrAnd, MatchResult, IsUtf8};
 ghost use Rattle.coco_lex.specs.Tokens.{AreTokens, IsToken};
 ghost use Rattle.coco_lex.specs.Refusal.{IsRefused, IsFaultAt, ReadsAs, OnRefused};
@@ -8,15 +10,13 @@ use crate::error::{LexError, LexFault, LexKind};
 use crate::front::front_of;
 use crate::gap::gap_end;
 use crate::token::Token;
+use coco_types::limits::MOST_PROCEDURE_BYTES;
 use std::alloc::Global;
 use std::str::from_utf8;
 
-/// How many bytes a procedure text may have.
-pub const MOST_BYTES: usize = 262144;
-
 /// The tokens of a text, in order, or its first refusal.
 pub fn lex(alloc: Global, text: &[u8]) -> Result<Vec<Token>, LexFault>
-    requires { length text.now ≤ 262144 }
+    requires { length text.now ≤ MOST_PROCEDURE_BYTES }
     ensures tokens { IfOk result (λ v. AreTokens text.now v.items) }
     ensures refused { IfErr result (λ fault. OnRefused fault (IsRefused text.now)) }
 
@@ -36,7 +36,7 @@ pub fn lex(alloc: Global, text: &[u8]) -> Result<Vec<Token>, LexFault>
 }
 
 fn tokens_of(alloc: Global, text: &[u8]) -> Result<Vec<Token>, LexFault>
-    requires short { length text.now ≤ 262144 }
+    requires short { length text.now ≤ MOST_PROCEDURE_BYTES }
     requires utf8 { IsUtf8 text.now }
     ensures tokens { IfOk result (λ v. AreTokens text.now v.items) }
     ensures refused { IfErr result (λ fault. OnRefused fault (IsRefused text.now)) }
@@ -52,7 +52,7 @@ fn tokens_of(alloc: Global, text: &[u8]) -> Result<Vec<Token>, LexFault>
 }
 
 fn token_at(text: &[u8], at: usize) -> Result<Token, LexError>
-    requires short { length text.now ≤ 262144 }
+    requires short { length text.now ≤ MOST_PROCEDURE_BYTES }
     requires within { at < length text.now }
     ensures { MatchResult result (λ t. (t.start ≡ at) × IsToken text.now t) (λ e. IsFaultAt text.now at e) }
 {

@@ -5,12 +5,11 @@ pub mod error;
 mod front;
 mod gap;
 pub mod lexer;
+pub mod limits;
 mod quoted;
 pub mod token;
 
 pub use error::{LexError, LexFault, LexKind};
-pub use lexer::{MOST_BYTES, lex, one_reading};
+pub use lexer::{lex, one_reading};
+pub use limits::MOST_NUMBER;
 pub use token::{Token, TokenKind};
-
-#[cfg(test)]
-mod tests;

@@ -1,3 +1,5 @@
+//! Texts in quotes, with their escapes.
+
 ghost use Rattle.std.specs.Prelude.{◌≡◌, ◌<◌, ◌↔◌, length, slice_index, IsTrue, MatchResult};
 ghost use Rattle.coco_lex.specs.Bytes.{quote, backslash};
 ghost use Rattle.coco_lex.specs.Tokens.{IsFront};
@@ -7,8 +9,7 @@ ghost use Rattle.coco_lex.specs.Steps.{IsContent, IsPart};
 use crate::error::LexKind;
 use crate::front::{Fault, Front};
 use crate::token::TokenKind;
-
-const MOST_CONTENT_BYTES: usize = 256;
+use coco_types::limits::MOST_TEXT_BYTES;
 
 // The content of a text up to where it stops: at its closing quote, at what is bad, or at the end.
 #[derive(Clone, Copy, Debug)]
@@ -23,7 +24,7 @@ pub(crate) fn quoted_front(rest: &[u8]) -> Result<Front, Fault>
 {
     let content = content_of(rest);
     if content.end < rest.len() && rest[content.end] == b'"' {
-        if content.count > MOST_CONTENT_BYTES {
+        if content.count > MOST_TEXT_BYTES {
             return Err(Fault {
                 kind: LexKind::LongText,
                 offset: 0,

@@ -1,3 +1,5 @@
+//! A token: a slice of its text, with its kind.
+
 /// What a token is.
 #[derive(Clone, Copy, Debug, PartialEq, Eq)]
 pub enum TokenKind {

@@ -3,7 +3,7 @@ use Rattle.std.proofs.Common.{◌≡◌, ℕ, List, [], ◌∷◌, ◌++◌, Som
 use Rattle.coco_ast.specs.Tree.{Expression, RowPlace, Statement, Statements, End, Then, Procedure}
 use Rattle.coco_ast.specs.Tree as tree
 use Rattle.coco_ast.specs.Views.{statements_from}
-use Rattle.coco_parse.specs.Grammar.{Level, IsExpression, plain, joined, compared, negated, signed, number, text, variable, enclosed, IsWhole, IsPlace, row, IsStatement, sets, gets, puts, deletes, tests, chooses, repeats, refuses, replies, IsBlock, braces, AreStatements, end, next, AreListed, last, listed, AreParams, none, some, IsProcedure, procedure, IsFile, table, proc}
+use Rattle.coco_parse.specs.Grammar.{Level, IsExpression, plain, joined, compared, inverted, negated, number, text, variable, enclosed, IsWhole, IsPlace, row, IsStatement, sets, gets, puts, deletes, tests, chooses, repeats, refuses, replies, IsBlock, braces, AreStatements, end, next, AreListed, last, listed, AreParams, none, some, IsProcedure, procedure, IsFile, table, proc}
 use Rattle.coco_parse.specs.Grammar as grammar
 use Rattle.coco_parse.specs.Machine.{Mark, mark_word, Goal, Items, Fixed, Named, Params, Listed, Operand, Valued, Within, Tested, BraceMark, EndBracketMark, SemicolonMark, AssignMark, at_place, in_braces, with_statement, after}
 use Rattle.coco_parse.specs.declared.word.Word.{Word}
@@ -33,11 +33,11 @@ valued : {l : Level} {ws : List Word} {d : Expression} → IsExpression l ws d �
 valued (plain w h) set get v = valued h set get v
 valued (joined {op = op} {us = us} {vs = vs} j w h i) set get v = simp append_assoc (valued h set get (Two op ∷ vs ++ v))
 valued (compared {op = op} {us = us} {vs = vs} c h i) set get v = simp append_assoc (valued h set get (Two op ∷ vs ++ v))
+valued (inverted h) set get v = refl
 valued (negated h) set get v = refl
-valued (signed h) set get v = refl
 valued number set get v = refl
 valued text set get v = refl
-valued grammar.nothing set get v = refl
+valued grammar.none set get v = refl
 valued variable set get v = refl
 valued (enclosed h) set get v = refl
 

@@ -15,7 +15,7 @@ use Rattle.coco_parse.specs.Grammar as grammar
 use Rattle.coco_parse.specs.Grammar.{IsStatement, sets, gets, puts, deletes, tests, chooses, repeats, refuses, replies, IsBlock, braces, AreStatements, end, next, AreListed, last, listed, AreParams, none, some, IsProcedure, procedure, IsFile, table, proc}
 use Rattle.coco_parse.specs.Limits.{is_proc, is_name, closes_list, since, count, header_names}
 use Rattle.coco_parse.specs.Refusal.{KeepLimits, IsTreeOf}
-use Rattle.coco_parse.specs.Wording.{spellings, spelled_by, word_in, word_of, words_of}
+use Rattle.coco_parse.specs.Wording.{keyword_words, symbol_words, spelled_by, word_in, word_of, words_of}
 use Rattle.coco_parse.specs.declared.error.ParseKind.TheVariants.{TooMany}
 use Rattle.coco_parse.specs.declared.word.Word.{Word}
 use Rattle.coco_parse.specs.declared.word.Word.TheVariants as word
@@ -61,15 +61,12 @@ spelled_bytes (row ∷ rows) bytes long h =
     let parts = and_parts (is_long row) (list_all is_long rows) long in
     row_bytes row (spelled_by rows bytes) bytes parts.0 (spelled_bytes rows bytes parts.1 h) (pointwise nat_eq row.0 bytes) refl
 
-spelling_bytes : (bytes : List ℕ) → 1 ≤ length bytes → bytes_of (spelled_by spellings bytes) ≤ length bytes
-spelling_bytes bytes h = spelled_bytes spellings bytes refl h
-
 slice_bytes : (k : TokenKind) (bytes : List ℕ) → 1 ≤ length bytes → bytes_of (word_in k bytes) ≤ length bytes
-slice_bytes kind.Keyword bytes h = spelling_bytes bytes h
+slice_bytes kind.Keyword bytes h = spelled_bytes keyword_words bytes refl h
 slice_bytes kind.Name bytes h = h
 slice_bytes kind.Number bytes h = h
 slice_bytes kind.Text bytes h = h
-slice_bytes kind.Symbol bytes h = spelling_bytes bytes h
+slice_bytes kind.Symbol bytes h = spelled_bytes symbol_words bytes refl h
 
 token_bytes : (text : List ℕ) (t : Token) → IsToken text t → t.start + bytes_of (word_of text t) ≤ t.end
 token_bytes text t is =

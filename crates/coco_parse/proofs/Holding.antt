@@ -8,11 +8,11 @@ use Rattle.coco_ast.specs.declared.tree.TwoOp.{TwoOp}
 use Rattle.coco_ast.specs.declared.tree.TwoOp.TheVariants.{Subtract}
 use Rattle.coco_parse.specs.Grammar as grammar
 use Rattle.coco_parse.specs.Grammar.{Atom, IsExpression, IsWhole, IsPlace, IsStatement, IsBlock, AreStatements, end, next, AreListed, last, listed, AreParams, some, IsFile}
-use Rattle.coco_parse.specs.Machine.{Frame, Negated, wants, operate, enclose, conclude, Mark, ParenMark, BraceMark, BracketMark, EndBracketMark, SemicolonMark, AssignMark, AsMark, mark_word, marks, Goal, Items, Fixed, Named, Numbered, Params, Listed, Operand, Operator, Valued, Within, Tested, at_place, in_braces, with_statement, operand_step, operator_step, within_step, step, after}
+use Rattle.coco_parse.specs.Machine.{Frame, Inverted, wants, operate, enclose, conclude, Mark, ParenMark, BraceMark, BracketMark, EndBracketMark, SemicolonMark, AssignMark, AsMark, mark_word, marks, Goal, Items, Fixed, Named, Numbered, Params, Listed, Operand, Operator, Valued, Within, Tested, at_place, in_braces, with_statement, operand_step, operator_step, within_step, step, after}
 use Rattle.coco_parse.specs.declared.word.Word.{Word}
 use Rattle.coco_parse.specs.declared.word.Word.TheVariants as word
 use Rattle.coco_parse.specs.declared.word.Word.TheVariants.{Two, OpenParen, CloseParen, OpenBrace, CloseBrace, OpenBracket, CloseBracket, Comma, Semicolon, Assign}
-use Rattle.coco_parse.proofs.Expressions.{Spells, none, opened, negated, signed, operate-spells, enclose-spells, conclude-spells}
+use Rattle.coco_parse.proofs.Expressions.{Spells, none, opened, inverted, negated, operate-spells, enclose-spells, conclude-spells}
 
 -- these statements, and then those of the body
 abbrev pub and_then : List Statement → Statements → Statements
@@ -74,19 +74,19 @@ module _ (m : Mark) (k : Expression → Goal) where
   whole_holds : (p : List Word) → TakesWhole (λ e. Holds (k e)) m p → Holds (Operand [] m k) p
   whole_holds p t = (p, [], sym (append-nil p), none, t)
 
-  negated_holds : (fs : List Frame) (q x : List Word) → Spells fs x → TakesWhole (λ e. Holds (k e)) m q → (b : Bool) → nat_le (wants fs) 2 ≡ b
-      → HoldsBehind (if b then Some (Operand (Negated ∷ fs) m k) else None) (q ++ x ++ word.Not ∷ [])
-  negated_holds fs q x s t true h = (q, x ++ word.Not ∷ [], append_assoc q x (word.Not ∷ []), negated s (leb-true (wants fs) 2 h), t)
-  negated_holds fs q x s t false h = tt
+  inverted_holds : (fs : List Frame) (q x : List Word) → Spells fs x → TakesWhole (λ e. Holds (k e)) m q → (b : Bool) → nat_le (wants fs) 2 ≡ b
+      → HoldsBehind (if b then Some (Operand (Inverted ∷ fs) m k) else None) (q ++ x ++ word.Not ∷ [])
+  inverted_holds fs q x s t true h = (q, x ++ word.Not ∷ [], append_assoc q x (word.Not ∷ []), inverted s (leb-true (wants fs) 2 h), t)
+  inverted_holds fs q x s t false h = tt
 
   operand_holds : (fs : List Frame) (w : Word) (q x : List Word) → Spells fs x → TakesWhole (λ e. Holds (k e)) m q → HoldsBehind (operand_step fs m k w) (q ++ x ++ w ∷ [])
   operand_holds fs (word.Number n) q x s t = (q, x, word.Number n ∷ [], append_assoc q x (word.Number n ∷ []), s, grammar.number, t)
   operand_holds fs (word.Text bytes) q x s t = (q, x, word.Text bytes ∷ [], append_assoc q x (word.Text bytes ∷ []), s, grammar.text, t)
-  operand_holds fs word.Nothing q x s t = (q, x, word.Nothing ∷ [], append_assoc q x (word.Nothing ∷ []), s, IsExpression.nothing, t)
+  operand_holds fs word.None q x s t = (q, x, word.None ∷ [], append_assoc q x (word.None ∷ []), s, IsExpression.none, t)
   operand_holds fs (word.Name name) q x s t = (q, x, word.Name name ∷ [], append_assoc q x (word.Name name ∷ []), s, grammar.variable, t)
   operand_holds fs OpenParen q x s t = (q, x ++ OpenParen ∷ [], append_assoc q x (OpenParen ∷ []), opened s, t)
-  operand_holds fs (Two Subtract) q x s t = (q, x ++ Two Subtract ∷ [], append_assoc q x (Two Subtract ∷ []), signed s, t)
-  operand_holds fs word.Not q x s t = negated_holds fs q x s t (nat_le (wants fs) 2) refl
+  operand_holds fs (Two Subtract) q x s t = (q, x ++ Two Subtract ∷ [], append_assoc q x (Two Subtract ∷ []), negated s, t)
+  operand_holds fs word.Not q x s t = inverted_holds fs q x s t (nat_le (wants fs) 2) refl
   operand_holds fs _ q x s t = tt
 
   first_holds : (w : Word) (p : List Word) → TakesWhole (λ e. Holds (k e)) m p → HoldsBehind (operand_step [] m k w) (p ++ w ∷ [])

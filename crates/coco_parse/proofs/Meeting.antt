@@ -4,7 +4,7 @@ use Rattle.coco_ast.specs.Tree.{Expression, Procedure}
 use Rattle.coco_ast.specs.Tree as tree
 use Rattle.coco_ast.specs.Views.{sign_of, statements_from}
 use Rattle.coco_parse.specs.Machine as machine
-use Rattle.coco_parse.specs.Machine.{Frame, Opened, Negated, Left, enclose, conclude, Mark, ParenMark, BraceMark, BracketMark, EndBracketMark, SemicolonMark, AssignMark, AsMark, mark_word, marks, Goal, Items, Fixed, Named, Numbered, Params, Listed, Operand, Operator, Valued, Within, Tested, operator_step, step, after}
+use Rattle.coco_parse.specs.Machine.{Frame, Opened, Inverted, Left, enclose, conclude, Mark, ParenMark, BraceMark, BracketMark, EndBracketMark, SemicolonMark, AssignMark, AsMark, mark_word, marks, Goal, Items, Fixed, Named, Numbered, Params, Listed, Operand, Operator, Valued, Within, Tested, operator_step, step, after}
 use Rattle.coco_parse.specs.declared.word.Word.{Word}
 use Rattle.coco_parse.specs.declared.word.Word.TheVariants as word
 use Rattle.coco_parse.specs.declared.word.Word.TheVariants.{CloseParen, CloseBrace}
@@ -48,15 +48,15 @@ module _ (m : Mark) (k : Expression → Goal) (all_met : (d : Expression) → Is
   unfolding Ends
   ends [] e = inr (e, refl)
   ends (Opened ∷ fs) e = inl (e, fs, refl, ended e fs (ends fs e))
-  ends (Negated ∷ fs) e = ends fs (tree.Not e)
-  ends (machine.Signed ∷ fs) e = ends fs (tree.Negate e)
+  ends (Inverted ∷ fs) e = ends fs (tree.Not e)
+  ends (machine.Negated ∷ fs) e = ends fs (tree.Negate e)
   ends (Left op d ∷ fs) e = ends fs (tree.Two (sign_of op) d e)
 
   met_behind : (e : Expression) (fs : List Frame) → IsMet (Operator e fs m k)
   met_behind e fs = ended e fs (ends fs e)
 
   met_before : (fs : List Frame) → IsMet (Operand fs m k)
-  met_before fs = met_by (Operand fs m k) (Operator tree.None fs m k) word.Nothing refl (met_behind tree.None fs)
+  met_before fs = met_by (Operand fs m k) (Operator tree.None fs m k) word.None refl (met_behind tree.None fs)
 
 pub met : (g : Goal) → IsMet g
 met (Items ts ps) = ([], ts, ps, refl)
@@ -67,6 +67,6 @@ met (Params k) = met_by (Params k) (k []) CloseParen refl (met (k []))
 met (Listed names k) = met_by (Listed names k) (k names) CloseParen refl (met (k names))
 met (Operand fs m k) = met_before m k (λ d. met (k d)) fs
 met (Operator e fs m k) = met_behind m k (λ d. met (k d)) e fs
-met (Valued set get) = met_by (Valued set get) (Operator tree.None [] SemicolonMark set) word.Nothing refl (met_behind SemicolonMark set (λ d. met (set d)) tree.None [])
+met (Valued set get) = met_by (Valued set get) (Operator tree.None [] SemicolonMark set) word.None refl (met_behind SemicolonMark set (λ d. met (set d)) tree.None [])
 met (Within ss k) = met_by (Within ss k) (k (statements_from ss)) CloseBrace refl (met (k (statements_from ss)))
 met (Tested e body ss k) = met_by (Tested e body ss k) (k (statements_from (ss ++ tree.If e body ∷ []))) CloseBrace refl (met (k (statements_from (ss ++ tree.If e body ∷ []))))

@@ -12,7 +12,8 @@ use Rattle.coco_parse.specs.declared.error.ParseError.{ParseError}
 use Rattle.coco_parse.specs.declared.error.ParseKind.{ParseKind}
 use Rattle.coco_parse.specs.declared.error.ParseKind.TheVariants.{Unexpected, TooDeep, TooMany, Range}
 use Rattle.coco_parse.specs.declared.word.Word.{Word}
-use Rattle.coco_parse.specs.declared.word.Word.TheVariants.{Refuse, Nothing, Not, Name, Number, Two, OpenParen, OpenBrace}
+use Rattle.coco_parse.specs.declared.word.Word.TheVariants as word
+use Rattle.coco_parse.specs.declared.word.Word.TheVariants.{Refuse, Not, Name, Number, Two, OpenParen, OpenBrace}
 use Rattle.coco_parse.proofs.Completing.{items-complete}
 use Rattle.coco_parse.proofs.Fronts.{front-earlier, text-front}
 
@@ -53,14 +54,14 @@ name-limit : (w : Word) → IsTrue (is_name w) → limit_of w ≡ TooMany
 name-limit (Name name) h = refl
 name-limit _ h = absurd (cc h)
 
-ends-limit : (is : Word → Bool) (k : ParseKind) (ws : List Word) → ((w : Word) → IsTrue (is w) → limit_of w ≡ k) → EndsIn is ws → limit_of (final Nothing ws) ≡ k
-ends-limit is k ws each h = ap (λ us. limit_of (final Nothing us)) h.2 ∙ ap limit_of (final-one Nothing h.0 h.1) ∙ each h.1 h.3
+ends-limit : (is : Word → Bool) (k : ParseKind) (ws : List Word) → ((w : Word) → IsTrue (is w) → limit_of w ≡ k) → EndsIn is ws → limit_of (final word.None ws) ≡ k
+ends-limit is k ws each h = ap (λ us. limit_of (final word.None us)) h.2 ∙ ap limit_of (final-one word.None h.0 h.1) ∙ each h.1 h.3
 
-passed-limit : (k : ParseKind) (ws : List Word) → Passes k ws → limit_of (final Nothing ws) ≡ k
+passed-limit : (k : ParseKind) (ws : List Word) → Passes k ws → limit_of (final word.None ws) ≡ k
 passed-limit Unexpected ws h = absurd h
 passed-limit TooDeep ws h = ends-limit opens TooDeep ws opens-limit h.0
 passed-limit TooMany ws h = ⊎_elim (λ o. ends-limit is_operator TooMany ws operator-limit o.0) (λ n. ends-limit is_name TooMany ws name-limit n.0) h
-passed-limit Range ws h = ap (λ us. limit_of (final Nothing us)) h.2 ∙ ap limit_of (final-two Nothing h.0 Refuse (Number h.1))
+passed-limit Range ws h = ap (λ us. limit_of (final word.None us)) h.2 ∙ ap limit_of (final-two word.None h.0 Refuse (Number h.1))
 
 -- ---- one refusal
 

@@ -7,12 +7,13 @@ use Rattle.std.proofs.lemmas.Option.{slice_get_within}
 use Rattle.coco_lex.specs.declared.token.Token.{Token}
 use Rattle.coco_parse.specs.Counting.{Counts}
 use Rattle.coco_parse.specs.Limits.{Passes}
-use Rattle.coco_ast.specs.Tree.{Procedure}
+use Rattle.coco_ast.specs.Tree.{Procedure, Statement, Statements}
 use Rattle.coco_parse.specs.Machine.{Goal, Items, after, start, step}
 use Rattle.coco_parse.specs.Refusal.{KeepLimits, IsTreeOf, IsRefusedAt, place_of}
 use Rattle.std.proofs.Common.{Bool, true, false, not}
 use Rattle.coco_parse.specs.declared.choice.Optional.{Optional}
-use Rattle.coco_parse.specs.Steps.{Chooses, chosen, is_optional, words, next_word, IsItems, Reaches, whole, alike, Stands, Stops, IsRefusal, IsFault}
+use Rattle.coco_parse.specs.declared.statement.Head.{Head}
+use Rattle.coco_parse.specs.Steps.{behind_head, Chooses, chosen, is_optional, words, next_word, IsItems, Reaches, whole, alike, Stands, Stops, IsRefusal, IsFault}
 use Rattle.coco_parse.specs.declared.counter.Counter.{Counter}
 use Rattle.coco_parse.specs.declared.error.ParseError.{ParseError}
 use Rattle.coco_parse.specs.declared.error.ParseFault.{ParseFault}
@@ -190,3 +191,7 @@ stands_end p c ts ps s next =
     let all : c.at ≡ length (words p) = omega (arith, past (words p) c.at next, s.within, words_length p) in
     let reached = items_whole (words p) c.at ts ps s.reaches in
     tree-of (words p) ts ps (ap (after start) (sym (take_all c.at (words p) (omega (arith, all)))) ∙ reached) (subst (KeepLimits (words p)) all s.kept)
+
+-- behind a statement's first word
+pub headed : {p : Parser} {c : Cursor} {h i : Head} (ss : List Statement) (k : Statements → Goal) → h ≡ i → Stands p c (behind_head (Some h) ss k) → Stands p c (behind_head (Some i) ss k)
+headed {p} {c} ss k e s = subst (λ h. Stands p c (behind_head (Some h) ss k)) e s

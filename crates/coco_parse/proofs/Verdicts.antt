@@ -7,6 +7,7 @@ use Rattle.coco_parse.specs.Limits.{Passes}
 use Rattle.coco_parse.specs.Refusal.{KeepLimits, IsTreeOf, IsRefusedAt, ParsesAs}
 use Rattle.coco_parse.specs.Wording.{words_of}
 use Rattle.coco_parse.specs.Machine.{Goal, Items, after, start}
+use Rattle.coco_parse.specs.Steps.{IsItems}
 use Rattle.coco_parse.specs.declared.error.ParseError.{ParseError}
 use Rattle.coco_parse.specs.declared.error.ParseKind.{ParseKind}
 use Rattle.coco_parse.specs.declared.error.ParseKind.TheVariants.{Unexpected}
@@ -18,10 +19,6 @@ use Rattle.coco_parse.proofs.Sounding.{file-sound, reached-front}
 
 same_goal : (g h : Goal) → Some g ≡ Some h → g ≡ h
 same_goal g h e = cc
-
--- nothing but tables and procedures may follow
-abbrev pub IsItems : Goal → Type 0
-IsItems g = (ts : List (List ℕ)) × (ps : List Procedure) × (g ≡ Items ts ps)
 
 pub file-complete : {ws : List Word} {ts : List (List ℕ)} {ps : List Procedure} → IsFile ws ts ps → after start ws ≡ Some (Items ts ps)
 file-complete h = items-complete h [] []

@@ -5,6 +5,7 @@ use Rattle.coco_parse.specs.Limits.{is_proc, is_name, opens, closes_list, closes
 use Rattle.coco_ast.specs.declared.tree.TwoOp.{TwoOp}
 use Rattle.coco_parse.specs.declared.counter.Counter.{Counter}
 use Rattle.coco_parse.specs.declared.counter.Tally.{Tally}
+use Rattle.coco_parse.specs.declared.limits.TheConstants.{MOST_CODE}
 use Rattle.coco_parse.specs.declared.word.Word.{Word}
 use Rattle.coco_parse.specs.declared.word.Word.TheVariants.{Refuse, Name, Number, Two}
 
@@ -31,7 +32,7 @@ pub record Counts (c : Counter) (ws : List Word) : Type 0 where
   pub refuses : c.refuses ≡ ends_in is_refuse ws
 
 abbrev pub is_wide : Word → Bool
-is_wide (Number n) = nat_lt 65535 n
+is_wide (Number n) = nat_lt MOST_CODE n
 is_wide _ = false
 
 abbrev pub name_in : Word → Option (List ℕ)

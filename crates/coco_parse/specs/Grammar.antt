@@ -1,6 +1,6 @@
 -- The grammar of procedure texts, over tokens without their places.
 use Rattle.std.specs.Prelude.{ℕ, List, [], ◌∷◌, ◌++◌, pos}
-use Rattle.coco_ast.specs.Tree.{Expression, None as Nothing, Variable, Quoted, Negate, RowPlace, Statement, Statements, End, Then, Procedure, Procedures}
+use Rattle.coco_ast.specs.Tree.{Expression, None, Variable, Quoted, Negate, RowPlace, Statement, Statements, End, Then, Procedure, Procedures}
 use Rattle.coco_ast.specs.Tree as tree
 use Rattle.coco_ast.specs.Views.{sign_of}
 use Rattle.coco_ast.specs.declared.tree.TwoOp.{TwoOp}
@@ -13,47 +13,47 @@ use Rattle.coco_parse.specs.declared.word.Word.TheVariants.{Two, OpenParen, Clos
 
 -- from the operators that bind least to what they bind
 pub data Level : Type 0 where
-  Disjunction Conjunction Negation Comparison Sum Product Signed Atom : Level
+  Disjunction Conjunction Inversion Comparison Sum Product Negation Atom : Level
 
 -- the operators of a level whose chains group to the left
 pub data Joins : Level → TwoOp → Type 0 where
-  either : Joins Disjunction Or
-  both : Joins Conjunction And
-  plus : Joins Sum Add
-  less : Joins Sum Subtract
-  times : Joins Product Multiply
-  over : Joins Product Divide
-  modulo : Joins Product Remainder
+  or : Joins Disjunction Or
+  and : Joins Conjunction And
+  add : Joins Sum Add
+  subtract : Joins Sum Subtract
+  multiply : Joins Product Multiply
+  divide : Joins Product Divide
+  remainder : Joins Product Remainder
 
 -- those that stand between two sums, once
 pub data Compares : TwoOp → Type 0 where
-  equals : Compares Equal
-  differs : Compares NotEqual
-  below : Compares Less
+  equal : Compares Equal
+  not_equal : Compares NotEqual
+  less : Compares Less
   at_most : Compares AtMost
-  above : Compares Greater
+  greater : Compares Greater
   at_least : Compares AtLeast
 
 -- the level of the operands of a level's operators
 pub data Within : Level → Level → Type 0 where
   disjunction : Within Disjunction Conjunction
-  conjunction : Within Conjunction Negation
-  negation : Within Negation Comparison
+  conjunction : Within Conjunction Inversion
+  inversion : Within Inversion Comparison
   comparison : Within Comparison Sum
   sum : Within Sum Product
-  product : Within Product Signed
-  signed : Within Signed Atom
+  product : Within Product Negation
+  negation : Within Negation Atom
 
 pub data IsExpression : Level → List Word → Expression → Type 0 where
   -- without an operator of its level
   plain : {l k : Level} {ws : List Word} {e : Expression} → Within l k → IsExpression k ws e → IsExpression l ws e
   joined : {l k : Level} {op : TwoOp} {us vs : List Word} {d e : Expression} → Joins l op → Within l k → IsExpression l us d → IsExpression k vs e → IsExpression l (us ++ Two op ∷ vs) (tree.Two (sign_of op) d e)
   compared : {op : TwoOp} {us vs : List Word} {d e : Expression} → Compares op → IsExpression Sum us d → IsExpression Sum vs e → IsExpression Comparison (us ++ Two op ∷ vs) (tree.Two (sign_of op) d e)
-  negated : {ws : List Word} {e : Expression} → IsExpression Negation ws e → IsExpression Negation (word.Not ∷ ws) (tree.Not e)
-  signed : {ws : List Word} {e : Expression} → IsExpression Signed ws e → IsExpression Signed (Two Subtract ∷ ws) (Negate e)
+  inverted : {ws : List Word} {e : Expression} → IsExpression Inversion ws e → IsExpression Inversion (word.Not ∷ ws) (tree.Not e)
+  negated : {ws : List Word} {e : Expression} → IsExpression Negation ws e → IsExpression Negation (Two Subtract ∷ ws) (Negate e)
   number : {n : ℕ} → IsExpression Atom (word.Number n ∷ []) (tree.Number (pos n))
   text : {bytes : List ℕ} → IsExpression Atom (word.Text bytes ∷ []) (Quoted bytes)
-  nothing : IsExpression Atom (word.Nothing ∷ []) Nothing
+  none : IsExpression Atom (word.None ∷ []) None
   variable : {name : List ℕ} → IsExpression Atom (word.Name name ∷ []) (Variable name)
   -- parentheses leave no mark
   enclosed : {ws : List Word} {e : Expression} → IsExpression Disjunction ws e → IsExpression Atom (OpenParen ∷ ws ++ CloseParen ∷ []) e

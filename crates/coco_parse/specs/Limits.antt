@@ -1,8 +1,10 @@
 -- What is counted in a procedure text, and how far it may go.
-use Rattle.std.specs.Prelude.{◌≡◌, ℕ, ◌-◌, ◌<◌, ◌⊎◌, Bool, true, false, if◌then◌else◌, List, [], ◌∷◌, ◌++◌, length, IsTrue}
+use Rattle.std.specs.Prelude.{◌≡◌, ℕ, ◌+◌, ◌-◌, ◌<◌, ◌⊎◌, Bool, true, false, if◌then◌else◌, List, [], ◌∷◌, ◌++◌, length, IsTrue}
 use Rattle.std.specs.List.{filter, list_any}
 use Rattle.coco_parse.specs.declared.error.ParseKind.{ParseKind}
 use Rattle.coco_parse.specs.declared.error.ParseKind.TheVariants.{Unexpected, TooDeep, TooMany, Range}
+use Rattle.coco_types.specs.declared.limits.TheConstants.{MOST_ARGUMENTS}
+use Rattle.coco_parse.specs.declared.limits.TheConstants.{MOST_OPEN, MOST_OPERATORS, MOST_CODE}
 use Rattle.coco_parse.specs.declared.word.Word.{Word}
 use Rattle.coco_parse.specs.declared.word.Word.TheVariants.{Proc, If, Refuse, Reply, Not, Name, Number, Two, OpenParen, CloseParen, OpenBrace, CloseBrace, OpenBracket, Assign}
 
@@ -65,9 +67,9 @@ header_names ws = if list_any closes_list (since is_proc ws) then 0 else count i
 abbrev pub EndsIn : (Word → Bool) → List Word → Type 0
 EndsIn is ws = (front : List Word) × (w : Word) × (ws ≡ front ++ w ∷ []) × IsTrue (is w)
 
--- the last of the words goes beyond this limit: 32 open, 64 operators, 16 parameters, 65,535 behind `refuse`
+-- the last of the words goes beyond this limit
 abbrev pub Passes : ParseKind → List Word → Type 0
 Passes Unexpected ws = ⊥
-Passes TooDeep ws = EndsIn opens ws × (32 < depth ws)
-Passes TooMany ws = (EndsIn is_operator ws × (64 < operators ws)) ⊎ (EndsIn is_name ws × (17 < header_names ws))
-Passes Range ws = (front : List Word) × (n : ℕ) × (ws ≡ front ++ Refuse ∷ Number n ∷ []) × (65535 < n)
+Passes TooDeep ws = EndsIn opens ws × (MOST_OPEN < depth ws)
+Passes TooMany ws = (EndsIn is_operator ws × (MOST_OPERATORS < operators ws)) ⊎ (EndsIn is_name ws × (MOST_ARGUMENTS + 1 < header_names ws))
+Passes Range ws = (front : List Word) × (n : ℕ) × (ws ≡ front ++ Refuse ∷ Number n ∷ []) × (MOST_CODE < n)

@@ -15,8 +15,8 @@ use Rattle.coco_parse.specs.declared.word.Word.TheVariants.{Two, OpenParen, Clos
 -- what waits for an operand: a parenthesis, `not`, a minus, or an operator with what stands on its left
 pub data Frame : Type 0 where
   Opened : Frame
+  Inverted : Frame
   Negated : Frame
-  Signed : Frame
   Left : TwoOp → Expression → Frame
 
 abbrev pub binding : TwoOp → ℕ
@@ -38,16 +38,16 @@ binding Remainder = 5
 abbrev pub wants : List Frame → ℕ
 wants [] = 0
 wants (Opened ∷ fs) = 0
-wants (Negated ∷ fs) = 2
-wants (Signed ∷ fs) = 6
+wants (Inverted ∷ fs) = 2
+wants (Negated ∷ fs) = 6
 wants (Left op e ∷ fs) = suc (binding op)
 
 -- the frames behind an operator that follows an operand
 abbrev pub operate : Expression → List Frame → TwoOp → Option (List Frame)
 operate e [] op = Some (Left op e ∷ [])
 operate e (Opened ∷ fs) op = Some (Left op e ∷ Opened ∷ fs)
-operate e (Negated ∷ fs) op = if nat_le 2 (binding op) then Some (Left op e ∷ Negated ∷ fs) else operate (tree.Not e) fs op
-operate e (Signed ∷ fs) op = operate (Negate e) fs op
+operate e (Inverted ∷ fs) op = if nat_le 2 (binding op) then Some (Left op e ∷ Inverted ∷ fs) else operate (tree.Not e) fs op
+operate e (Negated ∷ fs) op = operate (Negate e) fs op
 operate e (Left o d ∷ fs) op =
     if nat_le (suc (binding o)) (binding op) then Some (Left op e ∷ Left o d ∷ fs)
     else (if nat_eq (binding o) 3 && nat_eq (binding op) 3 then None else operate (tree.Two (sign_of o) d e) fs op)
@@ -56,16 +56,16 @@ operate e (Left o d ∷ fs) op =
 abbrev pub enclose : Expression → List Frame → Option (Expression × List Frame)
 enclose e [] = None
 enclose e (Opened ∷ fs) = Some (e, fs)
-enclose e (Negated ∷ fs) = enclose (tree.Not e) fs
-enclose e (Signed ∷ fs) = enclose (Negate e) fs
+enclose e (Inverted ∷ fs) = enclose (tree.Not e) fs
+enclose e (Negated ∷ fs) = enclose (Negate e) fs
 enclose e (Left o d ∷ fs) = enclose (tree.Two (sign_of o) d e) fs
 
 -- the whole expression that ends behind an operand
 abbrev pub conclude : Expression → List Frame → Option Expression
 conclude e [] = Some e
 conclude e (Opened ∷ fs) = None
-conclude e (Negated ∷ fs) = conclude (tree.Not e) fs
-conclude e (Signed ∷ fs) = conclude (Negate e) fs
+conclude e (Inverted ∷ fs) = conclude (tree.Not e) fs
+conclude e (Negated ∷ fs) = conclude (Negate e) fs
 conclude e (Left o d ∷ fs) = conclude (tree.Two (sign_of o) d e) fs
 
 -- ---- goals
@@ -124,11 +124,11 @@ with_statement ss k s = Within (ss ++ s ∷ []) k
 abbrev pub operand_step : List Frame → Mark → (Expression → Goal) → Word → Option Goal
 operand_step fs m k (word.Number n) = Some (Operator (tree.Number (pos n)) fs m k)
 operand_step fs m k (word.Text bytes) = Some (Operator (Quoted bytes) fs m k)
-operand_step fs m k word.Nothing = Some (Operator tree.None fs m k)
+operand_step fs m k word.None = Some (Operator tree.None fs m k)
 operand_step fs m k (word.Name name) = Some (Operator (Variable name) fs m k)
 operand_step fs m k OpenParen = Some (Operand (Opened ∷ fs) m k)
-operand_step fs m k (Two Subtract) = Some (Operand (Signed ∷ fs) m k)
-operand_step fs m k word.Not = if nat_le (wants fs) 2 then Some (Operand (Negated ∷ fs) m k) else None
+operand_step fs m k (Two Subtract) = Some (Operand (Negated ∷ fs) m k)
+operand_step fs m k word.Not = if nat_le (wants fs) 2 then Some (Operand (Inverted ∷ fs) m k) else None
 operand_step fs m k _ = None
 
 abbrev pub operator_step : Expression → List Frame → Mark → (Expression → Goal) → Word → Option Goal

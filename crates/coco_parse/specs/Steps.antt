@@ -1,11 +1,11 @@
 -- How far a parser's cursor has come, and what the machine does next there. Only contracts of private functions and proofs
 -- name it.
-use Rattle.std.specs.Prelude.{◌≡◌, ℕ, ◌-◌, ◌≤◌, Bool, true, false, List, [], ◌∷◌, ◌++◌, length, take, slice_get, Option, None, Some, map, reverse}
+use Rattle.std.specs.Prelude.{◌≡◌, ℕ, ◌-◌, ◌<◌, ◌≤◌, Bool, true, false, List, [], ◌∷◌, ◌++◌, length, take, slice_get, Option, None, Some, map, reverse, Result, OnOk, MatchResult}
 use Rattle.coco_ast.specs.Tree.{Expression, Negate, RowPlace, Statement, Statements, Procedure}
 use Rattle.coco_ast.specs.Tree as tree
-use Rattle.coco_ast.specs.Views.{expression_of, sign_of, statements_from}
+use Rattle.coco_ast.specs.Views.{expression_of, sign_of, statement_of, statements_from}
 use Rattle.coco_parse.specs.Counting.{Counts}
-use Rattle.coco_parse.specs.Machine.{Goal, Items, Fixed, Named, Numbered, Operand, Valued, Within, BraceMark, BracketMark, EndBracketMark, SemicolonMark, AssignMark, AsMark, ParenMark, Operator, Params, Listed, Frame, Opened, Negated, Signed, Left, operate, enclose, conclude, at_place, in_braces, with_statement, operand_step, within_step, Tested, after, start, step}
+use Rattle.coco_parse.specs.Machine.{Goal, Items, Fixed, Named, Numbered, Operand, Valued, Within, BraceMark, BracketMark, EndBracketMark, SemicolonMark, AssignMark, AsMark, ParenMark, Operator, Params, Listed, Frame, Opened, Inverted, Negated, Left, operate, enclose, conclude, at_place, in_braces, with_statement, operand_step, within_step, Tested, after, start, step}
 use Rattle.coco_parse.specs.Machine as machine
 use Rattle.coco_parse.specs.Refusal.{KeepLimits, IsRefused, OnRefused}
 use Rattle.coco_parse.specs.Wording.{words_of}
@@ -15,6 +15,7 @@ use Rattle.coco_parse.specs.declared.state.Parser.{Parser}
 use Rattle.coco_parse.specs.declared.state.Cursor.{Cursor}
 use Rattle.coco_parse.specs.declared.state.Mark.{Mark}
 use Rattle.coco_parse.specs.declared.state.Mark.TheVariants as sign
+use Rattle.coco_ast.specs.declared.tree.Stmt.{Stmt}
 use Rattle.coco_ast.specs.declared.tree.TwoOp.{TwoOp}
 use Rattle.coco_parse.specs.declared.frames.Frame.{Frame as RustFrame}
 use Rattle.coco_parse.specs.declared.frames.Frame.TheVariants as frame
@@ -69,6 +70,18 @@ IsRefusal p e = IsRefused p.text.now p.tokens.now e
 abbrev pub IsFault : Parser → ParseFault → Type 0
 IsFault p fault = OnRefused fault (IsRefusal p)
 
+-- a word at least was read, unless it failed
+abbrev pub GoesOn : {A E : Type 0} → Parser → Cursor → Cursor → Result A E → Type 0
+GoesOn p old new r = OnOk r (left p new < left p old)
+
+-- from the goal g the words are read up to the goal that the result gives, or they are refused
+abbrev pub Reads : {A : Type 0} → Parser → Cursor → Cursor → Goal → Result A ParseFault → (A → Goal) → Type 0
+Reads p old new g r behind = Stands p old g → MatchResult r (λ x. Stands p new (behind x)) (IsFault p)
+
+-- the same, by what takes no memory
+abbrev pub ReadsWords : {A : Type 0} → Parser → Cursor → Cursor → Goal → Result A ParseError → (A → Goal) → Type 0
+ReadsWords p old new g r behind = Stands p old g → MatchResult r (λ x. Stands p new (behind x)) (IsRefusal p)
+
 abbrev pub mark_of : Mark → machine.Mark
 mark_of sign.Paren = ParenMark
 mark_of sign.Brace = BraceMark
@@ -81,14 +94,14 @@ mark_of sign.As = AsMark
 -- an operand with the frame around it that ends behind it
 abbrev pub around : Frame → Expression → Expression
 around Opened e = e
-around Negated e = tree.Not e
-around Signed e = Negate e
+around Inverted e = tree.Not e
+around Negated e = Negate e
 around (Left op d) e = tree.Two (sign_of op) d e
 
 abbrev pub frame_of : RustFrame → Frame
 frame_of frame.Opened = Opened
+frame_of frame.Inverted = Inverted
 frame_of frame.Negated = Negated
-frame_of frame.Signed = Signed
 frame_of (frame.Left op d) = Left op (expression_of d)
 
 -- the last one is the innermost
@@ -110,26 +123,34 @@ abbrev pub Begins : Option Front → List Frame → Word → Type 0
 Begins None fs w = (m : machine.Mark) (k : Expression → Goal) → operand_step fs m k w ≡ None
 Begins (Some f) fs w = (m : machine.Mark) (k : Expression → Goal) → operand_step fs m k w ≡ Some (behind_front f fs m k)
 
--- what has been read behind an operand: an operator, the parenthesis around it, or the mark behind the whole
-abbrev pub Goes : Parser → Cursor → List Frame → machine.Mark → (Expression → Goal) → Behind → Type 0
-Goes p c fs m k behind.Operator = Stands p c (Operand fs m k)
-Goes p c fs m k (behind.Enclosed e) = Stands p c (Operator (expression_of e) fs m k)
-Goes p c fs m k (behind.Whole e) = Stands p c (k (expression_of e))
+-- behind what has been read behind an operand: an operator, the parenthesis around it, or the mark behind the whole
+abbrev pub behind_operand : List Frame → machine.Mark → (Expression → Goal) → Behind → Goal
+behind_operand fs m k behind.Operator = Operand fs m k
+behind_operand fs m k (behind.Enclosed e) = Operator (expression_of e) fs m k
+behind_operand fs m k (behind.Whole e) = k (expression_of e)
 
 abbrev pub closes_block : Word → Bool
 closes_block CloseBrace = true
 closes_block _ = false
 
+-- what a name is set to: an expression, or what stands at a place
+abbrev pub set_or_get : List ℕ → List Statement → (Statements → Goal) → Goal
+set_or_get x ss k = Valued (λ e. with_statement ss k (tree.Let x e)) (λ p. with_statement ss k (tree.Get x p))
+
 -- what follows a statement's first word, or the brace behind the last one
 abbrev pub behind_head : Option Head → List Statement → (Statements → Goal) → Goal
 behind_head None ss k = k (statements_from ss)
-behind_head (Some head.Let) ss k = Named (λ x. Fixed AssignMark (Valued (λ e. with_statement ss k (tree.Let x e)) (λ p. with_statement ss k (tree.Get x p))))
+behind_head (Some head.Let) ss k = Named (λ x. Fixed AssignMark (set_or_get x ss k))
 behind_head (Some head.Put) ss k = at_place (λ p. Fixed AssignMark (Operand [] SemicolonMark (λ e. with_statement ss k (tree.Put p e))))
 behind_head (Some head.Delete) ss k = at_place (λ p. Fixed SemicolonMark (with_statement ss k (tree.Delete p)))
 behind_head (Some head.If) ss k = Operand [] BraceMark (λ e. Within [] (λ body. Tested e body ss k))
 behind_head (Some head.Repeat) ss k = Numbered (λ n. Fixed AsMark (Named (λ x. in_braces (λ body. with_statement ss k (tree.Repeat n x body)))))
 behind_head (Some head.Refuse) ss k = Numbered (λ n. Fixed SemicolonMark (with_statement ss k (tree.Refuse n)))
 behind_head (Some head.Reply) ss k = Operand [] SemicolonMark (λ e. with_statement ss k (tree.Reply e))
+
+-- a statement is read behind its first word
+abbrev pub ReadsStatement : Parser → Cursor → Cursor → Head → Result Stmt ParseFault → Type 0
+ReadsStatement p old new head r = (ss : List Statement) (k : Statements → Goal) → Reads p old new (behind_head (Some head) ss k) r (λ s. with_statement ss k (statement_of s))
 
 -- what a word that isn't that brace says as a statement's first
 abbrev pub Heads : Option Head → Word → Type 0

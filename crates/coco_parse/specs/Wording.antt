@@ -7,21 +7,25 @@ use Rattle.coco_lex.specs.declared.token.Token.{Token}
 use Rattle.coco_lex.specs.declared.token.TokenKind.{TokenKind}
 use Rattle.coco_lex.specs.declared.token.TokenKind.TheVariants as kind
 use Rattle.coco_parse.specs.declared.word.Word.{Word}
-use Rattle.coco_parse.specs.declared.word.Word.TheVariants.{Table, Proc, Let, Get, Put, Delete, If, Else, Repeat, As, Refuse, Reply, Nothing, Not, Name, Number, Text, Two, OpenParen, CloseParen, OpenBrace, CloseBrace, OpenBracket, CloseBracket, Comma, Semicolon, Assign}
+use Rattle.coco_parse.specs.declared.word.Word.TheVariants.{Table, Proc, Let, Get, Put, Delete, If, Else, Repeat, As, Refuse, Reply, None, Not, Name, Number, Text, Two, OpenParen, CloseParen, OpenBrace, CloseBrace, OpenBracket, CloseBracket, Comma, Semicolon, Assign}
 
--- the fixed words, each with its spelling
-abbrev pub spellings : List (List ℕ × Word)
-spellings =
+-- the keywords, each with its word
+abbrev pub keyword_words : List (List ℕ × Word)
+keyword_words =
     (codes "table", Table) ∷ (codes "proc", Proc) ∷ (codes "let", Let) ∷ (codes "get", Get) ∷ (codes "put", Put) ∷ (codes "delete", Delete)
     ∷ (codes "if", If) ∷ (codes "else", Else) ∷ (codes "repeat", Repeat) ∷ (codes "as", As) ∷ (codes "refuse", Refuse) ∷ (codes "reply", Reply)
-    ∷ (codes "none", Nothing) ∷ (codes "not", Not) ∷ (codes "and", Two And) ∷ (codes "or", Two Or)
-    ∷ (codes "(", OpenParen) ∷ (codes ")", CloseParen) ∷ (codes "{", OpenBrace) ∷ (codes "}", CloseBrace) ∷ (codes "[", OpenBracket) ∷ (codes "]", CloseBracket)
-    ∷ (codes ",", Comma) ∷ (codes ";", Semicolon) ∷ (codes "=", Assign)
-    ∷ (codes "==", Two Equal) ∷ (codes "!=", Two NotEqual) ∷ (codes "<", Two Less) ∷ (codes "<=", Two AtMost) ∷ (codes ">", Two Greater) ∷ (codes ">=", Two AtLeast)
-    ∷ (codes "+", Two Add) ∷ (codes "-", Two Subtract) ∷ (codes "*", Two Multiply) ∷ (codes "/", Two Divide) ∷ (codes "%", Two Remainder) ∷ []
+    ∷ (codes "none", None) ∷ (codes "not", Not) ∷ (codes "and", Two And) ∷ (codes "or", Two Or) ∷ []
+
+-- the symbols
+abbrev pub symbol_words : List (List ℕ × Word)
+symbol_words =
+    (codes "(", OpenParen) ∷ (codes ")", CloseParen) ∷ (codes "{", OpenBrace) ∷ (codes "}", CloseBrace) ∷ (codes "[", OpenBracket) ∷ (codes "]", CloseBracket)
+    ∷ (codes ",", Comma) ∷ (codes ";", Semicolon) ∷ (codes "=", Assign) ∷ (codes "==", Two Equal) ∷ (codes "!=", Two NotEqual) ∷ (codes "<", Two Less)
+    ∷ (codes "<=", Two AtMost) ∷ (codes ">", Two Greater) ∷ (codes ">=", Two AtLeast) ∷ (codes "+", Two Add) ∷ (codes "-", Two Subtract) ∷ (codes "*", Two Multiply)
+    ∷ (codes "/", Two Divide) ∷ (codes "%", Two Remainder) ∷ []
 
 abbrev pub spelled_by : List (List ℕ × Word) → List ℕ → Word
-spelled_by [] bytes = Nothing
+spelled_by [] bytes = None
 spelled_by (row ∷ rows) bytes = if pointwise nat_eq row.0 bytes then row.1 else spelled_by rows bytes
 
 -- a text's content, its escapes read
@@ -35,11 +39,11 @@ abbrev pub content : List ℕ → List ℕ
 content bytes = unescaped (take (length bytes - 2) (drop 1 bytes))
 
 abbrev pub word_in : TokenKind → List ℕ → Word
-word_in kind.Keyword bytes = spelled_by spellings bytes
+word_in kind.Keyword bytes = spelled_by keyword_words bytes
 word_in kind.Name bytes = Name bytes
 word_in kind.Number bytes = Number (digits_value 10 bytes)
 word_in kind.Text bytes = Text (content bytes)
-word_in kind.Symbol bytes = spelled_by spellings bytes
+word_in kind.Symbol bytes = spelled_by symbol_words bytes
 
 abbrev pub word_of : List ℕ → Token → Word
 word_of text t = word_in t.kind (take (t.end - t.start) (drop t.start text))

@@ -1,6 +1,8 @@
-ghost use Rattle.std.specs.Prelude.{◌≡◌, ◌≤◌, ◌<◌, ◌++◌, [], ◌∷◌, List, ℕ, Bool, OnOk, MatchResult};
+//! Words that may stand at a place or be missing there.
+
+ghost use Rattle.std.specs.Prelude.{◌≡◌, ◌≤◌, ◌<◌, ◌++◌, [], ◌∷◌, List, ℕ, OnOk};
 ghost use Rattle.coco_parse.specs.Machine.{Goal, Listed, Named};
-ghost use Rattle.coco_parse.specs.Steps.{Stands, IsRefusal, left, is_optional, Chooses, chosen};
+ghost use Rattle.coco_parse.specs.Steps.{left, is_optional, Chooses, chosen, GoesOn, ReadsWords};
 
 use crate::error::ParseError;
 use crate::state::{Cursor, Parser};
@@ -18,8 +20,7 @@ impl<'a> Parser<'a> {
     // Goes over the word where it stands, and says whether it does.
     pub(crate) fn takes(&self, cursor: &mut Cursor, optional: Optional) -> Result<bool, ParseError>
         ensures onward { OnOk result (left self.now cursor.new ≤ left self.now cursor.old) }
-        ensures reads { (g h o : Goal) → Chooses optional g h o → Stands self.now cursor.old g
-            → MatchResult result (λ taken. Stands self.now cursor.new (chosen taken h o)) (IsRefusal self.now) }
+        ensures reads { (g h o : Goal) → Chooses optional g h o → ReadsWords self.now cursor.old cursor.new g result (λ taken. chosen taken h o) }
     {
         let Some(word) = self.peek(cursor) else {
             return Ok(false);
@@ -34,9 +35,8 @@ impl<'a> Parser<'a> {
     // Whether a comma stands behind a parameter, and a further one behind that, or the closing
     // parenthesis.
     pub(crate) fn has_more(&self, cursor: &mut Cursor) -> Result<bool, ParseError>
-        ensures onward { OnOk result (left self.now cursor.new < left self.now cursor.old) }
-        ensures reads { (names : List (List ℕ)) (k : List (List ℕ) → Goal) → Stands self.now cursor.old (Listed names k)
-            → MatchResult result (λ more. Stands self.now cursor.new (chosen more (Named (λ name. Listed (names ++ name ∷ []) k)) (k names))) (IsRefusal self.now) }
+        ensures onward { GoesOn self.now cursor.old cursor.new result }
+        ensures reads { (names : List (List ℕ)) (k : List (List ℕ) → Goal) → ReadsWords self.now cursor.old cursor.new (Listed names k) result (λ more. chosen more (Named (λ name. Listed (names ++ name ∷ []) k)) (k names)) }
     {
         let Some(word) = self.peek(cursor) else {
             return Err(self.unexpected(cursor));

@@ -1,3 +1,5 @@
+//! The classes of words that the limits count.
+
 ghost use Rattle.std.specs.Prelude.{◌≡◌};
 ghost use Rattle.coco_parse.specs.Counting.{is_refuse};
 ghost use Rattle.coco_parse.specs.Limits.{is_proc, is_name, opens, closes_list, closes, is_operator, begins_expression};

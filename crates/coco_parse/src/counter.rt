@@ -1,4 +1,6 @@
-ghost use Rattle.std.specs.Prelude.{◌≡◌, ℕ, ◌+◌, ◌-◌, ◌^◌, ◌<◌, ◌↔◌, Bool, true, false, List, [], ◌∷◌, ◌++◌, length, None, IsTrue, MatchOption};
+//! What the limits count over the words read so far.
+
+ghost use Rattle.std.specs.Prelude.{◌≡◌, ◌+◌, ◌-◌, ◌^◌, ◌<◌, ◌↔◌, Bool, true, false, List, [], ◌∷◌, ◌++◌, length, None, IsTrue, MatchOption};
 ghost use Rattle.coco_parse.specs.Counting.{Tallies, Counts, is_refuse, is_wide};
 ghost use Rattle.coco_parse.specs.Limits.{Passes, depth, header_names};
 ghost use Rattle.coco_parse.specs.declared.error.ParseKind.{ParseKind};
@@ -8,15 +10,9 @@ use crate::class::{
     begins_expression, closes, closes_list, is_name, is_operator, is_proc, is_refuse, opens,
 };
 use crate::error::ParseKind;
+use crate::limits::{MOST_CODE, MOST_OPEN, MOST_OPERATORS};
 use crate::word::Word;
-
-const MOST_OPEN: usize = 32;
-
-const MOST_OPERATORS: usize = 64;
-
-const MOST_PARAMS: usize = 16;
-
-const MOST_CODE: u64 = 65535;
+use coco_types::limits::MOST_ARGUMENTS;
 
 // How many words of one kind were read since the last one of another, once such a one was read.
 #[derive(Clone, Copy)]
@@ -141,7 +137,7 @@ impl Counter {
             → (IsTrue result ↔ Passes ParseKind.TooMany (ws ++ word.now ∷ [])) }
     {
         is_operator(word) && self.operators.count > MOST_OPERATORS
-            || is_name(word) && self.header_names() > MOST_PARAMS + 1
+            || is_name(word) && self.header_names() > MOST_ARGUMENTS + 1
     }
 }
 

@@ -1,3 +1,5 @@
+//! Why tokens have no tree, and how that is printed.
+
 use coco_types::NoMemory;
 use std::alloc::AllocFailed;
 use std::error::Error;

@@ -1,4 +1,6 @@
-ghost use Rattle.std.specs.Prelude.{◌≡◌, ℕ, ◌<◌, ◌≤◌, true, false, List, [], None, Some, OnOk, MatchResult};
+//! Expressions and places.
+
+ghost use Rattle.std.specs.Prelude.{◌≡◌, ℕ, ◌<◌, ◌≤◌, true, false, List, [], None, Some, IfOk};
 ghost use Rattle.coco_ast.specs.Tree.{Expression, RowPlace};
 ghost use Rattle.coco_ast.specs.Views.{expression_of, place_of};
 ghost use Rattle.coco_parse.specs.Limits.{closes_list};
@@ -6,7 +8,7 @@ ghost use Rattle.coco_parse.specs.Counting.{operator_in};
 ghost use Rattle.coco_parse.specs.declared.word.Word.{Word};
 ghost use Rattle.coco_parse.specs.Machine.{Goal, Operand, Operator, at_place};
 ghost use Rattle.coco_parse.specs.Machine as machine;
-ghost use Rattle.coco_parse.specs.Steps.{Stands, IsFault, next_word, left, mark_of, frames_of, Begins, Goes, behind_front};
+ghost use Rattle.coco_parse.specs.Steps.{next_word, mark_of, frames_of, Begins, behind_front, GoesOn, Reads, behind_operand};
 
 use crate::class::closes_list;
 use crate::error::ParseFault;
@@ -14,6 +16,9 @@ use crate::frames::{Frame, collapse, operate, takes_not};
 use crate::state::{Cursor, Mark, Parser};
 use crate::word::Word;
 use coco_ast::{Expr, Place, TwoOp};
+use coco_lex::MOST_NUMBER;
+use coco_types::{NoMemory, Text};
+use std::alloc::Global;
 
 // What a word at an operand's place is.
 #[derive(Drop)]
@@ -33,9 +38,8 @@ pub(crate) enum Behind {
 
 impl<'a> Parser<'a> {
     pub(crate) fn place(&self, cursor: &mut Cursor) -> Result<Place, ParseFault>
-        ensures onward { OnOk result (left self.now cursor.new < left self.now cursor.old) }
-        ensures reads { (k : RowPlace → Goal) → Stands self.now cursor.old (at_place k)
-            → MatchResult result (λ p. Stands self.now cursor.new (k (place_of p))) (IsFault self.now) }
+        ensures onward { GoesOn self.now cursor.old cursor.new result }
+        ensures reads { (k : RowPlace → Goal) → Reads self.now cursor.old cursor.new (at_place k) result (λ p. k (place_of p)) }
     {
         let table = self.name(cursor)?;
         self.mark(cursor, Mark::Bracket)?;
@@ -45,9 +49,8 @@ impl<'a> Parser<'a> {
 
     // An expression and the mark behind it.
     pub(crate) fn expression(&self, cursor: &mut Cursor, end: Mark) -> Result<Expr, ParseFault>
-        ensures onward { OnOk result (left self.now cursor.new < left self.now cursor.old) }
-        ensures reads { (k : Expression → Goal) → Stands self.now cursor.old (Operand [] (mark_of end) k)
-            → MatchResult result (λ e. Stands self.now cursor.new (k (expression_of e))) (IsFault self.now) }
+        ensures onward { GoesOn self.now cursor.old cursor.new result }
+        ensures reads { (k : Expression → Goal) → Reads self.now cursor.old cursor.new (Operand [] (mark_of end) k) result (λ e. k (expression_of e)) }
     {
         let mut frames = Vec::new(self.alloc);
         let mut operand = self.operand(cursor, &mut frames)?;
@@ -63,9 +66,8 @@ impl<'a> Parser<'a> {
 
     // The next operand that is a single word. What waits for it joins the frames.
     fn operand(&self, cursor: &mut Cursor, frames: &mut Vec<Frame>) -> Result<Expr, ParseFault>
-        ensures onward { OnOk result (left self.now cursor.new < left self.now cursor.old) }
-        ensures reads { (m : machine.Mark) (k : Expression → Goal) → Stands self.now cursor.old (Operand (frames_of frames.old.items) m k)
-            → MatchResult result (λ e. Stands self.now cursor.new (Operator (expression_of e) (frames_of frames.new.items) m k)) (IsFault self.now) }
+        ensures onward { GoesOn self.now cursor.old cursor.new result }
+        ensures reads { (m : machine.Mark) (k : Expression → Goal) → Reads self.now cursor.old cursor.new (Operand (frames_of frames.old.items) m k) result (λ e. Operator (expression_of e) (frames_of frames.new.items) m k) }
     {
         loop {
             let front = self.front(cursor, frames)?;
@@ -77,14 +79,14 @@ impl<'a> Parser<'a> {
     }
 
     fn front(&self, cursor: &mut Cursor, frames: &[Frame]) -> Result<Front, ParseFault>
-        ensures onward { OnOk result (left self.now cursor.new < left self.now cursor.old) }
-        ensures reads { (m : machine.Mark) (k : Expression → Goal) → Stands self.now cursor.old (Operand (frames_of frames.now) m k)
-            → MatchResult result (λ f. Stands self.now cursor.new (behind_front f (frames_of frames.now) m k)) (IsFault self.now) }
+        ensures onward { GoesOn self.now cursor.old cursor.new result }
+        ensures reads { (m : machine.Mark) (k : Expression → Goal) → Reads self.now cursor.old cursor.new (Operand (frames_of frames.now) m k) result (λ f. behind_front f (frames_of frames.now) m k) }
     {
         let Some(word) = self.peek(cursor) else {
             return Err(self.unexpected(cursor).into());
         };
-        let Some(front) = front_of(&word, frames) else {
+        let begins = front_of(self.alloc, &word, frames)?;
+        let Some(front) = begins else {
             return Err(self.unexpected(cursor).into());
         };
         self.advance(cursor, &word)?;
@@ -99,9 +101,8 @@ impl<'a> Parser<'a> {
         operand: Expr,
         end: Mark,
     ) -> Result<Behind, ParseFault>
-        ensures onward { OnOk result (left self.now cursor.new < left self.now cursor.old) }
-        ensures reads { (k : Expression → Goal) → Stands self.now cursor.old (Operator (expression_of operand) (frames_of frames.old.items) (mark_of end) k)
-            → MatchResult result (Goes self.now cursor.new (frames_of frames.new.items) (mark_of end) k) (IsFault self.now) }
+        ensures onward { GoesOn self.now cursor.old cursor.new result }
+        ensures reads { (k : Expression → Goal) → Reads self.now cursor.old cursor.new (Operator (expression_of operand) (frames_of frames.old.items) (mark_of end) k) result (behind_operand (frames_of frames.new.items) (mark_of end) k) }
     {
         let Some(word) = self.peek(cursor) else {
             return Err(self.unexpected(cursor).into());
@@ -123,9 +124,8 @@ impl<'a> Parser<'a> {
         op: TwoOp,
     ) -> Result<Behind, ParseFault>
         requires { next_word self.now cursor.old ≡ Some (Word.Two op) }
-        ensures onward { OnOk result (left self.now cursor.new < left self.now cursor.old) }
-        ensures reads { (m : machine.Mark) (k : Expression → Goal) → Stands self.now cursor.old (Operator (expression_of operand) (frames_of frames.old.items) m k)
-            → MatchResult result (Goes self.now cursor.new (frames_of frames.new.items) m k) (IsFault self.now) }
+        ensures onward { GoesOn self.now cursor.old cursor.new result }
+        ensures reads { (m : machine.Mark) (k : Expression → Goal) → Reads self.now cursor.old cursor.new (Operator (expression_of operand) (frames_of frames.old.items) m k) result (behind_operand (frames_of frames.new.items) m k) }
     {
         let follows = operate(self.alloc, operand, frames, op)?;
         if !follows {
@@ -144,9 +144,8 @@ impl<'a> Parser<'a> {
     ) -> Result<Behind, ParseFault>
         requires next { next_word self.now cursor.old ≡ Some word.now }
         requires closes { closes_list word.now ≡ true }
-        ensures onward { OnOk result (left self.now cursor.new < left self.now cursor.old) }
-        ensures reads { (m : machine.Mark) (k : Expression → Goal) → Stands self.now cursor.old (Operator (expression_of operand) (frames_of frames.old.items) m k)
-            → MatchResult result (Goes self.now cursor.new (frames_of frames.new.items) m k) (IsFault self.now) }
+        ensures onward { GoesOn self.now cursor.old cursor.new result }
+        ensures reads { (m : machine.Mark) (k : Expression → Goal) → Reads self.now cursor.old cursor.new (Operator (expression_of operand) (frames_of frames.old.items) m k) result (behind_operand (frames_of frames.new.items) m k) }
     {
         let ends = collapse(self.alloc, operand, frames)?;
         if !ends.opened {
@@ -167,9 +166,8 @@ impl<'a> Parser<'a> {
         requires next { next_word self.now cursor.old ≡ Some word.now }
         requires no_operator { operator_in word.now ≡ None }
         requires no_paren { closes_list word.now ≡ false }
-        ensures onward { OnOk result (left self.now cursor.new < left self.now cursor.old) }
-        ensures reads { (k : Expression → Goal) → Stands self.now cursor.old (Operator (expression_of operand) (frames_of frames.old.items) (mark_of end) k)
-            → MatchResult result (Goes self.now cursor.new (frames_of frames.new.items) (mark_of end) k) (IsFault self.now) }
+        ensures onward { GoesOn self.now cursor.old cursor.new result }
+        ensures reads { (k : Expression → Goal) → Reads self.now cursor.old cursor.new (Operator (expression_of operand) (frames_of frames.old.items) (mark_of end) k) result (behind_operand (frames_of frames.new.items) (mark_of end) k) }
     {
         let ends = collapse(self.alloc, operand, frames)?;
         if ends.opened {
@@ -184,27 +182,34 @@ impl<'a> Parser<'a> {
 }
 
 // What the word is at an operand's place, and None where it can't stand there.
-fn front_of(word: &Word, frames: &[Frame]) -> Option<Front>
-    requires { (n : ℕ) → word.now ≡ Word.Number n → n ≤ 9223372036854775807 }
-    ensures { Begins result (frames_of frames.now) word.now }
+fn front_of(alloc: Global, word: &Word, frames: &[Frame]) -> Result<Option<Front>, NoMemory>
+    requires { (n : ℕ) → word.now ≡ Word.Number n → n ≤ MOST_NUMBER }
+    ensures { IfOk result (λ begins. Begins begins (frames_of frames.now) word.now) }
 {
     match word {
-        Word::Number(n) => Some(Front::Atom(Expr::Number(*n as i64))),
-        Word::Text(text) => Some(Front::Atom(Expr::Text(*text))),
-        Word::Nothing => Some(Front::Atom(Expr::None)),
-        Word::Name(name) => Some(Front::Atom(Expr::Var(*name))),
-        Word::OpenParen => Some(Front::Prefix(Frame::Opened)),
-        Word::Two(op) => sign_front(*op),
-        Word::Not => not_front(frames),
-        _ => None,
+        Word::Number(n) => Ok(Some(Front::Atom(Expr::Number(*n as i64)))),
+        Word::Text(text) => text_front(alloc, *text),
+        Word::None => Ok(Some(Front::Atom(Expr::None))),
+        Word::Name(name) => Ok(Some(Front::Atom(Expr::Var(*name)))),
+        Word::OpenParen => Ok(Some(Front::Prefix(Frame::Opened))),
+        Word::Two(op) => Ok(sign_front(*op)),
+        Word::Not => Ok(not_front(frames)),
+        _ => Ok(None),
     }
+}
+
+fn text_front(alloc: Global, text: Text) -> Result<Option<Front>, NoMemory>
+    ensures { IfOk result (λ begins. (fs : List machine.Frame) → Begins begins fs (Word.Text text)) }
+{
+    let text = Expr::text(alloc, text)?;
+    Ok(Some(Front::Atom(text)))
 }
 
 fn sign_front(op: TwoOp) -> Option<Front>
     ensures { (fs : List machine.Frame) → Begins result fs (Word.Two op) }
 {
     match op {
-        TwoOp::Subtract => Some(Front::Prefix(Frame::Signed)),
+        TwoOp::Subtract => Some(Front::Prefix(Frame::Negated)),
         _ => None,
     }
 }
@@ -213,7 +218,7 @@ fn not_front(frames: &[Frame]) -> Option<Front>
     ensures { Begins result (frames_of frames.now) Word.Not }
 {
     if takes_not(frames) {
-        Some(Front::Prefix(Frame::Negated))
+        Some(Front::Prefix(Frame::Inverted))
     } else {
         None
     }

@@ -1,9 +1,11 @@
+//! Tables and procedures, in the order of the text.
+
 ghost use Rattle.std.specs.Prelude.{◌≡◌, ℕ, ◌<◌, ◌≤◌, List, [], ◌∷◌, ◌++◌, Some, OnOk, MatchResult};
 ghost use Rattle.coco_ast.specs.Tree.{Procedure};
 ghost use Rattle.coco_ast.specs.Views.{procedure_of, procedures_of};
 ghost use Rattle.coco_parse.specs.Machine.{Goal, Items, Params};
 ghost use Rattle.coco_parse.specs.Refusal.{IsTreeOf};
-ghost use Rattle.coco_parse.specs.Steps.{Stands, IsFault, IsRefusal, left, words, next_word, behind_item, StartsItem};
+ghost use Rattle.coco_parse.specs.Steps.{IsFault, left, words, next_word, behind_item, StartsItem, GoesOn, Reads, ReadsWords};
 
 use crate::choice::Optional;
 use crate::error::{ParseError, ParseFault};
@@ -46,9 +48,8 @@ impl<'a> Parser<'a> {
 
     fn item(&self, cursor: &mut Cursor, word: &Word) -> Result<Item, ParseError>
         requires { next_word self.now cursor.old ≡ Some word.now }
-        ensures onward { OnOk result (left self.now cursor.new < left self.now cursor.old) }
-        ensures reads { (ts : List (List ℕ)) (ps : List Procedure) → Stands self.now cursor.old (Items ts ps)
-            → MatchResult result (λ i. Stands self.now cursor.new (behind_item i ts ps)) (IsRefusal self.now) }
+        ensures onward { GoesOn self.now cursor.old cursor.new result }
+        ensures reads { (ts : List (List ℕ)) (ps : List Procedure) → ReadsWords self.now cursor.old cursor.new (Items ts ps) result (λ i. behind_item i ts ps) }
     {
         let Some(item) = item_of(word) else {
             return Err(self.unexpected(cursor));
@@ -58,9 +59,8 @@ impl<'a> Parser<'a> {
     }
 
     fn table(&self, cursor: &mut Cursor) -> Result<Name, ParseError>
-        ensures onward { OnOk result (left self.now cursor.new < left self.now cursor.old) }
-        ensures reads { (ts : List (List ℕ)) (ps : List Procedure) → Stands self.now cursor.old (behind_item Item.Table ts ps)
-            → MatchResult result (λ name. Stands self.now cursor.new (Items (ts ++ name ∷ []) ps)) (IsRefusal self.now) }
+        ensures onward { GoesOn self.now cursor.old cursor.new result }
+        ensures reads { (ts : List (List ℕ)) (ps : List Procedure) → ReadsWords self.now cursor.old cursor.new (behind_item Item.Table ts ps) result (λ name. Items (ts ++ name ∷ []) ps) }
     {
         let name = self.name(cursor)?;
         self.mark(cursor, Mark::Semicolon)?;
@@ -68,9 +68,8 @@ impl<'a> Parser<'a> {
     }
 
     fn procedure(&self, cursor: &mut Cursor) -> Result<Proc, ParseFault>
-        ensures onward { OnOk result (left self.now cursor.new < left self.now cursor.old) }
-        ensures reads { (ts : List (List ℕ)) (ps : List Procedure) → Stands self.now cursor.old (behind_item Item.Proc ts ps)
-            → MatchResult result (λ p. Stands self.now cursor.new (Items ts (ps ++ procedure_of p ∷ []))) (IsFault self.now) }
+        ensures onward { GoesOn self.now cursor.old cursor.new result }
+        ensures reads { (ts : List (List ℕ)) (ps : List Procedure) → Reads self.now cursor.old cursor.new (behind_item Item.Proc ts ps) result (λ p. Items ts (ps ++ procedure_of p ∷ [])) }
     {
         let name = self.name(cursor)?;
         self.mark(cursor, Mark::Paren)?;
@@ -86,8 +85,7 @@ impl<'a> Parser<'a> {
     // Parameters and the parenthesis behind them.
     fn params(&self, cursor: &mut Cursor) -> Result<Vec<Name>, ParseFault>
         ensures onward { OnOk result (left self.now cursor.new ≤ left self.now cursor.old) }
-        ensures reads { (k : List (List ℕ) → Goal) → Stands self.now cursor.old (Params k)
-            → MatchResult result (λ names. Stands self.now cursor.new (k names.items)) (IsFault self.now) }
+        ensures reads { (k : List (List ℕ) → Goal) → Reads self.now cursor.old cursor.new (Params k) result (λ names. k names.items) }
     {
         let mut names = Vec::new(self.alloc);
         let closes = self.takes(cursor, Optional::CloseParen)?;

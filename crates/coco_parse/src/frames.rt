@@ -1,7 +1,9 @@
-ghost use Rattle.std.specs.Prelude.{◌≡◌, ℕ, true, false, List, ◌∷◌, Option, None, Some, nat_le, IfOk};
+//! The frames that wait for an operand, and how an operator fits into them.
+
+ghost use Rattle.std.specs.Prelude.{◌≡◌, true, false, None, Some, nat_le, IfOk};
 ghost use Rattle.coco_ast.specs.Views.{expression_of};
 ghost use Rattle.coco_ast.specs.Tree.{Expression};
-ghost use Rattle.coco_parse.specs.Machine.{Left, operate, enclose, conclude, wants, binding};
+ghost use Rattle.coco_parse.specs.Machine.{Left, operate, wants, binding};
 ghost use Rattle.coco_parse.specs.Steps.{frame_of, frames_of, around, is_opened, Fits, Collapses, Operates};
 
 use coco_ast::{Expr, TwoOp};
@@ -13,8 +15,8 @@ use std::alloc::Global;
 #[derive(Drop)]
 pub(crate) enum Frame {
     Opened,
+    Inverted,
     Negated,
-    Signed,
     Left(TwoOp, Expr),
 }
 
@@ -95,8 +97,8 @@ impl Frame {
     {
         match self {
             Frame::Opened => Fit::Within,
-            Frame::Signed => Fit::Around,
-            Frame::Negated => {
+            Frame::Negated => Fit::Around,
+            Frame::Inverted => {
                 if binding(op) >= 2 {
                     Fit::Within
                 } else {
@@ -113,8 +115,8 @@ impl Frame {
     {
         match self {
             Frame::Opened => Ok(operand),
-            Frame::Negated => Expr::not(alloc, operand),
-            Frame::Signed => Expr::negate(alloc, operand),
+            Frame::Inverted => Expr::not(alloc, operand),
+            Frame::Negated => Expr::negate(alloc, operand),
             Frame::Left(op, left) => Expr::two(alloc, op, left, operand),
         }
     }
@@ -158,8 +160,8 @@ pub(crate) fn takes_not(frames: &[Frame]) -> bool
     ensures { result ≡ nat_le (wants (frames_of frames.now)) 2 }
 {
     match frames.last() {
-        None | Some(Frame::Opened) | Some(Frame::Negated) => true,
-        Some(Frame::Signed) => false,
+        None | Some(Frame::Opened) | Some(Frame::Inverted) => true,
+        Some(Frame::Negated) => false,
         Some(Frame::Left(op, _)) => binding(*op) < 2,
     }
 }

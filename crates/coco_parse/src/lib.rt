@@ -8,6 +8,7 @@ pub mod error;
 mod expression;
 mod file;
 mod frames;
+pub mod limits;
 pub mod parser;
 mod reader;
 mod spelling;
@@ -18,6 +19,3 @@ pub mod word;
 pub use error::{ParseError, ParseFault, ParseKind};
 pub use parser::{one_reading, parse};
 pub use word::Word;
-
-#[cfg(test)]
-mod tests;

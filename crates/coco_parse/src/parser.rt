@@ -1,3 +1,5 @@
+//! The tree of a text's tokens, or their first refusal.
+
 ghost use Rattle.std.specs.Prelude.{◌≡◌, ◌≤◌, ◌<◌, ◌^◌, ◌⊎◌, ℕ, List, length, Result, IfOk, IfErr, IsErrAnd, MatchResult};
 ghost use Rattle.std.specs.List.{All};
 ghost use Rattle.coco_ast.specs.Checks.{IsWithinLimits, statements_in};
@@ -10,14 +12,16 @@ ghost use Rattle.coco_parse.specs.Wording.{words_of};
 ghost use Rattle.coco_parse.specs.declared.error.ParseError.{ParseError};
 
 use crate::error::{ParseError, ParseFault};
+use crate::spelling::KEYWORDS;
 use crate::state::Parser;
 use coco_ast::Procs;
 use coco_lex::Token;
+use coco_types::limits::MOST_PROCEDURE_BYTES;
 use std::alloc::Global;
 
 /// The tree of a text's tokens, or their first refusal.
 pub fn parse(alloc: Global, text: &[u8], tokens: &[Token]) -> Result<Procs, ParseFault>
-    requires short { length text.now ≤ 262144 }
+    requires short { length text.now ≤ MOST_PROCEDURE_BYTES }
     requires tokens { AreTokens text.now tokens.now }
     ensures tree { IfOk result (λ procs. IsTreeOf (words_of text.now tokens.now) (procedures_of procs)) }
     ensures refused { IfErr result (λ fault. OnRefused fault (IsRefused text.now tokens.now)) }
@@ -32,7 +36,8 @@ pub fn parse(alloc: Global, text: &[u8], tokens: &[Token]) -> Result<Procs, Pars
     ensures only_refusal { (e : ParseError) → IsRefused text.now tokens.now e
         → IsErrAnd result (λ fault. (fault ≡ ParseFault.Refused e) ⊎ (fault ≡ ParseFault.NoMemory)) }
 {
-    let parser = Parser::new(alloc, text, tokens);
+    let keywords = KEYWORDS;
+    let parser = Parser::new(alloc, text, tokens, &keywords);
     parser.file()
 }
 

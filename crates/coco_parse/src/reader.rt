@@ -1,24 +1,28 @@
-ghost use Rattle.std.specs.Prelude.{◌≡◌, ℕ, ◌<◌, ◌≤◌, true, false, List, Some, OnOk, IfOk, MatchResult};
+//! The next word, and the words that stand alone.
+
+ghost use Rattle.std.specs.Prelude.{◌≡◌, ℕ, ◌<◌, ◌≤◌, true, false, List, Some, OnOk, IfOk};
 ghost use Rattle.coco_parse.specs.Counting.{is_refuse, is_wide};
 ghost use Rattle.coco_parse.specs.Machine.{Goal, Fixed, Named, Numbered, step, marks};
 ghost use Rattle.coco_parse.specs.Refusal.{place_of};
-ghost use Rattle.coco_parse.specs.Steps.{Stands, Stops, IsRefusal, next_word, left, mark_of};
+ghost use Rattle.coco_parse.specs.Steps.{Stands, Stops, IsRefusal, next_word, mark_of, GoesOn, ReadsWords};
 ghost use Rattle.coco_parse.specs.declared.word.Word.{Word};
 
 use crate::error::{ParseError, ParseKind};
+use crate::limits::MOST_CODE;
 use crate::spelling::word_of;
 use crate::state::{Cursor, Mark, Parser};
 use crate::word::Word;
 use coco_ast::Name;
+use coco_lex::MOST_NUMBER;
 
 impl<'a> Parser<'a> {
     // The next word, and None at the end of the text.
     pub(crate) fn peek(&self, cursor: &Cursor) -> Option<Word>
         ensures word { result ≡ next_word self.now cursor.now }
-        ensures least { (n : ℕ) → result ≡ Some (Word.Number n) → n ≤ 9223372036854775807 }
+        ensures least { (n : ℕ) → result ≡ Some (Word.Number n) → n ≤ MOST_NUMBER }
     {
         match self.tokens.get(cursor.at) {
-            Some(token) => Some(word_of(self.text, *token)),
+            Some(token) => Some(word_of(self.keywords, self.text, *token)),
             None => None,
         }
     }
@@ -26,11 +30,10 @@ impl<'a> Parser<'a> {
     // Goes over the next word, unless it passes a limit.
     pub(crate) fn advance(&self, cursor: &mut Cursor, word: &Word) -> Result<(), ParseError>
         requires { next_word self.now cursor.old ≡ Some word.now }
-        ensures onward { OnOk result (left self.now cursor.new < left self.now cursor.old) }
+        ensures onward { GoesOn self.now cursor.old cursor.new result }
         ensures refuses { OnOk result (cursor.new.counter.refuses ≡ is_refuse word.now) }
         ensures narrow { OnOk result (cursor.old.counter.refuses ≡ true → is_wide word.now ≡ false) }
-        ensures reads { (g h : Goal) → Stands self.now cursor.old g → step g word.now ≡ Some h
-            → MatchResult result (λ _. Stands self.now cursor.new h) (λ e. IsRefusal self.now e) }
+        ensures reads { (g h : Goal) → step g word.now ≡ Some h → ReadsWords self.now cursor.old cursor.new g result (λ _. h) }
     {
         let next = cursor.counter.next(word);
         if let Some(kind) = cursor.counter.passed(word, &next) {
@@ -60,9 +63,8 @@ impl<'a> Parser<'a> {
     }
 
     pub(crate) fn mark(&self, cursor: &mut Cursor, mark: Mark) -> Result<(), ParseError>
-        ensures onward { OnOk result (left self.now cursor.new < left self.now cursor.old) }
-        ensures reads { (g : Goal) → Stands self.now cursor.old (Fixed (mark_of mark) g)
-            → MatchResult result (λ _. Stands self.now cursor.new g) (λ e. IsRefusal self.now e) }
+        ensures onward { GoesOn self.now cursor.old cursor.new result }
+        ensures reads { (g : Goal) → ReadsWords self.now cursor.old cursor.new (Fixed (mark_of mark) g) result (λ _. g) }
     {
         let Some(word) = self.peek(cursor) else {
             return Err(self.unexpected(cursor));
@@ -74,9 +76,8 @@ impl<'a> Parser<'a> {
     }
 
     pub(crate) fn name(&self, cursor: &mut Cursor) -> Result<Name, ParseError>
-        ensures onward { OnOk result (left self.now cursor.new < left self.now cursor.old) }
-        ensures reads { (k : List ℕ → Goal) → Stands self.now cursor.old (Named k)
-            → MatchResult result (λ name. Stands self.now cursor.new (k name)) (λ e. IsRefusal self.now e) }
+        ensures onward { GoesOn self.now cursor.old cursor.new result }
+        ensures reads { (k : List ℕ → Goal) → ReadsWords self.now cursor.old cursor.new (Named k) result (λ name. k name) }
     {
         let Some(word) = self.peek(cursor) else {
             return Err(self.unexpected(cursor));
@@ -89,10 +90,9 @@ impl<'a> Parser<'a> {
     }
 
     pub(crate) fn number(&self, cursor: &mut Cursor) -> Result<u64, ParseError>
-        ensures onward { OnOk result (left self.now cursor.new < left self.now cursor.old) }
-        ensures narrow { cursor.old.counter.refuses ≡ true → IfOk result (λ n. n ≤ 65535) }
-        ensures reads { (k : ℕ → Goal) → Stands self.now cursor.old (Numbered k)
-            → MatchResult result (λ n. Stands self.now cursor.new (k n)) (λ e. IsRefusal self.now e) }
+        ensures onward { GoesOn self.now cursor.old cursor.new result }
+        ensures narrow { cursor.old.counter.refuses ≡ true → IfOk result (λ n. n ≤ MOST_CODE) }
+        ensures reads { (k : ℕ → Goal) → ReadsWords self.now cursor.old cursor.new (Numbered k) result (λ n. k n) }
     {
         let Some(word) = self.peek(cursor) else {
             return Err(self.unexpected(cursor));

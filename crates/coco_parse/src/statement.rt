@@ -1,15 +1,17 @@
-ghost use Rattle.std.specs.Prelude.{◌≡◌, ◌<◌, true, false, List, [], Some, OnOk, IfOk, MatchResult};
+//! Statements and blocks.
+
+ghost use Rattle.std.specs.Prelude.{◌≡◌, ◌≤◌, true, false, List, [], Some, OnOk, IfOk};
 ghost use Rattle.coco_ast.specs.Tree.{RowPlace, Statement, Statements};
-ghost use Rattle.coco_ast.specs.Views.{place_of, statement_of, statements_of};
+ghost use Rattle.coco_ast.specs.Views.{expression_of, place_of, statement_of, statements_of};
 ghost use Rattle.coco_parse.specs.Counting.{is_refuse};
-ghost use Rattle.coco_parse.specs.Machine.{Goal, Fixed, SemicolonMark, Within, at_place, with_statement, in_braces};
-ghost use Rattle.coco_parse.specs.Steps.{Stands, IsFault, IsRefusal, next_word, left, behind_head, Heads, closes_block};
+ghost use Rattle.coco_parse.specs.Machine.{Goal, Fixed, SemicolonMark, Tested, Within, at_place, with_statement, in_braces};
+ghost use Rattle.coco_parse.specs.Steps.{GoesOn, Reads, ReadsWords, ReadsStatement, left, behind_head, set_or_get, Heads, closes_block};
 
 use crate::choice::Optional;
 use crate::error::{ParseError, ParseFault};
 use crate::state::{Cursor, Mark, Parser};
 use crate::word::Word;
-use coco_ast::{Block, Place, Stmt};
+use coco_ast::{Block, Expr, Name, Place, Stmt};
 
 // What a statement's first word says.
 #[derive(Clone, Copy)]
@@ -27,9 +29,8 @@ impl<'a> Parser<'a> {
     // Statements and the brace behind them.
     #[cycle(blocks)]
     pub(crate) fn statements(&self, cursor: &mut Cursor) -> Result<Block, ParseFault>
-        ensures onward { OnOk result (left self.now cursor.new < left self.now cursor.old) }
-        ensures reads { (k : Statements → Goal) → Stands self.now cursor.old (Within [] k)
-            → MatchResult result (λ b. Stands self.now cursor.new (k (statements_of b.items))) (IsFault self.now) }
+        ensures onward { GoesOn self.now cursor.old cursor.new result }
+        ensures reads { (k : Statements → Goal) → Reads self.now cursor.old cursor.new (Within [] k) result (λ b. k (statements_of b.items)) }
     {
         let mut block = Vec::new(self.alloc);
         while let Some(head) = self.head(cursor)? {
@@ -41,10 +42,9 @@ impl<'a> Parser<'a> {
 
     // The first word of the next statement, and None behind the closing brace.
     fn head(&self, cursor: &mut Cursor) -> Result<Option<Head>, ParseError>
-        ensures onward { OnOk result (left self.now cursor.new < left self.now cursor.old) }
+        ensures onward { GoesOn self.now cursor.old cursor.new result }
         ensures refuses { IfOk result (λ h. h ≡ Some Head.Refuse → cursor.new.counter.refuses ≡ true) }
-        ensures reads { (ss : List Statement) (k : Statements → Goal) → Stands self.now cursor.old (Within ss k)
-            → MatchResult result (λ h. Stands self.now cursor.new (behind_head h ss k)) (IsRefusal self.now) }
+        ensures reads { (ss : List Statement) (k : Statements → Goal) → ReadsWords self.now cursor.old cursor.new (Within ss k) result (λ h. behind_head h ss k) }
     {
         let Some(word) = self.peek(cursor) else {
             return Err(self.unexpected(cursor));
@@ -64,9 +64,8 @@ impl<'a> Parser<'a> {
     #[cycle(blocks)]
     fn statement(&self, cursor: &mut Cursor, head: Head) -> Result<Stmt, ParseFault>
         requires { head ≡ Head.Refuse → cursor.old.counter.refuses ≡ true }
-        ensures onward { OnOk result (left self.now cursor.new < left self.now cursor.old) }
-        ensures reads { (ss : List Statement) (k : Statements → Goal) → Stands self.now cursor.old (behind_head (Some head) ss k)
-            → MatchResult result (λ s. Stands self.now cursor.new (with_statement ss k (statement_of s))) (IsFault self.now) }
+        ensures onward { GoesOn self.now cursor.old cursor.new result }
+        ensures reads { ReadsStatement self.now cursor.old cursor.new head result }
     {
         match head {
             Head::Let => self.behind_let(cursor),
@@ -80,12 +79,19 @@ impl<'a> Parser<'a> {
     }
 
     fn behind_let(&self, cursor: &mut Cursor) -> Result<Stmt, ParseFault>
-        ensures onward { OnOk result (left self.now cursor.new < left self.now cursor.old) }
-        ensures reads { (ss : List Statement) (k : Statements → Goal) → Stands self.now cursor.old (behind_head (Some Head.Let) ss k)
-            → MatchResult result (λ s. Stands self.now cursor.new (with_statement ss k (statement_of s))) (IsFault self.now) }
+        ensures onward { GoesOn self.now cursor.old cursor.new result }
+        ensures reads { ReadsStatement self.now cursor.old cursor.new Head.Let result }
     {
         let name = self.name(cursor)?;
         self.mark(cursor, Mark::Assign)?;
+        self.behind_assign(cursor, name)
+    }
+
+    // What a name is set to, and a semicolon.
+    fn behind_assign(&self, cursor: &mut Cursor, name: Name) -> Result<Stmt, ParseFault>
+        ensures onward { GoesOn self.now cursor.old cursor.new result }
+        ensures reads { (ss : List Statement) (k : Statements → Goal) → Reads self.now cursor.old cursor.new (set_or_get name ss k) result (λ s. with_statement ss k (statement_of s)) }
+    {
         let gets = self.takes(cursor, Optional::Get)?;
         if gets {
             let place = self.ended_place(cursor)?;
@@ -97,9 +103,8 @@ impl<'a> Parser<'a> {
 
     // A place and a semicolon.
     fn ended_place(&self, cursor: &mut Cursor) -> Result<Place, ParseFault>
-        ensures onward { OnOk result (left self.now cursor.new < left self.now cursor.old) }
-        ensures reads { (k : RowPlace → Goal) → Stands self.now cursor.old (at_place (λ p. Fixed SemicolonMark (k p)))
-            → MatchResult result (λ p. Stands self.now cursor.new (k (place_of p))) (IsFault self.now) }
+        ensures onward { GoesOn self.now cursor.old cursor.new result }
+        ensures reads { (k : RowPlace → Goal) → Reads self.now cursor.old cursor.new (at_place (λ p. Fixed SemicolonMark (k p))) result (λ p. k (place_of p)) }
     {
         let place = self.place(cursor)?;
         self.mark(cursor, Mark::Semicolon)?;
@@ -107,9 +112,8 @@ impl<'a> Parser<'a> {
     }
 
     fn behind_put(&self, cursor: &mut Cursor) -> Result<Stmt, ParseFault>
-        ensures onward { OnOk result (left self.now cursor.new < left self.now cursor.old) }
-        ensures reads { (ss : List Statement) (k : Statements → Goal) → Stands self.now cursor.old (behind_head (Some Head.Put) ss k)
-            → MatchResult result (λ s. Stands self.now cursor.new (with_statement ss k (statement_of s))) (IsFault self.now) }
+        ensures onward { GoesOn self.now cursor.old cursor.new result }
+        ensures reads { ReadsStatement self.now cursor.old cursor.new Head.Put result }
     {
         let place = self.place(cursor)?;
         self.mark(cursor, Mark::Assign)?;
@@ -118,9 +122,8 @@ impl<'a> Parser<'a> {
     }
 
     fn behind_delete(&self, cursor: &mut Cursor) -> Result<Stmt, ParseFault>
-        ensures onward { OnOk result (left self.now cursor.new < left self.now cursor.old) }
-        ensures reads { (ss : List Statement) (k : Statements → Goal) → Stands self.now cursor.old (behind_head (Some Head.Delete) ss k)
-            → MatchResult result (λ s. Stands self.now cursor.new (with_statement ss k (statement_of s))) (IsFault self.now) }
+        ensures onward { GoesOn self.now cursor.old cursor.new result }
+        ensures reads { ReadsStatement self.now cursor.old cursor.new Head.Delete result }
     {
         let place = self.ended_place(cursor)?;
         Ok(Stmt::Delete { place })
@@ -128,12 +131,20 @@ impl<'a> Parser<'a> {
 
     #[cycle(blocks)]
     fn behind_if(&self, cursor: &mut Cursor) -> Result<Stmt, ParseFault>
-        ensures onward { OnOk result (left self.now cursor.new < left self.now cursor.old) }
-        ensures reads { (ss : List Statement) (k : Statements → Goal) → Stands self.now cursor.old (behind_head (Some Head.If) ss k)
-            → MatchResult result (λ s. Stands self.now cursor.new (with_statement ss k (statement_of s))) (IsFault self.now) }
+        ensures onward { GoesOn self.now cursor.old cursor.new result }
+        ensures reads { ReadsStatement self.now cursor.old cursor.new Head.If result }
     {
         let test = self.expression(cursor, Mark::Brace)?;
         let yes = self.statements(cursor)?;
+        self.behind_block(cursor, test, yes)
+    }
+
+    // The second block of an `if`, where there is one.
+    #[cycle(blocks)]
+    fn behind_block(&self, cursor: &mut Cursor, test: Expr, yes: Block) -> Result<Stmt, ParseFault>
+        ensures onward { OnOk result (left self.now cursor.new ≤ left self.now cursor.old) }
+        ensures reads { (ss : List Statement) (k : Statements → Goal) → Reads self.now cursor.old cursor.new (Tested (expression_of test) (statements_of yes.items) ss k) result (λ s. with_statement ss k (statement_of s)) }
+    {
         let has_other = self.takes(cursor, Optional::Else)?;
         if has_other {
             let other = self.block(cursor)?;
@@ -146,9 +157,8 @@ impl<'a> Parser<'a> {
 
     #[cycle(blocks)]
     fn behind_repeat(&self, cursor: &mut Cursor) -> Result<Stmt, ParseFault>
-        ensures onward { OnOk result (left self.now cursor.new < left self.now cursor.old) }
-        ensures reads { (ss : List Statement) (k : Statements → Goal) → Stands self.now cursor.old (behind_head (Some Head.Repeat) ss k)
-            → MatchResult result (λ s. Stands self.now cursor.new (with_statement ss k (statement_of s))) (IsFault self.now) }
+        ensures onward { GoesOn self.now cursor.old cursor.new result }
+        ensures reads { ReadsStatement self.now cursor.old cursor.new Head.Repeat result }
     {
         let bound = self.number(cursor)?;
         self.mark(cursor, Mark::As)?;
@@ -159,9 +169,8 @@ impl<'a> Parser<'a> {
 
     #[cycle(blocks)]
     pub(crate) fn block(&self, cursor: &mut Cursor) -> Result<Block, ParseFault>
-        ensures onward { OnOk result (left self.now cursor.new < left self.now cursor.old) }
-        ensures reads { (k : Statements → Goal) → Stands self.now cursor.old (in_braces k)
-            → MatchResult result (λ b. Stands self.now cursor.new (k (statements_of b.items))) (IsFault self.now) }
+        ensures onward { GoesOn self.now cursor.old cursor.new result }
+        ensures reads { (k : Statements → Goal) → Reads self.now cursor.old cursor.new (in_braces k) result (λ b. k (statements_of b.items)) }
     {
         self.mark(cursor, Mark::Brace)?;
         self.statements(cursor)
@@ -169,9 +178,8 @@ impl<'a> Parser<'a> {
 
     fn behind_refuse(&self, cursor: &mut Cursor) -> Result<Stmt, ParseFault>
         requires { cursor.old.counter.refuses ≡ true }
-        ensures onward { OnOk result (left self.now cursor.new < left self.now cursor.old) }
-        ensures reads { (ss : List Statement) (k : Statements → Goal) → Stands self.now cursor.old (behind_head (Some Head.Refuse) ss k)
-            → MatchResult result (λ s. Stands self.now cursor.new (with_statement ss k (statement_of s))) (IsFault self.now) }
+        ensures onward { GoesOn self.now cursor.old cursor.new result }
+        ensures reads { ReadsStatement self.now cursor.old cursor.new Head.Refuse result }
     {
         let code = self.number(cursor)?;
         self.mark(cursor, Mark::Semicolon)?;
@@ -179,9 +187,8 @@ impl<'a> Parser<'a> {
     }
 
     fn behind_reply(&self, cursor: &mut Cursor) -> Result<Stmt, ParseFault>
-        ensures onward { OnOk result (left self.now cursor.new < left self.now cursor.old) }
-        ensures reads { (ss : List Statement) (k : Statements → Goal) → Stands self.now cursor.old (behind_head (Some Head.Reply) ss k)
-            → MatchResult result (λ s. Stands self.now cursor.new (with_statement ss k (statement_of s))) (IsFault self.now) }
+        ensures onward { GoesOn self.now cursor.old cursor.new result }
+        ensures reads { ReadsStatement self.now cursor.old cursor.new Head.Reply result }
     {
         let value = self.expression(cursor, Mark::Semicolon)?;
         Ok(Stmt::Reply(value))

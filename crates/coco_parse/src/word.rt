@@ -1,3 +1,5 @@
+//! A token without its place.
+
 ghost use Rattle.std.specs.Prelude.{◌≡◌};
 ghost use Rattle.coco_parse.specs.Counting.{name_in, number_in, operator_in};
 
@@ -20,7 +22,7 @@ pub enum Word {
     As,
     Refuse,
     Reply,
-    Nothing,
+    None,
     Not,
     Name(Name),
     Number(u64),

@@ -1,10 +1,10 @@
 -- The printed text of an expression is read as that expression.
 use Rattle.std.proofs.Common.{ℕ, pos, negsuc, List, [], ◌∷◌, ◌++◌, codes, decimal, sym, refl, subst, arith, append_assoc}
-use Rattle.coco_ast.specs.Tree.{TwoSign, Add, Subtract, Multiply, Divide, Remainder, Equal, NotEqual, Less, AtMost, Greater, AtLeast, And, Or, Expression, Number, Quoted, None as Nothing, Variable, Not, Negate, Two}
+use Rattle.coco_ast.specs.Tree.{TwoSign, Add, Subtract, Multiply, Divide, Remainder, Equal, NotEqual, Less, AtMost, Greater, AtLeast, And, Or, Expression, Number, Quoted, None, Variable, Not, Negate, Two}
 use Rattle.coco_ast.specs.declared.tree.TwoOp.{TwoOp}
 use Rattle.coco_ast.specs.declared.tree.TwoOp.TheVariants as op
 use Rattle.coco_parse.specs.Grammar as grammar
-use Rattle.coco_parse.specs.Grammar.{Level, Disjunction, Conjunction, Negation, Comparison, Sum, Product, Signed, Atom, IsExpression, IsWhole}
+use Rattle.coco_parse.specs.Grammar.{Level, Disjunction, Conjunction, Inversion, Comparison, Sum, Product, Negation, Atom, IsExpression, IsWhole}
 use Rattle.coco_parse.specs.declared.word.Word.{Word}
 use Rattle.coco_parse.specs.declared.word.Word.TheVariants as word
 use Rattle.coco_print.specs.Printed.{operator_text, operand_text, expression_text}
@@ -13,10 +13,10 @@ use Rattle.coco_print.proofs.Readable.{IsReadable}
 
 -- ---- levels of the grammar
 
-to_signed : {ws : List Word} {e : Expression} → IsExpression Atom ws e → IsExpression Signed ws e
-to_signed h = grammar.plain grammar.signed h
+to_negation : {ws : List Word} {e : Expression} → IsExpression Atom ws e → IsExpression Negation ws e
+to_negation h = grammar.plain grammar.negation h
 
-to_product : {ws : List Word} {e : Expression} → IsExpression Signed ws e → IsExpression Product ws e
+to_product : {ws : List Word} {e : Expression} → IsExpression Negation ws e → IsExpression Product ws e
 to_product h = grammar.plain grammar.product h
 
 to_sum : {ws : List Word} {e : Expression} → IsExpression Product ws e → IsExpression Sum ws e
@@ -25,20 +25,20 @@ to_sum h = grammar.plain grammar.sum h
 to_comparison : {ws : List Word} {e : Expression} → IsExpression Sum ws e → IsExpression Comparison ws e
 to_comparison h = grammar.plain grammar.comparison h
 
-to_negation : {ws : List Word} {e : Expression} → IsExpression Comparison ws e → IsExpression Negation ws e
-to_negation h = grammar.plain grammar.negation h
+to_inversion : {ws : List Word} {e : Expression} → IsExpression Comparison ws e → IsExpression Inversion ws e
+to_inversion h = grammar.plain grammar.inversion h
 
-to_conjunction : {ws : List Word} {e : Expression} → IsExpression Negation ws e → IsExpression Conjunction ws e
+to_conjunction : {ws : List Word} {e : Expression} → IsExpression Inversion ws e → IsExpression Conjunction ws e
 to_conjunction h = grammar.plain grammar.conjunction h
 
 to_whole : {ws : List Word} {e : Expression} → IsExpression Conjunction ws e → IsWhole ws e
 to_whole h = grammar.plain grammar.disjunction h
 
-negation_whole : {ws : List Word} {e : Expression} → IsExpression Negation ws e → IsWhole ws e
-negation_whole h = to_whole (to_conjunction h)
+inversion_whole : {ws : List Word} {e : Expression} → IsExpression Inversion ws e → IsWhole ws e
+inversion_whole h = to_whole (to_conjunction h)
 
 comparison_whole : {ws : List Word} {e : Expression} → IsExpression Comparison ws e → IsWhole ws e
-comparison_whole h = negation_whole (to_negation h)
+comparison_whole h = inversion_whole (to_inversion h)
 
 sum_whole : {ws : List Word} {e : Expression} → IsExpression Sum ws e → IsWhole ws e
 sum_whole h = comparison_whole (to_comparison h)
@@ -46,20 +46,20 @@ sum_whole h = comparison_whole (to_comparison h)
 product_whole : {ws : List Word} {e : Expression} → IsExpression Product ws e → IsWhole ws e
 product_whole h = sum_whole (to_sum h)
 
-signed_whole : {ws : List Word} {e : Expression} → IsExpression Signed ws e → IsWhole ws e
-signed_whole h = product_whole (to_product h)
+negation_whole : {ws : List Word} {e : Expression} → IsExpression Negation ws e → IsWhole ws e
+negation_whole h = product_whole (to_product h)
 
 atom_product : {ws : List Word} {e : Expression} → IsExpression Atom ws e → IsExpression Product ws e
-atom_product h = to_product (to_signed h)
+atom_product h = to_product (to_negation h)
 
 atom_sum : {ws : List Word} {e : Expression} → IsExpression Atom ws e → IsExpression Sum ws e
 atom_sum h = to_sum (atom_product h)
 
-atom_negation : {ws : List Word} {e : Expression} → IsExpression Atom ws e → IsExpression Negation ws e
-atom_negation h = to_negation (to_comparison (atom_sum h))
+atom_inversion : {ws : List Word} {e : Expression} → IsExpression Atom ws e → IsExpression Inversion ws e
+atom_inversion h = to_inversion (to_comparison (atom_sum h))
 
 atom_conjunction : {ws : List Word} {e : Expression} → IsExpression Atom ws e → IsExpression Conjunction ws e
-atom_conjunction h = to_conjunction (atom_negation h)
+atom_conjunction h = to_conjunction (atom_inversion h)
 
 -- ---- operators
 
@@ -80,19 +80,19 @@ op_of Or = op.Or
 
 -- between two operands that are atoms each operator makes an expression
 combined : (sign : TwoSign) {us vs : List Word} {d e : Expression} → IsExpression Atom us d → IsExpression Atom vs e → IsWhole (us ++ word.Two (op_of sign) ∷ vs) (Two sign d e)
-combined Add g h = sum_whole (grammar.joined grammar.plus grammar.sum (atom_sum g) (atom_product h))
-combined Subtract g h = sum_whole (grammar.joined grammar.less grammar.sum (atom_sum g) (atom_product h))
-combined Multiply g h = product_whole (grammar.joined grammar.times grammar.product (atom_product g) (to_signed h))
-combined Divide g h = product_whole (grammar.joined grammar.over grammar.product (atom_product g) (to_signed h))
-combined Remainder g h = product_whole (grammar.joined grammar.modulo grammar.product (atom_product g) (to_signed h))
-combined Equal g h = comparison_whole (grammar.compared grammar.equals (atom_sum g) (atom_sum h))
-combined NotEqual g h = comparison_whole (grammar.compared grammar.differs (atom_sum g) (atom_sum h))
-combined Less g h = comparison_whole (grammar.compared grammar.below (atom_sum g) (atom_sum h))
+combined Add g h = sum_whole (grammar.joined grammar.add grammar.sum (atom_sum g) (atom_product h))
+combined Subtract g h = sum_whole (grammar.joined grammar.subtract grammar.sum (atom_sum g) (atom_product h))
+combined Multiply g h = product_whole (grammar.joined grammar.multiply grammar.product (atom_product g) (to_negation h))
+combined Divide g h = product_whole (grammar.joined grammar.divide grammar.product (atom_product g) (to_negation h))
+combined Remainder g h = product_whole (grammar.joined grammar.remainder grammar.product (atom_product g) (to_negation h))
+combined Equal g h = comparison_whole (grammar.compared grammar.equal (atom_sum g) (atom_sum h))
+combined NotEqual g h = comparison_whole (grammar.compared grammar.not_equal (atom_sum g) (atom_sum h))
+combined Less g h = comparison_whole (grammar.compared grammar.less (atom_sum g) (atom_sum h))
 combined AtMost g h = comparison_whole (grammar.compared grammar.at_most (atom_sum g) (atom_sum h))
-combined Greater g h = comparison_whole (grammar.compared grammar.above (atom_sum g) (atom_sum h))
+combined Greater g h = comparison_whole (grammar.compared grammar.greater (atom_sum g) (atom_sum h))
 combined AtLeast g h = comparison_whole (grammar.compared grammar.at_least (atom_sum g) (atom_sum h))
-combined And g h = to_whole (grammar.joined grammar.both grammar.conjunction (atom_conjunction g) (atom_negation h))
-combined Or g h = grammar.joined grammar.either grammar.disjunction (to_whole (atom_conjunction g)) (atom_conjunction h)
+combined And g h = to_whole (grammar.joined grammar.and grammar.conjunction (atom_conjunction g) (atom_inversion h))
+combined Or g h = grammar.joined grammar.or grammar.disjunction (to_whole (atom_conjunction g)) (atom_conjunction h)
 
 space : Open (32 ∷ []) []
 space = one_blank 32 refl
@@ -152,11 +152,11 @@ in_parentheses r = record {
 not_piece : Open (codes "not ") (word.Not ∷ [])
 not_piece = tight_open (keyword_piece (codes "not") (13, omega arith, refl) (omega arith)) (λ rest. refl) space
 
-negated_reads : (e : Expression) → Reads (operand_text e (expression_text e)) Atom e → Reads (expression_text (Not e)) Disjunction (Not e)
-negated_reads e r = record { words = word.Not ∷ r.words; laid = open_tight not_piece r.laid; is = negation_whole (grammar.negated (atom_negation r.is)) }
+inverted_reads : (e : Expression) → Reads (operand_text e (expression_text e)) Atom e → Reads (expression_text (Not e)) Disjunction (Not e)
+inverted_reads e r = record { words = word.Not ∷ r.words; laid = open_tight not_piece r.laid; is = inversion_whole (grammar.inverted (atom_inversion r.is)) }
 
-signed_reads : (e : Expression) → Reads (operand_text e (expression_text e)) Atom e → Reads (expression_text (Negate e)) Disjunction (Negate e)
-signed_reads e r = record { words = word.Two op.Subtract ∷ r.words; laid = open_tight (lone_symbol 45 refl refl) r.laid; is = signed_whole (grammar.signed (to_signed r.is)) }
+negated_reads : (e : Expression) → Reads (operand_text e (expression_text e)) Atom e → Reads (expression_text (Negate e)) Disjunction (Negate e)
+negated_reads e r = record { words = word.Two op.Subtract ∷ r.words; laid = open_tight (lone_symbol 45 refl refl) r.laid; is = negation_whole (grammar.negated (to_negation r.is)) }
 
 two_reads : (sign : TwoSign) (d e : Expression) → Reads (operand_text d (expression_text d)) Atom d → Reads (operand_text e (expression_text e)) Atom e → Reads (expression_text (Two sign d e)) Disjunction (Two sign d e)
 two_reads sign d e q r = record {
@@ -173,17 +173,17 @@ reads (Number (negsuc n)) h = absurd h
 reads (Quoted content) h =
     let r : Reads (expression_text (Quoted content)) Atom (Quoted content) = record { words = word.Text content ∷ []; laid = open_is_tight (text_piece content h.printable h.short); is = grammar.text } in
     record { whole = atom_whole r; operand = r }
-reads Nothing h =
-    let r : Reads (codes "none") Atom Nothing = record { words = word.Nothing ∷ []; laid = keyword_piece (codes "none") (12, omega arith, refl) (omega arith); is = grammar.nothing } in
+reads None h =
+    let r : Reads (codes "none") Atom None = record { words = word.None ∷ []; laid = keyword_piece (codes "none") (12, omega arith, refl) (omega arith); is = grammar.none } in
     record { whole = atom_whole r; operand = r }
 reads (Variable name) h =
     let r : Reads name Atom (Variable name) = record { words = word.Name name ∷ []; laid = name_piece name h; is = grammar.variable } in
     record { whole = atom_whole r; operand = r }
 reads (Not e) h =
-    let w = negated_reads e (reads e h).operand in
+    let w = inverted_reads e (reads e h).operand in
     record { whole = w; operand = in_parentheses w }
 reads (Negate e) h =
-    let w = signed_reads e (reads e h).operand in
+    let w = negated_reads e (reads e h).operand in
     record { whole = w; operand = in_parentheses w }
 reads (Two sign d e) h =
     let w = two_reads sign d e (reads d h.0).operand (reads e h.1).operand in

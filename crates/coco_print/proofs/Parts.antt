@@ -10,7 +10,8 @@ use Rattle.std.proofs.lemmas.Bool.Decides.{nat_tests}
 use Rattle.std.proofs.lemmas.Fmt.{decimal_is_IsNumeral}
 use Rattle.std.proofs.lemmas.List.Sums.{list_all-from_AllPass}
 use Rattle.std.proofs.lemmas.Str.Parse.{digit_from_value}
-use Rattle.coco_lex.specs.Bytes.{quote, backslash, is_blank, is_word_start, is_word_byte}
+use Rattle.coco_ast.specs.Words.{is_word_start, is_word_byte}
+use Rattle.coco_lex.specs.Bytes.{quote, backslash, is_blank}
 use Rattle.coco_lex.specs.Lexeme.{IsWord, IsDigits, IsSymbol, escaped, spelled, keywords}
 use Rattle.coco_lex.specs.Refusal.{Opens}
 use Rattle.coco_lex.specs.Tokens.{IsFront}

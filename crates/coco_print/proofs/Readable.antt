@@ -1,6 +1,6 @@
 -- What a tree has that some text gave: each name, number and text in it may be a token.
 use Rattle.std.specs.Prelude.{ℕ, ◌≤◌, pos, negsuc, List, [], ◌∷◌, length, All}
-use Rattle.coco_ast.specs.Tree.{Expression, Number, Quoted, None as Nothing, Variable, Not, Negate, Two, RowPlace, Statement, Let, Get, Put, Delete, If, IfElse, Repeat, Refuse, Reply, Statements, End, Then, Procedure, Procedures}
+use Rattle.coco_ast.specs.Tree.{Expression, Number, Quoted, None, Variable, Not, Negate, Two, RowPlace, Statement, Let, Get, Put, Delete, If, IfElse, Repeat, Refuse, Reply, Statements, End, Then, Procedure, Procedures}
 use Rattle.coco_print.proofs.Parts.{IsName}
 
 -- a number of a text
@@ -16,7 +16,7 @@ abbrev pub IsReadable : Expression → Type 0
 IsReadable (Number (pos n)) = IsCount n
 IsReadable (Number (negsuc n)) = ⊥
 IsReadable (Quoted content) = IsQuotable content
-IsReadable Nothing = Unit {0}
+IsReadable None = Unit {0}
 IsReadable (Variable name) = IsName name
 IsReadable (Not e) = IsReadable e
 IsReadable (Negate e) = IsReadable e

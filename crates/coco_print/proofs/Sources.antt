@@ -1,5 +1,5 @@
 -- A tree that some text gave can be read back: its names, numbers and texts were tokens.
-use Rattle.std.proofs.Common.{◌≡◌, ℕ, ◌-◌, ◌≤◌, nat_eq, ⊎_elim, List, [], ◌∷◌, ◌++◌, length, take, drop, sym, ap, ◌∙◌, subst}
+use Rattle.std.proofs.Common.{◌≡◌, ℕ, ◌-◌, ◌≤◌, nat_eq, ⊎_elim, List, [], ◌∷◌, ◌++◌, length, take, drop, sym, ap, ◌∙◌, subst, rules}
 use Rattle.std.specs.Cmp.Lexicographic.{pointwise}
 use Rattle.std.proofs.lemmas.Bool.{cases_Bool}
 use Rattle.coco_ast.specs.Tree.{Expression, RowPlace, Statement, Statements, Procedure, Procedures}
@@ -10,7 +10,7 @@ use Rattle.coco_lex.specs.declared.token.TokenKind.{TokenKind}
 use Rattle.coco_lex.specs.declared.token.TokenKind.TheVariants as kind
 use Rattle.coco_parse.specs.Grammar as grammar
 use Rattle.coco_parse.specs.Grammar.{Level, IsExpression, IsPlace, IsStatement, IsBlock, AreStatements, AreListed, AreParams, IsProcedure, IsFile, IsText}
-use Rattle.coco_parse.specs.Wording.{spellings, spelled_by, content, word_in, words_of}
+use Rattle.coco_parse.specs.Wording.{keyword_words, symbol_words, spelled_by, content, word_in, words_of}
 use Rattle.coco_parse.specs.declared.word.Word.{Word}
 use Rattle.coco_parse.specs.declared.word.Word.TheVariants as word
 use Rattle.coco_print.specs.ReadsBack.{IsTree}
@@ -41,8 +41,11 @@ fixed_source (row ∷ rows) h bytes =
     (λ e. rw e (fixed_source rows h.1 bytes))
     (cases_Bool (pointwise nat_eq row.0 bytes))
 
-spelled_source : (bytes : List ℕ) → IsSource (spelled_by spellings bytes)
-spelled_source bytes = fixed_source spellings (tt, (tt, (tt, (tt, (tt, (tt, (tt, (tt, (tt, (tt, (tt, (tt, (tt, (tt, (tt, (tt, (tt, (tt, (tt, (tt, (tt, (tt, (tt, (tt, (tt, (tt, (tt, (tt, (tt, (tt, (tt, (tt, (tt, (tt, (tt, (tt, tt)))))))))))))))))))))))))))))))))))) bytes
+keyword_source : (bytes : List ℕ) → IsSource (spelled_by keyword_words bytes)
+keyword_source bytes = fixed_source keyword_words (search rules) bytes
+
+symbol_source : (bytes : List ℕ) → IsSource (spelled_by symbol_words bytes)
+symbol_source bytes = fixed_source symbol_words (search rules) bytes
 
 text_source : (c bytes : List ℕ) → IsQuoted c bytes → length c ≤ 256 → IsQuotable (content bytes)
 text_source c bytes q short =
@@ -50,11 +53,11 @@ text_source c bytes q short =
     subst IsQuotable (sym same) (record { printable = q.printable; short = short })
 
 word_source : (k : TokenKind) (bytes : List ℕ) → IsOfKind k bytes → KeepsLimits bytes → IsSource (word_in k bytes)
-word_source kind.Keyword bytes h l = spelled_source bytes
+word_source kind.Keyword bytes h l = keyword_source bytes
 word_source kind.Name bytes h l = record { spelling = h.0; short = l.word h.0; no_keyword = h.1 }
 word_source kind.Number bytes h l = l.number h
 word_source kind.Text bytes h l = text_source h.0 bytes h.1 (l.text h.0 h.1)
-word_source kind.Symbol bytes h l = spelled_source bytes
+word_source kind.Symbol bytes h l = symbol_source bytes
 
 token_sources : (text : List ℕ) (from : ℕ) (ts : List Token) (to : ℕ) → Follow text from ts to → AreSources (words_of text ts)
 token_sources text from [] to h = tt
@@ -70,11 +73,11 @@ expression_source : {l : Level} {ws : List Word} {e : Expression} → IsExpressi
 expression_source (grammar.plain w h) s = expression_source h s
 expression_source (grammar.joined {us = us} {vs = vs} j w g h) s = let both = split us _ s in (expression_source g both.0, expression_source h both.1.1)
 expression_source (grammar.compared {us = us} {vs = vs} c g h) s = let both = split us _ s in (expression_source g both.0, expression_source h both.1.1)
+expression_source (grammar.inverted h) s = expression_source h s.1
 expression_source (grammar.negated h) s = expression_source h s.1
-expression_source (grammar.signed h) s = expression_source h s.1
 expression_source grammar.number s = s.0
 expression_source grammar.text s = s.0
-expression_source grammar.nothing s = tt
+expression_source grammar.none s = tt
 expression_source grammar.variable s = s.0
 expression_source (grammar.enclosed {ws = ws} h) s = expression_source h (split ws (word.CloseParen ∷ []) s.1).0
 

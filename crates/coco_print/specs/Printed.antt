@@ -2,7 +2,7 @@
 use Rattle.std.specs.Prelude.{ℕ, Bool, true, false, if◌then◌else◌, List, [], ◌∷◌, ◌++◌, codes, decimal}
 use Rattle.std.specs.Fmt.{signed_decimal}
 use Rattle.std.specs.List.{flat_map}
-use Rattle.coco_ast.specs.Tree.{TwoSign, Add, Subtract, Multiply, Divide, Remainder, Equal, NotEqual, Less, AtMost, Greater, AtLeast, And, Or, Expression, Number, Quoted, None as Nothing, Variable, Not, Negate, Two, RowPlace, Statement, Let, Get, Put, Delete, If, IfElse, Repeat, Refuse, Reply, Statements, End, Then, Procedure, Procedures}
+use Rattle.coco_ast.specs.Tree.{TwoSign, Add, Subtract, Multiply, Divide, Remainder, Equal, NotEqual, Less, AtMost, Greater, AtLeast, And, Or, Expression, Number, Quoted, None, Variable, Not, Negate, Two, RowPlace, Statement, Let, Get, Put, Delete, If, IfElse, Repeat, Refuse, Reply, Statements, End, Then, Procedure, Procedures}
 use Rattle.coco_lex.specs.Lexeme.{spelled}
 
 abbrev pub operator_text : TwoSign → List ℕ
@@ -37,7 +37,7 @@ operand_text e text = if is_operator e then codes "(" ++ text ++ codes ")" else 
 abbrev pub expression_text : Expression → List ℕ
 expression_text (Number n) = signed_decimal n
 expression_text (Quoted content) = quoted content
-expression_text Nothing = codes "none"
+expression_text None = codes "none"
 expression_text (Variable name) = name
 expression_text (Not e) = codes "not " ++ operand_text e (expression_text e)
 expression_text (Negate e) = codes "-" ++ operand_text e (expression_text e)

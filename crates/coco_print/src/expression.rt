@@ -1,3 +1,5 @@
+//! The text of expressions and places.
+
 ghost use Rattle.std.specs.Prelude.{◌≡◌, ◌++◌, OnOk};
 ghost use Rattle.std.specs.String.{string_bytes};
 ghost use Rattle.coco_ast.specs.Views.{expression_of, place_of, sign_of};

@@ -7,6 +7,3 @@ pub mod procedures;
 mod statement;
 
 pub use procedures::print;
-
-#[cfg(test)]
-mod tests;

@@ -1,3 +1,5 @@
+//! Words, numbers and texts in quotes.
+
 ghost use Rattle.std.specs.Prelude.{◌≡◌, ◌==◌, ◌||◌, ◌++◌, OnOk, decimal};
 ghost use Rattle.std.specs.Char.{encode_utf8};
 ghost use Rattle.std.specs.Fmt.{signed_decimal};

@@ -1,3 +1,5 @@
+//! The text of statements and blocks.
+
 ghost use Rattle.std.specs.Prelude.{◌≡◌, [], ◌++◌, codes, decimal, IfOk, OnOk};
 ghost use Rattle.std.specs.String.{string_bytes};
 ghost use Rattle.coco_ast.specs.Tree.{Let, Get, Put, Delete, Refuse, Reply};

@@ -3,8 +3,8 @@ use Rattle.std.proofs.lemmas.Bool.{iff_false}
 use Rattle.coco_lex.proofs.Fronts.{long_word, keyword_front, name_front}
 use Rattle.coco_lex.proofs.front.word.Goals as goal
 
-pub returns-then-len-gt-MOST_WORD_BYTES : goal.returns-then-len-gt-MOST_WORD_BYTES
-returns-then-len-gt-MOST_WORD_BYTES c = long_word c.args.rest.now c.word_len-len.result c.requires c.word_len-len.ensures (omega arith)
+pub returns-then-len-gt-MOST_NAME_BYTES : goal.returns-then-len-gt-MOST_NAME_BYTES
+returns-then-len-gt-MOST_NAME_BYTES c = long_word c.args.rest.now c.word_len-len.result c.requires c.word_len-len.ensures (omega arith)
 
 pub returns-then-is_keyword : goal.returns-then-is_keyword
 returns-then-is_keyword c = keyword_front c.args.rest.now c.word_len-len.result c.requires c.word_len-len.ensures (omega arith) (c.is_keyword.ensures.0 c.if-is_keyword.true)

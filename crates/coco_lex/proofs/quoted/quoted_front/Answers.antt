@@ -4,11 +4,11 @@ use Rattle.coco_lex.proofs.Texts.{long_text, text_front, bad_text}
 use Rattle.coco_lex.proofs.quoted.quoted_front.Goals as goal
 use Rattle.coco_lex.proofs.quoted.quoted_front.Goals.{else-content-rest-via-then-content-rest+else-rest-content-eq34, else-content-rest-via-else-content-rest}
 
-pub returns-then-content-gt-MOST_CONTENT_BYTES : goal.returns-then-content-gt-MOST_CONTENT_BYTES
-returns-then-content-gt-MOST_CONTENT_BYTES c = long_text c.args.rest.now c.content_of-content.result.end c.content_of-content.result.count c.requires c.content_of-content.ensures c.if-content-rest.true c.if-rest-content-eq34.true c.if-content-gt-MOST_CONTENT_BYTES.true
+pub returns-then-content-gt-MOST_TEXT_BYTES : goal.returns-then-content-gt-MOST_TEXT_BYTES
+returns-then-content-gt-MOST_TEXT_BYTES c = long_text c.args.rest.now c.content_of-content.result.end c.content_of-content.result.count c.requires c.content_of-content.ensures c.if-content-rest.true c.if-rest-content-eq34.true c.if-content-gt-MOST_TEXT_BYTES.true
 
 pub returns-then-rest-content-eq34 : goal.returns-then-rest-content-eq34
-returns-then-rest-content-eq34 c = text_front c.args.rest.now c.content_of-content.result.end c.content_of-content.result.count c.requires c.content_of-content.ensures c.if-content-rest.true c.if-rest-content-eq34.true c.if-content-gt-MOST_CONTENT_BYTES.false
+returns-then-rest-content-eq34 c = text_front c.args.rest.now c.content_of-content.result.end c.content_of-content.result.count c.requires c.content_of-content.ensures c.if-content-rest.true c.if-rest-content-eq34.true c.if-content-gt-MOST_TEXT_BYTES.false
 
 pub returns-then-is_closed : goal.returns-then-is_closed
 returns-then-is_closed c =

@@ -14,6 +14,9 @@ decreases-statement l = 2 * left l.self.now l.cursor.now + 1
 abbrev pub decreases-behind_if : goal.decreases-behind_if
 decreases-behind_if l = 2 * left l.self.now l.cursor.now
 
+abbrev pub decreases-behind_block : goal.decreases-behind_block
+decreases-behind_block l = 2 * left l.self.now l.cursor.now + 1
+
 abbrev pub decreases-behind_repeat : goal.decreases-behind_repeat
 decreases-behind_repeat l = 2 * left l.self.now l.cursor.now
 

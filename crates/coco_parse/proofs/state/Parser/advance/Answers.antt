@@ -5,7 +5,7 @@ use Rattle.coco_parse.proofs.Steps.{onward, counts_small, stands_on, limit_refus
 use Rattle.coco_parse.proofs.state.Parser.advance.Goals as goal
 
 pub returns-in-Some-clause-reads : goal.returns-in-Some-clause-reads
-returns-in-Some-clause-reads c g h s st =
+returns-in-Some-clause-reads c g h st s =
     let p = c.args.self.now in
     let at = c.args.cursor.now in
     let w = c.args.word.now in
@@ -19,7 +19,7 @@ pub returns-clause-onward : goal.returns-clause-onward
 returns-clause-onward c = let lt = onward c.args.self.now c.args.cursor.now c.args.word.now c.requires in omega arith
 
 pub returns-clause-reads : goal.returns-clause-reads
-returns-clause-reads c g h s st =
+returns-clause-reads c g h st s =
     let p = c.args.self.now in
     let at = c.args.cursor.now in
     let w = c.args.word.now in

@@ -14,10 +14,10 @@ pub returns-in_err-advance-clause-reads : goal.returns-in_err-advance-clause-rea
 returns-in_err-advance-clause-reads c m k s =
     let p = c.args.self.now in let e = expression_of c.args.operand in let fs = frames_of c.args.frames.now.items in
     let gs = frames_of c.operate.new.frames.items in
-    exit_refused _ _ p _ c.from_residual-in_err-advance.ensures.1 (c.in_err-advance.ensures.reads (Operator e fs m k) (Operand gs m k) s (operator_some e fs gs m k c.args.op (follows_some _ _ _ c.if-not-follows.false c.in_ok-follows.ensures)))
+    exit_refused _ _ p _ c.from_residual-in_err-advance.ensures.1 (c.in_err-advance.ensures.reads (Operator e fs m k) (Operand gs m k) (operator_some e fs gs m k c.args.op (follows_some _ _ _ c.if-not-follows.false c.in_ok-follows.ensures)) s)
 
 pub returns-clause-reads : goal.returns-clause-reads
 returns-clause-reads c m k s =
     let p = c.args.self.now in let e = expression_of c.args.operand in let fs = frames_of c.args.frames.now.items in
     let gs = frames_of c.operate.new.frames.items in
-    c.in_ok-advance.ensures.reads (Operator e fs m k) (Operand gs m k) s (operator_some e fs gs m k c.args.op (follows_some _ _ _ c.if-not-follows.false c.in_ok-follows.ensures))
+    c.in_ok-advance.ensures.reads (Operator e fs m k) (Operand gs m k) (operator_some e fs gs m k c.args.op (follows_some _ _ _ c.if-not-follows.false c.in_ok-follows.ensures)) s

@@ -16,11 +16,11 @@ returns-in_err-advance-clause-reads c m k s =
     let p = c.args.self.now in let e = expression_of c.args.operand in let fs = frames_of c.args.frames.now.items in
     let d = expression_of c.in_ok-ends.ends.operand in
     let gs = frames_of c.collapse.new.frames.items in
-    exit_refused _ _ p _ c.from_residual-in_err-advance.ensures.1 (c.in_err-advance.ensures.reads (Operator e fs m k) (Operator d gs m k) s (paren_some e d fs gs m k c.args.word.now c.requires.closes (collapses_opened _ _ _ _ _ (not-false _ c.if-not-ends.false) c.in_ok-ends.ensures).0))
+    exit_refused _ _ p _ c.from_residual-in_err-advance.ensures.1 (c.in_err-advance.ensures.reads (Operator e fs m k) (Operator d gs m k) (paren_some e d fs gs m k c.args.word.now c.requires.closes (collapses_opened _ _ _ _ _ (not-false _ c.if-not-ends.false) c.in_ok-ends.ensures).0) s)
 
 pub returns-clause-reads : goal.returns-clause-reads
 returns-clause-reads c m k s =
     let p = c.args.self.now in let e = expression_of c.args.operand in let fs = frames_of c.args.frames.now.items in
     let d = expression_of c.in_ok-ends.ends.operand in
     let gs = frames_of c.collapse.new.frames.items in
-    c.in_ok-advance.ensures.reads (Operator e fs m k) (Operator d gs m k) s (paren_some e d fs gs m k c.args.word.now c.requires.closes (collapses_opened _ _ _ _ _ (not-false _ c.if-not-ends.false) c.in_ok-ends.ensures).0)
+    c.in_ok-advance.ensures.reads (Operator e fs m k) (Operator d gs m k) (paren_some e d fs gs m k c.args.word.now c.requires.closes (collapses_opened _ _ _ _ _ (not-false _ c.if-not-ends.false) c.in_ok-ends.ensures).0) s

@@ -23,11 +23,11 @@ returns-in_err-advance-clause-reads c k s =
     let p = c.args.self.now in let e = expression_of c.args.operand in let fs = frames_of c.args.frames.now.items in
     let m = mark_of c.args.end in
     let d = expression_of c.in_ok-ends.ends.operand in
-    exit_refused _ _ p _ c.from_residual-in_err-advance.ensures.1 (c.in_err-advance.ensures.reads (Operator e fs m k) (k d) s (whole_some e d fs m k c.args.word.now c.requires.no_operator c.requires.no_paren (sym c.fits.ensures ∙ c.if-not-fits.false) (collapses_ended _ _ _ _ _ c.if-ends.false c.in_ok-ends.ensures).1))
+    exit_refused _ _ p _ c.from_residual-in_err-advance.ensures.1 (c.in_err-advance.ensures.reads (Operator e fs m k) (k d) (whole_some e d fs m k c.args.word.now c.requires.no_operator c.requires.no_paren (sym c.fits.ensures ∙ c.if-not-fits.false) (collapses_ended _ _ _ _ _ c.if-ends.false c.in_ok-ends.ensures).1) s)
 
 pub returns-clause-reads : goal.returns-clause-reads
 returns-clause-reads c k s =
     let p = c.args.self.now in let e = expression_of c.args.operand in let fs = frames_of c.args.frames.now.items in
     let m = mark_of c.args.end in
     let d = expression_of c.in_ok-ends.ends.operand in
-    c.in_ok-advance.ensures.reads (Operator e fs m k) (k d) s (whole_some e d fs m k c.args.word.now c.requires.no_operator c.requires.no_paren (sym c.fits.ensures ∙ c.if-not-fits.false) (collapses_ended _ _ _ _ _ c.if-ends.false c.in_ok-ends.ensures).1)
+    c.in_ok-advance.ensures.reads (Operator e fs m k) (k d) (whole_some e d fs m k c.args.word.now c.requires.no_operator c.requires.no_paren (sym c.fits.ensures ∙ c.if-not-fits.false) (collapses_ended _ _ _ _ _ c.if-ends.false c.in_ok-ends.ensures).1) s

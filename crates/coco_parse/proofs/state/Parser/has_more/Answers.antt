@@ -8,16 +8,16 @@ pub returns-in_default-clause-reads : goal.returns-in_default-clause-reads
 returns-in_default-clause-reads c names k s = c.unexpected.ensures (Listed names k) s (stops_end _ _ (sym c.in_default.ensures.word) (λ i. cc i.2))
 
 pub returns-in_err-advance-in-Comma-clause-reads : goal.returns-in_err-advance-in-Comma-clause-reads
-returns-in_err-advance-in-Comma-clause-reads c names k s = exit_same _ _ _ _ c.from_residual.ensures.1 (c.in_err-advance-in-Comma.ensures.reads (Listed names k) _ s (listed_more names k _ c.in-Comma.is))
+returns-in_err-advance-in-Comma-clause-reads c names k s = exit_same _ _ _ _ c.from_residual.ensures.1 (c.in_err-advance-in-Comma.ensures.reads (Listed names k) _ (listed_more names k _ c.in-Comma.is) s)
 
 pub returns-in_err-advance-in-CloseParen-clause-reads : goal.returns-in_err-advance-in-CloseParen-clause-reads
-returns-in_err-advance-in-CloseParen-clause-reads c names k s = exit_same _ _ _ _ c.from_residual-in_err-advance-in-CloseParen.ensures.1 (c.in_err-advance-in-CloseParen.ensures.reads (Listed names k) _ s (listed_end names k _ c.in-CloseParen.is))
+returns-in_err-advance-in-CloseParen-clause-reads c names k s = exit_same _ _ _ _ c.from_residual-in_err-advance-in-CloseParen.ensures.1 (c.in_err-advance-in-CloseParen.ensures.reads (Listed names k) _ (listed_end names k _ c.in-CloseParen.is) s)
 
 pub returns-in_ok-advance-in-Comma-clause-reads : goal.returns-in_ok-advance-in-Comma-clause-reads
-returns-in_ok-advance-in-Comma-clause-reads c names k s = c.in_ok-advance-in-Comma.ensures.reads (Listed names k) _ s (listed_more names k _ c.in-Comma.is)
+returns-in_ok-advance-in-Comma-clause-reads c names k s = c.in_ok-advance-in-Comma.ensures.reads (Listed names k) _ (listed_more names k _ c.in-Comma.is) s
 
 pub returns-in_ok-advance-in-CloseParen-clause-reads : goal.returns-in_ok-advance-in-CloseParen-clause-reads
-returns-in_ok-advance-in-CloseParen-clause-reads c names k s = c.in_ok-advance-in-CloseParen.ensures.reads (Listed names k) _ s (listed_end names k _ c.in-CloseParen.is)
+returns-in_ok-advance-in-CloseParen-clause-reads c names k s = c.in_ok-advance-in-CloseParen.ensures.reads (Listed names k) _ (listed_end names k _ c.in-CloseParen.is) s
 
 pub returns-in_default-word-clause-reads : goal.returns-in_default-word-clause-reads
 returns-in_default-word-clause-reads c names k s =

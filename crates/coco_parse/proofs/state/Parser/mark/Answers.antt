@@ -17,4 +17,4 @@ returns-then-not-fits-clause-reads c g s =
 pub returns-clause-reads : goal.returns-clause-reads
 returns-clause-reads c g s =
     let m = mark_of c.args.mark in
-    c.advance.ensures.reads (Fixed m g) g s (fixed_some m g c.in-Some.word (sym c.fits.ensures ∙ c.if-not-fits.false))
+    c.advance.ensures.reads (Fixed m g) g (fixed_some m g c.in-Some.word (sym c.fits.ensures ∙ c.if-not-fits.false)) s

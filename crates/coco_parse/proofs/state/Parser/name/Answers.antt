@@ -15,9 +15,9 @@ returns-in_default-name-clause-reads c k s =
 pub returns-in_err-advance-clause-reads : goal.returns-in_err-advance-clause-reads
 returns-in_err-advance-clause-reads c k s =
     let name = c.in-Some-name.name in
-    exit_same _ _ _ _ c.from_residual.ensures.1 (c.in_err-advance.ensures.reads (Named k) (k name) s (named_some k c.in-Some.word name (sym c.in-Some-name.ensures)))
+    exit_same _ _ _ _ c.from_residual.ensures.1 (c.in_err-advance.ensures.reads (Named k) (k name) (named_some k c.in-Some.word name (sym c.in-Some-name.ensures)) s)
 
 pub returns-clause-reads : goal.returns-clause-reads
 returns-clause-reads c k s =
     let name = c.in-Some-name.name in
-    c.in_ok-advance.ensures.reads (Named k) (k name) s (named_some k c.in-Some.word name (sym c.in-Some-name.ensures))
+    c.in_ok-advance.ensures.reads (Named k) (k name) (named_some k c.in-Some.word name (sym c.in-Some-name.ensures)) s

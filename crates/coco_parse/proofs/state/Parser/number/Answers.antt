@@ -15,9 +15,9 @@ returns-in_default-number-clause-reads c k s =
 pub returns-in_err-advance-clause-reads : goal.returns-in_err-advance-clause-reads
 returns-in_err-advance-clause-reads c k s =
     let number = c.in-Some-number.number in
-    exit_same _ _ _ _ c.from_residual.ensures.1 (c.in_err-advance.ensures.reads (Numbered k) (k number) s (numbered_some k c.in-Some.word number (sym c.in-Some-number.ensures)))
+    exit_same _ _ _ _ c.from_residual.ensures.1 (c.in_err-advance.ensures.reads (Numbered k) (k number) (numbered_some k c.in-Some.word number (sym c.in-Some-number.ensures)) s)
 
 pub returns-clause-reads : goal.returns-clause-reads
 returns-clause-reads c k s =
     let number = c.in-Some-number.number in
-    c.in_ok-advance.ensures.reads (Numbered k) (k number) s (numbered_some k c.in-Some.word number (sym c.in-Some-number.ensures))
+    c.in_ok-advance.ensures.reads (Numbered k) (k number) (numbered_some k c.in-Some.word number (sym c.in-Some-number.ensures)) s

@@ -12,7 +12,7 @@ returns-then-not-fits-clause-reads c g h o ch s =
     (λ w e. let same : Some c.in-Some.word ≡ Some w = c.in-Some.ensures.word ∙ e in ap (is_optional c.args.optional) (cc same) ∙ sym c.fits.ensures ∙ c.if-not-fits.true)
 
 pub returns-in_err-advance-clause-reads : goal.returns-in_err-advance-clause-reads
-returns-in_err-advance-clause-reads c g h o ch s = exit_same _ _ _ _ c.from_residual.ensures.1 (c.in_err-advance.ensures.reads g h s (ch.taken c.in-Some.word (sym c.fits.ensures ∙ c.if-not-fits.false)))
+returns-in_err-advance-clause-reads c g h o ch s = exit_same _ _ _ _ c.from_residual.ensures.1 (c.in_err-advance.ensures.reads g h (ch.taken c.in-Some.word (sym c.fits.ensures ∙ c.if-not-fits.false)) s)
 
 pub returns-clause-reads : goal.returns-clause-reads
-returns-clause-reads c g h o ch s = c.in_ok-advance.ensures.reads g h s (ch.taken c.in-Some.word (sym c.fits.ensures ∙ c.if-not-fits.false))
+returns-clause-reads c g h o ch s = c.in_ok-advance.ensures.reads g h (ch.taken c.in-Some.word (sym c.fits.ensures ∙ c.if-not-fits.false)) s
