@@ -15,6 +15,11 @@ pub else_then : {A E G : Type 0} (b : Bool) (d : E) (r : Result A E) (y : A) →
 else_then true d r y e go = absurd cc
 else_then false d r y e go = go refl e
 
+-- which way a test went
+pub pick : {X G : Type 0} (b : Bool) (x y z : X) → cond b x y ≡ z → (b ≡ true → x ≡ z → G) → (b ≡ false → y ≡ z → G) → G
+pick true x y z e on_true on_false = on_true refl e
+pick false x y z e on_true on_false = on_false refl e
+
 pub if_then : {A E G : Type 0} (b : Bool) (d : E) (r : Result A E) (y : A) → cond b r (Err d) ≡ Ok y → (b ≡ true → r ≡ Ok y → G) → G
 if_then true d r y e go = go refl e
 if_then false d r y e go = absurd cc
@@ -70,6 +75,12 @@ pub Stands-fits : (from : List ℕ) (at : ℕ) (field : List ℕ) (end : ℕ) �
 Stands-fits from at field end p = omega (arith, ap length p.here, length-append field (drop end from), length-drop at from)
 
 -- all of the bytes
+pub Stands-all : (from field : List ℕ) → from ≡ field → Stands from 0 field (length from)
+Stands-all from field same = record {
+  here = same ∙ sym (append-nil field) ∙ ap (λ (x : List ℕ). field ++ x) (sym (drop_all (length from) from (omega arith)));
+  ends = omega (arith, ap length same);
+}
+
 pub Stands-whole : (from field : List ℕ) → Stands from 0 field (length from) → from ≡ field
 Stands-whole from field p = p.here ∙ ap (λ (x : List ℕ). field ++ x) (drop_all (length from) from (omega arith)) ∙ append-nil field
 

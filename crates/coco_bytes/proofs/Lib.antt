@@ -1,3 +1,4 @@
 pub mod FieldLemmas
 pub mod NumberLemmas
 pub mod ListLemmas
+pub mod ValueLemmas

@@ -77,19 +77,23 @@ regroup : {A : Type 0} (front : List A) (x : A) (r : Read (List A)) → with_fro
 regroup {A} front x (Ok y) = ap (λ (xs : List A). Ok (xs, y.1)) (simp append_assoc)
 regroup front x (Err f) = refl
 
-pub rest_begins : {A : Type 0} (read : Option A → List ℕ → ℕ → Read A) (n : ℕ) (from : List ℕ) (at : ℕ) → rest_of read [] n from at ≡ items_at read None n from at
+pub rest_begins : {A : Type 0} (read : Option A → List ℕ → ℕ → Read A) (front : List A) (count : ℕ) (from : List ℕ) (at : ℕ) → front ≡ []
+    → rest_of read front (count - 0) from at ≡ items_at read None count from at
 unfolding rest_of
-rest_begins read n from at = alone (items_at read None n from at) where
-  alone : {A : Type 0} (r : Read (List A)) → with_front [] r ≡ r
-  alone (Ok x) = refl
-  alone (Err f) = refl
+rest_begins {A} read front count from at empty =
+    let k : count - 0 ≡ count = omega arith in
+    rw (empty, k) (alone (items_at read None count from at))
+  where
+    alone : {A : Type 0} (r : Read (List A)) → with_front [] r ≡ r
+    alone (Ok x) = refl
+    alone (Err f) = refl
 
-pub rest_goes_on : {A : Type 0} (read : Option A → List ℕ → ℕ → Read A) (front : List A) (count i : ℕ) (from : List ℕ) (at : ℕ) (x : A) (end : ℕ) → i < count
-    → read (last_item front) from at ≡ Ok (x, end) → rest_of read (front ++ x ∷ []) (count - (i + 1)) from end ≡ rest_of read front (count - i) from at
+pub rest_goes_on : {A : Type 0} (read : Option A → List ℕ → ℕ → Read A) (front longer : List A) (count i : ℕ) (from : List ℕ) (at : ℕ) (x : A) (end : ℕ) → i < count
+    → read (last_item front) from at ≡ Ok (x, end) → longer ≡ front ++ x ∷ [] → rest_of read longer (count - (i + 1)) from end ≡ rest_of read front (count - i) from at
 unfolding rest_of items_at
-rest_goes_on read front count i from at x end lt h =
+rest_goes_on read front longer count i from at x end lt h one_more =
     let k : count - i ≡ suc (count - (i + 1)) = omega arith in
-    rw (k, h, last_item-push front x) (sym (regroup front x (items_at read (Some x) (count - (i + 1)) from end)))
+    rw (one_more, k, h, last_item-push front x) (sym (regroup front x (items_at read (Some x) (count - (i + 1)) from end)))
 
 pub rest_fails : {A : Type 0} (read : Option A → List ℕ → ℕ → Read A) (front : List A) (count i : ℕ) (from : List ℕ) (at : ℕ) (fault : FieldFault) → i < count
     → read (last_item front) from at ≡ Err fault → rest_of read front (count - i) from at ≡ Err fault

@@ -4,6 +4,7 @@ ghost use Rattle.std.specs.Prelude.{ℕ, ◌<◌, ◌≤◌, ◌^◌, length, Fi
 ghost use Rattle.std.specs.Int.{w64};
 ghost use Rattle.coco_bytes.specs.Fields.{u8_bytes, u16_bytes, u32_bytes, u64_bytes, i64_bytes, bytes16};
 ghost use Rattle.coco_bytes.specs.Reads.{Agree, u8_at, u16_at, u32_at, u64_at, i64_at, text16_at};
+ghost use Rattle.coco_bytes.specs.Values.{key_bytes, IsKey, key_at, value_bytes, IsValue, value_at};
 
 /// Each field that stands at a place is read there, and a field that was read stands there.
 pub fn fields_read_back()
@@ -14,4 +15,6 @@ pub fn fields_read_back()
     ensures signed { Agree i64_at i64_bytes (FitsSigned w64) }
     ensures counted { (most : ℕ) → most < 2 ^ 16
         → Agree (text16_at most) bytes16 (λ bytes. length bytes ≤ most) }
+    ensures key { Agree key_at key_bytes IsKey }
+    ensures value { Agree value_at value_bytes IsValue }
 {}

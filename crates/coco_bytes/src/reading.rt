@@ -1,6 +1,6 @@
 //! Fields read at a place: the value, and the place behind it.
 
-ghost use Rattle.std.specs.Prelude.{◌≡◌, ◌≤◌, length, IfOk};
+ghost use Rattle.std.specs.Prelude.{◌≡◌, ◌+◌, ◌≤◌, length, IfOk};
 ghost use Rattle.coco_bytes.specs.Reads.{u8_at, u16_at, u32_at, u64_at, i64_at, bytes16_at};
 
 use crate::FieldFault;
@@ -78,6 +78,7 @@ pub fn get_bytes16(from: &[u8], at: usize, most: u16) -> Result<(usize, usize), 
     requires { at ≤ length from.now }
     ensures read { result ≡ bytes16_at most from.now at }
     ensures within { IfOk result (λ r. (r.0 ≤ r.1) × (r.1 ≤ length from.now)) }
+    ensures most { IfOk result (λ r. r.1 ≤ r.0 + most) }
 {
     let (len, start) = get_u16(from, at)?;
     if most < len {

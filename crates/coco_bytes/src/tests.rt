@@ -1,4 +1,5 @@
 use super::*;
+use coco_types::{Key, Text, Value};
 use std::test::Fail;
 
 const FIELDS: [u8; 31] = [
@@ -51,4 +52,34 @@ fn faults_are_readable(rt: HostRuntime) -> Result<(), Fail> {
     let expected = "the bytes end within the field at 3; no such field can stand at 4";
     assert_eq!(rt; said.as_str(), expected);
     Ok(())
+}
+
+#[test]
+fn a_value_has_its_kind_in_front(rt: HostRuntime) -> Result<(), Fail> {
+    let text = Text::of("hi").ok_or("too long")?;
+    let mut out = Vec::new(rt.alloc());
+    put_key(&mut out, Key { table: 1, row: 5 })?;
+    put_value(&mut out, &None)?;
+    put_value(&mut out, &Some(Value::Int(-1)))?;
+    put_value(&mut out, &Some(Value::Text(text)))?;
+    let bytes = [
+        0, 1, 0, 0, 0, 0, 0, 0, 0, 5, 0, 1, 255, 255, 255, 255, 255, 255, 255, 255, 2, 0, 2, 104,
+        105,
+    ];
+    assert_eq!(rt; out.as_slice(), bytes.as_slice());
+    assert_eq!(rt; get_key(&bytes, 0)?, (Key { table: 1, row: 5 }, 10));
+    assert_eq!(rt; get_value(&bytes, 10)?, (None, 11));
+    assert_eq!(rt; get_value(&bytes, 11)?, (Some(Value::Int(-1)), 20));
+    assert_eq!(rt; get_value(&bytes, 20)?, (Some(Value::Text(text)), 25));
+    Ok(())
+}
+
+#[test]
+fn a_value_that_can_not_stand_is_bad_at_its_field(rt: HostRuntime) {
+    let bad = |at| FieldFault::Bad { at };
+    assert_eq!(rt; get_value(&[9, 3], 1), Err(bad(1)));
+    assert_eq!(rt; get_value(&[9, 1, 0], 1), Err(FieldFault::Short { at: 2 }));
+    assert_eq!(rt; get_value(&[2, 1, 1], 0), Err(bad(1)));
+    assert_eq!(rt; get_value(&[2, 0, 1, 255], 0), Err(bad(1)));
+    assert_eq!(rt; get_key(&[0, 0, 128, 0, 0, 0, 0, 0, 0, 0], 0), Err(bad(2)));
 }

@@ -56,9 +56,17 @@ pub fn put_bytes16(out: &mut Vec<u8>, bytes: &[u8]) -> Result<(), NoMemory>
     ensures ok { OnOk result (out.new.items ≡ out.old.items ++ bytes16 bytes.now) }
     ensures err { OnErr result (out.new.items ≡ out.old.items) }
 {
-    // With room for both none of the two can fail, so that no length stands without its bytes.
-    out.reserve(bytes.len() + 2)?;
-    out.extend_from_slice(&(bytes.len() as u16).to_be_bytes())?;
-    out.extend_from_slice(bytes)?;
+    put_both(out, &(bytes.len() as u16).to_be_bytes(), bytes)
+}
+
+// Puts two pieces behind the bytes, or none.
+pub fn put_both(out: &mut Vec<u8>, first: &[u8], second: &[u8]) -> Result<(), NoMemory>
+    ensures ok { OnOk result (out.new.items ≡ out.old.items ++ (first.now ++ second.now)) }
+    ensures err { OnErr result (out.new.items ≡ out.old.items) }
+{
+    // With room for both none of the two is refused.
+    out.reserve(first.len() + second.len())?;
+    out.extend_from_slice(first)?;
+    out.extend_from_slice(second)?;
     Ok(())
 }
