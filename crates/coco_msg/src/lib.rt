@@ -1,0 +1,18 @@
+//! The messages of nodes and coordinator, their bytes, and the actions that a core asks for.
+#![tactic(auto)]
+
+pub mod action;
+pub mod fault;
+mod lists;
+pub mod message;
+mod reading;
+mod writing;
+
+pub use action::{Action, add, one, two};
+pub use fault::MessageFault;
+pub use message::{Message, Places};
+pub use reading::read_message;
+pub use writing::message_bytes;
+
+#[cfg(test)]
+mod tests;

@@ -1,0 +1,107 @@
+//! Messages to bytes.
+
+ghost use Rattle.std.specs.Prelude.{◌≡◌, ◌∷◌, ◌++◌, ◌<◌, ◌^◌, length, IfOk, OnOk, Bool};
+ghost use Rattle.coco_bytes.specs.Fields.{u64_bytes};
+ghost use Rattle.coco_msg.specs.Bytes.{bytes_of, HasBytes, listed_bytes, piece_bytes, flag_bytes};
+
+use crate::lists::{put_places, put_writes};
+use crate::message::{Message, Places};
+use coco_bytes::{put_u8, put_u32, put_u64};
+use coco_types::{NoMemory, Writes};
+use std::alloc::Global;
+
+// Puts a tag and an epoch behind the bytes.
+fn put_head(out: &mut Vec<u8>, tag: u8, epoch: u64) -> Result<(), NoMemory>
+    ensures { OnOk result (out.new.items ≡ out.old.items ++ tag ∷ u64_bytes epoch) }
+{
+    put_u8(out, tag)?;
+    put_u64(out, epoch)
+}
+
+fn put_flagged(out: &mut Vec<u8>, tag: u8, epoch: u64, flag: bool) -> Result<(), NoMemory>
+    ensures { OnOk result (out.new.items ≡ out.old.items ++ tag ∷ (u64_bytes epoch ++ flag_bytes flag)) }
+{
+    put_head(out, tag, epoch)?;
+    put_u8(out, flag as u8)
+}
+
+fn put_listed(
+    out: &mut Vec<u8>,
+    tag: u8,
+    epoch: u64,
+    partition: u8,
+    places: &Places,
+) -> Result<(), NoMemory>
+    requires { length places.now < 2 ^ 32 }
+    ensures { OnOk result (out.new.items ≡ out.old.items ++ tag ∷ listed_bytes epoch partition places.now) }
+{
+    put_head(out, tag, epoch)?;
+    put_u8(out, partition)?;
+    put_places(out, places.as_slice())
+}
+
+// What one request wrote in a partition.
+fn put_piece(
+    out: &mut Vec<u8>,
+    partition: u8,
+    place: u32,
+    time: u64,
+    writes: &Writes,
+) -> Result<(), NoMemory>
+    requires { length writes.now < 2 ^ 32 }
+    ensures { OnOk result (out.new.items ≡ out.old.items ++ piece_bytes partition place time writes.now) }
+{
+    put_u8(out, partition)?;
+    put_u32(out, place)?;
+    put_u64(out, time)?;
+    put_writes(out, writes.as_slice())
+}
+
+fn put_message(out: &mut Vec<u8>, message: &Message) -> Result<(), NoMemory>
+    requires { HasBytes message.now }
+    ensures { OnOk result (out.new.items ≡ out.old.items ++ bytes_of message.now) }
+{
+    match message {
+        Message::Ship {
+            epoch,
+            partition,
+            place,
+            time,
+            writes,
+        } => {
+            put_head(out, 1, *epoch)?;
+            put_piece(out, *partition, *place, *time, writes)
+        }
+        Message::Total {
+            epoch,
+            partition,
+            places,
+        } => put_listed(out, 2, *epoch, *partition, places),
+        Message::Missing {
+            epoch,
+            partition,
+            places,
+        } => put_listed(out, 3, *epoch, *partition, places),
+        Message::All { epoch, partition } => {
+            put_head(out, 4, *epoch)?;
+            put_u8(out, *partition)
+        }
+        Message::Prepare { epoch } => put_head(out, 5, *epoch),
+        Message::Vote { epoch, yes } => put_flagged(out, 6, *epoch, *yes),
+        Message::Commit { epoch } => put_head(out, 7, *epoch),
+        Message::Finished { epoch } => put_head(out, 8, *epoch),
+        Message::Abort { epoch } => put_head(out, 9, *epoch),
+        Message::Query { epoch } => put_head(out, 10, *epoch),
+        Message::Tell { epoch, committed } => put_flagged(out, 11, *epoch, *committed),
+    }
+}
+
+/// The bytes of a message. Its places are to rise, and its lists to have fewer than 2^32 items.
+pub fn message_bytes(alloc: Global, message: &Message) -> Result<Vec<u8>, NoMemory>
+    requires { HasBytes message.now }
+    ensures { IfOk result (λ bytes. bytes.items ≡ bytes_of message.now) }
+{
+    let mut out = Vec::new(alloc);
+    put_message(&mut out, message)?;
+    Ok(out)
+}
