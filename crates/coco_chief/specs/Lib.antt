@@ -1,0 +1,5 @@
+pub mod Chief
+pub mod Ranges
+pub mod Table
+pub mod Telling
+pub mod Shown
