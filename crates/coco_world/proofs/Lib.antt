@@ -1,0 +1,6 @@
+pub mod Tools
+pub mod NodeTurns
+pub mod Keeping
+pub mod NodeSteps
+pub mod ChiefSteps
+pub mod Reaching

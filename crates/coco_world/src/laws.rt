@@ -1,0 +1,29 @@
+//! The agreement of nodes and coordinator, over every list of steps: letters lost, late and repeated, nodes that
+//! stop at any moment, and crashes of the whole process.
+
+ghost use Rattle.coco_world.specs.Laws.{InEachWorld, PromotesOnlyCommitted, NeverRevertedLater, NeverRevertedEarlier, CommittedStays, DurableGrows, FinishedHasSaid, SaysOnlyFinished};
+ghost use Rattle.coco_world.specs.Agreement.{Holds};
+
+/// What one node makes stable is committed, is prepared by every node, and is taken back by none.
+pub fn agreement()
+    ensures committed { InEachWorld PromotesOnlyCommitted }
+    ensures never_later { InEachWorld NeverRevertedLater }
+    ensures never_earlier { InEachWorld NeverRevertedEarlier }
+{}
+
+/// What is known of each core, each letter and each durable entry.
+pub fn invariant()
+    ensures { InEachWorld Holds }
+{}
+
+/// What is committed or durable stays so, over every list of steps.
+pub fn nothing_is_forgotten()
+    ensures committed { InEachWorld CommittedStays }
+    ensures durable { InEachWorld DurableGrows }
+{}
+
+/// The coordinator holds a node for finished only where it has finished.
+pub fn finished_nodes_have_finished()
+    ensures said { InEachWorld FinishedHasSaid }
+    ensures finished { InEachWorld SaysOnlyFinished }
+{}

@@ -1,0 +1,6 @@
+//! Worlds of a coordinator and its nodes: what holds over every list of steps.
+#![tactic(auto)]
+
+pub mod laws;
+
+pub use laws::{agreement, finished_nodes_have_finished, invariant, nothing_is_forgotten};
