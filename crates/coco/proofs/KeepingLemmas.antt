@@ -4,7 +4,9 @@ use Rattle.std.specs.List.{AllByRecursion, IsDistinct}
 use Rattle.std.specs.Option.{option_or}
 use Rattle.std.proofs.lemmas.Cmp.{nat_eq_equiv}
 use Rattle.coco_types.specs.declared.call.Done.{Done}
-use Rattle.coco_ast.specs.History.{done_of, ids_of}
+use Rattle.coco_ast.specs.History.{done_of, ids_of, kept_of}
+use Rattle.coco_kept.specs.Keeping.{Keeping, newest_epoch}
+use Rattle.coco_kept.proofs.KeepLemmas.{kept_all}
 use Rattle.coco_ast.proofs.GrowthLemmas.{done_of-append}
 
 still_absent : (xs : List Done) (d e : Done) → nat_eq d.id e.id ≡ false → done_of e.id xs ≡ None → done_of e.id (xs ++ d ∷ []) ≡ None
@@ -18,28 +20,37 @@ pub still_new : (xs : List Done) (d : Done) (rest : List Done) → AllByRecursio
 still_new xs d [] differ none = tt
 still_new xs d (e ∷ rest) differ none = (still_absent xs d e differ.0 none.0, still_new xs d rest differ.1 none.1)
 
--- on the way: these records are kept, those are left, and all of them were to be kept behind the ones at the start
-pub record IsKeeping (kept left start dones : List Done) (room : ℕ) : Type 0 where
-  pub all : kept ++ left ≡ start ++ dones
+-- on the way: these records are kept, those are left, all of the epoch, and all of them were to be kept behind the ones at the start
+pub record IsKeeping (k : Keeping) (left start dones : List Done) (epoch : ℕ) : Type 0 where
+  pub all : k.dones ++ left ≡ start ++ dones
   pub distinct : IsDistinct nat_eq (ids_of left)
-  pub absent : AllByRecursion (λ (d : Done). done_of d.id kept ≡ None) left
-  pub few : length kept + length left ≤ 1048576
-  pub room_left : length left ≤ room
-  pub grows : length start ≤ length kept
+  pub absent : AllByRecursion (λ (d : Done). done_of d.id k.dones ≡ None) left
+  pub few : length k.dones + length left ≤ 1048576
+  pub room : length left ≤ k.room
+  pub grows : length start ≤ length k.dones
+  pub keep : k.keep ≡ None
+  pub newest : newest_epoch k.dones ≤ epoch
+  pub epochs : AllByRecursion (λ (d : Done). d.epoch ≡ epoch) left
 
-keep_next : (kept rest start dones : List Done) (d : Done) (room less : ℕ) → room ≤ less + 1 → IsKeeping kept (d ∷ rest) start dones room → IsKeeping (kept ++ d ∷ []) rest start dones less
+keep_next : (k l : Keeping) (rest start dones : List Done) (d : Done) (epoch : ℕ) → l.dones ≡ k.dones ++ d ∷ [] → k.room ≤ l.room + 1 → l.keep ≡ k.keep → newest_epoch l.dones ≡ d.epoch
+    → IsKeeping k (d ∷ rest) start dones epoch → IsKeeping l rest start dones epoch
 unfolding IsDistinct
-keep_next kept rest start dones d room less some h = record {
-  all = append_assoc kept (d ∷ []) rest ∙ h.all;
-  distinct = h.distinct.1;
-  absent = still_new kept d rest h.distinct.0 h.absent.1;
-  few = omega (arith, length-append kept (d ∷ []), h.few);
-  room_left = omega (arith, h.room_left);
-  grows = omega (arith, length-append kept (d ∷ []), h.grows);
-}
+keep_next k l rest start dones d epoch grown some keep newest h =
+    let longer : length l.dones ≡ length k.dones + 1 = ap (length {A = Done}) grown ∙ length-append k.dones (d ∷ []) in
+    record {
+      all = ap (λ ds. ds ++ rest) grown ∙ append_assoc k.dones (d ∷ []) rest ∙ h.all;
+      distinct = h.distinct.1;
+      absent = subst (λ ds. AllByRecursion (λ (e : Done). done_of e.id ds ≡ None) rest) (sym grown) (still_new k.dones d rest h.distinct.0 h.absent.1);
+      few = omega (arith, longer, h.few);
+      room = omega (arith, h.room);
+      grows = omega (arith, longer, h.grows);
+      keep = keep ∙ h.keep;
+      newest = omega (arith, newest, h.epochs.0);
+      epochs = h.epochs.1;
+    }
 
-pub keep_more : (kept more left rest start dones : List Done) (d : Done) (room less : ℕ) → left ≡ d ∷ rest → more ≡ kept ++ d ∷ [] → room ≤ less + 1
-    → IsKeeping kept left start dones room → IsKeeping more rest start dones less
-keep_more kept more left rest start dones d room less next grown some h =
-    subst (λ ds. IsKeeping ds rest start dones less) (sym grown)
-    (keep_next kept rest start dones d room less some (subst (λ ds. IsKeeping kept ds start dones room) next h))
+pub keep_more : (k l : Keeping) (left rest start dones : List Done) (d : Done) (epoch : ℕ) → left ≡ d ∷ rest → l.dones ≡ kept_of k.keep (k.dones ++ d ∷ []) → k.room ≤ l.room + 1 → l.keep ≡ k.keep → newest_epoch l.dones ≡ d.epoch
+    → IsKeeping k left start dones epoch → IsKeeping l rest start dones epoch
+keep_more k l left rest start dones d epoch next kept some keep newest h =
+    keep_next k l rest start dones d epoch (kept ∙ ap (λ n. kept_of n (k.dones ++ d ∷ [])) h.keep ∙ kept_all (k.dones ++ d ∷ [])) some keep newest
+    (subst (λ ds. IsKeeping k ds start dones epoch) next h)

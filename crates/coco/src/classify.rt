@@ -50,7 +50,8 @@ fn class_of_request(procs: &Checked, kept: &Kept, fresh: &NewRequests, request: 
     match kept.find(request.id, &request.call) {
         Found::Same => return Class::Same(request.id),
         Found::Reused => return Class::Refused(LineError::Reused),
-        Found::New => {}
+        // Nothing is forgotten without a keep number.
+        Found::New | Found::Old => {}
     }
     match fresh.call_of(request.id) {
         Some(call) if *call == request.call => Class::Same(request.id),

@@ -1,10 +1,11 @@
 //! What a run holds of its history, and how it grows by an epoch.
 
-ghost use Rattle.std.specs.Prelude.{◌≡◌, ◌+◌, ◌<◌, ◌≤◌, ℕ, [], ◌++◌, length, None, OnOk, nat_eq, map};
+ghost use Rattle.std.specs.Prelude.{◌≡◌, ◌+◌, ◌<◌, ◌≤◌, ℕ, [], ◌++◌, length, None, OnOk, OnErr, nat_eq, map};
 ghost use Rattle.std.specs.List.{AllByRecursion, IsDistinct};
 ghost use Rattle.coco_types.specs.declared.call.Done.{Done as Record};
 ghost use Rattle.coco_ast.specs.Builtins.{builtins};
 ghost use Rattle.coco_ast.specs.History.{done_of, ids_of};
+ghost use Rattle.coco_kept.specs.Keeping.{newest_epoch};
 
 use crate::execution::run_in_order;
 use crate::new_requests::NewRequests;
@@ -21,6 +22,8 @@ pub struct HeldHistory {
     pub last_epoch: u64,
     ghost counted: { last_epoch ≤ length kept.dones },
     ghost few: { length kept.dones ≤ 1048576 },
+    ghost whole: { kept.keep ≡ None },
+    ghost newest: { newest_epoch kept.dones ≤ last_epoch },
 }
 
 impl HeldHistory {
@@ -35,7 +38,7 @@ impl HeldHistory {
     {
         HeldHistory {
             executor: Executor::new(alloc),
-            kept: Kept::new(alloc),
+            kept: Kept::new(alloc, None, None),
             last_epoch: 0,
         }
     }
@@ -52,20 +55,25 @@ impl HeldHistory {
         let epoch = self.last_epoch + 1;
         let order = fresh.into_commit_order(alloc)?;
         let dones = run_in_order(alloc, &mut self.executor, epoch, order)?;
-        keep_all(alloc, &mut self.kept, dones)?;
+        keep_all(alloc, &mut self.kept, epoch, dones)?;
         self.last_epoch = epoch;
         Ok(())
     }
 }
 
-/// Keeps these records behind the others. Out of memory, some of them may be kept.
-fn keep_all(alloc: Global, kept: &mut Kept, dones: Vec<Done>) -> Result<(), NoMemory>
+/// Keeps these records of an epoch behind the others. Out of memory, none of them is kept.
+fn keep_all(alloc: Global, kept: &mut Kept, epoch: u64, dones: Vec<Done>) -> Result<(), NoMemory>
     requires distinct { IsDistinct nat_eq (ids_of dones.items) }
     requires absent { AllByRecursion (λ (d : Record). done_of d.id kept.old.dones ≡ None) dones.items }
     requires few { length kept.old.dones + length dones.items ≤ 1048576 }
+    requires whole { kept.old.keep ≡ None }
+    requires newest { newest_epoch kept.old.dones ≤ epoch }
+    requires epochs { AllByRecursion (λ (d : Record). d.epoch ≡ epoch) dones.items }
     ensures ok { OnOk result (kept.new.dones ≡ kept.old.dones ++ dones.items) }
-    ensures grows { length kept.old.dones ≤ length kept.new.dones }
+    ensures err { OnErr result (kept.new.dones ≡ kept.old.dones) }
     ensures few { length kept.new.dones ≤ 1048576 }
+    ensures whole { kept.new.keep ≡ None }
+    ensures newest { newest_epoch kept.new.dones ≤ epoch }
 {
     let ids: Vec<u64> = dones.iter().map(|done| done.id).collect(alloc)?;
     kept.reserve(ids.as_slice())?;

@@ -1,2 +1,6 @@
-pub mod CallerLemmas
-pub mod Entries
+pub mod Counts
+pub mod Filters
+pub mod HoldLemmas
+pub mod KeepLemmas
+pub mod Numbers
+pub mod PlaceLemmas

@@ -1,12 +1,20 @@
-use Rattle.std.specs.Prelude.{◌≡◌, ℕ, List, None, Some}
+-- What an id and a call are to the kept records.
+use Rattle.std.specs.Prelude.{◌≡◌, ℕ, Bool, true, false, nat_le, Option, None, Some}
 use Rattle.coco_types.specs.declared.call.Call.{Call}
 use Rattle.coco_types.specs.declared.call.Done.{Done}
-use Rattle.coco_kept.specs.Keeping.{done_of}
+use Rattle.coco_ast.specs.History.{done_of}
+use Rattle.coco_kept.specs.Keeping.{Keeping}
 use Rattle.coco_kept.specs.declared.kept.Found.{Found}
-use Rattle.coco_kept.specs.declared.kept.Found.TheVariants.{New, Same, Reused}
+use Rattle.coco_kept.specs.declared.kept.Found.TheVariants.{New, Same, Reused, Old}
 
--- what a request with this id and this call is: new, the same as a kept one, or another under a kept one's id
-abbrev pub IsFound : List Done → ℕ → Call → Found → Type 0
-IsFound dones id call New = done_of id dones ≡ None
-IsFound dones id call Same = (done : Done) × (done_of id dones ≡ Some done) × (done.call ≡ call)
-IsFound dones id call Reused = (done : Done) × (done_of id dones ≡ Some done) × (¬ (done.call ≡ call))
+-- whether an id is at most the floor
+abbrev pub is_up_to : Option ℕ → ℕ → Bool
+is_up_to None id = false
+is_up_to (Some floor) id = nat_le id floor
+
+-- a held id goes by the call of its record, and any other one by the floor
+abbrev pub IsFound : Keeping → ℕ → Call → Found → Type 0
+IsFound k id call New = (done_of id k.dones ≡ None) × (is_up_to k.floor id ≡ false)
+IsFound k id call Same = (done : Done) × (done_of id k.dones ≡ Some done) × (done.call ≡ call)
+IsFound k id call Reused = (done : Done) × (done_of id k.dones ≡ Some done) × (¬ (done.call ≡ call))
+IsFound k id call Old = (done_of id k.dones ≡ None) × (is_up_to k.floor id ≡ true)

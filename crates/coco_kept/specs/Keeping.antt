@@ -1,25 +1,27 @@
-use Rattle.std.specs.Prelude.{◌≡◌, ℕ, ◌≤◌, List, map, length, find, nat_eq, Option}
+-- What contracts see of the kept records, and which of the records that were added are kept.
+use Rattle.std.specs.Prelude.{◌≡◌, ℕ, max, List, [], ◌∷◌, Option, nat_eq}
 use Rattle.std.specs.List.{IsDistinct}
-use Rattle.std.specs.Map.{keys_of, values_of}
 use Rattle.coco_types.specs.declared.call.Done.{Done}
+use Rattle.coco_ast.specs.History.{ids_of, kept_of, floor_of}
 
--- the records in order of commit, and how many more fit without memory
+-- The records that are held, in order of commit; the greatest id that was forgotten; of how many of the last epochs records
+-- are kept, all where it isn't said; and how many more records fit without memory.
 pub record Keeping : Type 0 where
   pub dones : List Done
+  pub floor : Option ℕ
+  pub keep : Option ℕ
   pub room : ℕ
-
-abbrev pub ids_of : List Done → List ℕ
-ids_of dones = map (λ d. d.id) dones
 
 -- each id has one record
 abbrev pub HasDistinctIds : List Done → Type 0
 HasDistinctIds dones = IsDistinct nat_eq (ids_of dones)
 
--- the record of an id
-abbrev pub done_of : ℕ → List Done → Option Done
-done_of id dones = find (λ d. nat_eq id d.id) dones
+-- the greatest epoch of the records, and 0 where there is none
+abbrev pub newest_epoch : List Done → ℕ
+newest_epoch [] = 0
+newest_epoch (d ∷ dones) = max d.epoch (newest_epoch dones)
 
--- each record stands under its id, and there are at most 1,048,576
-pub record AreKeptById (entries : List (ℕ × Done)) : Type 0 where
-  pub keyed : keys_of entries ≡ ids_of (values_of entries)
-  pub few : length entries ≤ 1048576
+-- the kept ones of these records are held, and the floor is theirs, over the one from before them
+pub record HoldsKept (k : Keeping) (before : Option ℕ) (added : List Done) : Type 0 where
+  pub kept : k.dones ≡ kept_of k.keep added
+  pub floor : k.floor ≡ floor_of k.keep before added

@@ -3,4 +3,4 @@
 
 pub mod kept;
 
-pub use kept::{Found, Kept, MOST_DONES};
+pub use kept::{Found, Kept};

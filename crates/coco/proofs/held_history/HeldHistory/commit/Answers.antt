@@ -33,6 +33,8 @@ invariant_of-self-2 c =
     record {
       counted = omega (arith, many, c.args.self.now.counted, c.len.ensures.len, c.if-len-eq0.false, ap (length {A = Done}) c.in_ok-keep_all.ensures.ok, length-append c.args.self.now.kept.dones c.in_ok-dones.dones.items);
       few = c.in_ok-keep_all.ensures.few;
+      whole = c.in_ok-keep_all.ensures.whole;
+      newest = c.in_ok-keep_all.ensures.newest;
     }
 
 pub returns : goal.returns
