@@ -5,6 +5,7 @@ use Rattle.coco_types.specs.declared.call.Done.{Done}
 use Rattle.coco_types.specs.declared.call.Request.{Request}
 use Rattle.coco_ast.specs.History.{request_of}
 use Rattle.coco_ast.specs.Tree.{Procedures}
+use Rattle.coco_kept.specs.Keeping.{Keeping}
 use Rattle.coco_lines.specs.Classes.{AreClasses, IsClass, Known, and_known, new_in, new_of}
 use Rattle.coco_lines.specs.Lines.{Line}
 use Rattle.coco_lines.specs.ReaderState.{ReaderState}
@@ -117,19 +118,19 @@ classes_more procs k (l ∷ lines) (d ∷ cs) line c are is =
     (are.0, classes_more procs (and_known k (new_in d)) lines cs line c are.1 (subst (λ rs. IsClass procs (with k rs) line c) (sym (append_assoc k.requests (new_in d) (new_of cs))) is))
 
 -- what is known before the next line, with the new requests of the lines so far
-known_again : (procs : Procedures) (held : List Done) (fresh news : List Request) (line : Line) (c : Class) → fresh ≡ news → IsClass procs (known_of held fresh) line c
+known_again : (procs : Procedures) (held : Keeping) (fresh news : List Request) (line : Line) (c : Class) → fresh ≡ news → IsClass procs (known_of held fresh) line c
     → IsClass procs (and_known (known_of held []) news) line c
 known_again procs held fresh news line c same is =
-    subst (λ rs. IsClass procs (with (known_of held []) rs) line c) (ap (λ rs. map request_of held ++ rs) same ∙ ap (λ l. l ++ news) (sym (append-nil (map request_of held)))) is
+    subst (λ rs. IsClass procs (with (known_of held []) rs) line c) (ap (λ rs. map request_of held.dones ++ rs) same ∙ ap (λ l. l ++ news) (sym (append-nil (map request_of held.dones)))) is
 
 -- what one line more does to a batch
-pub record TakesIn (procs : Procedures) (held : List Done) (bytes : List ℕ) (number : ℕ) (old new : Batch) : Type 0 where
+pub record TakesIn (procs : Procedures) (held : Keeping) (bytes : List ℕ) (number : ℕ) (old new : Batch) : Type 0 where
   pub class : Class
   pub is : IsClass procs (known_of held old.fresh) bytes class
   pub answers : new.answers.items ≡ old.answers.items ++ answer_of number class ∷ []
   pub fresh : new.fresh ≡ old.fresh ++ new_in class
 
-pub taking_more : (procs : Procedures) (held : List Done) (old mid new : ReaderState) (a b c : SourceMoment) (batch grown : Batch) (line : Given) (found : Option Given) → found ≡ Some line
+pub taking_more : (procs : Procedures) (held : Keeping) (old mid new : ReaderState) (a b c : SourceMoment) (batch grown : Batch) (line : Given) (found : Option Given) → found ≡ Some line
     → mid.given ≡ old.given + length batch.answers.items → Reads mid new b c (Ok found) → ((bytes : List ℕ) → line.body ≡ body_of bytes → TakesIn procs held bytes line.number batch grown)
     → Taking procs (known_of held []) old mid a b batch → Taking procs (known_of held []) old new a c grown
 taking_more procs held old mid new a b c batch grown line found is place reads takes t =

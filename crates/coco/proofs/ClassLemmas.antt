@@ -14,10 +14,12 @@ use Rattle.coco_ast.specs.History.{done_of, ids_of, request_of}
 use Rattle.coco_ast.proofs.Lists.{all_swap, distinct_append}
 use Rattle.coco_ast.proofs.GrowthLemmas.{no_ids}
 use Rattle.coco_ast.specs.Tree.{Procedures}
-use Rattle.coco_lines.specs.Classes.{request_tests}
+use Rattle.coco_kept.specs.Finding.{is_up_to}
+use Rattle.coco_kept.specs.Keeping.{Keeping}
+use Rattle.coco_lines.specs.Classes.{is_old, request_tests}
 use Rattle.coco_lines.specs.Reading.{first_that_fits}
 use Rattle.coco_lines.specs.declared.class.Class.TheVariants.{Refused, Same, New}
-use Rattle.coco_lines.specs.declared.error.LineError.TheVariants.{Reused, Full}
+use Rattle.coco_lines.specs.declared.error.LineError.TheVariants.{Reused, Old, Full}
 use Rattle.coco.specs.Asking.{MayCommit, request_under}
 use Rattle.coco.specs.Standing.{known_of}
 
@@ -145,31 +147,42 @@ known_once procs ds before once new =
 
 -- ---- classes
 
-module _ (ds : List Done) (before : List Request) (r : Request) where
-  pub same_class : (q : Request) → request_under r.id (map request_of ds ++ before) ≡ Some q → q.call ≡ r.call → first_that_fits (request_tests (known_of ds before) (Some r)) ≡ Some (Same r.id)
-  same_class q found same = rw (same_by r q (map request_of ds ++ before) found same)
+old_is : (f : Option ℕ) (r : Request) → is_old f r ≡ is_up_to f r.id
+old_is None r = refl
+old_is (Some n) r = refl
 
-  pub reused_class : (q : Request) → IsDistinct nat_eq (ids (map request_of ds ++ before)) → request_under r.id (map request_of ds ++ before) ≡ Some q → ¬ (q.call ≡ r.call)
-      → first_that_fits (request_tests (known_of ds before) (Some r)) ≡ Some (Refused Reused)
-  reused_class q once found other = rw (other_by r q (map request_of ds ++ before) once found other, known_by r q (map request_of ds ++ before) found)
+module _ (k : Keeping) (before : List Request) (r : Request) where
+  pub same_class : (q : Request) → request_under r.id (map request_of k.dones ++ before) ≡ Some q → q.call ≡ r.call → first_that_fits (request_tests (known_of k before) (Some r)) ≡ Some (Same r.id)
+  same_class q found same = rw (same_by r q (map request_of k.dones ++ before) found same)
 
-  full_or_new : (b : Bool) → nat_le 1048576 (length (map request_of ds ++ before)) ≡ b → request_under r.id (map request_of ds ++ before) ≡ None
-      → first_that_fits (request_tests (known_of ds before) (Some r)) ≡ cond b (Some (Refused Full)) (Some (New r))
-  full_or_new b full none =
-      let unknown = unknown_by r (map request_of ds ++ before) none in
-      rw (none_same r (map request_of ds ++ before) unknown, unknown, full)
+  pub reused_class : (q : Request) → IsDistinct nat_eq (ids (map request_of k.dones ++ before)) → request_under r.id (map request_of k.dones ++ before) ≡ Some q → ¬ (q.call ≡ r.call)
+      → first_that_fits (request_tests (known_of k before) (Some r)) ≡ Some (Refused Reused)
+  reused_class q once found other = rw (other_by r q (map request_of k.dones ++ before) once found other, known_by r q (map request_of k.dones ++ before) found)
 
-  count : length (map request_of ds ++ before) ≡ length ds + length before
-  count = omega (arith, length-append (map request_of ds) before, length-map ds request_of)
+  pub old_class : request_under r.id (map request_of k.dones ++ before) ≡ None → is_up_to k.floor r.id ≡ true → first_that_fits (request_tests (known_of k before) (Some r)) ≡ Some (Refused Old)
+  old_class none old =
+      let unknown = unknown_by r (map request_of k.dones ++ before) none in
+      rw (none_same r (map request_of k.dones ++ before) unknown, unknown, old_is k.floor r ∙ old)
 
-  pub full_class : request_under r.id (map request_of ds ++ before) ≡ None → 1048576 ≤ length ds + length before → first_that_fits (request_tests (known_of ds before) (Some r)) ≡ Some (Refused Full)
-  full_class none many =
-      let at_least : 1048576 ≤ length (map request_of ds ++ before) = omega (arith, count) in
-      let full : nat_le 1048576 (length (map request_of ds ++ before)) ≡ true = grind (arith, nat_tests) in
-      full_or_new true full none
+  full_or_new : (b : Bool) → nat_le 1048576 (length (map request_of k.dones ++ before)) ≡ b → is_up_to k.floor r.id ≡ false → request_under r.id (map request_of k.dones ++ before) ≡ None
+      → first_that_fits (request_tests (known_of k before) (Some r)) ≡ cond b (Some (Refused Full)) (Some (New r))
+  full_or_new b full unold none =
+      let unknown = unknown_by r (map request_of k.dones ++ before) none in
+      rw (none_same r (map request_of k.dones ++ before) unknown, unknown, old_is k.floor r ∙ unold, full)
 
-  pub new_class : request_under r.id (map request_of ds ++ before) ≡ None → length ds + length before < 1048576 → first_that_fits (request_tests (known_of ds before) (Some r)) ≡ Some (New r)
-  new_class none few =
-      let below : length (map request_of ds ++ before) < 1048576 = omega (arith, count) in
-      let room : nat_le 1048576 (length (map request_of ds ++ before)) ≡ false = grind (arith, nat_tests) in
-      full_or_new false room none
+  count : length (map request_of k.dones ++ before) ≡ length k.dones + length before
+  count = omega (arith, length-append (map request_of k.dones) before, length-map k.dones request_of)
+
+  pub full_class : request_under r.id (map request_of k.dones ++ before) ≡ None → is_up_to k.floor r.id ≡ false → 1048576 ≤ length k.dones + length before
+      → first_that_fits (request_tests (known_of k before) (Some r)) ≡ Some (Refused Full)
+  full_class none unold many =
+      let at_least : 1048576 ≤ length (map request_of k.dones ++ before) = omega (arith, count) in
+      let full : nat_le 1048576 (length (map request_of k.dones ++ before)) ≡ true = grind (arith, nat_tests) in
+      full_or_new true full unold none
+
+  pub new_class : request_under r.id (map request_of k.dones ++ before) ≡ None → is_up_to k.floor r.id ≡ false → length k.dones + length before < 1048576
+      → first_that_fits (request_tests (known_of k before) (Some r)) ≡ Some (New r)
+  new_class none unold few =
+      let below : length (map request_of k.dones ++ before) < 1048576 = omega (arith, count) in
+      let room : nat_le 1048576 (length (map request_of k.dones ++ before)) ≡ false = grind (arith, nat_tests) in
+      full_or_new false room unold none

@@ -149,13 +149,14 @@ may_grow procs held requests h s new =
     }
 
 stands_more : (procs : Procedures) (old new : HeldHistory) (requests : List Request) (ds : List Done) (h : History) → (s : Stands procs old h) → IsGrowth h requests (epoch_at old.last_epoch ds)
-    → RepliesAreRuns procs old.executor ds → new.executor ≡ rows_after procs old.executor ds → new.kept.dones ≡ old.kept.dones ++ ds → new.last_epoch ≡ old.last_epoch + 1
+    → RepliesAreRuns procs old.executor ds → new.executor ≡ rows_after procs old.executor ds → new.kept.dones ≡ old.kept.dones ++ ds → new.kept.floor ≡ None → new.last_epoch ≡ old.last_epoch + 1
     → IsOrdered (followed_by h (epoch_at old.last_epoch ds)) → Stands procs new (followed_by h (epoch_at old.last_epoch ds))
-stands_more procs old new requests ds h s is replies rows dones last ordered =
+stands_more procs old new requests ds h s is replies rows dones forgotten last ordered =
     let e = epoch_at old.last_epoch ds in
     record {
       keep = s.keep;
       floor = s.floor;
+      forgotten = forgotten;
       dones = dones ∙ ap (λ (xs : List Done). xs ++ ds) s.dones ∙ sym (dones_behind h e);
       rows = rows ∙ ap (λ (m : Rows). rows_after procs m ds) s.rows ∙ sym (rows_behind procs h e);
       last = last ∙ sym (last_push h.base.epoch h.epochs e);
@@ -165,11 +166,11 @@ stands_more procs old new requests ds h s is replies rows dones last ordered =
 
 pub committed : (procs : Procedures) (old new : HeldHistory) (requests : List Request) (ds : List Done) → 0 < length requests → IsCommitOrder requests (map timed_of ds)
     → AllByRecursion (λ (d : Done). d.epoch ≡ old.last_epoch + 1) ds → RepliesAreRuns procs old.executor ds → new.executor ≡ rows_after procs old.executor ds
-    → new.kept.dones ≡ old.kept.dones ++ ds → new.last_epoch ≡ old.last_epoch + 1 → MayCommit procs old.kept.dones requests → Commits procs requests old new
-committed procs old new [] ds some order numbers replies rows dones last may = absurd (omega arith)
-committed procs old new (r ∷ rs) ds some order numbers replies rows dones last may = λ h s.
+    → new.kept.dones ≡ old.kept.dones ++ ds → new.kept.floor ≡ None → new.last_epoch ≡ old.last_epoch + 1 → MayCommit procs old.kept.dones requests → Commits procs requests old new
+committed procs old new [] ds some order numbers replies rows dones forgotten last may = absurd (omega arith)
+committed procs old new (r ∷ rs) ds some order numbers replies rows dones forgotten last may = λ h s.
     let e = epoch_at old.last_epoch ds in
     let is = grown_at old.last_epoch (r ∷ rs) ds order numbers may.distinct h s.last in
     let grows : GrowsBy h (r ∷ rs) (followed_by h e) = (e, is.1.greater, is.1.epoch, refl) in
     let ordered = (growth_keeps h (r ∷ rs) (followed_by h e) grows).ordered s.ordered (may_grow procs old (r ∷ rs) h s may) in
-    (followed_by h e, (grows, (e, is.0, refl)), stands_more procs old new (r ∷ rs) ds h s is.1 replies rows dones last ordered)
+    (followed_by h e, (grows, (e, is.0, refl)), stands_more procs old new (r ∷ rs) ds h s is.1 replies rows dones forgotten last ordered)

@@ -4,9 +4,9 @@ use Rattle.std.specs.List.{AllByRecursion, IsDistinct}
 use Rattle.std.specs.Option.{option_or}
 use Rattle.std.proofs.lemmas.Cmp.{nat_eq_equiv}
 use Rattle.coco_types.specs.declared.call.Done.{Done}
-use Rattle.coco_ast.specs.History.{done_of, ids_of, kept_of}
+use Rattle.coco_ast.specs.History.{done_of, floor_of, greatest_with, ids_of, kept_of}
 use Rattle.coco_kept.specs.Keeping.{Keeping, newest_epoch}
-use Rattle.coco_kept.proofs.KeepLemmas.{kept_all}
+use Rattle.coco_kept.proofs.KeepLemmas.{forgotten_none, kept_all}
 use Rattle.coco_ast.proofs.GrowthLemmas.{done_of-append}
 
 still_absent : (xs : List Done) (d e : Done) → nat_eq d.id e.id ≡ false → done_of e.id xs ≡ None → done_of e.id (xs ++ d ∷ []) ≡ None
@@ -29,13 +29,14 @@ pub record IsKeeping (k : Keeping) (left start dones : List Done) (epoch : ℕ) 
   pub room : length left ≤ k.room
   pub grows : length start ≤ length k.dones
   pub keep : k.keep ≡ None
+  pub floor : k.floor ≡ None
   pub newest : newest_epoch k.dones ≤ epoch
   pub epochs : AllByRecursion (λ (d : Done). d.epoch ≡ epoch) left
 
-keep_next : (k l : Keeping) (rest start dones : List Done) (d : Done) (epoch : ℕ) → l.dones ≡ k.dones ++ d ∷ [] → k.room ≤ l.room + 1 → l.keep ≡ k.keep → newest_epoch l.dones ≡ d.epoch
+keep_next : (k l : Keeping) (rest start dones : List Done) (d : Done) (epoch : ℕ) → l.dones ≡ k.dones ++ d ∷ [] → k.room ≤ l.room + 1 → l.keep ≡ k.keep → l.floor ≡ k.floor → newest_epoch l.dones ≡ d.epoch
     → IsKeeping k (d ∷ rest) start dones epoch → IsKeeping l rest start dones epoch
 unfolding IsDistinct
-keep_next k l rest start dones d epoch grown some keep newest h =
+keep_next k l rest start dones d epoch grown some keep floor newest h =
     let longer : length l.dones ≡ length k.dones + 1 = ap (length {A = Done}) grown ∙ length-append k.dones (d ∷ []) in
     record {
       all = ap (λ ds. ds ++ rest) grown ∙ append_assoc k.dones (d ∷ []) rest ∙ h.all;
@@ -45,12 +46,14 @@ keep_next k l rest start dones d epoch grown some keep newest h =
       room = omega (arith, h.room);
       grows = omega (arith, longer, h.grows);
       keep = keep ∙ h.keep;
+      floor = floor ∙ h.floor;
       newest = omega (arith, newest, h.epochs.0);
       epochs = h.epochs.1;
     }
 
-pub keep_more : (k l : Keeping) (left rest start dones : List Done) (d : Done) (epoch : ℕ) → left ≡ d ∷ rest → l.dones ≡ kept_of k.keep (k.dones ++ d ∷ []) → k.room ≤ l.room + 1 → l.keep ≡ k.keep → newest_epoch l.dones ≡ d.epoch
+pub keep_more : (k l : Keeping) (left rest start dones : List Done) (d : Done) (epoch : ℕ) → left ≡ d ∷ rest → l.dones ≡ kept_of k.keep (k.dones ++ d ∷ []) → k.room ≤ l.room + 1 → l.keep ≡ k.keep → l.floor ≡ floor_of k.keep k.floor (k.dones ++ d ∷ []) → newest_epoch l.dones ≡ d.epoch
     → IsKeeping k left start dones epoch → IsKeeping l rest start dones epoch
-keep_more k l left rest start dones d epoch next kept some keep newest h =
-    keep_next k l rest start dones d epoch (kept ∙ ap (λ n. kept_of n (k.dones ++ d ∷ [])) h.keep ∙ kept_all (k.dones ++ d ∷ [])) some keep newest
+keep_more k l left rest start dones d epoch next kept some keep floor newest h =
+    keep_next k l rest start dones d epoch (kept ∙ ap (λ n. kept_of n (k.dones ++ d ∷ [])) h.keep ∙ kept_all (k.dones ++ d ∷ [])) some keep
+    (floor ∙ ap (λ n. floor_of n k.floor (k.dones ++ d ∷ [])) h.keep ∙ ap (λ ds. greatest_with k.floor (ids_of ds)) (forgotten_none (k.dones ++ d ∷ []))) newest
     (subst (λ ds. IsKeeping k ds start dones epoch) next h)

@@ -126,11 +126,11 @@ answers-append dones n (x ∷ xs) ys =
 abbrev known_by : Known → List Request → Option ℕ → Known
 known_by k rs f = record { requests = rs; floor = f }
 
-stands_known : (procs : Procedures) (held : HeldHistory) (h : History) → Stands procs held h → known_of held.kept.dones [] ≡ known_in h
+stands_known : (procs : Procedures) (held : HeldHistory) (h : History) → Stands procs held h → known_of held.kept [] ≡ known_in h
 stands_known procs held h s =
     let all = keeps_all h s.keep in
     let requests : map request_of held.kept.dones ++ [] ≡ map request_of (kept h) = append-nil (map request_of held.kept.dones) ∙ ap (map request_of) (s.dones ∙ sym all.held) in
-    let none : None ≡ floor h = sym (all.forgotten ∙ s.floor) in
+    let none : held.kept.floor ≡ floor h = s.forgotten ∙ sym (all.forgotten ∙ s.floor) in
     λ i. record { requests = requests i; floor = none i }
 
 classes_length : (procs : Procedures) (k : Known) (lines : List Line) (cs : List Class) → AreClasses procs k lines cs → length cs ≡ length lines
@@ -151,7 +151,7 @@ grown_so_far procs size reader before now held said says a = record { grown = a.
 -- ---- one batch more
 
 module _ (procs : Procedures) (size : ℕ) (reader reader' : ReaderState) (before mid now : SourceMoment) (held held' : HeldHistory) (said says says' : Option (List ℕ)) (batch : Batch)
-    (a : AreAnswered procs size reader before mid held said says) (r : ReadsBatch procs (known_of held.kept.dones []) reader reader' mid now size batch) (commits : Commits procs batch.fresh held held') where
+    (a : AreAnswered procs size reader before mid held said says) (r : ReadsBatch procs (known_of held.kept []) reader reader' mid now size batch) (commits : Commits procs batch.fresh held held') where
   abbrev lines : List Line
   lines = r.taking.lines
 
@@ -193,7 +193,7 @@ module _ (procs : Procedures) (size : ℕ) (reader reader' : ReaderState) (befor
 
   many_more : length (joined (a.classes ++ r.taking.classes ∷ [])) ≡ length (joined (a.batches ++ lines ∷ []))
   many_more =
-      let counted = classes_length procs (known_of held.kept.dones []) lines r.taking.classes r.taking.are in
+      let counted = classes_length procs (known_of held.kept []) lines r.taking.classes r.taking.are in
       omega (
         arith,
         a.many,
@@ -314,7 +314,7 @@ module _ (procs : Procedures) (size : ℕ) (reader reader' : ReaderState) (befor
 
 -- the answers of the next batch break off
 pub cut_front : (procs : Procedures) (size : ℕ) (reader reader' : ReaderState) (before mid now : SourceMoment) (held held' : HeldHistory) (said says says' : Option (List ℕ)) (batch : Batch)
-    → AreAnswered procs size reader before mid held said says → ReadsBatch procs (known_of held.kept.dones []) reader reader' mid now size batch → SaysPart procs batch says says' held held'
+    → AreAnswered procs size reader before mid held said says → ReadsBatch procs (known_of held.kept []) reader reader' mid now size batch → SaysPart procs batch says says' held held'
     → WithBytes before now (λ bytes. AnswersFront procs no_history size bytes said says')
 cut_front procs size reader reader' before mid now held held' said says says' batch a r (inl same) =
     let t = takes_both new_reader reader reader' before mid now (joined a.batches) r.taking.lines reader'.pending a.takes r.taking.takes in

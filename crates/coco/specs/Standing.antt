@@ -1,9 +1,9 @@
 -- Which history is held, and what of it is known before a line.
 use Rattle.std.specs.Prelude.{◌≡◌, List, ◌++◌, map, None}
-use Rattle.coco_types.specs.declared.call.Done.{Done}
 use Rattle.coco_types.specs.declared.call.Request.{Request}
 use Rattle.coco_ast.specs.History.{History, IsOrdered, IsSerial, all_dones, last_epoch, map_of, request_of}
 use Rattle.coco_ast.specs.Tree.{Procedures}
+use Rattle.coco_kept.specs.Keeping.{Keeping}
 use Rattle.coco_lines.specs.Classes.{Known}
 use Rattle.coco.specs.declared.held_history.HeldHistory.{HeldHistory}
 
@@ -12,11 +12,12 @@ pub record Stands (procs : Procedures) (held : HeldHistory) (h : History) : Type
   pub keep : h.keep ≡ None
   pub floor : h.base.floor ≡ None
   pub dones : held.kept.dones ≡ all_dones h
+  pub forgotten : held.kept.floor ≡ None
   pub rows : held.executor ≡ map_of procs h
   pub last : held.last_epoch ≡ last_epoch h
   pub ordered : IsOrdered h
   pub serial : IsSerial procs h
 
--- the requests of these Dones are known, and these new ones behind them; nothing was forgotten
-abbrev pub known_of : List Done → List Request → Known
-known_of dones before = record { requests = map request_of dones ++ before; floor = None }
+-- the requests of the kept Dones are known, and these new ones behind them
+abbrev pub known_of : Keeping → List Request → Known
+known_of k before = record { requests = map request_of k.dones ++ before; floor = k.floor }

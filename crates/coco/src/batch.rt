@@ -49,7 +49,7 @@ impl Batch {
     ) -> Result<(), NoMemory>
         requires new { MayCommit procs.now kept.now.dones self.old.fresh }
         ensures line { (bytes : List ℕ) → line.body ≡ body_of bytes → OnOk result ((c : LineClass)
-            × IsClass procs.now (known_of kept.now.dones self.old.fresh) bytes c
+            × IsClass procs.now (known_of kept.now self.old.fresh) bytes c
             × (self.new.answers.items ≡ self.old.answers.items ++ answer_of line.number c ∷ [])
             × (self.new.fresh ≡ self.old.fresh ++ new_in c)) }
         ensures one { OnOk result (length self.new.answers.items ≡ length self.old.answers.items + 1) }
@@ -84,7 +84,7 @@ pub fn read_batch<S: Source>(
 ) -> Result<Batch, LineFault>
     requires few { length kept.now.dones ≤ 1048576 }
     requires given { reader.old.given ≤ 2 ^ 62 }
-    ensures batch { IfOk result (ReadsBatch procs.now (known_of kept.now.dones []) reader.old reader.new
+    ensures batch { IfOk result (ReadsBatch procs.now (known_of kept.now []) reader.old reader.new
         (record { given = S.given source.old; left = S.remaining source.old; at_end = S.at_end source.old })
         (record { given = S.given source.new; left = S.remaining source.new; at_end = S.at_end source.new }) size) }
     ensures breaks { IfErr result (BreaksOff reader.old reader.new

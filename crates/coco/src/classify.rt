@@ -2,6 +2,8 @@
 
 ghost use Rattle.std.specs.Prelude.{◌≡◌, ◌+◌, ℕ, List, length, None, IfOk};
 ghost use Rattle.coco_ast.specs.Fitting.{Fits};
+ghost use Rattle.coco_ast.specs.History.{done_of};
+ghost use Rattle.coco_kept.specs.Finding.{is_up_to};
 ghost use Rattle.coco_lines.specs.Classes.{IsClass, request_tests};
 ghost use Rattle.coco_lines.specs.Reading.{first_that_fits};
 ghost use Rattle.coco_lines.specs.Reads.{body_of};
@@ -26,7 +28,7 @@ pub fn class_of(
     body: &Body,
 ) -> Result<Class, NoMemory>
     requires { MayCommit procs.now kept.now.dones fresh.now }
-    ensures class { (line : List ℕ) → body.now ≡ body_of line → IfOk result (IsClass procs.now (known_of kept.now.dones fresh.now) line) }
+    ensures class { (line : List ℕ) → body.now ≡ body_of line → IfOk result (IsClass procs.now (known_of kept.now fresh.now) line) }
     ensures allowed { IfOk result (IsAllowed procs.now kept.now.dones fresh.now) }
 {
     let bytes = match body {
@@ -43,19 +45,39 @@ pub fn class_of(
 fn class_of_request(procs: &Checked, kept: &Kept, fresh: &NewRequests, request: Request) -> Class
     requires new { MayCommit procs.now kept.now.dones fresh.now }
     requires fits { Fits procs.now request.call }
-    ensures class { first_that_fits (request_tests (known_of kept.now.dones fresh.now) (Some request)) ≡ Some result }
+    ensures class { first_that_fits (request_tests (known_of kept.now fresh.now) (Some request)) ≡ Some result }
+    ensures allowed { IsAllowed procs.now kept.now.dones fresh.now result }
+{
+    // It tells that the ids of what is held are distinct.
+    let _held = kept.len();
+    match kept.find(request.id, &request.call) {
+        Found::Same => Class::Same(request.id),
+        Found::Reused => Class::Refused(LineError::Reused),
+        Found::Old => class_of_unkept(procs, kept, fresh, request, true),
+        Found::New => class_of_unkept(procs, kept, fresh, request, false),
+    }
+}
+
+// The class of a request whose id isn't kept; it may be one that was forgotten.
+fn class_of_unkept(
+    procs: &Checked,
+    kept: &Kept,
+    fresh: &NewRequests,
+    request: Request,
+    old: bool,
+) -> Class
+    requires new { MayCommit procs.now kept.now.dones fresh.now }
+    requires fits { Fits procs.now request.call }
+    requires unkept { done_of request.id kept.now.dones ≡ None }
+    requires old { is_up_to kept.now.floor request.id ≡ old }
+    ensures class { first_that_fits (request_tests (known_of kept.now fresh.now) (Some request)) ≡ Some result }
     ensures allowed { IsAllowed procs.now kept.now.dones fresh.now result }
 {
     let held = kept.len();
-    match kept.find(request.id, &request.call) {
-        Found::Same => return Class::Same(request.id),
-        Found::Reused => return Class::Refused(LineError::Reused),
-        // Nothing is forgotten without a keep number.
-        Found::New | Found::Old => {}
-    }
     match fresh.call_of(request.id) {
         Some(call) if *call == request.call => Class::Same(request.id),
         Some(_) => Class::Refused(LineError::Reused),
+        None if old => Class::Refused(LineError::Old),
         None if fresh.len() as u64 >= MOST_KEPT - held => Class::Refused(LineError::Full),
         None => Class::New(request),
     }

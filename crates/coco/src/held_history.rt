@@ -1,6 +1,6 @@
 //! What a run holds of its history, and how it grows by an epoch.
 
-ghost use Rattle.std.specs.Prelude.{◌≡◌, ◌+◌, ◌<◌, ◌≤◌, ℕ, [], ◌++◌, length, None, OnOk, OnErr, nat_eq, map};
+ghost use Rattle.std.specs.Prelude.{◌≡◌, ◌+◌, ◌<◌, ◌≤◌, ℕ, [], ◌++◌, length, None, OnErr, OnOk, nat_eq, map};
 ghost use Rattle.std.specs.List.{AllByRecursion, IsDistinct};
 ghost use Rattle.coco_types.specs.declared.call.Done.{Done as Record};
 ghost use Rattle.coco_ast.specs.Builtins.{builtins};
@@ -23,6 +23,7 @@ pub struct HeldHistory {
     ghost counted: { last_epoch ≤ length kept.dones },
     ghost few: { length kept.dones ≤ 1048576 },
     ghost whole: { kept.keep ≡ None },
+    ghost forgotten: { kept.floor ≡ None },
     ghost newest: { newest_epoch kept.dones ≤ last_epoch },
 }
 
@@ -67,12 +68,14 @@ fn keep_all(alloc: Global, kept: &mut Kept, epoch: u64, dones: Vec<Done>) -> Res
     requires absent { AllByRecursion (λ (d : Record). done_of d.id kept.old.dones ≡ None) dones.items }
     requires few { length kept.old.dones + length dones.items ≤ 1048576 }
     requires whole { kept.old.keep ≡ None }
+    requires forgotten { kept.old.floor ≡ None }
     requires newest { newest_epoch kept.old.dones ≤ epoch }
     requires epochs { AllByRecursion (λ (d : Record). d.epoch ≡ epoch) dones.items }
     ensures ok { OnOk result (kept.new.dones ≡ kept.old.dones ++ dones.items) }
     ensures err { OnErr result (kept.new.dones ≡ kept.old.dones) }
     ensures few { length kept.new.dones ≤ 1048576 }
     ensures whole { kept.new.keep ≡ None }
+    ensures forgotten { kept.new.floor ≡ None }
     ensures newest { newest_epoch kept.new.dones ≤ epoch }
 {
     let ids: Vec<u64> = dones.iter().map(|done| done.id).collect(alloc)?;

@@ -58,8 +58,8 @@ returns-in-Err-Failed-commit_and_say g c =
     let b : SourceMoment = (record { given = g.S.Source.given c.batches.input; left = g.S.Source.remaining c.batches.input; at_end = g.S.Source.at_end c.batches.input }) in
     let n : SourceMoment = (record { given = g.S.Source.given c.read_batch.new.source; left = g.S.Source.remaining c.read_batch.new.source; at_end = g.S.Source.at_end c.read_batch.new.source }) in
     let old = c.batches.invariant in
-    let r : ReadsBatch builtins (known_of c.batches.held.kept.dones []) c.batches.reader c.read_batch.new.reader b n c.args.size c.in-Ok.batch =
-    subst (λ p. ReadsBatch p (known_of c.batches.held.kept.dones []) c.batches.reader c.read_batch.new.reader b n c.args.size c.in-Ok.batch) c.requires.procs c.in-Ok.ensures.batch in
+    let r : ReadsBatch builtins (known_of c.batches.held.kept []) c.batches.reader c.read_batch.new.reader b n c.args.size c.in-Ok.batch =
+    subst (λ p. ReadsBatch p (known_of c.batches.held.kept []) c.batches.reader c.read_batch.new.reader b n c.args.size c.in-Ok.batch) c.requires.procs c.in-Ok.ensures.batch in
     let w = cut_front builtins c.args.size c.batches.reader c.read_batch.new.reader a b n c.batches.held c.commit_and_say.new.held (g.H.Host.said c.args.host.now) (g.H.Host.said c.batches.host)
     (g.H.Host.said c.commit_and_say.new.host) c.in-Ok.batch old.answered r c.in-Err-Failed-commit_and_say.ensures.cut in
     let rose = subst (λ k. Rose k (g.H.Host.say_faults c.commit_and_say.new.host)) old.says (rw c.in-Err-Failed-commit_and_say.field-0-is at c.in-Err-Failed-commit_and_say.ensures.counts) in
@@ -71,8 +71,8 @@ returns-in-Err-NoMemory-commit_and_say g c =
     let b : SourceMoment = (record { given = g.S.Source.given c.batches.input; left = g.S.Source.remaining c.batches.input; at_end = g.S.Source.at_end c.batches.input }) in
     let n : SourceMoment = (record { given = g.S.Source.given c.read_batch.new.source; left = g.S.Source.remaining c.read_batch.new.source; at_end = g.S.Source.at_end c.read_batch.new.source }) in
     let old = c.batches.invariant in
-    let r : ReadsBatch builtins (known_of c.batches.held.kept.dones []) c.batches.reader c.read_batch.new.reader b n c.args.size c.in-Ok.batch =
-    subst (λ p. ReadsBatch p (known_of c.batches.held.kept.dones []) c.batches.reader c.read_batch.new.reader b n c.args.size c.in-Ok.batch) c.requires.procs c.in-Ok.ensures.batch in
+    let r : ReadsBatch builtins (known_of c.batches.held.kept []) c.batches.reader c.read_batch.new.reader b n c.args.size c.in-Ok.batch =
+    subst (λ p. ReadsBatch p (known_of c.batches.held.kept []) c.batches.reader c.read_batch.new.reader b n c.args.size c.in-Ok.batch) c.requires.procs c.in-Ok.ensures.batch in
     let w = cut_front builtins c.args.size c.batches.reader c.read_batch.new.reader a b n c.batches.held c.commit_and_say.new.held (g.H.Host.said c.args.host.now) (g.H.Host.said c.batches.host)
     (g.H.Host.said c.commit_and_say.new.host) c.in-Ok.batch old.answered r c.in-Err-NoMemory-commit_and_say.ensures.cut in
     record { bytes = w.bytes; gives = w.gives; ends = w.holds }
@@ -83,8 +83,8 @@ returns-then-count-size g c =
     let b : SourceMoment = (record { given = g.S.Source.given c.batches.input; left = g.S.Source.remaining c.batches.input; at_end = g.S.Source.at_end c.batches.input }) in
     let n : SourceMoment = (record { given = g.S.Source.given c.read_batch.new.source; left = g.S.Source.remaining c.read_batch.new.source; at_end = g.S.Source.at_end c.read_batch.new.source }) in
     let old = c.batches.invariant in
-    let r : ReadsBatch builtins (known_of c.batches.held.kept.dones []) c.batches.reader c.read_batch.new.reader b n c.args.size c.in-Ok.batch =
-    subst (λ p. ReadsBatch p (known_of c.batches.held.kept.dones []) c.batches.reader c.read_batch.new.reader b n c.args.size c.in-Ok.batch) c.requires.procs c.in-Ok.ensures.batch in
+    let r : ReadsBatch builtins (known_of c.batches.held.kept []) c.batches.reader c.read_batch.new.reader b n c.args.size c.in-Ok.batch =
+    subst (λ p. ReadsBatch p (known_of c.batches.held.kept []) c.batches.reader c.read_batch.new.reader b n c.args.size c.in-Ok.batch) c.requires.procs c.in-Ok.ensures.batch in
     let short : length c.in-Ok.batch.answers.items < c.args.size = omega (arith, c.len-count.ensures, c.if-count-size.true) in
     let w = finished builtins c.args.size c.batches.reader c.read_batch.new.reader a b n c.batches.held c.commit_and_say.new.held (g.H.Host.said c.args.host.now) (g.H.Host.said c.batches.host)
     (g.H.Host.said c.commit_and_say.new.host) c.in-Ok.batch old.answered r c.in-Ok-commit_and_say.ensures.commits short c.in-Ok-commit_and_say.ensures.says c.requires.some in
@@ -96,8 +96,8 @@ batches-preserved g c =
     let b : SourceMoment = (record { given = g.S.Source.given c.batches.input; left = g.S.Source.remaining c.batches.input; at_end = g.S.Source.at_end c.batches.input }) in
     let n : SourceMoment = (record { given = g.S.Source.given c.read_batch.new.source; left = g.S.Source.remaining c.read_batch.new.source; at_end = g.S.Source.at_end c.read_batch.new.source }) in
     let old = c.batches.invariant in
-    let r : ReadsBatch builtins (known_of c.batches.held.kept.dones []) c.batches.reader c.read_batch.new.reader b n c.args.size c.in-Ok.batch =
-    subst (λ p. ReadsBatch p (known_of c.batches.held.kept.dones []) c.batches.reader c.read_batch.new.reader b n c.args.size c.in-Ok.batch) c.requires.procs c.in-Ok.ensures.batch in
+    let r : ReadsBatch builtins (known_of c.batches.held.kept []) c.batches.reader c.read_batch.new.reader b n c.args.size c.in-Ok.batch =
+    subst (λ p. ReadsBatch p (known_of c.batches.held.kept []) c.batches.reader c.read_batch.new.reader b n c.args.size c.in-Ok.batch) c.requires.procs c.in-Ok.ensures.batch in
     record {
       answered =
           answered_more builtins c.args.size c.batches.reader c.read_batch.new.reader a b n c.batches.held c.commit_and_say.new.held (g.H.Host.said c.args.host.now) (g.H.Host.said c.batches.host)

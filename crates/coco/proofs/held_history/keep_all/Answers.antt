@@ -16,4 +16,4 @@ add-requires-clause-newest c =
 pub loop-done-preserved : goal.loop-done-preserved
 loop-done-preserved c =
     keep_more c.loop-done.kept c.add.new.self c.loop-done.done-iterator.rest.items c.next.new.self.rest.items c.args.kept.now.dones c.args.dones.items
-    c.in-Some.done c.args.epoch c.in-Some.ensures.steps.0 c.add.ensures.dones c.add.ensures.room c.add.ensures.keep c.add.ensures.newest c.loop-done.invariant
+    c.in-Some.done c.args.epoch c.in-Some.ensures.steps.0 c.add.ensures.dones c.add.ensures.room c.add.ensures.keep c.add.ensures.floor c.add.ensures.newest c.loop-done.invariant

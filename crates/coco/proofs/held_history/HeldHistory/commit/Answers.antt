@@ -34,6 +34,7 @@ invariant_of-self-2 c =
       counted = omega (arith, many, c.args.self.now.counted, c.len.ensures.len, c.if-len-eq0.false, ap (length {A = Done}) c.in_ok-keep_all.ensures.ok, length-append c.args.self.now.kept.dones c.in_ok-dones.dones.items);
       few = c.in_ok-keep_all.ensures.few;
       whole = c.in_ok-keep_all.ensures.whole;
+      forgotten = c.in_ok-keep_all.ensures.forgotten;
       newest = c.in_ok-keep_all.ensures.newest;
     }
 
@@ -41,4 +42,4 @@ pub returns : goal.returns
 returns c =
     committed builtins c.args.self.now _ c.args.fresh c.in_ok-dones.dones.items (omega (arith, c.len.ensures.len, c.if-len-eq0.false))
     (in_order c.args.fresh c.in_ok-order.order.items c.in_ok-dones.dones.items c.in_ok-dones.ensures.order c.in_ok-order.ensures)
-    c.in_ok-dones.ensures.epoch c.in_ok-dones.ensures.replies c.in_ok-dones.ensures.rows c.in_ok-keep_all.ensures.ok refl c.requires
+    c.in_ok-dones.ensures.epoch c.in_ok-dones.ensures.replies c.in_ok-dones.ensures.rows c.in_ok-keep_all.ensures.ok c.in_ok-keep_all.ensures.forgotten refl c.requires
