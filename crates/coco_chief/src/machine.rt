@@ -2,6 +2,7 @@
 
 ghost use Rattle.std.specs.Prelude.{◌≡◌, ◌<◌, length, slice_set, true, IsTrue, IfOk, OnErr};
 ghost use Rattle.coco_chief.specs.Ranges.{end_of, AreRanges, AreRanges-prop};
+ghost use Rattle.coco_chief.specs.Table.{is_open};
 
 use crate::flags::{all_down, are_all_up, is_up};
 use crate::ranges::{Range, add_epoch, is_covered, ranges_of};
@@ -33,12 +34,13 @@ pub struct ChiefCore {
     ghost end: { end_of committed.items ≡ last },
     ghost voters: { length voted.items ≡ nodes },
     ghost finishers: { length finished.items ≡ nodes },
+    ghost behind: { is_open phase ≡ true → last < current },
 }
 
 impl ChiefCore {
     ghost use Rattle.coco_chief.specs.declared.machine.Phase.TheVariants.{Voting, Forcing, Rest as Still};
     ghost use Rattle.coco_chief.specs.Shown.{chief_of};
-    ghost use Rattle.coco_chief.specs.Table.{restarted, begun, aborted, forced, on_vote, on_finished, on_query, counts, on_message, handled, reminds, has_finished, is_open};
+    ghost use Rattle.coco_chief.specs.Table.{restarted, begun, aborted, forced, on_vote, on_finished, on_query, counts, on_message, handled, reminds, has_finished};
 
     /// The core for so many nodes, with these epochs in its durable entries.
     pub fn restart(alloc: Global, nodes: u8, committed: Vec<u64>) -> Result<ChiefCore, NoMemory>
@@ -93,7 +95,6 @@ impl ChiefCore {
     pub fn forced(&mut self, epoch: u64) -> Result<Vec<Action>, NoMemory>
         requires phase { (chief_of self.old).phase ≡ Forcing }
         requires epoch { (chief_of self.old).current ≡ epoch }
-        requires above { (chief_of self.old).last < epoch }
         ensures ok { IfOk result (λ actions. (actions.items, chief_of self.new) ≡ forced epoch (chief_of self.old)) }
         ensures err { OnErr result (chief_of self.new ≡ chief_of self.old) }
     {
@@ -119,7 +120,8 @@ impl ChiefCore {
 
     // Counts a yes.
     fn count(&mut self, from: u8) -> Result<Vec<Action>, NoMemory>
-        requires { from < (chief_of self.old).nodes }
+        requires node { from < (chief_of self.old).nodes }
+        requires voting { (chief_of self.old).phase ≡ Voting }
         ensures ok { IfOk result (λ actions. (actions.items, chief_of self.new) ≡ counts (slice_set (chief_of self.old).voted from true) (chief_of self.old)) }
         ensures err { OnErr result (chief_of self.new ≡ chief_of self.old) }
     {
