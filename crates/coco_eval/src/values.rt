@@ -17,7 +17,7 @@ pub fn value<'a>(expr: &'a Expr, variables: &'a [Variable]) -> Result<Operand<'a
 {
     match expr {
         Expr::Number(number) => Ok(Operand::Int(*number)),
-        Expr::Text(text) => Ok(Operand::Text(text)),
+        Expr::Text(text) => Ok(Operand::Text(text.as_ref())),
         Expr::None => Ok(Operand::None),
         Expr::Var(name) => Ok(value_at(variables, name)),
         Expr::Not(operand) => match value(operand, variables) {
