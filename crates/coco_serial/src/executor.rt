@@ -1,137 +1,100 @@
-ghost use Rattle.std.specs.Prelude.{◌≡◌, option_map, IfOk, OnOk, OnErr};
+//! A map of rows, and the calls that are run on it.
+ghost use Rattle.std.specs.Prelude.{◌≡◌, [], Some, IfOk, OnOk, OnErr};
 ghost use Rattle.std.specs.FinMap.{empty};
-ghost use Rattle.coco_ast.specs.Builtins.{builtins};
 ghost use Rattle.coco_ast.specs.Fitting.{Fits};
 ghost use Rattle.coco_ast.specs.Keyed.{write_at, value_at};
-ghost use Rattle.coco_ast.specs.Meaning.{run, row_key};
-ghost use Rattle.coco_ast.proofs.BuiltinRuns.{got, stored, added, or_zero};
-ghost use Rattle.coco_types.specs.Arguments.{int_of};
-ghost use Rattle.coco_types.specs.declared.value.Value.TheVariants.{Int};
+ghost use Rattle.coco_ast.specs.Meaning.{run};
 
-use crate::steps::{key_of, sum};
-use coco_types::{Call, Cause, Key, NoMemory, Reply, Value};
+use crate::running::{Rows, finish, put_all, value_in};
+use coco_ast::Checked;
+use coco_eval::Run;
+use coco_types::{Call, Key, NoMemory, Reply, Value, Writes};
 use std::alloc::Global;
-use std::collections::BTreeMap;
+use std::collections::HashMap;
 use std::marker::Model;
 
-/// The number of the table that every store has.
-const MAIN: u16 = 0;
-
-/// A map of rows and the calls that are run on it. Contracts see the map.
+/// A map of rows and the calls that are run on it. Contracts see the map, and the writes of the last
+/// call that was run.
 #[derive(Drop)]
 pub struct Executor {
-    rows: BTreeMap<Key, Value>,
+    alloc: Global,
+    rows: Rows,
+    last: Option<Run>,
+    spare: Option<Run>,
+    none: Writes,
 }
 
 impl Model for Executor {
-    ghost use Rattle.std.specs.FinMap.{FinMap, from_entries, code};
-    ghost use Rattle.coco_types.specs.Codes.{key_code, value_code};
-    ghost use Rattle.coco_types.specs.RowKey.{key_cmp};
-    ghost use Rattle.coco_types.specs.declared.value.Value.{Value as Datum};
+    ghost use Rattle.std.specs.Prelude.{◌≡◌, []};
+    ghost use Rattle.coco_serial.specs.Applied.{Applied, HasEnded, rows_of, last_writes};
+    ghost use Rattle.coco_serial.specs.AppliedCode.{applied_code};
 
-    ghost Value = { FinMap key_cmp Datum };
+    ghost Value = { Applied };
 
-    ghost coded = { code key_code value_code };
+    ghost coded = { applied_code };
 
-    ghost view = { λ e. from_entries e.rows.entries };
+    ghost view = { λ e. record { rows = rows_of e.rows; writes = last_writes e.last } };
+
+    ghost invariant = { λ e. HasEnded e.last × (e.none ≡ []) };
 }
 
 impl Executor {
     /// An executor on the empty map.
     pub fn new(alloc: Global) -> Executor
-        ensures { result ≡ empty }
+        ensures { result ≡ record { rows = empty; writes = [] } }
     {
         Executor {
-            rows: BTreeMap::new(alloc),
+            alloc,
+            rows: HashMap::new(alloc),
+            last: None,
+            spare: None,
+            none: Writes::new(alloc),
         }
     }
 
-    /// Runs a call of a built-in procedure, and answers its reply. Out of memory, the map is as before.
-    pub fn apply(&mut self, call: &Call) -> Result<Reply, NoMemory>
-        requires fits { Fits builtins call.now }
-        ensures reply { IfOk result (λ reply. reply ≡ (run builtins call.now self.old).reply) }
-        ensures rows { OnOk result (self.new ≡ (run builtins call.now self.old).rows) }
+    /// Runs a call, and answers its reply. Out of memory, the map and the writes are as before.
+    pub fn apply(&mut self, procs: &Checked, call: &Call) -> Result<Reply, NoMemory>
+        requires { Fits procs.now call.now }
+        ensures reply { IfOk result (λ reply. reply ≡ (run procs.now call.now self.old.rows).reply) }
+        ensures rows { OnOk result (self.new.rows ≡ (run procs.now call.now self.old.rows).rows) }
+        ensures writes { OnOk result (self.new.writes ≡ (run procs.now call.now self.old.rows).writes) }
         ensures err { OnErr result (self.new ≡ self.old) }
     {
-        let args = &call.args;
-        match (call.proc_no, args.get(1)) {
-            (0, _) => Ok(self.get(args.int(0))),
-            (1, Some(value)) => self.put(args.int(0), value),
-            (2, _) => self.add(args.int(0), args.int(1)),
-            _ => unreachable!(),
-        }
-    }
-
-    fn get(&self, row: Option<i64>) -> Reply
-        ensures { result ≡ (got self.now (row_key 0 (option_map Int row))).reply }
-    {
-        match key_of(MAIN, row) {
-            Ok(key) => Reply::Ok(self.value_at(key)),
-            Err(cause) => Reply::Refused(cause),
-        }
-    }
-
-    fn put(&mut self, row: Option<i64>, value: Option<Value>) -> Result<Reply, NoMemory>
-        ensures reply { IfOk result (λ reply. reply ≡ (stored self.old value (row_key 0 (option_map Int row))).reply) }
-        ensures rows { OnOk result (self.new ≡ (stored self.old value (row_key 0 (option_map Int row))).rows) }
-        ensures err { OnErr result (self.new ≡ self.old) }
-    {
-        match key_of(MAIN, row) {
-            Ok(key) => {
-                self.write(key, &value)?;
-                Ok(Reply::Ok(value))
-            }
-            Err(cause) => Ok(Reply::Refused(cause)),
-        }
-    }
-
-    fn add(&mut self, row: Option<i64>, number: Option<i64>) -> Result<Reply, NoMemory>
-        ensures reply { IfOk result (λ reply. reply ≡ (added self.old (option_map Int number) (row_key 0 (option_map Int row))).reply) }
-        ensures rows { OnOk result (self.new ≡ (added self.old (option_map Int number) (row_key 0 (option_map Int row))).rows) }
-        ensures err { OnErr result (self.new ≡ self.old) }
-    {
-        let key = match key_of(MAIN, row) {
-            Ok(key) => key,
-            Err(cause) => return Ok(Reply::Refused(cause)),
+        let mut running = match self.spare.take() {
+            None => Run::start(self.alloc, procs, call)?,
+            Some(spare) => spare.restart(procs, call)?,
         };
-        match sum(self.number_or_zero(key), number) {
-            Ok(sum) => {
-                self.write(key, &sum)?;
-                Ok(Reply::Ok(sum))
-            }
-            Err(cause) => Ok(Reply::Refused(cause)),
-        }
+        let reply = finish(&mut running, procs, &self.rows);
+        let writes = running.writes();
+        self.rows.reserve(writes.len())?;
+        put_all(&mut self.rows, writes.as_slice());
+        self.spare = self.last.replace(running);
+        Ok(reply)
     }
 
-    // The number that a row has, 0 where it has no value, and none where it has a text.
-    fn number_or_zero(&self, key: Key) -> Option<i64>
-        ensures { result ≡ int_of (or_zero (value_at self.now key)) }
-    {
-        match self.rows.get(&key) {
-            None => Some(0),
-            Some(Value::Int(number)) => Some(*number),
-            Some(Value::Text(_)) => None,
-        }
-    }
-
-    fn value_at(&self, key: Key) -> Option<Value>
-        ensures { result ≡ value_at self.now key }
-    {
-        self.rows.get(&key).copied()
-    }
-
-    fn write(&mut self, key: Key, value: &Option<Value>) -> Result<(), NoMemory>
-        ensures ok { OnOk result (self.new ≡ write_at self.old key value.now) }
+    /// Adds a pair to the map. Out of memory, the map is as before.
+    pub fn load(&mut self, key: Key, value: Value) -> Result<(), NoMemory>
+        ensures ok { OnOk result (self.new ≡ record self.old { rows = write_at self.old.rows key (Some value) }) }
         ensures err { OnErr result (self.new ≡ self.old) }
     {
-        match value {
-            Some(value) => {
-                self.rows.insert(key, *value)?;
-            }
-            None => {
-                self.rows.remove(&key);
-            }
-        }
+        self.rows.insert(key, value)?;
         Ok(())
+    }
+
+    /// What the map has at a key.
+    pub fn get(&self, key: Key) -> Option<Value>
+        ensures { result ≡ value_at self.now.rows key }
+    {
+        value_in(&self.rows, key)
+    }
+
+    /// The writes of the last call that was run, rising by key, and none before the first.
+    pub fn writes(&self) -> &Writes
+        ensures { result.now ≡ self.now.writes }
+    {
+        match &self.last {
+            None => &self.none,
+            Some(last) => last.writes(),
+        }
     }
 }

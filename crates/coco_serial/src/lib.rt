@@ -2,9 +2,6 @@
 #![tactic(auto)]
 
 mod executor;
-mod steps;
+mod running;
 
 pub use executor::Executor;
-
-#[cfg(test)]
-mod tests;
