@@ -149,7 +149,7 @@ may_grow procs held requests h s new =
     }
 
 stands_more : (procs : Procedures) (old new : HeldHistory) (requests : List Request) (ds : List Done) (h : History) → (s : Stands procs old h) → IsGrowth h requests (epoch_at old.last_epoch ds)
-    → RepliesAreRuns procs old.executor ds → new.executor ≡ rows_after procs old.executor ds → new.kept.dones ≡ old.kept.dones ++ ds → new.kept.floor ≡ None → new.last_epoch ≡ old.last_epoch + 1
+    → RepliesAreRuns procs old.executor.rows ds → new.executor.rows ≡ rows_after procs old.executor.rows ds → new.kept.dones ≡ old.kept.dones ++ ds → new.kept.floor ≡ None → new.last_epoch ≡ old.last_epoch + 1
     → IsOrdered (followed_by h (epoch_at old.last_epoch ds)) → Stands procs new (followed_by h (epoch_at old.last_epoch ds))
 stands_more procs old new requests ds h s is replies rows dones forgotten last ordered =
     let e = epoch_at old.last_epoch ds in
@@ -165,7 +165,7 @@ stands_more procs old new requests ds h s is replies rows dones forgotten last o
     }
 
 pub committed : (procs : Procedures) (old new : HeldHistory) (requests : List Request) (ds : List Done) → 0 < length requests → IsCommitOrder requests (map timed_of ds)
-    → AllByRecursion (λ (d : Done). d.epoch ≡ old.last_epoch + 1) ds → RepliesAreRuns procs old.executor ds → new.executor ≡ rows_after procs old.executor ds
+    → AllByRecursion (λ (d : Done). d.epoch ≡ old.last_epoch + 1) ds → RepliesAreRuns procs old.executor.rows ds → new.executor.rows ≡ rows_after procs old.executor.rows ds
     → new.kept.dones ≡ old.kept.dones ++ ds → new.kept.floor ≡ None → new.last_epoch ≡ old.last_epoch + 1 → MayCommit procs old.kept.dones requests → Commits procs requests old new
 committed procs old new [] ds some order numbers replies rows dones forgotten last may = absurd (omega arith)
 committed procs old new (r ∷ rs) ds some order numbers replies rows dones forgotten last may = λ h s.

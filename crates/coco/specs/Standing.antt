@@ -13,7 +13,7 @@ pub record Stands (procs : Procedures) (held : HeldHistory) (h : History) : Type
   pub floor : h.base.floor ≡ None
   pub dones : held.kept.dones ≡ all_dones h
   pub forgotten : held.kept.floor ≡ None
-  pub rows : held.executor ≡ map_of procs h
+  pub rows : held.executor.rows ≡ map_of procs h
   pub last : held.last_epoch ≡ last_epoch h
   pub ordered : IsOrdered h
   pub serial : IsSerial procs h

@@ -66,7 +66,7 @@ fn answer_all<H: Host, S: Source>(
             Err(LineFault::TooMuch) => return Ending::ReadFault,
         };
         let count = batch.answers.len();
-        match commit_and_say(alloc, host, &mut held, batch) {
+        match commit_and_say(alloc, procs, host, &mut held, batch) {
             Ok(()) => {}
             Err(OutFault::Failed) => return Ending::SayFault,
             Err(OutFault::NoMemory) => return Ending::NoMemory,

@@ -11,6 +11,7 @@ ghost use Rattle.coco.specs.Saying.{Commits, SaysPart};
 use crate::answer::write_answers;
 use crate::batch::Batch;
 use crate::held_history::HeldHistory;
+use coco_ast::Checked;
 use coco_host::{Host, say_all};
 use coco_types::OutFault;
 use std::alloc::Global;
@@ -19,10 +20,12 @@ use std::alloc::Global;
 /// further use.
 pub fn commit_and_say<H: Host>(
     alloc: Global,
+    procs: &Checked,
     host: &mut H,
     held: &mut HeldHistory,
     batch: Batch,
 ) -> Result<(), OutFault>
+    requires procs { procs.now ≡ builtins }
     requires new { MayCommit builtins held.old.kept.dones batch.fresh }
     ensures commits { OnOk result (Commits builtins batch.fresh held.old held.new) }
     ensures says { OnOk result (H.said host.new
@@ -31,7 +34,7 @@ pub fn commit_and_say<H: Host>(
     ensures counts { CountsWrite result (H.say_faults host.old) (H.say_faults host.new) }
 {
     let Batch { answers, fresh } = batch;
-    if held.commit(alloc, fresh).is_err() {
+    if held.commit(alloc, procs, fresh).is_err() {
         return Err(OutFault::NoMemory);
     }
     let mut out = Vec::new(alloc);

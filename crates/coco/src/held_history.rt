@@ -9,6 +9,7 @@ ghost use Rattle.coco_kept.specs.Keeping.{newest_epoch};
 
 use crate::execution::run_in_order;
 use crate::new_requests::NewRequests;
+use coco_ast::Checked;
 use coco_kept::Kept;
 use coco_serial::Executor;
 use coco_types::{Done, NoMemory};
@@ -46,8 +47,14 @@ impl HeldHistory {
 
     /// Runs the new requests of a batch as one epoch, and keeps their records. Out of memory, the history
     /// is of no further use.
-    pub fn commit(&mut self, alloc: Global, fresh: NewRequests) -> Result<(), NoMemory>
-        requires { MayCommit builtins self.old.kept.dones fresh }
+    pub fn commit(
+        &mut self,
+        alloc: Global,
+        procs: &Checked,
+        fresh: NewRequests,
+    ) -> Result<(), NoMemory>
+        requires procs { procs.now ≡ builtins }
+        requires new { MayCommit builtins self.old.kept.dones fresh }
         ensures { OnOk result (Commits builtins fresh self.old self.new) }
     {
         if fresh.len() == 0 {
@@ -55,7 +62,7 @@ impl HeldHistory {
         }
         let epoch = self.last_epoch + 1;
         let order = fresh.into_commit_order(alloc)?;
-        let dones = run_in_order(alloc, &mut self.executor, epoch, order)?;
+        let dones = run_in_order(alloc, procs, &mut self.executor, epoch, order)?;
         keep_all(alloc, &mut self.kept, epoch, dones)?;
         self.last_epoch = epoch;
         Ok(())

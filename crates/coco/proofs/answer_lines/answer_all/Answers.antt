@@ -19,7 +19,7 @@ batches-init g c = record {
 }
 
 pub commit_and_say-requires : goal.commit_and_say-requires
-commit_and_say-requires g c = record { new = subst (λ p. MayCommit p c.batches.held.kept.dones c.in-Ok.batch.fresh) c.requires.procs c.in-Ok.ensures.new }
+commit_and_say-requires g c = record { procs = c.requires.procs; new = subst (λ p. MayCommit p c.batches.held.kept.dones c.in-Ok.batch.fresh) c.requires.procs c.in-Ok.ensures.new }
 
 pub returns-in-Err-NoMemory : goal.returns-in-Err-NoMemory
 returns-in-Err-NoMemory g c =

@@ -10,8 +10,8 @@ use Rattle.coco.proofs.execution.run_in_order.Given as goal
 abbrev pub invariant-loop-timed : goal.invariant-loop-timed
 invariant-loop-timed l = record {
   fit : FitAll builtins l.timed-iterator.rest.items;
-  replies : RepliesAreRuns builtins l.fn.executor l.dones.items;
-  rows : l.executor ≡ rows_after builtins l.fn.executor l.dones.items;
+  replies : RepliesAreRuns builtins l.fn.executor.rows l.dones.items;
+  rows : l.executor.rows ≡ rows_after builtins l.fn.executor.rows l.dones.items;
   order : map timed_of l.dones.items ++ l.timed-iterator.rest.items ≡ l.fn.order.items;
   epochs : AllByRecursion (λ (d : Done). d.epoch ≡ l.epoch) l.dones.items;
 }
