@@ -1,4 +1,5 @@
 pub mod Answering
+pub mod Arguments
 pub mod Asking
 pub mod BatchReading
 pub mod Commands

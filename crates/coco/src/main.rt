@@ -3,6 +3,7 @@
 
 pub mod answer;
 pub mod answer_lines;
+pub mod arguments;
 pub mod batch;
 pub mod classify;
 pub mod commit_and_say;
@@ -15,12 +16,11 @@ pub mod new_requests;
 mod tests;
 pub mod top;
 
+use arguments::{ending_without, folder_of, words_of};
 use coco_host::FolderHost;
 use coco_io::{StdSink, StdSource};
-use coco_types::NoMemory;
 use ending::Ending;
-use std::env::{self, Args};
-use std::io::ErrorKind;
+use std::env;
 use std::process::ExitCode;
 use top::coco;
 
@@ -36,37 +36,13 @@ fn main(rt: HostRuntime) -> ExitCode {
     ExitCode::from(status)
 }
 
-// The program's words are its own name, the store's folder, which is `.` where it isn't there, and then
-// those of the command.
+// The status of the command, or the ending of a call that doesn't come to it.
 fn start(rt: HostRuntime, errs: &mut StdSink) -> Result<u8, Ending> {
-    let alloc = rt.alloc();
-    let arguments = match env::args(&rt) {
-        Ok(arguments) => arguments,
-        Err(error) if error.kind() == ErrorKind::InvalidData => {
-            return Err(Ending::BadCommandLine);
-        }
-        Err(_) => return Err(Ending::NoMemory),
-    };
-    match prepared(rt, arguments) {
-        Ok((mut host, words)) => {
-            let mut input = StdSource::new(rt);
-            Ok(coco(&rt, alloc, words.as_slice(), &mut host, &mut input, errs))
-        }
-        Err(NoMemory) => Err(Ending::NoMemory),
-    }
-}
-
-// The host of the folder, and the command's words.
-fn prepared(rt: HostRuntime, mut arguments: Args) -> Result<(FolderHost, Vec<String>), NoMemory> {
-    let alloc = rt.alloc();
-    let _program = arguments.next();
-    let folder = match arguments.next() {
-        Some(folder) => folder,
-        None => String::from_str(alloc, ".")?,
-    };
-    let mut words = Vec::new(alloc);
-    for word in arguments {
-        words.push(word)?;
-    }
-    Ok((FolderHost::new(rt, folder.as_str())?, words))
+    let arguments = env::args(&rt).map_err(|error| ending_without(&error))?;
+    let arguments: Vec<String> = arguments.collect(rt.alloc()).map_err(|_| Ending::NoMemory)?;
+    let folder = folder_of(arguments.as_slice());
+    let mut host = FolderHost::new(rt, folder).map_err(|_| Ending::NoMemory)?;
+    let mut input = StdSource::new(rt);
+    let words = words_of(arguments.as_slice());
+    Ok(coco(&rt, rt.alloc(), words, &mut host, &mut input, errs))
 }

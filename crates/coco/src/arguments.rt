@@ -1,0 +1,36 @@
+//! What the program's arguments ask for, and how a call ends where they can't be had.
+ghost use Rattle.std.specs.Prelude.{◌≡◌, ◌≢◌, drop, map, string_bytes};
+ghost use Rattle.std.specs.IoError.{error_kind};
+ghost use Rattle.coco.specs.Arguments.{folder_in};
+
+use crate::ending::Ending;
+use std::io::{Error, ErrorKind};
+
+/// The name of the store's folder, which stands behind the program's own name: `.` where none does.
+pub fn folder_of(arguments: &[String]) -> &str
+    ensures { result.now ≡ folder_in (map string_bytes arguments.now) }
+{
+    match arguments.get(1) {
+        Some(folder) => folder.as_str(),
+        None => ".",
+    }
+}
+
+/// The words of the command, which stand behind the folder's name.
+pub fn words_of(arguments: &[String]) -> &[String]
+    ensures { result.now ≡ drop 2 arguments.now }
+{
+    &arguments[arguments.len().min(2)..]
+}
+
+/// How a call ends where its arguments can't be had: one that is no text makes a bad command line.
+pub fn ending_without(error: &Error) -> Ending
+    ensures text { error_kind error.now ≡ ErrorKind.InvalidData → result ≡ Ending.BadCommandLine }
+    ensures memory { error_kind error.now ≢ ErrorKind.InvalidData → result ≡ Ending.NoMemory }
+{
+    if error.kind() == ErrorKind::InvalidData {
+        Ending::BadCommandLine
+    } else {
+        Ending::NoMemory
+    }
+}
