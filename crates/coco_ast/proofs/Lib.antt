@@ -14,6 +14,7 @@ pub mod Leading
 pub mod Lists
 pub mod RunsPutWrites
 pub mod ScheduleLemmas
+pub mod Trees
 pub mod WordTexts
 pub mod WorkedExamples
 pub mod WorkedHistories

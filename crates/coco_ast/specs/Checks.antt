@@ -2,6 +2,7 @@
 use Rattle.std.specs.Prelude.{◌≡◌, ℕ, zero, suc, ◌+◌, ◌*◌, ◌<◌, ◌≤◌, min, max, ◌⊎◌, Bool, true, false, not, ◌&&◌, ◌||◌, nat_eq, List, [], ◌∷◌, ◌++◌, map, length, take, Some, slice_get}
 use Rattle.std.specs.List.{list_any, flat_map, All}
 use Rattle.std.specs.Cmp.Lexicographic.{pointwise}
+use Rattle.coco_types.specs.Limits.{most_arguments, most_bound, most_declared, most_keys, most_turns}
 use Rattle.coco_ast.specs.declared.error.CheckError.{CheckError}
 use Rattle.coco_ast.specs.declared.error.CheckKind.{CheckKind}
 use Rattle.coco_ast.specs.declared.error.CheckKind.TheVariants.{UnknownName, Twice, TooManyKeys, RepeatBound, NoReply}
@@ -136,9 +137,9 @@ abbrev mutual
   ends End = false
   ends (Then first rest) = ends_at first || ends rest
 
--- a bound that isn't 1 to 64, or one of too many turns in all
+-- a bound that is 0 or too great, or too many turns in all
 abbrev pub IsBadRepeat : Placed → Type 0
-IsBadRepeat s = (n : ℕ) × (x : List ℕ) × (body : Statements) × (s.statement ≡ Repeat n x body) × ((n ≡ 0) ⊎ ((64 < n) ⊎ (4096 < s.around * n)))
+IsBadRepeat s = (n : ℕ) × (x : List ℕ) × (body : Statements) × (s.statement ≡ Repeat n x body) × ((n ≡ 0) ⊎ ((most_bound < n) ⊎ (most_turns < s.around * n)))
 
 -- ---- errors
 
@@ -154,7 +155,7 @@ earlier_names t k = map (λ p. p.name) (builtins.procs ++ take k t.procs)
 abbrev pub IsHeaderError : List (List ℕ) → Procedure → CheckKind → Type 0
 IsHeaderError earlier p UnknownName = ⊥
 IsHeaderError earlier p Twice = (is_among earlier p.name ≡ true) ⊎ ((i : ℕ) × StandsTwice p.params i)
-IsHeaderError earlier p (TooManyKeys count) = (64 < key_weight p.body) × (count ≡ counted_weight p.body)
+IsHeaderError earlier p (TooManyKeys count) = (most_keys < key_weight p.body) × (count ≡ counted_weight p.body)
 IsHeaderError earlier p RepeatBound = ⊥
 IsHeaderError earlier p NoReply = ends p.body ≡ false
 
@@ -211,9 +212,9 @@ HasNoError t = (e : CheckError) → IsError t e → ⊥
 
 -- how many tables and procedures a text may have, and how many parameters each procedure
 pub record IsWithinLimits (t : Procedures) : Type 0 where
-  pub tables : length t.tables ≤ 60000
-  pub procs : length t.procs ≤ 60000
-  pub params : All (λ p. length p.params ≤ 16) t.procs
+  pub tables : length t.tables ≤ most_declared
+  pub procs : length t.procs ≤ most_declared
+  pub params : All (λ p. length p.params ≤ most_arguments) t.procs
 
 -- the tree is that of a text without errors, behind the built-in one
 pub record IsAccepted (tree : Procedures) : Type 0 where

@@ -1,6 +1,7 @@
 -- What holds of the run of every call, whatever its tree and whatever the map.
 use Rattle.std.specs.Prelude.{◌≡◌, ⊤, ◌+◌, ◌≤◌, List, length}
 use Rattle.coco_types.specs.declared.call.Call.{Call}
+use Rattle.coco_types.specs.Limits.{most_keys}
 use Rattle.coco_ast.specs.Keyed.{Rows, put_over, AgreeOn}
 use Rattle.coco_ast.specs.Meaning.{Access, Flow, Goes, Ends, Refuses, Run, run, flow_of, procedure_at}
 use Rattle.coco_ast.specs.Tree.{Procedures}
@@ -34,8 +35,8 @@ accesses_of (Goes s) = s.accesses
 accesses_of (Ends s v) = s.accesses
 accesses_of (Refuses s c) = s.accesses
 
--- a call ends, and reads and writes at most 64 keys in all, one that is refused later too
+-- a call ends, and reads and writes few keys in all, one that is refused later too
 pub record EndsSoon (ps : Procedures) (call : Call) (m : Rows) : Type 0 where
   pub ends : HasEnded (flow ps call m)
-  pub accesses : length (accesses_of (flow ps call m)) ≤ 64
-  pub keys : length (run ps call m).needs + length (run ps call m).writes ≤ 64
+  pub accesses : length (accesses_of (flow ps call m)) ≤ most_keys
+  pub keys : length (run ps call m).needs + length (run ps call m).writes ≤ most_keys

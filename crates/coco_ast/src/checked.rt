@@ -2,6 +2,7 @@
 
 ghost use Rattle.std.specs.Prelude.{◌≡◌, ℕ, ◌≤◌, IfOk, IfSome, slice_get, length};
 ghost use Rattle.std.specs.Option.{option_map};
+ghost use Rattle.coco_types.specs.Limits.{most_arguments};
 ghost use Rattle.coco_ast.specs.Builtins as trees;
 ghost use Rattle.coco_ast.specs.Checks.{IsAccepted};
 ghost use Rattle.coco_ast.specs.Fitting.{any_writes, writes_in};
@@ -82,7 +83,7 @@ impl Checked {
     /// How many parameters a procedure has.
     pub fn params(&self, proc_no: u16) -> Option<u8>
         ensures value { result ≡ option_map (λ p. length p.params) (procedure_at self.now.procs proc_no) }
-        ensures few { IfSome result (λ n. n ≤ 16) }
+        ensures few { IfSome result (λ n. n ≤ most_arguments) }
     {
         match self.proc_at(proc_no) {
             None => None,
@@ -120,7 +121,7 @@ impl Checked {
 
     fn proc_at(&self, proc_no: u16) -> Option<&Proc>
         ensures value { option_map (λ p. procedure_of p.now) result ≡ procedure_at self.now.procs proc_no }
-        ensures params { IfSome result (λ p. length p.now.params ≤ 16) }
+        ensures params { IfSome result (λ p. length p.now.params ≤ most_arguments) }
     {
         self.procs.procs.as_slice().get(proc_no as usize)
     }

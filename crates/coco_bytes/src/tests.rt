@@ -1,3 +1,5 @@
+//! Fields and values as bytes, and the place of what can't be read.
+
 use super::*;
 use coco_types::{Key, Text, Value};
 use std::test::Fail;

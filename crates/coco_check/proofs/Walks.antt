@@ -1,14 +1,12 @@
 -- A walk over statements goes on where a walk over the first of them ended.
 use Rattle.std.proofs.Common.{◌≡◌, ℕ, suc, ◌+◌, ◌<◌, List, [], ◌∷◌, ◌++◌, length, get_or, drop, Option, None, Some, Global, Result, Ok, Err, refl, sym, ap, ◌∙◌, add-one, drop-cons, append-nil}
+use Rattle.coco_ast.proofs.Trees.{statement-if, statement-if_else}
 use Rattle.coco_ast.specs.Checks.{Placed, in_order, and_within}
 use Rattle.coco_ast.specs.Tree.{Statement}
-use Rattle.coco_ast.specs.Tree as tree
-use Rattle.coco_ast.specs.Views.{expression_of, statement_of, statement_step, statements_of}
+use Rattle.coco_ast.specs.Views.{statement_of, statements_of}
 use Rattle.coco_ast.specs.declared.tree.Stmt.{Stmt}
 use Rattle.coco_ast.specs.declared.tree.Expr.{Expr}
 use Rattle.coco_ast.specs.declared.tree.Stmt.{If}
-use Rattle.coco_ast.specs.declared.tree.Stmt.TheVariants.{rolls-If}
-use Rattle.coco_ast.specs.declared.tree.Stmt.TheFolds.{fold-roll-Stmt}
 use Rattle.std.specs.declared.vec.Vec.{Vec}
 use Rattle.coco_check.specs.declared.body.Body.{Body}
 use Rattle.coco_check.specs.declared.fault.BodyFault.{BodyFault}
@@ -56,21 +54,13 @@ walk_into ts w v u s xs ys entered walked = ap (λ r. and_then r (λ a. walk ts 
 pub walk_into_fault : (ts : Names) (w v : Walk) (f : Fault) (s : Placed) (xs ys : List Placed) → step ts w s ≡ Ok v → walk ts v xs ≡ Err f → walk ts w (s ∷ (xs ++ ys)) ≡ Err f
 walk_into_fault ts w v f s xs ys entered walked = ap (λ r. and_then r (λ a. walk ts a (xs ++ ys))) entered ∙ walk_stops ts v f xs ys walked
 
--- the trees of an `if` without and with an `else`
-pub if_tree : (test : Expr) (then_part : Vec Stmt Global) → statement_of (If test then_part None) ≡ tree.If (expression_of test) (statements_of then_part.items)
-if_tree test then_part = ap statement_of (sym (rolls-If test then_part None)) ∙ fold-roll-Stmt Statement statement_step _
-
-pub if_else_tree : (test : Expr) (then_part else_part : Vec Stmt Global)
-    → statement_of (If test then_part (Some else_part)) ≡ tree.IfElse (expression_of test) (statements_of then_part.items) (statements_of else_part.items)
-if_else_tree test then_part else_part = ap statement_of (sym (rolls-If test then_part (Some else_part))) ∙ fold-roll-Stmt Statement statement_step _
-
 -- the first block of an `if` stands directly behind it
 pub if_order : (n : ℕ) (test : Expr) (then_part : Vec Stmt Global) (else_part : Option (Vec Stmt Global))
     → (behind : List Placed) × (and_within n (statement_of (If test then_part else_part)) ≡ record { statement = statement_of (If test then_part else_part); around = n } ∷ (in_order n (statements_of then_part.items) ++ behind))
-if_order n test then_part None = ([], rw (if_tree test then_part, append-nil) refl)
-if_order n test then_part (Some else_part) = (in_order n (statements_of else_part.items), rw (if_else_tree test then_part else_part) refl)
+if_order n test then_part None = ([], rw (statement-if test then_part, append-nil) refl)
+if_order n test then_part (Some else_part) = (in_order n (statements_of else_part.items), rw (statement-if_else test then_part else_part) refl)
 
 pub if_else_order : (n : ℕ) (test : Expr) (then_part else_part : Vec Stmt Global)
     → and_within n (statement_of (If test then_part (Some else_part)))
     ≡ record { statement = statement_of (If test then_part (Some else_part)); around = n } ∷ (in_order n (statements_of then_part.items) ++ in_order n (statements_of else_part.items))
-if_else_order n test then_part else_part = rw (if_else_tree test then_part else_part) refl
+if_else_order n test then_part else_part = rw (statement-if_else test then_part else_part) refl

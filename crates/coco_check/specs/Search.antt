@@ -11,8 +11,7 @@ use Rattle.coco_ast.specs.declared.error.CheckKind.TheVariants.{UnknownName, Twi
 use Rattle.coco_ast.specs.Tree.{Statement, Let, Get, Put, Delete, If, IfElse, Repeat, Refuse, Reply, Statements, Procedure, Procedures}
 use Rattle.coco_ast.specs.Builtins.{builtins}
 use Rattle.coco_ast.specs.Checks.{Placed, own_tables, own_variables, set_by, statements_in, counted_weight, ends}
-use Rattle.coco_types.specs.declared.limits.TheConstants.{MOST_KEYS}
-use Rattle.coco_check.specs.declared.statement.TheConstants.{MOST_BOUND, MOST_TURNS}
+use Rattle.coco_types.specs.declared.limits.TheConstants.{MOST_BOUND, MOST_KEYS, MOST_TURNS}
 use Rattle.coco_check.specs.declared.fault.BodyFault.{BodyFault}
 use Rattle.coco_check.specs.declared.fault.BodyFault.TheVariants as body
 use Rattle.coco_check.specs.declared.fault.CheckFault.{CheckFault}

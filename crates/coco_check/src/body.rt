@@ -9,8 +9,9 @@ ghost use Rattle.coco_check.specs.Walking.{walk_of, Follows};
 
 use crate::fault::BodyFault;
 use crate::names::NameSet;
-use crate::statement::{MOST_TURNS, kind_of};
+use crate::statement::kind_of;
 use coco_ast::{Name, Stmt};
+use coco_types::limits::MOST_TURNS;
 
 // How far the statements of a procedure are checked: the number of the last one, and the variables
 // known behind it.

@@ -2,6 +2,7 @@
 
 ghost use Rattle.std.specs.Prelude.{◌≡◌, ◌+◌, ◌<◌, ◌≤◌, ◌^◌, ◌⊎◌, ◌++◌, [], map, length, IfOk, IfErr, IsErrAnd, MatchResult};
 ghost use Rattle.std.specs.List.{All};
+ghost use Rattle.coco_types.specs.Limits.{most_declared};
 ghost use Rattle.coco_ast.specs.Builtins.{builtins as built_in};
 ghost use Rattle.coco_ast.specs.Checks.{HasNoError, IsFirstError, IsWithinLimits, behind_builtins, statements_in};
 ghost use Rattle.coco_ast.specs.Views.{procedure_of, procedures_of};
@@ -53,7 +54,7 @@ fn find_error(alloc: Global, first: &Procs, procs: &Procs) -> Result<(), CheckFa
 // The names of all tables, if none stands twice.
 fn check_tables(alloc: Global, first: &[Name], tables: &[Name]) -> Result<NameSet, CheckFault>
     requires first { first.now ≡ built_in.tables }
-    requires few { length tables.now ≤ 60000 }
+    requires few { length tables.now ≤ most_declared }
     ensures { TablesAre result (adding built_in_tables 0 tables.now) }
 {
     let mut known = NameSet::new(alloc);

@@ -8,12 +8,7 @@ ghost use Rattle.coco_check.specs.Search.{has, has_all, is_bad_bound, kind_at, k
 use crate::CheckKind;
 use crate::names::NameSet;
 use coco_ast::{Expr, Place, Stmt};
-
-/// How many turns a repeat may have.
-pub const MOST_BOUND: u64 = 64;
-
-/// How many turns repeats within each other may have in all.
-pub const MOST_TURNS: u64 = 4096;
+use coco_types::limits::{MOST_BOUND, MOST_TURNS};
 
 // What is wrong with a statement itself, where these tables are declared, these variables known and
 // the repeats around it have so many turns in all.

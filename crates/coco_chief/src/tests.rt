@@ -1,3 +1,5 @@
+//! What the coordinator's core does with the votes of an epoch, and after it starts again.
+
 use super::*;
 use coco_msg::Message;
 use std::alloc::Global;

@@ -1,3 +1,5 @@
+//! Messages as bytes, and the fields at which other bytes are refused.
+
 ghost use Rattle.std.specs.Prelude.{◌≡◌, [], ◌∷◌, IfOk};
 
 use super::*;

@@ -1,3 +1,5 @@
+//! What a node's core does with the messages of an epoch, and after it starts again.
+
 use super::*;
 use coco_msg::Message;
 use std::alloc::Global;

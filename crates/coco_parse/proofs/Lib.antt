@@ -5,7 +5,6 @@ pub mod Spellings
 pub mod Steps
 pub mod Choices
 pub mod Readables
-pub mod Trees
 pub mod Readings
 pub mod Following
 pub mod Completing

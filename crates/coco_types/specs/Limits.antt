@@ -1,6 +1,6 @@
 -- The limits that several crates share, as the code has them.
 use Rattle.std.specs.Prelude.{ℕ}
-use Rattle.coco_types.specs.declared.limits.TheConstants.{MOST_KEPT, MOST_ARGUMENTS, MOST_TEXT_BYTES, MOST_KEYS, MOST_BATCH_LINES, MOST_LINE_BYTES, MOST_PROCEDURE_BYTES, MOST_TIME, EPOCHS_END, MOST_INPUT_BYTES, MOST_NODES, MOST_PARTITIONS, MOST_COPIES, MOST_WORKERS, MOST_ATTEMPTS}
+use Rattle.coco_types.specs.declared.limits.TheConstants.{MOST_KEPT, MOST_ARGUMENTS, MOST_TEXT_BYTES, MOST_KEYS, MOST_BOUND, MOST_TURNS, MOST_DECLARED, MOST_BATCH_LINES, MOST_LINE_BYTES, MOST_PROCEDURE_BYTES, MOST_TIME, EPOCHS_END, MOST_INPUT_BYTES, MOST_NODES, MOST_PARTITIONS, MOST_COPIES, MOST_WORKERS, MOST_ATTEMPTS}
 
 abbrev pub most_kept : ℕ
 most_kept = MOST_KEPT
@@ -13,6 +13,15 @@ most_text_bytes = MOST_TEXT_BYTES
 
 abbrev pub most_keys : ℕ
 most_keys = MOST_KEYS
+
+abbrev pub most_bound : ℕ
+most_bound = MOST_BOUND
+
+abbrev pub most_turns : ℕ
+most_turns = MOST_TURNS
+
+abbrev pub most_declared : ℕ
+most_declared = MOST_DECLARED
 
 abbrev pub most_batch_lines : ℕ
 most_batch_lines = MOST_BATCH_LINES

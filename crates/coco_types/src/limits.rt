@@ -12,6 +12,15 @@ pub const MOST_TEXT_BYTES: usize = 256;
 /// How many keys a call may touch.
 pub const MOST_KEYS: u64 = 64;
 
+/// How many turns a `repeat` may have.
+pub const MOST_BOUND: u64 = 64;
+
+/// How many turns repeats within each other may have in all.
+pub const MOST_TURNS: u64 = 4_096;
+
+/// How many tables, and how many procedures, a text of procedures may declare.
+pub const MOST_DECLARED: usize = 60_000;
+
 /// How many lines an epoch may have.
 pub const MOST_BATCH_LINES: usize = 1_024;
 

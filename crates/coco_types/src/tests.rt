@@ -1,3 +1,5 @@
+//! Texts, arguments, calls, records and keys on their happy paths.
+
 use crate::{
     Args, Call, Cause, Done, Failed, KeptReply, Key, NoMemory, OutFault, Reply, Sequence, Text,
     Value,

@@ -6,7 +6,7 @@ use Rattle.coco_parse.specs.Machine.{Fixed, Named, Within, Tested, AsMark, in_br
 use Rattle.coco_parse.specs.Steps.{Stands, behind_head}
 use Rattle.coco_parse.proofs.Choices.{chooses_else}
 use Rattle.coco_parse.proofs.Steps.{exit_same, exit_refused, chosen_true, chosen_false, headed}
-use Rattle.coco_parse.proofs.Trees.{statement-if, statement-if_else, statement-repeat, statements-push}
+use Rattle.coco_ast.proofs.Trees.{statement-if, statement-if_else, statement-repeat, statements-push}
 use Rattle.coco_parse.proofs.state.Parser.+blocks.Goals as goal
 
 pub behind_if-returns-in_err-test-clause-reads : goal.behind_if-returns-in_err-test-clause-reads

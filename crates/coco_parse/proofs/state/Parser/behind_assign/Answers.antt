@@ -4,7 +4,7 @@ use Rattle.coco_parse.specs.Machine.{with_statement}
 use Rattle.coco_parse.specs.Steps.{Stands}
 use Rattle.coco_parse.proofs.Choices.{chooses_get}
 use Rattle.coco_parse.proofs.Steps.{exit_same, exit_refused, chosen_true, chosen_false}
-use Rattle.coco_parse.proofs.Trees.{statement-let, statement-get}
+use Rattle.coco_ast.proofs.Trees.{statement-let, statement-get}
 use Rattle.coco_parse.proofs.state.Parser.behind_assign.Goals as goal
 
 pub returns-in_err-gets-clause-reads : goal.returns-in_err-gets-clause-reads

@@ -5,7 +5,7 @@ use Rattle.coco_ast.specs.Views.{place_of}
 use Rattle.coco_parse.specs.Machine.{Fixed, Operand, AssignMark, SemicolonMark, with_statement}
 use Rattle.coco_parse.specs.Steps.{Stands}
 use Rattle.coco_parse.proofs.Steps.{exit_same, exit_refused}
-use Rattle.coco_parse.proofs.Trees.{statement-put}
+use Rattle.coco_ast.proofs.Trees.{statement-put}
 use Rattle.coco_parse.proofs.state.Parser.behind_put.Goals as goal
 
 pub returns-in_err-place-clause-reads : goal.returns-in_err-place-clause-reads

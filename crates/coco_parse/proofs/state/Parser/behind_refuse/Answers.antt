@@ -2,7 +2,7 @@ use Rattle.coco_ast.specs.Tree as tree
 use Rattle.coco_parse.specs.Machine.{Fixed, SemicolonMark, with_statement}
 use Rattle.std.proofs.Common.{sym, subst}
 use Rattle.coco_parse.specs.Steps.{Stands}
-use Rattle.coco_parse.proofs.Trees.{statement-refuse}
+use Rattle.coco_ast.proofs.Trees.{statement-refuse}
 use Rattle.coco_parse.proofs.Steps.{exit_refused}
 use Rattle.coco_parse.proofs.state.Parser.behind_refuse.Goals as goal
 

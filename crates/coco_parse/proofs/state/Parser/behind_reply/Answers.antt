@@ -3,7 +3,7 @@ use Rattle.coco_ast.specs.Tree as tree
 use Rattle.coco_parse.specs.Machine.{with_statement}
 use Rattle.coco_parse.specs.Steps.{Stands}
 use Rattle.coco_parse.proofs.Steps.{exit_same}
-use Rattle.coco_parse.proofs.Trees.{statement-reply}
+use Rattle.coco_ast.proofs.Trees.{statement-reply}
 use Rattle.coco_parse.proofs.state.Parser.behind_reply.Goals as goal
 
 pub returns-in_err-value-clause-reads : goal.returns-in_err-value-clause-reads
