@@ -1,25 +1,26 @@
 -- A shard's entries, and the state that contracts see.
-use Rattle.std.proofs.Common.{◌≡◌, ℕ, Bool, true, false, cond, ◌==◌, List, [], ◌∷◌, Option, None, Some, refl, sym, ap, ◌∙◌, map, OnOk, OnErr, Result, Ok, Err}
+use Rattle.std.proofs.Common.{◌≡◌, ℕ, Bool, true, false, cond, ◌==◌, List, [], ◌∷◌, Option, None, Some, refl, sym, ap, ◌∙◌, map, OnOk, OnErr, IsErr, Result, Ok, Err}
 use Rattle.std.specs.Option.{option_map, unwrap_or, is_some}
 use Rattle.std.specs.Map.{lookup, set_value}
 use Rattle.std.specs.BTreeMap.{is_at}
-use Rattle.std.specs.FinMap.{get, insert}
+use Rattle.std.specs.FinMap.{get, insert, remove}
 use Rattle.std.proofs.lemmas.Map.{lookup-set_value}
 use Rattle.std.proofs.lemmas.Cmp.{eq_by_cmp_equiv}
 use Rattle.coco_types.specs.RowKey.{RowKey, key_cmp}
 use Rattle.coco_rows.specs.declared.Row.{Row}
 use Rattle.coco_shard.specs.declared.kept.Kept.{Kept}
 use Rattle.coco_types.specs.declared.call.AttemptId.{AttemptId}
+use Rattle.coco_types.specs.declared.error.NoMemory.{NoMemory}
 use Rattle.coco_shard.specs.declared.ops.Ask.{Ask}
 use Rattle.coco_shard.specs.declared.ops.Op.{Op}
 use Rattle.coco_shard.specs.declared.ops.Op.TheVariants.{Read, Lock, Extend, Install, Release, Past}
 use Rattle.coco_shard.specs.declared.ops.Answer.{Answer}
 use Rattle.coco_shard.specs.declared.ops.Answer.TheVariants.{Got, Locked, Marked, Changed, Extended, Installed, Released, NotMine, Stood}
 use Rattle.coco_shard.specs.RowState.{RowState, resting, row_at, with_row}
-use Rattle.coco_shard.specs.Table.{answer_in, answer_at, after_ask, left_by, key_of, leaves_row}
-use Rattle.coco_shard.specs.Kept.{Follows, state_of, kept_at, shown, view_of}
+use Rattle.coco_shard.specs.Table.{answer_in, answer_at, after_ask, left_by, key_of, leaves_row, may_make_row}
+use Rattle.coco_shard.specs.Kept.{Acts, Follows, state_of, kept_at, shown, view_of}
 use Rattle.coco_types.proofs.Keys.{is_key, one_key, keys_total}
-use Rattle.coco_types.proofs.KeyMaps.{get_key, get_put, same_keyed}
+use Rattle.coco_types.proofs.KeyMaps.{get_key, get_put, get_taken, same_keyed}
 
 -- what a row says, where there is one
 abbrev pub state_in : Option Kept → Option RowState
@@ -156,6 +157,29 @@ unmade_view es ask answer none told leaves =
 
 pub missing_answer : (es : List (RowKey × Kept)) (ask : Ask) (answer : Answer) → kept_at es (key_of ask.op) ≡ None → answer ≡ answer_at (resting None) ask.by ask.op → answer ≡ answer_in (view_of es) ask
 missing_answer es ask answer none told = told ∙ ap (λ row. answer_at row ask.by ask.op) (sym (no_row_in es (key_of ask.op) none))
+
+-- an answer that leaves a row comes of an operation that may make one
+pub leaves_made : (by : AttemptId) (op : Op) → leaves_row (answer_at (resting None) by op) ≡ true → may_make_row op ≡ true
+leaves_made by (Read key) h = refl
+leaves_made by (Lock key) h = refl
+leaves_made by (Extend key wts time) h = refl
+leaves_made by (Install key time value) h = absurd (two_sides (sym h))
+leaves_made by (Release key) h = absurd (two_sides (sym h))
+leaves_made by (Past key) h = absurd (two_sides (sym h))
+
+-- an ask that is refused memory
+pub acts_refused : (es fs : List (RowKey × Kept)) (ask : Ask) (r : Result Answer NoMemory) → IsErr r → fs ≡ es → kept_at es (key_of ask.op) ≡ None → may_make_row ask.op ≡ true → Acts es fs ask r
+acts_refused es fs ask (Ok answer) is same none makes = absurd (two_sides (sym is))
+acts_refused es fs ask (Err e) is same none makes = record { answer = tt; state = tt; err = same; missing = none; makes = makes }
+
+-- the state after the row of a key is taken away
+pub dropped_view : (es fs : List (RowKey × Kept)) (k : RowKey) → ((q : RowKey) → kept_at fs q ≡ cond (is_key k q) None (kept_at es q)) → view_of fs ≡ remove (view_of es) k
+dropped_view es fs k at = same_keyed _ _ (λ q.
+    get_view fs q ∙ ap state_in (at q) ∙ taken (is_key k q) (kept_at es q) ∙ ap (cond (is_key k q) None) (sym (get_view es q)) ∙ sym (get_taken (view_of es) k q))
+  where
+    taken : (b : Bool) (o : Option Kept) → state_in (cond b None o) ≡ cond b None (state_in o)
+    taken true o = refl
+    taken false o = refl
 
 pub missing_on_err : {T E : Type 0} (r : Result T E) (es : List (RowKey × Kept)) (k : RowKey) → OnErr r (kept_at es k ≡ None) → OnErr r (get (view_of es) k ≡ None)
 missing_on_err (Ok x) es k h = tt

@@ -7,6 +7,7 @@ use Rattle.std.specs.BTreeMap.{is_at}
 use Rattle.std.proofs.lemmas.List.Folds.{list_any-append}
 use Rattle.std.proofs.lemmas.Map.{length-set_value}
 use Rattle.std.proofs.lemmas.Map.Entries.{sum_by-set_value, sum_by-remove_entry}
+use Rattle.std.proofs.lemmas.List.Sums.{sum_by-cons}
 use Rattle.coco_types.specs.RowKey.{RowKey, key_cmp}
 use Rattle.coco_types.specs.declared.value.Value.{Value}
 use Rattle.coco_rows.specs.Versions.{at_rest}
@@ -222,3 +223,32 @@ whole_at_end first es promotes room was =
 pub no_items : {X : Type 0} (xs : List X) → length xs ≡ 0 → xs ≡ []
 no_items [] h = refl
 no_items (x ∷ xs) h = absurd (omega arith)
+
+-- ---- a row that goes while none is listed
+
+waits_few : (es : List (RowKey × Kept)) → 0 + sum_by waits (values_of es) ≤ length es
+waits_few [] = omega arith
+waits_few (e ∷ es) =
+    let rest : 0 + sum_by waits (values_of es) ≤ length es = waits_few es in
+    let one : sum_by waits (values_of (e ∷ es)) ≡ waits e.1 + sum_by waits (values_of es) = sum_by-cons waits e.1 (values_of es) in
+    let few : waits e.1 ≤ 1 = at_most_one e.1.touched in
+    omega arith
+  where
+    at_most_one : (t : Bool) → cond t 0 1 ≤ 1
+    at_most_one true = omega arith
+    at_most_one false = omega arith
+
+pub whole_without : (es fs : List (RowKey × Kept)) (k : RowKey) (room : ℕ) → IsWhole es [] room
+    → ((q : RowKey) → kept_at fs q ≡ cond (is_key k q) None (kept_at es q)) → length fs + cond (is_some (kept_at es k)) 1 0 ≡ length es → IsWhole fs [] room
+whole_without es fs k room whole at len =
+    let before : (q : RowKey) (kept : Kept) → kept_at fs q ≡ Some kept → kept_at es q ≡ Some kept = λ q kept is. found (is_key k q) (kept_at es q) kept (sym (at q) ∙ is) in
+    record {
+      sound = λ q kept is. whole.sound q kept (before q kept is);
+      listed = λ q kept is. whole.listed q kept (before q kept is);
+      once = waits_few fs;
+      room = omega (arith, whole.room, len);
+    }
+  where
+    found : (b : Bool) (o : Option Kept) (kept : Kept) → cond b None o ≡ Some kept → o ≡ Some kept
+    found true o kept h = absurd (some_none (sym h))
+    found false o kept h = h

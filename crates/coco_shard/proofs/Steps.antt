@@ -8,11 +8,11 @@ use Rattle.coco_types.specs.declared.call.AttemptId.{AttemptId}
 use Rattle.coco_shard.specs.declared.kept.Kept.{Kept}
 use Rattle.coco_shard.specs.declared.ops.Op.TheVariants.{Read, Lock, Extend, Install}
 use Rattle.coco_shard.specs.declared.ops.Answer.TheVariants.{Got, Locked, Changed, Extended}
-use Rattle.coco_shard.specs.RowState.{RowState, ShardState, resting, row_at, with_row, Holds, IsSettled}
+use Rattle.coco_shard.specs.RowState.{RowState, ShardState, resting, row_at, with_row, Holds, IsSettled, loaded}
 use Rattle.coco_shard.specs.Table.{after_ask, answer_at, left_by, unless_marked, installed, extended}
 use Rattle.coco_shard.specs.Kept.{view_of}
 use Rattle.coco_types.proofs.Keys.{is_key}
-use Rattle.coco_types.proofs.KeyMaps.{get_put, get_put_same, put_put}
+use Rattle.coco_types.proofs.KeyMaps.{get_put, get_put_same, get_taken, put_put}
 
 abbrev tail : AttemptId
 tail = record { worker = 0; number = 0 }
@@ -74,10 +74,21 @@ put_settles s k v settled = λ q.
     let P : Option RowState → Type 0 = λ o. o ≡ option_map (λ value. resting (Some value)) (unwrap_or o (resting None)).stable in
     subst P (sym (get_put s k (resting (Some v)) q)) (load_settles (is_key k q) v (get s q) (settled q))
 
-pub loaded_settled : {T E : Type 0} (r : Result T E) (es fs : List (RowKey × Kept)) (k : RowKey) (v : Value) → IsSettled (view_of es)
-    → OnOk r (view_of fs ≡ insert (view_of es) k (resting (Some v))) → OnErr r (fs ≡ es) → IsSettled (view_of fs)
-loaded_settled (Ok x) es fs k v settled ok err = subst IsSettled (sym ok) (put_settles (view_of es) k v settled)
-loaded_settled (Err e) es fs k v settled ok err = subst IsSettled (sym (ap view_of err)) settled
+take_settles : (b : Bool) (o : Option RowState) → o ≡ option_map (λ value. resting (Some value)) (unwrap_or o (resting None)).stable
+    → cond b None o ≡ option_map (λ value. resting (Some value)) (unwrap_or (cond b None o) (resting None)).stable
+take_settles true o h = refl
+take_settles false o h = h
+
+pub loads_settle : (s : ShardState) (k : RowKey) (value : Option Value) → IsSettled s → IsSettled (loaded s k value)
+loads_settle s k (Some v) settled = put_settles s k v settled
+loads_settle s k None settled = λ q.
+    let P : Option RowState → Type 0 = λ o. o ≡ option_map (λ value. resting (Some value)) (unwrap_or o (resting None)).stable in
+    subst P (sym (get_taken s k q)) (take_settles (is_key k q) (get s q) (settled q))
+
+pub loaded_settled : {T E : Type 0} (r : Result T E) (es fs : List (RowKey × Kept)) (k : RowKey) (value : Option Value) → IsSettled (view_of es)
+    → OnOk r (view_of fs ≡ loaded (view_of es) k value) → OnErr r (fs ≡ es) → IsSettled (view_of fs)
+loaded_settled (Ok x) es fs k value settled ok err = subst IsSettled (sym ok) (loads_settle (view_of es) k value settled)
+loaded_settled (Err e) es fs k value settled ok err = subst IsSettled (sym (ap view_of err)) settled
 
 -- ---- one row, as the tail's steps find it
 

@@ -1,7 +1,7 @@
 -- The values and times of a shard's rows.
-use Rattle.std.proofs.Common.{◌≡◌, ◌≤◌, ◌<◌, Bool, true, false, cond, not, max, List, [], ◌∷◌, ◌++◌, Option, None, Some, refl, sym, ap, ◌∙◌, arith, inl, inr, ◌⊎◌}
+use Rattle.std.proofs.Common.{◌≡◌, ℕ, ◌≤◌, Bool, true, false, cond, ◌||◌, not, max, List, [], ◌∷◌, ◌++◌, Option, None, Some, refl, sym, ap, ◌∙◌, arith, inl, inr, ◌⊎◌}
 use Rattle.std.specs.Option.{option_map}
-use Rattle.std.specs.List.{AllByRecursion}
+use Rattle.std.specs.List.{AllByRecursion, list_any}
 use Rattle.std.specs.List.Sorted.{IsStrictlySortedBy}
 use Rattle.std.specs.Map.{keys_of, lookup}
 use Rattle.std.specs.BTreeMap.{is_at}
@@ -15,9 +15,10 @@ use Rattle.coco_types.specs.RowKey.{RowKey, key_cmp}
 use Rattle.coco_types.specs.declared.value.Value.{Value}
 use Rattle.coco_rows.specs.Versions.{at_rest}
 use Rattle.coco_shard.specs.declared.kept.Kept.{Kept}
-use Rattle.coco_shard.specs.RowState.{resting, row_at, value_at, Holds, ListsRows, IsGreatestTime}
-use Rattle.coco_shard.specs.Kept.{kept_at, version_of, entry_of, values_in, most_rts, settled, view_of, state_of}
-use Rattle.coco_types.proofs.Keys.{is_key, key_itself, keys_total}
+use Rattle.coco_shard.specs.RowState.{resting, row_at, value_at, Holds, IsSettled, ListsRows, IsGreatestTime}
+use Rattle.coco_shard.specs.Kept.{IsWhole, kept_at, version_of, entry_of, values_in, most_rts, rts_of, settled, view_of, state_of}
+use Rattle.coco_types.proofs.Keys.{is_key, keys_total, one_key}
+use Rattle.coco_types.proofs.KeyMaps.{same_keyed}
 use Rattle.coco_shard.proofs.Entries.{get_view, state_in, row_in, no_row_in}
 
 abbrev IsRising : List (RowKey × Kept) → Type 0
@@ -92,70 +93,61 @@ lists_rows stable es rising = record {
 
 -- ---- the greatest read time
 
-some_same : {X : Type 0} (x y : X) → Some x ≡ Some y → x ≡ y
-some_same x y h = cc
+two_sides : true ≡ false → ⊥
+two_sides h = cc
 
-most_bounds : (es : List (RowKey × Kept)) (k : RowKey) (kept : Kept) → kept_at es k ≡ Some kept → kept.row.rts ≤ most_rts es
-most_bounds [] k kept h = absurd (no_row h)
-  where
-    no_row : {X : Type 0} {x : X} → None ≡ Some x → ⊥
-    no_row h = cc
-most_bounds (e ∷ es) k kept h =
-    elim (is_key k e.0) as (λ b. cond b (Some e.1) (kept_at es k) ≡ Some kept → kept.row.rts ≤ max e.1.row.rts (most_rts es)) [
-      | true ↦ λ h. let same : e.1.row.rts ≡ kept.row.rts = ap (λ x. x.row.rts) (some_same e.1 kept h) in omega arith
-      | false ↦ λ h. let below : kept.row.rts ≤ most_rts es = most_bounds es k kept h in omega arith
-    ] h
-
-record HasMost (es : List (RowKey × Kept)) : Type 0 where
-  key : RowKey
-  kept : Kept
-  at : kept_at es key ≡ Some kept
-  is : kept.row.rts ≡ most_rts es
-
-first_most : (e : RowKey × Kept) (es : List (RowKey × Kept)) → most_rts es ≤ e.1.row.rts → HasMost (e ∷ es)
-first_most e es more = record { key = e.0; kept = e.1; at = ap (λ b. cond b (Some e.1) (kept_at es e.0)) (key_itself e.0); is = omega arith }
-
-later_most : (e : RowKey × Kept) (es : List (RowKey × Kept)) → IsRising (e ∷ es) → e.1.row.rts < most_rts es → HasMost es → HasMost (e ∷ es)
-later_most e es rising less most =
-    let apart : cond (is_key most.key e.0) (Some e.1) (kept_at es most.key) ≡ Some most.kept =
-    elim (is_key most.key e.0) as (λ b. is_key most.key e.0 ≡ b → cond b (Some e.1) (kept_at es most.key) ≡ Some most.kept) [
-      | true ↦ λ t. absurd (no_row (sym (once_first e es most.key rising t) ∙ most.at))
-      | false ↦ λ _. most.at
-    ] refl in
-    let same : most.kept.row.rts ≡ most_rts es = most.is in
-    record { key = most.key; kept = most.kept; at = apart; is = omega arith }
-  where
-    no_row : {X : Type 0} {x : X} → None ≡ Some x → ⊥
-    no_row h = cc
-
-has_most : (es : List (RowKey × Kept)) → IsRising es → (most_rts es ≡ 0) ⊎ HasMost es
-has_most [] rising = inl refl
-has_most (e ∷ es) rising =
-    elim (cases_lt e.1.row.rts (most_rts es)) [
-      | inl less ↦ elim (has_most es (tail_rises e es rising)) [
-        | inl zero ↦ inr (first_most e es (omega arith))
-        | inr most ↦ inr (later_most e es rising less most)
-      ]
-      | inr more ↦ inr (first_most e es more)
-    ]
-
-bounds : (es : List (RowKey × Kept)) (k : RowKey) → (row_at (view_of es) k).rts ≤ most_rts es
-bounds es k = elim (kept_at es k) as (λ o. kept_at es k ≡ o → (row_at (view_of es) k).rts ≤ most_rts es) [
-  | None ↦ λ e. let none : (row_at (view_of es) k).rts ≡ 0 = ap (λ row. row.rts) (no_row_in es k e) in omega arith
-  | Some kept ↦ λ e.
-      let same : (row_at (view_of es) k).rts ≡ kept.row.rts = ap (λ row. row.rts) (row_in es k kept e) in
-      let below : kept.row.rts ≤ most_rts es = most_bounds es k kept e in
-      omega arith
+rts_in : (es : List (RowKey × Kept)) (k : RowKey) → (row_at (view_of es) k).rts ≡ rts_of (kept_at es k)
+rts_in es k = elim (kept_at es k) as (λ o. kept_at es k ≡ o → (row_at (view_of es) k).rts ≡ rts_of o) [
+  | None ↦ λ e. ap (λ row. row.rts) (no_row_in es k e)
+  | Some kept ↦ λ e. ap (λ row. row.rts) (row_in es k kept e)
 ] refl
 
-pub most_is_greatest : (es : List (RowKey × Kept)) → IsRising es → IsGreatestTime (view_of es) (most_rts es)
-most_is_greatest es rising =
-    elim (has_most es rising) [
+listed_bounds : (es : List (RowKey × Kept)) (ks : List RowKey) (k : RowKey) → list_any (is_at (key_cmp k)) ks ≡ true → rts_of (kept_at es k) ≤ most_rts es ks
+listed_bounds es [] k h = absurd (two_sides (sym h))
+listed_bounds es (x ∷ ks) k h =
+    elim (is_key k x) as (λ b. is_key k x ≡ b → rts_of (kept_at es k) ≤ max (rts_of (kept_at es x)) (most_rts es ks)) [
+      | true ↦ λ t. let same : rts_of (kept_at es k) ≡ rts_of (kept_at es x) = ap (λ z. rts_of (kept_at es z)) (one_key k x t) in omega arith
+      | false ↦ λ f.
+          let below : rts_of (kept_at es k) ≤ most_rts es ks = listed_bounds es ks k (sym (ap (λ b. b || list_any (is_at (key_cmp k)) ks) f) ∙ h) in
+          omega arith
+    ] refl
+
+-- a row that isn't listed is at rest, so it has no read time
+kept_bounds : (es : List (RowKey × Kept)) (ks : List RowKey) (room : ℕ) → IsWhole es ks room → (k : RowKey) → rts_of (kept_at es k) ≤ most_rts es ks
+kept_bounds es ks room whole k = elim (kept_at es k) as (λ o. kept_at es k ≡ o → rts_of o ≤ most_rts es ks) [
+  | None ↦ λ _. omega arith
+  | Some kept ↦ λ e. elim kept.touched as (λ t. kept.touched ≡ t → kept.row.rts ≤ most_rts es ks) [
+    | true ↦ λ t.
+        let below : rts_of (kept_at es k) ≤ most_rts es ks = listed_bounds es ks k (whole.listed k kept e t) in
+        let same : rts_of (kept_at es k) ≡ kept.row.rts = ap rts_of e in
+        omega arith
+    | false ↦ λ t. let none : kept.row.rts ≡ 0 = ap (λ row. row.rts) (whole.sound k kept e t).0 in omega arith
+  ] refl
+] refl
+
+has_most : (es : List (RowKey × Kept)) (ks : List RowKey) → (most_rts es ks ≡ 0) ⊎ ((k : RowKey) × (rts_of (kept_at es k) ≡ most_rts es ks))
+has_most es [] = inl refl
+has_most es (x ∷ ks) =
+    elim (cases_lt (rts_of (kept_at es x)) (most_rts es ks)) [
+      | inl less ↦ elim (has_most es ks) [
+        | inl zero ↦ inr (x, omega arith)
+        | inr most ↦ inr (most.0, let same : rts_of (kept_at es most.0) ≡ most_rts es ks = most.1 in omega arith)
+      ]
+      | inr more ↦ inr (x, omega arith)
+    ]
+
+pub most_is_greatest : (es : List (RowKey × Kept)) (ks : List RowKey) (room : ℕ) → IsWhole es ks room → IsGreatestTime (view_of es) (most_rts es ks)
+most_is_greatest es ks room whole =
+    let bounds : (k : RowKey) → (row_at (view_of es) k).rts ≤ most_rts es ks =
+    λ k. let same : (row_at (view_of es) k).rts ≡ rts_of (kept_at es k) = rts_in es k in
+    let below : rts_of (kept_at es k) ≤ most_rts es ks = kept_bounds es ks room whole k in
+    omega arith in
+    elim (has_most es ks) [
       | inl none ↦
           let any : RowKey = record { table = 0; row = 0 } in
-          let below : (row_at (view_of es) any).rts ≤ most_rts es = bounds es any in
-          record { bounds = bounds es; at = any; attained = omega arith }
-      | inr most ↦ record { bounds = bounds es; at = most.key; attained = ap (λ row. row.rts) (row_in es most.key most.kept most.at) ∙ most.is }
+          let below : (row_at (view_of es) any).rts ≤ most_rts es ks = bounds any in
+          record { bounds = bounds; at = any; attained = omega arith }
+      | inr most ↦ record { bounds = bounds; at = most.0; attained = rts_in es most.0 ∙ most.1 }
     ]
 
 -- ---- an epoch's end
@@ -172,3 +164,7 @@ settled_state stable es k =
 
 pub settled_holds : (stable : Bool) (es fs : List (RowKey × Kept)) → ((q : RowKey) → kept_at fs q ≡ settled (not stable) (kept_at es q)) → Holds (value_at stable (view_of es)) (view_of fs)
 settled_holds stable es fs rows = λ k. get_view fs k ∙ ap state_in (rows k) ∙ settled_state stable es k
+
+-- where all rows are at rest, a settling changes nothing that is seen
+pub settle_stays : (es fs : List (RowKey × Kept)) → IsSettled (view_of es) → ((q : RowKey) → kept_at fs q ≡ settled false (kept_at es q)) → view_of fs ≡ view_of es
+settle_stays es fs still rows = same_keyed _ _ (λ k. settled_holds true es fs rows k ∙ sym (still k))

@@ -1,20 +1,22 @@
 -- How a shard keeps a row: beside it, whether its key stands in the list of touched keys.
-use Rattle.std.specs.Prelude.{◌≡◌, ℕ, ◌+◌, ◌≤◌, Bool, true, false, if◌then◌else◌, max, List, [], ◌∷◌, ◌++◌, length, map, sum_by, Option, None, Some, IsSome}
+use Rattle.std.specs.Prelude.{◌≡◌, ℕ, ◌+◌, ◌≤◌, Bool, true, false, if◌then◌else◌, max, List, [], ◌∷◌, ◌++◌, length, map, sum_by, Option, None, Some, IsSome, Result, IfOk, OnOk, OnErr}
 use Rattle.std.specs.List.{list_any}
 use Rattle.std.specs.Option.{unwrap_or, option_map}
 use Rattle.std.specs.Map.{lookup, set_value, values_of}
 use Rattle.std.specs.BTreeMap.{is_at}
 use Rattle.std.specs.FinMap.{from_entries}
 use Rattle.coco_types.specs.RowKey.{RowKey, key_cmp}
+use Rattle.coco_types.specs.declared.error.NoMemory.{NoMemory}
 use Rattle.coco_types.specs.declared.value.Value.{Value}
 use Rattle.coco_types.specs.declared.call.AttemptId.{AttemptId}
 use Rattle.coco_rows.specs.declared.Row.{Row}
 use Rattle.coco_rows.specs.Versions.{newest_of, at_rest}
 use Rattle.coco_shard.specs.declared.kept.Kept.{Kept}
 use Rattle.coco_shard.specs.declared.ops.Op.{Op}
+use Rattle.coco_shard.specs.declared.ops.Ask.{Ask}
 use Rattle.coco_shard.specs.declared.ops.Answer.{Answer}
 use Rattle.coco_shard.specs.RowState.{RowState, ShardState}
-use Rattle.coco_shard.specs.Table.{answer_at, left_by}
+use Rattle.coco_shard.specs.Table.{after_ask, answer_at, answer_in, key_of, left_by, may_make_row}
 
 abbrev pub state_of : Row → RowState
 state_of row = record { newest = newest_of row; wts = row.wts; rts = row.rts; mark = row.mark; stable = row.stable }
@@ -78,7 +80,21 @@ abbrev pub values_in : Bool → List (RowKey × Kept) → List (RowKey × Value)
 values_in newest [] = []
 values_in newest (e ∷ es) = entry_of e.0 (version_of newest e.1.row) ++ values_in newest es
 
--- the greatest read time
-abbrev pub most_rts : List (RowKey × Kept) → ℕ
-most_rts [] = 0
-most_rts (e ∷ es) = max e.1.row.rts (most_rts es)
+-- a key's read time; a missing row has none
+abbrev pub rts_of : Option Kept → ℕ
+rts_of None = 0
+rts_of (Some kept) = kept.row.rts
+
+-- the greatest read time of these keys
+abbrev pub most_rts : List (RowKey × Kept) → List RowKey → ℕ
+most_rts es [] = 0
+most_rts es (k ∷ ks) = max (rts_of (kept_at es k)) (most_rts es ks)
+
+-- What becomes of the rows where an ask is answered: answer and rows are the table's. Out of memory nothing has
+-- changed, the key has no row, and the ask may make one.
+pub record Acts (es fs : List (RowKey × Kept)) (ask : Ask) (result : Result Answer NoMemory) : Type 0 where
+  pub answer : IfOk result (λ answer. answer ≡ answer_in (view_of es) ask)
+  pub state : OnOk result (view_of fs ≡ after_ask (view_of es) ask)
+  pub err : OnErr result (fs ≡ es)
+  pub missing : OnErr result (kept_at es (key_of ask.op) ≡ None)
+  pub makes : OnErr result (may_make_row ask.op ≡ true)

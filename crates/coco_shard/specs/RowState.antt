@@ -4,7 +4,7 @@ use Rattle.std.specs.List.Sorted.{IsStrictlySortedBy}
 use Rattle.std.specs.Map.{keys_of, lookup}
 use Rattle.std.specs.BTreeMap.{is_at}
 use Rattle.std.specs.Option.{unwrap_or, option_map}
-use Rattle.std.specs.FinMap.{FinMap, get, insert}
+use Rattle.std.specs.FinMap.{FinMap, get, insert, remove}
 use Rattle.coco_types.specs.RowKey.{RowKey, key_cmp}
 use Rattle.coco_types.specs.declared.value.Value.{Value}
 use Rattle.coco_types.specs.declared.call.AttemptId.{AttemptId}
@@ -47,6 +47,11 @@ Holds opening s = (k : RowKey) → get s k ≡ option_map (λ value. resting (So
 -- no row is touched
 abbrev pub IsSettled : ShardState → Type 0
 IsSettled s = Holds (stable_at s) s
+
+-- the shard with this stable value under the key, or without its row
+abbrev pub loaded : ShardState → RowKey → Option Value → ShardState
+loaded s k None = remove s k
+loaded s k (Some value) = insert s k (resting (Some value))
 
 -- a key's stable value, or its newest
 abbrev pub value_at : Bool → ShardState → RowKey → Option Value

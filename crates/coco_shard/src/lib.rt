@@ -36,7 +36,7 @@ mod tests {
     // Row 5 of table 0 is loaded as 1, locked, and installed as 2 at 1.
     fn written(rt: &impl Abort, alloc: Global) -> Result<Shard, Fail> {
         let mut shard = Shard::new(alloc);
-        shard.load(FIVE, Value::Int(1))?;
+        shard.load(FIVE, Some(Value::Int(1)))?;
         let locked = shard.apply(ask(0, Op::Lock(FIVE)))?;
         assert_eq!(rt; locked, Answer::Locked { wts: 0, rts: 0 });
         let op = Op::Install {
@@ -83,11 +83,13 @@ mod tests {
     }
 
     #[test]
-    fn rows_have_the_loaded_values(rt: HostRuntime) -> Result<(), Fail> {
+    fn rows_have_the_loaded_values_until_these_are_taken_away(rt: HostRuntime) -> Result<(), Fail> {
         let mut shard = Shard::new(rt.alloc());
-        shard.load(FIVE, Value::Int(1))?;
+        shard.load(FIVE, Some(Value::Int(1)))?;
         let rows = shard.rows(true)?;
         assert_eq!(rt; rows.as_slice(), [(FIVE, Value::Int(1))].as_slice());
+        shard.load(FIVE, None)?;
+        assert_eq!(rt; shard.rows(true)?.as_slice().len(), 0);
         Ok(())
     }
 

@@ -1,6 +1,6 @@
 //! How a shard comes to rest at an epoch's end: each touched row promoted or reverted, without memory.
 
-ghost use Rattle.std.specs.Prelude.{◌≡◌, ◌+◌, ◌≤◌, cond, true, None, Some, length, sum_by, vec_capacity, is_some};
+ghost use Rattle.std.specs.Prelude.{◌≡◌, ◌+◌, ◌≤◌, [], cond, true, None, Some, length, sum_by, vec_capacity, is_some};
 ghost use Rattle.std.specs.Map.{remove_entry, set_value, values_of};
 ghost use Rattle.std.specs.BTreeMap.{is_at};
 ghost use Rattle.coco_types.specs.RowKey.{RowKey, key_cmp};
@@ -16,6 +16,7 @@ use std::collections::BTreeMap;
 pub fn settle(rows: &mut BTreeMap<Key, Kept>, touched: &mut Vec<Key>, promotes: bool)
     requires { IsWhole rows.old.entries touched.old.items (vec_capacity touched.old) }
     ensures whole { IsWhole rows.new.entries touched.new.items (vec_capacity touched.new) }
+    ensures none { touched.new.items ≡ [] }
     ensures rows { (q : RowKey) → kept_at rows.new.entries q ≡ settled promotes (kept_at rows.old.entries q) }
 {
     'keys: while let Some(key) = touched.pop() {
@@ -59,7 +60,8 @@ impl Kept {
     }
 }
 
-fn drop_row(rows: &mut BTreeMap<Key, Kept>, key: Key)
+// Takes the row of a key away, where there is one.
+pub fn drop_row(rows: &mut BTreeMap<Key, Kept>, key: Key)
     ensures entries { rows.new.entries ≡ remove_entry (is_at (key_cmp key)) rows.old.entries }
     ensures at { (q : RowKey) → kept_at rows.new.entries q ≡ cond (is_at (key_cmp key) q) None (kept_at rows.old.entries q) }
     ensures len { length rows.new.entries + cond (is_some (kept_at rows.old.entries key)) 1 0 ≡ length rows.old.entries }

@@ -1,14 +1,14 @@
 //! The shard: rows under their keys, as a machine and for the steps that need no lock.
 
-ghost use Rattle.std.specs.Prelude.{◌≡◌, ◌≤◌, None, Some, true, IfOk, OnOk, OnErr};
+ghost use Rattle.std.specs.Prelude.{◌≡◌, ◌≤◌, None, true, IfOk, IsSome, OnOk, OnErr};
 ghost use Rattle.std.specs.FinMap.{get, insert, empty};
-ghost use Rattle.coco_shard.specs.RowState.{resting, row_at, newest_at, stable_at, value_at, Holds, IsSettled, IsGreatestTime, ListsRows};
+ghost use Rattle.coco_shard.specs.RowState.{loaded, row_at, newest_at, stable_at, value_at, Holds, IsSettled, IsGreatestTime, ListsRows};
 ghost use Rattle.coco_shard.specs.Table.{after_ask, answer_in, installed, extended, key_of, may_make_row};
 
 use crate::kept::{Kept, read};
 use crate::ops::{Answer, Ask, Op};
 use crate::settle::settle;
-use crate::table::{act_on_missing, act_on_rows, load_row, stable_of};
+use crate::table::{act_on_missing, act_on_rows, drop_loaded, load_row, stable_of};
 use crate::values::{greatest, values};
 use coco_types::{AttemptId, Key, Machine, MapRows, NoMemory, Value};
 use std::alloc::Global;
@@ -61,15 +61,22 @@ impl Shard {
         stable_of(&self.rows, key)
     }
 
-    /// Sets a stable value, while no row is touched. Out of memory, nothing has changed.
-    pub fn load(&mut self, key: Key, value: Value) -> Result<(), NoMemory>
+    /// Sets a stable value, or takes the key's row away, while no row is touched. Out of memory, nothing has changed.
+    pub fn load(&mut self, key: Key, value: Option<Value>) -> Result<(), NoMemory>
         requires { IsSettled self.old }
-        ensures ok { OnOk result (self.new ≡ insert self.old key (resting (Some value))) }
+        ensures ok { OnOk result (self.new ≡ loaded self.old key value) }
         ensures settled { IsSettled self.new }
         ensures err { OnErr result (self.new ≡ self.old) }
         ensures missing { OnErr result (get self.old key ≡ None) }
+        ensures makes { OnErr result (IsSome value) }
     {
-        load_row(&mut self.rows, &mut self.touched, key, value)
+        match value {
+            Some(value) => load_row(&mut self.rows, &mut self.touched, key, value),
+            None => {
+                drop_loaded(&mut self.rows, &mut self.touched, key);
+                Ok(())
+            }
+        }
     }
 
     /// All keys that have a stable value, or, for false, a newest value, each with it, rising.
@@ -85,7 +92,7 @@ impl Shard {
     pub fn greatest_time(&self) -> u64
         ensures { IsGreatestTime self.now result }
     {
-        greatest(&self.rows)
+        greatest(&self.rows, &self.touched)
     }
 
     /// Makes every newest value the stable one, sets all times to 0 and clears the marks. Rows without a value go.

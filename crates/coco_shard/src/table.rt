@@ -1,17 +1,18 @@
 //! The operations on the map of rows, with the list of touched keys that always has room for every row.
 
-ghost use Rattle.std.specs.Prelude.{◌≡◌, ◌+◌, ◌^◌, ◌<◌, ◌≤◌, ◌++◌, ◌∷◌, [], if◌then◌else◌, cond, true, false, None, Some, IfNone, IfSome, IfOk, OnOk, OnErr, length, vec_len, vec_capacity};
+ghost use Rattle.std.specs.Prelude.{◌≡◌, ◌+◌, ◌^◌, ◌<◌, ◌≤◌, ◌++◌, ◌∷◌, [], if◌then◌else◌, cond, true, false, None, Some, IfNone, IfSome, OnOk, OnErr, length, vec_len, vec_capacity};
 ghost use Rattle.std.specs.BTreeMap.{is_at};
 ghost use Rattle.coco_types.specs.RowKey.{RowKey, key_cmp};
-ghost use Rattle.coco_shard.specs.Kept.{IsSound, IsWhole, SetsRow, kept_at, view_of};
-ghost use Rattle.coco_shard.specs.RowState.{resting, stable_at};
+ghost use Rattle.coco_shard.specs.Kept.{Acts, IsSound, IsWhole, SetsRow, kept_at, view_of};
+ghost use Rattle.coco_shard.specs.RowState.{IsSettled, resting, stable_at};
 ghost use Rattle.coco_rows.specs.Versions.{at_rest};
-ghost use Rattle.std.specs.FinMap.{insert};
+ghost use Rattle.std.specs.FinMap.{insert, remove};
 ghost use Rattle.coco_shard.specs.declared.kept.Kept.{Kept as Entry};
-ghost use Rattle.coco_shard.specs.Table.{after_ask, answer_in, key_of, leaves_row, may_make_row};
+ghost use Rattle.coco_shard.specs.Table.{key_of, leaves_row};
 
 use crate::kept::{Kept, act};
 use crate::ops::{Answer, Ask};
+use crate::settle::{drop_row, settle};
 use coco_rows::Row;
 use coco_types::{Key, NoMemory, Value};
 use std::collections::BTreeMap;
@@ -25,11 +26,7 @@ pub fn act_on_rows(
 ) -> Result<Answer, NoMemory>
     requires { IsWhole rows.old.entries touched.old.items (vec_capacity touched.old) }
     ensures whole { IsWhole rows.new.entries touched.new.items (vec_capacity touched.new) }
-    ensures answer { IfOk result (λ answer. answer ≡ answer_in (view_of rows.old.entries) ask.now) }
-    ensures state { OnOk result (view_of rows.new.entries ≡ after_ask (view_of rows.old.entries) ask.now) }
-    ensures err { OnErr result (rows.new.entries ≡ rows.old.entries) }
-    ensures missing { OnErr result (kept_at rows.old.entries (key_of ask.now.op) ≡ None) }
-    ensures makes { OnErr result (may_make_row ask.now.op ≡ true) }
+    ensures acts { Acts rows.old.entries rows.new.entries ask.now result }
 {
     let key = ask.op.key();
     let Some(kept) = rows.get_mut(&key) else {
@@ -51,11 +48,7 @@ pub fn act_on_missing(
     requires whole { IsWhole rows.old.entries touched.old.items (vec_capacity touched.old) }
     requires missing { kept_at rows.old.entries (key_of ask.now.op) ≡ None }
     ensures whole { IsWhole rows.new.entries touched.new.items (vec_capacity touched.new) }
-    ensures answer { IfOk result (λ answer. answer ≡ answer_in (view_of rows.old.entries) ask.now) }
-    ensures state { OnOk result (view_of rows.new.entries ≡ after_ask (view_of rows.old.entries) ask.now) }
-    ensures err { OnErr result (rows.new.entries ≡ rows.old.entries) }
-    ensures missing { OnErr result (kept_at rows.old.entries (key_of ask.now.op) ≡ None) }
-    ensures makes { OnErr result (may_make_row ask.now.op ≡ true) }
+    ensures acts { Acts rows.old.entries rows.new.entries ask.now result }
 {
     let mut kept = Kept {
         row: Row::at_rest(None),
@@ -165,6 +158,18 @@ pub fn load_row(
             touched: false,
         },
     )
+}
+
+// Takes the row of a key away, while no row is touched.
+pub fn drop_loaded(rows: &mut BTreeMap<Key, Kept>, touched: &mut Vec<Key>, key: Key)
+    requires whole { IsWhole rows.old.entries touched.old.items (vec_capacity touched.old) }
+    requires settled { IsSettled (view_of rows.old.entries) }
+    ensures whole { IsWhole rows.new.entries touched.new.items (vec_capacity touched.new) }
+    ensures state { view_of rows.new.entries ≡ remove (view_of rows.old.entries) key }
+{
+    // Rows at rest may still be listed. None is behind this, so the list doesn't name the row that goes.
+    settle(rows, touched, false);
+    drop_row(rows, key);
 }
 
 // Sets the row of a key that has one, and says whether it has.

@@ -1,10 +1,10 @@
-//! What a shard's rows have in all: their values in order, and the greatest read time.
+//! What a shard's rows have in all: their values in order, and the greatest read time of some.
 
 ghost use Rattle.std.specs.Prelude.{◌≡◌, ◌++◌, OnOk, IfOk};
 ghost use Rattle.std.specs.Map.{keys_of};
 ghost use Rattle.std.specs.List.Sorted.{IsStrictlySortedBy};
 ghost use Rattle.coco_types.specs.RowKey.{key_cmp};
-ghost use Rattle.coco_shard.specs.Kept.{version_of, entry_of, values_in, most_rts};
+ghost use Rattle.coco_shard.specs.Kept.{version_of, entry_of, kept_at, values_in, most_rts, rts_of};
 
 use crate::kept::Kept;
 use coco_rows::Row;
@@ -51,14 +51,22 @@ fn version(row: &Row, newest: bool) -> Option<Value>
     }
 }
 
-// The greatest read time of any row.
-pub fn greatest(rows: &BTreeMap<Key, Kept>) -> u64
-    ensures most { result ≡ most_rts rows.now.entries }
-    ensures rising { IsStrictlySortedBy key_cmp (keys_of rows.now.entries) }
+// The greatest read time of these keys.
+pub fn greatest(rows: &BTreeMap<Key, Kept>, touched: &[Key]) -> u64
+    ensures { result ≡ most_rts rows.now.entries touched.now }
 {
     let mut most = 0;
-    for (_, kept) in rows {
-        most = kept.row.rts.max(most);
+    for key in touched {
+        most = read_time(rows, *key).max(most);
     }
     most
+}
+
+fn read_time(rows: &BTreeMap<Key, Kept>, key: Key) -> u64
+    ensures { result ≡ rts_of (kept_at rows.now.entries key) }
+{
+    match rows.get(&key) {
+        Some(kept) => kept.row.rts,
+        None => 0,
+    }
 }

@@ -3,6 +3,7 @@ use Rattle.std.specs.BTreeMap.{is_at}
 use Rattle.std.specs.Map.{set_value}
 use Rattle.coco_types.specs.RowKey.{key_cmp}
 use Rattle.coco_shard.specs.Kept.{kept_at, view_of}
+use Rattle.coco_shard.specs.Table.{key_of}
 use Rattle.coco_shard.proofs.Entries.{acted_answer, acted_view}
 use Rattle.coco_shard.proofs.Whole.{put_back_whole, whole_kept}
 use Rattle.coco_shard.proofs.table.act_on_rows.Goals as goal
@@ -16,12 +17,14 @@ returns-clause-whole c =
     c.requires was c.touch.ensures.sound c.touch.ensures.touched c.touch.ensures.once c.list_key.ensures.capacity)
     put c.list_key.ensures.items (omega arith)
 
-pub returns-clause-answer : goal.returns-clause-answer
-returns-clause-answer c =
-    acted_answer c.args.rows.now.entries c.args.ask.now c.act.new.answer c.in-Some.kept.now c.act.new.row (ap (kept_at c.args.rows.now.entries) (sym c.key-key.ensures) ∙ sym c.in-Some.ensures.value) c.act.ensures
-
-pub returns-clause-state : goal.returns-clause-state
-returns-clause-state c =
+pub returns-clause-acts : goal.returns-clause-acts
+returns-clause-acts c =
     let put : (c.get_mut.follows.lender c.touch.new.self).entries ≡ set_value (is_at (key_cmp c.key-key.result)) c.args.rows.now.entries c.touch.new.self = search rules in
-    ap view_of put ∙ rw c.key-key.ensures
-    (acted_view c.args.rows.now.entries c.args.ask.now c.act.new.answer c.in-Some.kept.now c.touch.new.self c.act.new.row (ap (kept_at c.args.rows.now.entries) (sym c.key-key.ensures) ∙ sym c.in-Some.ensures.value) c.touch.ensures.row c.act.ensures)
+    let was : kept_at c.args.rows.now.entries (key_of c.args.ask.now.op) ≡ Some c.in-Some.kept.now = ap (kept_at c.args.rows.now.entries) (sym c.key-key.ensures) ∙ sym c.in-Some.ensures.value in
+    record {
+      answer = acted_answer c.args.rows.now.entries c.args.ask.now c.act.new.answer c.in-Some.kept.now c.act.new.row was c.act.ensures;
+      state = ap view_of put ∙ rw c.key-key.ensures (acted_view c.args.rows.now.entries c.args.ask.now c.act.new.answer c.in-Some.kept.now c.touch.new.self c.act.new.row was c.touch.ensures.row c.act.ensures);
+      err = tt;
+      missing = tt;
+      makes = tt;
+    }

@@ -1,14 +1,19 @@
-use Rattle.std.proofs.Common.{◌≡◌, None, OnErr, subst, sym}
+use Rattle.std.proofs.Common.{◌≡◌, None, Some, OnErr, subst, sym}
 use Rattle.std.specs.FinMap.{get}
 use Rattle.coco_shard.specs.RowState.{ShardState, IsSettled}
+use Rattle.coco_shard.specs.Kept.{view_of}
 use Rattle.coco_shard.proofs.Entries.{missing_on_err}
-use Rattle.coco_shard.proofs.Steps.{loaded_settled}
+use Rattle.coco_shard.proofs.Steps.{loaded_settled, loads_settle}
 use Rattle.coco_shard.proofs.shard.Shard.load.Goals as goal
 
-pub returns-clause-settled : goal.returns-clause-settled
-returns-clause-settled c =
-    loaded_settled c.load_row.result c.self.inside.rows.entries c.load_row.new.rows.entries c.args.key c.args.value (subst IsSettled (sym c.self.view_is) c.requires) c.load_row.ensures.state c.load_row.ensures.err
+pub returns-in-Some-clause-settled : goal.returns-in-Some-clause-settled
+returns-in-Some-clause-settled c =
+    loaded_settled c.load_row.result c.self.inside.rows.entries c.load_row.new.rows.entries c.args.key (Some c.in-Some.value) (subst IsSettled (sym c.self.view_is) c.requires) c.load_row.ensures.state c.load_row.ensures.err
 
-pub returns-clause-missing : goal.returns-clause-missing
-returns-clause-missing c =
+pub returns-in-Some-clause-missing : goal.returns-in-Some-clause-missing
+returns-in-Some-clause-missing c =
     subst (λ (s : ShardState). OnErr c.load_row.result (get s c.args.key ≡ None)) c.self.view_is (missing_on_err c.load_row.result c.self.inside.rows.entries c.args.key c.load_row.ensures.missing)
+
+pub returns-in-None-clause-settled : goal.returns-in-None-clause-settled
+returns-in-None-clause-settled c =
+    subst IsSettled (sym c.drop_loaded.ensures.state) (loads_settle (view_of c.self.inside.rows.entries) c.args.key None (subst IsSettled (sym c.self.view_is) c.requires))

@@ -19,8 +19,8 @@ returns-in-Some-clause-state c =
 pub returns-in-Read-clause-missing : goal.returns-in-Read-clause-missing
 returns-in-Read-clause-missing c =
     subst (λ (s : ShardState). OnErr c.act_on_missing.result (get s (key_of c.args.ask.op) ≡ None)) c.self.view_is
-    (missing_on_err c.act_on_missing.result c.self.inside.rows.entries (key_of c.args.ask.op) c.act_on_missing.ensures.missing)
+    (missing_on_err c.act_on_missing.result c.self.inside.rows.entries (key_of c.args.ask.op) c.act_on_missing.ensures.acts.missing)
 
 pub returns-clause-missing : goal.returns-clause-missing
 returns-clause-missing c =
-    subst (λ (s : ShardState). OnErr c.act_on_rows.result (get s (key_of c.args.ask.op) ≡ None)) c.self.view_is (missing_on_err c.act_on_rows.result c.self.inside.rows.entries (key_of c.args.ask.op) c.act_on_rows.ensures.missing)
+    subst (λ (s : ShardState). OnErr c.act_on_rows.result (get s (key_of c.args.ask.op) ≡ None)) c.self.view_is (missing_on_err c.act_on_rows.result c.self.inside.rows.entries (key_of c.args.ask.op) c.act_on_rows.ensures.acts.missing)
