@@ -14,7 +14,7 @@ use Rattle.coco_shard.specs.declared.ops.Answer.{Answer}
 use Rattle.coco_shard.specs.declared.ops.Answer.TheVariants.{Locked, Marked, Changed, Extended, Installed, Released, NotMine}
 use Rattle.coco_shard.specs.RowState.{RowState, ShardState, resting, row_at, with_row, Holds}
 use Rattle.coco_shard.specs.Table.{key_of, answer_at, answer_in, after_ask, left_by, unless_marked, where_mine, is_mark_of}
-use Rattle.coco_shard.specs.Law.{Entry, installed_by, extended_by, marked_by, install_of, extension_of, mark_of, last_found, extensions_since, greatest, law_row, IsLawful, journal_of, after_asks}
+use Rattle.coco_shard.specs.Law.{Entry, installed_by, extended_by, marked_by, install_of, extension_of, mark_of, last_found, extensions_since, greatest, law_row, IsLawful, IsAnswered, asks_of, after_asks}
 use Rattle.coco_types.proofs.Keys.{is_key, one_key, keys_total}
 
 -- ---- one entry more
@@ -135,9 +135,6 @@ row_with s k (Some row) q = ap (λ o. unwrap_or o (resting None)) (get-insert ke
 abbrev pub Agrees : (RowKey → Option Value) → ShardState → List Entry → Type 0
 Agrees opening s es = (k : RowKey) → row_at s k ≡ law_row opening k es
 
-entry_in : ShardState → Ask → Entry
-entry_in s a = record { ask = a; answer = answer_in s a }
-
 agrees_step : (opening : RowKey → Option Value) (s : ShardState) (es : List Entry) (a : Ask) → Agrees opening s es
     → Agrees opening (after_ask s a) (es ++ record { ask = a; answer = answer_in s a } ∷ [])
 agrees_step opening s es a agrees q =
@@ -164,29 +161,37 @@ agrees_first opening s holds k = ap (λ o. unwrap_or o (resting None)) (holds k)
 two_entries : {X : Type 0} (x y : X) → Some x ≡ Some y → x ≡ y
 two_entries x y h = cc
 
-lawful_from : (opening : RowKey → Option Value) (s : ShardState) (es : List Entry) (asks : List Ask) → Agrees opening s es
-    → (place : ℕ) (e : Entry) → slice_get (journal_of s asks) place ≡ Some e → e.answer ≡ answer_at (law_row opening (key_of e.ask.op) (es ++ take place (journal_of s asks))) e.ask.by e.ask.op
-lawful_from opening s es [] agrees place e h = absurd (none_some h)
+-- an entry with the shard's answer is the one that the step adds
+agrees_entry : (opening : RowKey → Option Value) (s : ShardState) (es : List Entry) (d : Entry) → d.answer ≡ answer_in s d.ask → Agrees opening s es → Agrees opening (after_ask s d.ask) (es ++ d ∷ [])
+agrees_entry opening s es d told agrees =
+    let same : ◌≡◌ {A = Entry} (record { ask = d.ask; answer = answer_in s d.ask }) d = λ i. record { ask = d.ask; answer = sym told i } in
+    subst (λ x. Agrees opening (after_ask s d.ask) (es ++ x ∷ [])) same (agrees_step opening s es d.ask agrees)
+
+later_answered : (s : ShardState) (d : Entry) (journal : List Entry) → IsAnswered s (d ∷ journal) → IsAnswered (after_ask s d.ask) journal
+later_answered s d journal answered place e h = answered (suc place) e h
+
+lawful_from : (opening : RowKey → Option Value) (s : ShardState) (es journal : List Entry) → Agrees opening s es → IsAnswered s journal
+    → (place : ℕ) (e : Entry) → slice_get journal place ≡ Some e → e.answer ≡ answer_at (law_row opening (key_of e.ask.op) (es ++ take place journal)) e.ask.by e.ask.op
+lawful_from opening s es [] agrees answered place e h = absurd (none_some h)
   where
     none_some : {X : Type 0} {x : X} → None ≡ Some x → ⊥
     none_some h = cc
-lawful_from opening s es (a ∷ asks) agrees zero e h =
+lawful_from opening s es (d ∷ journal) agrees answered zero e h =
     let Told : Entry → Type 0 = λ d. d.answer ≡ answer_at (law_row opening (key_of d.ask.op) (es ++ [])) d.ask.by d.ask.op in
-    subst Told (two_entries (record { ask = a; answer = answer_in s a }) e h)
-    (ap (λ row. answer_at row a.by a.op) (agrees (key_of a.op) ∙ ap (law_row opening (key_of a.op)) (sym (append-nil es))))
-lawful_from opening s es (a ∷ asks) agrees (suc place) e h =
-    let d : Entry = record { ask = a; answer = answer_in s a } in
-    lawful_from opening (after_ask s a) (es ++ d ∷ []) asks (agrees_step opening s es a agrees) place e h
-    ∙ ap (λ z. answer_at (law_row opening (key_of e.ask.op) z) e.ask.by e.ask.op) (append_assoc es (d ∷ []) (take place (journal_of (after_ask s a) asks)))
+    subst Told (two_entries d e h)
+    (answered zero d refl ∙ ap (λ row. answer_at row d.ask.by d.ask.op) (agrees (key_of d.ask.op) ∙ ap (law_row opening (key_of d.ask.op)) (sym (append-nil es))))
+lawful_from opening s es (d ∷ journal) agrees answered (suc place) e h =
+    lawful_from opening (after_ask s d.ask) (es ++ d ∷ []) journal (agrees_entry opening s es d (answered zero d refl) agrees) (later_answered s d journal answered) place e h
+    ∙ ap (λ z. answer_at (law_row opening (key_of e.ask.op) z) e.ask.by e.ask.op) (append_assoc es (d ∷ []) (take place journal))
 
-agrees_after : (opening : RowKey → Option Value) (s : ShardState) (es : List Entry) (asks : List Ask) → Agrees opening s es → Agrees opening (after_asks s asks) (es ++ journal_of s asks)
-agrees_after opening s es [] agrees = λ k. agrees k ∙ ap (law_row opening k) (sym (append-nil es))
-agrees_after opening s es (a ∷ asks) agrees =
-    let d : Entry = record { ask = a; answer = answer_in s a } in
-    λ k. agrees_after opening (after_ask s a) (es ++ d ∷ []) asks (agrees_step opening s es a agrees) k ∙ ap (law_row opening k) (append_assoc es (d ∷ []) (journal_of (after_ask s a) asks))
+agrees_after : (opening : RowKey → Option Value) (s : ShardState) (es journal : List Entry) → Agrees opening s es → IsAnswered s journal → Agrees opening (after_asks s (asks_of journal)) (es ++ journal)
+agrees_after opening s es [] agrees answered = λ k. agrees k ∙ ap (law_row opening k) (sym (append-nil es))
+agrees_after opening s es (d ∷ journal) agrees answered = λ k.
+    agrees_after opening (after_ask s d.ask) (es ++ d ∷ []) journal (agrees_entry opening s es d (answered zero d refl) agrees) (later_answered s d journal answered) k
+    ∙ ap (law_row opening k) (append_assoc es (d ∷ []) journal)
 
-pub asks_lawful : (opening : RowKey → Option Value) (s : ShardState) (asks : List Ask) → Holds opening s → IsLawful opening (journal_of s asks)
-asks_lawful opening s asks holds = lawful_from opening s [] asks (agrees_first opening s holds)
+pub answers_lawful : (opening : RowKey → Option Value) (s : ShardState) (journal : List Entry) → Holds opening s → IsAnswered s journal → IsLawful opening journal
+answers_lawful opening s journal holds answered = lawful_from opening s [] journal (agrees_first opening s holds) answered
 
-pub asks_rows : (opening : RowKey → Option Value) (s : ShardState) (asks : List Ask) → Holds opening s → (k : RowKey) → row_at (after_asks s asks) k ≡ law_row opening k (journal_of s asks)
-asks_rows opening s asks holds = agrees_after opening s [] asks (agrees_first opening s holds)
+pub answers_rows : (opening : RowKey → Option Value) (s : ShardState) (journal : List Entry) → Holds opening s → IsAnswered s journal → (k : RowKey) → row_at (after_asks s (asks_of journal)) k ≡ law_row opening k journal
+answers_rows opening s journal holds answered = agrees_after opening s [] journal (agrees_first opening s holds) answered

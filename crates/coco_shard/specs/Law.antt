@@ -1,5 +1,5 @@
 -- The law of a shard's journal: a look back through a finished list, from an opening map.
-use Rattle.std.specs.Prelude.{◌≡◌, ℕ, if◌then◌else◌, max, List, [], ◌∷◌, ◌++◌, take, Option, None, Some}
+use Rattle.std.specs.Prelude.{◌≡◌, ℕ, if◌then◌else◌, max, List, [], ◌∷◌, ◌++◌, map, take, Option, None, Some}
 use Rattle.std.specs.Option.{option_or, option_map, option_flatten, option_to_list, unwrap_or, is_some}
 use Rattle.std.specs.List.{slice_get}
 use Rattle.std.specs.BTreeMap.{is_at}
@@ -98,12 +98,14 @@ IsLawful opening journal = (place : ℕ) (e : Entry) → slice_get journal place
 
 -- ---- runs of a shard
 
--- the journal of these asks, from a state on
-abbrev pub journal_of : ShardState → List Ask → List Entry
-journal_of s [] = []
-journal_of s (a ∷ asks) = record { ask = a; answer = answer_in s a } ∷ journal_of (after_ask s a) asks
-
--- the state after them
+-- the state after these asks
 abbrev pub after_asks : ShardState → List Ask → ShardState
 after_asks s [] = s
 after_asks s (a ∷ asks) = after_asks (after_ask s a) asks
+
+abbrev pub asks_of : List Entry → List Ask
+asks_of journal = map (λ (e : Entry). e.ask) journal
+
+-- each answer is the shard's, in the state that the asks before it leave
+abbrev pub IsAnswered : ShardState → List Entry → Type 0
+IsAnswered s journal = (place : ℕ) (e : Entry) → slice_get journal place ≡ Some e → e.answer ≡ answer_in (after_asks s (asks_of (take place journal))) e.ask

@@ -1,5 +1,5 @@
 -- What contracts see of a shard: a finite map from the keys that have a row to what each row says.
-use Rattle.std.specs.Prelude.{◌≡◌, ℕ, ◌≤◌, Bool, if◌then◌else◌, List, Option, None, Some}
+use Rattle.std.specs.Prelude.{◌≡◌, ℕ, ◌%◌, ◌≤◌, Bool, if◌then◌else◌, List, Option, None, Some, IsSome}
 use Rattle.std.specs.List.Sorted.{IsStrictlySortedBy}
 use Rattle.std.specs.Map.{keys_of, lookup}
 use Rattle.std.specs.BTreeMap.{is_at}
@@ -67,3 +67,7 @@ pub record IsGreatestTime (s : ShardState) (time : ℕ) : Type 0 where
   pub bounds : (k : RowKey) → (row_at s k).rts ≤ time
   pub at : RowKey
   pub attained : (row_at s at).rts ≡ time
+
+-- every key that has a row is of this partition of so many
+abbrev pub IsOfPartition : ℕ → ℕ → ShardState → Type 0
+IsOfPartition count partition s = (k : RowKey) → IsSome (get s k) → k.row % count ≡ partition
