@@ -1,0 +1,7 @@
+mod Attempts
+mod Walking
+mod Chains
+mod LawRows
+mod OneKey
+mod Reading
+mod Ordering
