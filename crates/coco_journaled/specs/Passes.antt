@@ -1,6 +1,6 @@
 -- Passes as contracts see them.
-use Rattle.std.specs.Prelude.{◌≡◌, ℕ, ◌<◌, List, [], ◌∷◌, ◌++◌, map, length, false, All, Option, Some}
-use Rattle.std.specs.List.{AllPairs}
+use Rattle.std.specs.Prelude.{◌≡◌, ℕ, ◌<◌, nat_eq, List, [], ◌∷◌, ◌++◌, map, length, false, All, Option, Some}
+use Rattle.std.specs.List.{AllPairs, filter}
 use Rattle.coco_seen.specs.Notes.{TableId, Known}
 use Rattle.coco_journaled.specs.declared.entry.Entry.{Entry}
 use Rattle.coco_journaled.specs.declared.entry.Placed.{Placed}
@@ -36,6 +36,10 @@ module _ {Q A : Type 0} where
   abbrev pub Rises : List (Placed Q A) → Type 0
   Rises calls = AllPairs (λ (c d : Placed Q A). c.place < d.place) calls
 
+  -- the entries of a pass, in order
+  abbrev pub entries_of : ℕ → List (Entry Q A) → List (Entry Q A)
+  entries_of number journal = filter (λ (e : Entry Q A). nat_eq e.pass number) journal
+
 module _ {M Q A : Type 0} where
   -- a pass that has seen nothing and done nothing
   abbrev pub new_pass : TableId → M → ℕ → Passing M Q A
@@ -63,6 +67,11 @@ module _ {M Q A : Type 0} where
 -- what a pass sees of a step that entered nothing: entries of other passes
 abbrev pub Looks : {M Q A : Type 0} → Passing M Q A → Passing M Q A → Type 0
 Looks {Q = Q} {A = A} p q = (between : List (Entry Q A)) × (q ≡ record p { list = p.list ++ between })
+
+-- each pass's entries are its calls, in order, and no entry is of another pass
+pub record HasPasses {M Q A : Type 0} (passes : List (Passing M Q A)) (journal : List (Entry Q A)) : Type 0 where
+  pub own : All (λ (p : Passing M Q A). entries_of p.number journal ≡ map (entry_of p.number) p.calls) passes
+  pub no_other : All (λ (e : Entry Q A). e.pass < length passes) journal
 
 module _ {M Q A : Type 0} (answer_to : M → Q → A) (state_after : M → Q → M) where
   -- a step: the answer is the trait's at the state after all entries so far, and the call stands behind them

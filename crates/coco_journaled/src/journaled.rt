@@ -2,7 +2,7 @@
 
 ghost use Rattle.std.specs.Prelude.{◌≡◌, ℕ, ◌<◌, ◌≤◌, [], ◌∷◌, ◌++◌, map, length, true, false, All, Some, slice_get, IfOk, IfErr, OnOk, sum_by, vec_len, vec_capacity};
 ghost use Rattle.coco_seen.specs.Rules.{numbers, how_often, once_below};
-ghost use Rattle.coco_journaled.specs.Passes.{placed, entry_of, places, Rises, new_pass, pass_at, Steps, Looks};
+ghost use Rattle.coco_journaled.specs.Passes.{HasPasses, placed, entry_of, places, Rises, new_pass, pass_at, Steps, Looks};
 ghost use Rattle.coco_journaled.specs.Replay.{Replays};
 
 use crate::entry::{Closed, Entry, Placed};
@@ -102,6 +102,7 @@ impl<M: Machine> Journaled<M> {
         ensures placed { All (λ pass. All (λ call. slice_get result.journal call.place ≡ Some (entry_of pass.number call)) pass.calls) passes.items }
         ensures rises { All (λ pass. Rises pass.calls) passes.items }
         ensures once { (place : ℕ) → sum_by (λ pass. how_often place (places pass.calls)) passes.items ≡ once_below place (length result.journal) }
+        ensures passes { map (λ pass. pass.number) passes.items ≡ numbers 0 (length passes.items) → HasPasses passes.items result.journal }
         ensures sized { length result.journal ≡ sum_by (λ pass. length pass.calls) passes.items }
     {
         let Journaled { seen } = self;

@@ -2,9 +2,10 @@ use Rattle.std.proofs.Common.{◌≡◌, length, All, Some, ap, sym, subst, ◌�
 use Rattle.std.specs.Prelude.{slice_get}
 use Rattle.coco_seen.specs.Notes.{ComesFrom}
 use Rattle.coco_seen.specs.Rules.{once_below}
-use Rattle.coco_journaled.specs.Passes.{entry_of}
+use Rattle.coco_journaled.specs.Passes.{HasPasses, entry_of}
 use Rattle.coco_journaled.specs.Replay.{Replays}
 use Rattle.coco_journaled.proofs.Closing.{all_placed, sum_of_places, sum_of_lengths}
+use Rattle.coco_journaled.proofs.Picking.{has_passes}
 use Rattle.coco_journaled.proofs.journaled.Journaled.close.Goals as goal
 
 pub returns-clause-machine : goal.returns-clause-machine
@@ -20,3 +21,9 @@ returns-clause-once g c = λ place. sym (sum_of_places place c.args.passes.items
 
 pub returns-clause-sized : goal.returns-clause-sized
 returns-clause-sized g c = ap length c.from_vec.ensures ∙ (c.close_of-machine.ensures.sized ∙ sum_of_lengths c.args.passes.items)
+
+pub returns-clause-passes : goal.returns-clause-passes
+returns-clause-passes g c = λ named.
+    subst (HasPasses c.args.passes.items) (sym c.from_vec.ensures)
+    (has_passes c.args.passes.items c.close_of-machine.result.journal.items (all_placed c.close_of-machine.result.journal.items c.args.passes.items c.close_of-machine.ensures.placed) c.close_of-machine.ensures.facts
+    (λ place. sym (sum_of_places place c.args.passes.items) ∙ c.close_of-machine.ensures.once place) named)
