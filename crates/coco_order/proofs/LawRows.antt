@@ -15,7 +15,7 @@ use Rattle.coco_shard.specs.Table.{key_of, answer_at, left_by, unless_marked, wh
 use Rattle.coco_shard.specs.Law.{Entry, installed_by, extended_by, marked_by, install_of, extension_of, mark_of, last_found, extensions_since, greatest, law_row, IsLawful}
 use Rattle.coco_types.proofs.Keys.{is_key, one_key}
 use Rattle.coco_order.specs.OneKey.{left, walk, AreTold, on}
-use Rattle.coco_order.proofs.Attempts.{by_bool, same_some}
+use Rattle.coco_order.proofs.Attempts.{by_bool, none_some, same_some}
 
 -- ---- one entry more
 
@@ -173,3 +173,9 @@ told_from opening es (e ∷ rest) each = (
 
 pub lawful_told : (opening : RowKey → Option Value) (journal : List Entry) → IsLawful opening journal → ToldFrom opening [] journal
 lawful_told opening journal lawful = told_from opening [] journal lawful
+
+pub told_lawful : (opening : RowKey → Option Value) (es rest : List Entry) → ToldFrom opening es rest
+    → (place : ℕ) (e : Entry) → slice_get rest place ≡ Some e → ToldAt opening (es ++ take place rest) e
+told_lawful opening es [] told place e h = absurd (none_some h)
+told_lawful opening es (d ∷ rest) told zero e h = subst (ToldAt opening (es ++ [])) (same_some h) (subst (λ (xs : List Entry). ToldAt opening xs d) (sym (append-nil es)) told.0)
+told_lawful opening es (d ∷ rest) told (suc place) e h = subst (λ (xs : List Entry). ToldAt opening xs e) (append_assoc es (d ∷ []) (take place rest)) (told_lawful opening (es ++ d ∷ []) rest told.1 place e h)

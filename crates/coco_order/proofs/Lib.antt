@@ -5,3 +5,17 @@ mod LawRows
 mod OneKey
 mod Reading
 mod Ordering
+mod Serial
+mod Passes
+mod Needs
+mod Shapes
+mod Tidying
+mod Orderly
+mod Acts
+mod Snapshots
+mod CommitReads
+mod Commits
+mod Times
+mod Tail
+mod Whole
+mod WorkedExecutions

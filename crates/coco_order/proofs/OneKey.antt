@@ -16,7 +16,8 @@ use Rattle.coco_order.specs.OneKey.{Among, is_attempt, own, on, left, walk, AreT
 use Rattle.coco_order.proofs.Attempts.{one_attempt, attempt_itself, by_bool, not_both, none_some, same_some, Among-append, Among-left, Among-right}
 use Rattle.coco_order.proofs.Walking.{Holds, Stands, holds_next, Step}
 use Rattle.coco_order.proofs.LawRows.{law_walk, told_walk, lawful_told, ToldFrom}
-use Rattle.coco_order.proofs.Chains.{Good, good_at, good_front, end_clear, all_mine, installs_above, walk_append}
+use Rattle.coco_order.specs.Laws.{ApartInTime}
+use Rattle.coco_order.proofs.Chains.{Good, one_install, good_at, good_front, end_clear, all_mine, installs_above, walk_append}
 
 -- at the start nobody holds anything
 abbrev pub nobody : Holds
@@ -64,3 +65,6 @@ times_rise opening k journal orderly before after e time value is here installs 
     let row : law_row opening k before ≡ walk (resting (opening k)) (on k before) = law_walk opening k [] before (told_front opening [] before (e ∷ after) told) in
     let above = installs_above (walk (resting (opening k)) (on k before)) _ (on k (e ∷ after)) (good_at (resting (opening k)) nobody (on k before) (on k (e ∷ after)) split) e time value (one_on k e after here) installs in
     subst (λ (r : RowState). r.rts < time) (sym row) above
+
+pub installs_apart : OnEachKey (λ opening k journal. ApartInTime k journal)
+installs_apart opening k journal orderly e d time v w in_e in_d i j = one_install (resting (opening k)) nobody (on k journal) (good_start opening k journal orderly) e d time v w in_e in_d i j

@@ -14,7 +14,7 @@ use Rattle.coco_shard.specs.Law.{Entry}
 use Rattle.coco_order.specs.OneKey.{Among, is_attempt, own, on, left, walk, AreTold, Shown, holds_at, Installs, IsLastBelow, IsOrderly, Validates, ReadsTheLast, ValidatedReadsAreLast, OnEachKey, step}
 use Rattle.coco_order.proofs.Attempts.{attempt_itself, by_bool, not_both, none_some, Among-append, Among-left, Among-right}
 use Rattle.coco_order.proofs.Walking.{Holds, Stands, held_some, Wrote, Kept}
-use Rattle.coco_order.proofs.Chains.{Good, good_at, good_front, good_next, good_step, walk_holds, walk_holds_own, walk_append, own_append, version, last_written, installs_within, installs_above, above_step}
+use Rattle.coco_order.proofs.Chains.{Good, good_at, good_front, good_next, good_step, walk_holds, walk_holds_own, walk_append, own_append, rts_rise, next_holds, version, last_written, installs_within, installs_above, above_step}
 use Rattle.coco_order.proofs.OneKey.{nobody, good_start}
 
 -- ---- where a step of an attempt stands
@@ -223,5 +223,39 @@ module _ (row : RowState) (es : List Entry) (good : Good row nobody es) (a : Att
   validated (inr (inl x)) = by_extension x.0 x.1 x.2 x.3 x.4
   validated (inr (inr x)) = by_install x.0 x.1 x.2 x.3 x.4 x.5 x.6 x.7
 
+  -- a validated read lifts the key's read time to the attempt's
+  reach_at : (pre post : List Entry) (e : Entry) → es ≡ pre ++ e ∷ post → time ≤ (left e (walk row pre)).rts → time ≤ (walk row es).rts
+  reach_at pre post e is le =
+      let whole : Good row nobody (pre ++ e ∷ post) = subst (λ (xs : List Entry). Good row nobody xs) is good in
+      let here : Good (walk row pre) (walk_holds nobody pre) (e ∷ post) = good_at row nobody pre (e ∷ post) whole in
+      let on : (left e (walk row pre)).rts ≤ (walk (left e (walk row pre)) post).rts = rts_rise (left e (walk row pre)) (next_holds e (walk_holds nobody pre)) post (good_next (walk row pre) (walk_holds nobody pre) e post here) in
+      let same : walk row es ≡ walk (left e (walk row pre)) post = ap (walk row) is ∙ walk_append row pre (e ∷ post) in
+      subst (λ (r : RowState). time ≤ r.rts) (sym same) (omega arith)
+
+  pub reaches : Validates a time value (own a es) → time ≤ (walk row es).rts
+  reaches (inl (key, wts, rts, below, reach, steps)) =
+      let read : Entry = step a (Read key) (Got wts rts value) in
+      let s : Split a es [] read [] = split a es [] read [] steps in
+      let whole : Good row nobody (s.pre ++ read ∷ s.post) = subst (λ (xs : List Entry). Good row nobody xs) s.is good in
+      let is = got_is wts rts (walk row s.pre).wts (walk row s.pre).rts value (walk row s.pre).newest (good_at row nobody s.pre (read ∷ s.post) whole).told.0 in
+      reach_at s.pre s.post read s.is (subst (λ (n : ℕ). time ≤ n) is.1 reach)
+  reaches (inr (inl (key, wts, rts, below, steps))) =
+      let e : Entry = step a (Extend key wts time) Extended in
+      let s : Split a es (step a (Read key) (Got wts rts value) ∷ []) e [] = split a es (step a (Read key) (Got wts rts value) ∷ []) e [] steps in
+      reach_at s.pre s.post e s.is (omega arith)
+  reaches (inr (inr (key, wts, rts, shown, new, answer, below, steps))) =
+      let e : Entry = step a (Install key time new) answer in
+      let front : List Entry = step a (Read key) (Got wts rts value) ∷ step a (Lock key) (Locked wts shown) ∷ [] in
+      let s : Split a es front e [] = split a es front e [] steps in
+      let whole : Good row nobody (s.pre ++ e ∷ s.post) = subst (λ (xs : List Entry). Good row nobody xs) s.is good in
+      let here : Good (walk row s.pre) (walk_holds nobody s.pre) (e ∷ s.post) = good_at row nobody s.pre (e ∷ s.post) whole in
+      let mine = good_step (walk row s.pre) (walk_holds nobody s.pre) e s.post here in
+      let wrote = above_step (walk row s.pre) (left e (walk row s.pre)) (Install key time new) answer time new (key, refl, mine.mine) mine.is in
+      let rts_is : (left e (walk row s.pre)).rts ≡ time = ap (λ (r : RowState). r.rts) wrote.1 in
+      reach_at s.pre s.post e s.is (omega arith)
+
 pub reads_are_last : OnEachKey ValidatedReadsAreLast
 reads_are_last opening k journal orderly a time value how = validated (resting (opening k)) (on k journal) (good_start opening k journal orderly) a time value how
+
+pub reads_reach : (opening : RowKey → Option Value) (k : RowKey) (journal : List Entry) → IsOrderly opening k journal → (a : AttemptId) (time : ℕ) (value : Option Value) → Validates a time value (own a (on k journal)) → time ≤ (walk (resting (opening k)) (on k journal)).rts
+reads_reach opening k journal orderly a time value how = reaches (resting (opening k)) (on k journal) (good_start opening k journal orderly) a time value how

@@ -1,2 +1,6 @@
 pub mod Order
 pub mod OneKey
+pub mod Execution
+pub mod Outcome
+pub mod Laws
+pub mod ExecutionExamples

@@ -1,18 +1,51 @@
 //! What holds of every execution, and before that of every journal on each key by itself.
 
 ghost use Rattle.coco_order.specs.OneKey.{OnEachKey, MarksAreOwn, WriteTimesRise, ValidatedReadsAreLast};
+ghost use Rattle.coco_order.specs.Execution.{InEachExecution};
+ghost use Rattle.coco_order.specs.ExecutionExamples.{ReadIsTriedAgain};
+ghost use Rattle.coco_order.specs.Laws.{OnEachKeyOfEach, StepsAreMine, ApartInTime, TimesAreFew, CommitsAreSerial, OutcomesAreSerial};
 
-/// On each key a mark belongs to the attempt that locked, and none stands at the end.
+/// On each key a mark belongs to the attempt that locked, no install and no release is answered `NotMine`, and no
+/// mark stands at the end.
 pub fn marks_are_own()
-    ensures { OnEachKey (λ opening k journal. MarksAreOwn k journal) }
+    ensures key { OnEachKey (λ opening k journal. MarksAreOwn k journal) }
+    ensures execution { OnEachKeyOfEach (λ opening k journal. MarksAreOwn k journal) }
+    ensures whole { InEachExecution StepsAreMine }
 {}
 
 /// On each key write times rise, each above the read time that stood before it.
 pub fn write_times_rise()
-    ensures { OnEachKey (λ opening k journal. WriteTimesRise k journal) }
+    ensures key { OnEachKey (λ opening k journal. WriteTimesRise k journal) }
+    ensures execution { OnEachKeyOfEach (λ opening k journal. WriteTimesRise k journal) }
 {}
 
 /// On each key a validated read finds the last install below its time.
 pub fn validated_reads_are_last()
-    ensures { OnEachKey ValidatedReadsAreLast }
+    ensures key { OnEachKey ValidatedReadsAreLast }
+    ensures execution { OnEachKeyOfEach ValidatedReadsAreLast }
+{}
+
+/// No two installs on one key have one time.
+pub fn installs_are_apart_in_time()
+    ensures { OnEachKeyOfEach (λ opening k journal. ApartInTime k journal) }
+{}
+
+/// No time is above the number of scripts, so with fewer scripts than the greatest time none is over time.
+pub fn times_are_few()
+    ensures { InEachExecution TimesAreFew }
+{}
+
+/// The commits, by time and id, are a serial run from the opening map, and the newest values are its map.
+pub fn commits_are_serial()
+    ensures { InEachExecution CommitsAreSerial }
+{}
+
+/// With the tail behind the commits, the Dones of an epoch are a serial run from the opening map.
+pub fn outcomes_are_serial()
+    ensures { InEachExecution OutcomesAreSerial }
+{}
+
+/// A read between another attempt's lock and install conflicts and is tried again; the commits are in the order of times.
+pub fn worked_execution()
+    ensures { ReadIsTriedAgain }
 {}

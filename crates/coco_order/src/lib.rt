@@ -1,4 +1,4 @@
-//! Executions of an epoch's requests: the order of their commits, and what holds on each key.
+//! Executions of an epoch's requests, and why their commits are serial.
 #![tactic(auto)]
 
 pub mod laws;

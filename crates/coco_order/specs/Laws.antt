@@ -1,0 +1,50 @@
+-- What holds of every execution.
+use Rattle.std.specs.Prelude.{◌≡◌, ℕ, ◌<◌, ◌≤◌, List, length, Option}
+use Rattle.coco_types.specs.RowKey.{RowKey}
+use Rattle.coco_types.specs.declared.value.Value.{Value}
+use Rattle.coco_types.specs.Limits.{most_time}
+use Rattle.coco_types.specs.declared.call.Done.{Done}
+use Rattle.coco_types.specs.declared.call.Reply.{Reply}
+use Rattle.coco_occ.specs.declared.outcome.Outcome.TheVariants.{Committed, OverTime}
+use Rattle.coco_ast.specs.History.{RepliesAreRuns, AreTimed, rows_after}
+use Rattle.coco_ast.specs.Keyed.{Rows, value_at}
+use Rattle.coco_shard.specs.Law.{Entry}
+use Rattle.coco_order.specs.OneKey.{Among, on, Installs, IsMine}
+use Rattle.coco_occ.specs.declared.outcome.Tried.{Tried}
+use Rattle.coco_order.specs.Execution.{Beginning, Execution, IsExecution, InEachExecution, journal_on, concat, journal_of, steps_of}
+use Rattle.coco_order.specs.Outcome.{AreCommits, IsOutcome, newest_at_end, tail_requests, tail_rows}
+
+-- of the journal of each key, in every execution
+abbrev pub OnEachKeyOfEach : ((RowKey → Option Value) → RowKey → List Entry → Type 0) → Type 0
+OnEachKeyOfEach P = InEachExecution (λ b x. (k : RowKey) → P (value_at b.opening) k (journal_on b x k))
+
+-- no install and no release in any journal is answered otherwise than as such
+abbrev pub StepsAreMine : Beginning → Execution → Type 0
+StepsAreMine b x = (shard : ℕ) → shard < b.partitions → (e : Entry) → Among (steps_of (journal_of x shard)) e → IsMine e.ask.op e.answer
+
+-- no two installs of one time are on one key
+abbrev pub ApartInTime : RowKey → List Entry → Type 0
+ApartInTime k journal = (e d : Entry) (time : ℕ) (v w : Option Value) → Among (on k journal) e → Among (on k journal) d → Installs e time v → Installs d time w → e ≡ d
+
+-- no time is above the number of scripts; where these are no more than the greatest time no script is over time
+pub record TimesAreFew (b : Beginning) (x : Execution) : Type 0 where
+  pub commits : (t : Tried) (time : ℕ) (reply : Reply) → Among (concat x.transcripts) t → t.outcome ≡ Committed time reply → time ≤ length (concat x.transcripts)
+  pub over : (t : Tried) → Among (concat x.transcripts) t → t.outcome ≡ OverTime → most_time < length (concat x.transcripts)
+
+-- the commits, by time and id, are a serial run from the opening map, and the map that it leaves has the newest values
+pub record AreSerial (b : Beginning) (x : Execution) (dones : List Done) : Type 0 where
+  pub replies : RepliesAreRuns b.procs b.opening dones
+  pub times : AreTimed dones
+  pub newest : (k : RowKey) → value_at (rows_after b.procs b.opening dones) k ≡ newest_at_end b x k
+
+abbrev pub CommitsAreSerial : Beginning → Execution → Type 0
+CommitsAreSerial b x = (epoch : ℕ) (dones : List Done) → AreCommits b epoch x dones → AreSerial b x dones
+
+-- with the tail the Dones of the epoch are serial, and the map is the newest values with the tail's writes put over them
+pub record OutcomeIsSerial (b : Beginning) (dones : List Done) (left : Rows) : Type 0 where
+  pub replies : RepliesAreRuns b.procs b.opening dones
+  pub times : AreTimed dones
+  pub rows : (k : RowKey) → value_at (rows_after b.procs b.opening dones) k ≡ value_at left k
+
+abbrev pub OutcomesAreSerial : Beginning → Execution → Type 0
+OutcomesAreSerial b x = (epoch : ℕ) (dones : List Done) → (o : IsOutcome b epoch x dones) → OutcomeIsSerial b dones (tail_rows b.procs o.rows (tail_requests b x))
