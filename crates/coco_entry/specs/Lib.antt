@@ -1,0 +1,6 @@
+pub mod Bases
+pub mod Calls
+pub mod Commits
+pub mod Grammar
+pub mod Layouts
+pub mod Rows

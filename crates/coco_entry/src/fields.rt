@@ -1,0 +1,62 @@
+//! Fields that several entries have: their tag, flags, and the end.
+
+ghost use Rattle.std.specs.Prelude.{◌≡◌, ◌≤◌, [], length, IfOk, OnOk, OnErr};
+ghost use Rattle.coco_entry.specs.Grammar.{tag_at, whole as whole_of, Answers};
+ghost use Rattle.coco_entry.specs.Calls.{flag_at};
+
+use crate::EntryFault;
+use coco_bytes::{FieldFault, get_u8};
+use coco_types::NoMemory;
+
+/// The tag in front, which is to be this one.
+#[tactic(auto, unfolding(crate::specs::Grammar::tag_at))]
+pub fn get_tag(body: &[u8], tag: u8) -> Result<(u8, usize), FieldFault>
+    ensures read { result ≡ tag_at tag body.now 0 }
+    ensures within { IfOk result (λ r. r.1 ≤ length body.now) }
+{
+    let (found, end) = get_u8(body, 0)?;
+    if found == tag {
+        Ok((found, end))
+    } else {
+        Err(FieldFault::Bad { at: 0 })
+    }
+}
+
+/// What was read, where nothing is left over.
+#[tactic(auto, unfolding(crate::specs::Grammar::whole))]
+pub fn whole<T: Drop>(body: &[u8], entry: T, end: usize) -> Result<T, EntryFault>
+    ensures { Answers result (whole_of body.now (entry, end)) }
+{
+    if body.len() == end {
+        Ok(entry)
+    } else {
+        Err(EntryFault::Bad { at: end })
+    }
+}
+
+/// Empties the bytes where a put ran out of memory.
+pub fn emptied(out: &mut Vec<u8>, put: Result<(), NoMemory>) -> Result<(), NoMemory>
+    ensures same { result ≡ put }
+    ensures ok { OnOk put (out.new.items ≡ out.old.items) }
+    ensures err { OnErr put (out.new.items ≡ []) }
+{
+    if put.is_err() {
+        out.clear();
+    }
+    put
+}
+
+/// The flag at a place, 0 or 1.
+#[tactic(auto, unfolding(crate::specs::Calls::flag_at))]
+pub fn get_flag(from: &[u8], at: usize) -> Result<(bool, usize), FieldFault>
+    requires { at ≤ length from.now }
+    ensures read { result ≡ flag_at from.now at }
+    ensures within { IfOk result (λ r. r.1 ≤ length from.now) }
+{
+    let (flag, end) = get_u8(from, at)?;
+    if flag < 2 {
+        Ok((flag == 1, end))
+    } else {
+        Err(FieldFault::Bad { at })
+    }
+}
