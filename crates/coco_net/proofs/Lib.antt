@@ -1,0 +1,3 @@
+pub mod MailLemmas
+pub mod GivingLemmas
+pub mod ChoiceLemmas

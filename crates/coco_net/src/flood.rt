@@ -1,0 +1,90 @@
+//! A net that gives every letter again and again.
+
+ghost use Rattle.std.specs.Prelude.{◌≡◌, ◌+◌, ◌≤◌, ◌⊎◌, ℕ, List, true, drop, length, OnOk, OnErr};
+ghost use Rattle.coco_net.specs.Giving.{GivesMore};
+ghost use Rattle.coco_net.specs.Mail.{no_mail, waiting_at};
+ghost use Rattle.coco_net.specs.Rounds.{after_flood};
+
+use crate::post::{Post, numbers_from};
+use crate::{Letter, Net};
+use coco_types::NoMemory;
+use std::alloc::Global;
+
+/// Each round gives every letter that was ever sent, in order, and every early delivery arrives.
+#[derive(Drop)]
+pub struct FloodNet {
+    post: Post,
+}
+
+impl FloodNet {
+    pub fn new(alloc: Global) -> FloodNet
+        ensures { result.post ≡ no_mail }
+    {
+        FloodNet {
+            post: Post::new(alloc),
+        }
+    }
+}
+
+// A round in which every letter is given.
+fn flood_round(alloc: Global, post: &mut Post) -> Result<(), NoMemory>
+    ensures ok { OnOk result (post.new ≡ after_flood post.old) }
+    ensures err { OnErr result (post.new ≡ post.old) }
+{
+    let numbers = numbers_from(alloc, post.sent(), 0)?;
+    post.give(numbers.as_slice(), &[], false)
+}
+
+impl Net for FloodNet {
+    ghost sent = { λ s. s.post.sent };
+
+    ghost given = { λ s. s.post.given };
+
+    ghost since = { λ s. s.post.since };
+
+    ghost waiting = { λ s p. waiting_at s.post p };
+
+    ghost faults = { λ s. s.post.faults };
+
+    ghost last_seed = { λ s. s.post.seed };
+
+    ghost carries = { λ s epoch worker place to. true };
+
+    fn send(&mut self, from: u8, to: u8, bytes: Vec<u8>) -> Result<(), NoMemory> {
+        self.post.send(from, to, bytes)
+    }
+
+    fn round(&mut self) -> Result<(), NoMemory>
+        ensures ok { OnOk result (GivesMore self.old.post.sent (drop self.old.post.since self.old.post.sent) self.old.post.faults self.new.post.faults (waiting_at self.new.post) self.old.post.given self.new.post.given) }
+        ensures since { OnOk result (self.new.post.since ≡ length self.old.post.sent) }
+        ensures faults { OnOk result ((self.new.post.faults ≡ self.old.post.faults) ⊎ (self.new.post.faults ≡ self.old.post.faults + 1)) }
+        ensures err { OnErr result ((self.new.post.given ≡ self.old.post.given) × (self.new.post.since ≡ self.old.post.since) × (self.new.post.faults ≡ self.old.post.faults)) }
+        ensures still_waiting { OnErr result ((p : ℕ) → waiting_at self.new.post p ≡ waiting_at self.old.post p) }
+        ensures sent { self.new.post.sent ≡ self.old.post.sent }
+        ensures seed { self.new.post.seed ≡ self.old.post.seed }
+        ensures flood { OnOk result (self.new.post ≡ after_flood self.old.post) }
+    {
+        let alloc = self.post.allocator();
+        flood_round(alloc, &mut self.post)
+    }
+
+    fn waiting(&self, to: u8) -> u32 {
+        self.post.waiting(to)
+    }
+
+    fn next(&mut self, to: u8) -> Option<Letter> {
+        self.post.next(to)
+    }
+
+    fn carries(&self, _epoch: u64, _worker: u32, _place: u32, _to: u8) -> bool {
+        true
+    }
+
+    fn disturb(&mut self, seed: u64) {
+        self.post.disturb(seed);
+    }
+
+    fn faults(&self) -> u64 {
+        self.post.faults()
+    }
+}
