@@ -1,5 +1,5 @@
 -- The numbers that a round chooses, one letter after another.
-use Rattle.std.proofs.Common.{◌≡◌, ℕ, zero, suc, ◌+◌, ◌-◌, ◌^◌, ◌<◌, ◌&&◌, nat_lt, ◌||◌, Bool, true, false, cond, List, [], ◌∷◌, ◌++◌, length, drop, take, replicate, get_or, refl, sym, ap, ◌∙◌, subst, arith, append_assoc}
+use Rattle.std.proofs.Common.{add_assoc, ◌≡◌, ℕ, zero, suc, ◌+◌, ◌-◌, ◌^◌, ◌<◌, ◌&&◌, nat_lt, ◌||◌, Bool, true, false, cond, List, [], ◌∷◌, ◌++◌, ◌==◌, ◌%◌, map, length, drop, take, replicate, get_or, refl, sym, ap, ◌∙◌, subst, arith, append_assoc}
 use Rattle.std.specs.List.{All, list_any}
 use Rattle.std.proofs.lemmas.Bool.{ltb-true}
 use Rattle.std.proofs.lemmas.List.{drop_more, take_more}
@@ -8,8 +8,9 @@ use Rattle.rand_pcg.specs.Pcg.{pcg32}
 use Rattle.coco_net.specs.declared.letter.Posted.{Posted}
 use Rattle.coco_net.specs.declared.script.Lose.{Lose}
 use Rattle.coco_net.specs.declared.script.Lose.TheVariants.{Nothing}
-use Rattle.coco_net.specs.Mail.{picked}
-use Rattle.coco_net.specs.Rounds.{after_words, by_words, is_lost, loses_by, script_gives, script_loses, still_loses, times_by, words}
+use Rattle.std.proofs.Math.Nat.{mod-add-mod}
+use Rattle.coco_net.specs.Mail.{MailState, fresh, given_more, picked}
+use Rattle.coco_net.specs.Rounds.{after_places, after_seeded, after_words, by_words, is_lost, loses_by, next_generator, place_words, script_gives, script_loses, still_loses, times_by, words}
 use Rattle.coco_net.proofs.MailLemmas.{all_pushed, any_posted, picked-append, picked_one}
 
 -- a number so often is its letter so often
@@ -108,3 +109,68 @@ words_loss sent may n loses both g h is =
 
 pub words_after : (sent : List Posted) (n : ℕ) (g : Lcg) → n < length sent → after_words (length (drop (n + 1) sent)) (pcg32 g).1 ≡ after_words (length (drop n sent)) g
 words_after sent n g h = ap (λ (ps : List Posted). after_words (length ps) g) (sym (drop_more sent n any_posted h))
+
+-- one place more
+pub turns_more : (old new : List Bool) (g h : Lcg) (word m n : ℕ) → m ≡ suc n → (word, h) ≡ pcg32 g → new ≡ old ++ (word % 2 == 1) ∷ []
+    → new ++ map (λ w. w % 2 == 1) (words n h) ≡ old ++ map (λ w. w % 2 == 1) (words m g)
+turns_more old new g h word m n left drawn is =
+    ap (λ ts. ts ++ map (λ w. w % 2 == 1) (words n h)) is ∙ append_assoc old ((word % 2 == 1) ∷ []) (map (λ w. w % 2 == 1) (words n h))
+    ∙ ap (λ (p : ℕ × Lcg). old ++ ((p.0 % 2 == 1) ∷ map (λ w. w % 2 == 1) (words n p.1))) drawn
+    ∙ ap (λ m. old ++ map (λ w. w % 2 == 1) (words m g)) (sym left)
+
+pub words_less : (g h : Lcg) (word m n : ℕ) → m ≡ suc n → (word, h) ≡ pcg32 g → after_words n h ≡ after_words m g
+words_less g h word m n left drawn = ap (λ (p : ℕ × Lcg). after_words n p.1) drawn ∙ ap (λ m. after_words m g) (sym left)
+
+-- a letter is lost only where the count of faults isn't at its end
+pub lost_below : (faults : ℕ) (may loses some : Bool) → may ≡ nat_lt faults (2 ^ 64 - 1) → loses ≡ (may && some) → loses ≡ true → faults < 2 ^ 64 - 1
+lost_below faults may loses some by is lost = ltb-true faults (2 ^ 64 - 1) (sym by ∙ first may some (sym is ∙ lost))
+  where
+    first : (a b : Bool) → (a && b) ≡ true → a ≡ true
+    first true b h = refl
+    first false b h = h
+
+no_end : {X : Type 0} (xs : List X) → xs ++ [] ≡ xs
+no_end [] = refl
+no_end (x ∷ xs) = ap (λ ys. x ∷ ys) (no_end xs)
+
+pub all_turned : (ts : List Bool) (n : ℕ) (g : Lcg) → n ≡ 0 → ts ≡ ts ++ map (λ w. w % 2 == 1) (words n g)
+all_turned ts n g none = sym (ap (λ n. ts ++ map (λ w. w % 2 == 1) (words n g)) none ∙ no_end ts)
+
+pub no_more_words : (n : ℕ) (g : Lcg) → n ≡ 0 → g ≡ after_words n g
+no_more_words n g none = sym (ap (λ n. after_words n g) none)
+
+-- a sum that wraps at each step
+pub wrapped_sum : (m s a b c d : ℕ) → ((((s + a) % m + b) % m + c) % m + d) % m ≡ (s + a + b + c + d) % m
+wrapped_sum m s a b c d =
+    mod-add-mod (((s + a) % m + b) % m + c) m d
+    ∙ ap (λ n. n % m) (add_assoc (((s + a) % m + b) % m) c d) ∙ mod-add-mod ((s + a) % m + b) m (c + d)
+    ∙ ap (λ n. n % m) (add_assoc ((s + a) % m) b (c + d)) ∙ mod-add-mod (s + a) m (b + (c + d))
+    ∙ ap (λ n. n % m) (regrouped s a b c d)
+  where
+    regrouped : (s a b c d : ℕ) → s + a + (b + (c + d)) ≡ s + a + b + c + d
+    regrouped s a b c d = omega arith
+
+-- a seeded round, by what was chosen
+pub seeded_is : (s t : MailState) (g h : Lcg) (may loses : Bool) (numbers : List ℕ) (turns : List Bool)
+    → t ≡ given_more s (picked s.sent numbers) turns loses → h ≡ g → may ≡ nat_lt s.faults (2 ^ 64 - 1)
+    → picked s.sent numbers ≡ by_words may (words (length (fresh s)) h) (fresh s)
+    → loses ≡ (may && list_any loses_by (words (length (fresh s)) h))
+    → turns ≡ map (λ w. w % 2 == 1) (place_words (after_words (length (fresh s)) h)) → t ≡ after_seeded g s
+unfolding after_seeded
+seeded_is s t g h may loses numbers turns is same by given lost turned =
+    is ∙ ap (λ ps. given_more s ps turns loses) given ∙ ap (λ ts. given_more s (by_words may (words (length (fresh s)) h) (fresh s)) ts loses) turned
+    ∙ ap (λ b. given_more s (by_words may (words (length (fresh s)) h) (fresh s)) (map (λ w. w % 2 == 1) (place_words (after_words (length (fresh s)) h))) b) lost
+    ∙ ap (λ may. given_more s (by_words may (words (length (fresh s)) h) (fresh s)) (map (λ w. w % 2 == 1) (place_words (after_words (length (fresh s)) h))) (may && list_any loses_by (words (length (fresh s)) h))) by
+    ∙ ap (λ g. given_more s (by_words (nat_lt s.faults (2 ^ 64 - 1)) (words (length (fresh s)) g) (fresh s)) (map (λ w. w % 2 == 1) (place_words (after_words (length (fresh s)) g))) (nat_lt s.faults (2 ^ 64 - 1) && list_any loses_by (words (length (fresh s)) g))) same
+
+pub next_is : (s : MailState) (g h m n : Lcg) → h ≡ g → m ≡ after_words (length (fresh s)) h → n ≡ after_places m → n ≡ next_generator g s
+unfolding next_generator
+next_is s g h m n same drawn placed = placed ∙ ap after_places (drawn ∙ ap (after_words (length (fresh s))) same)
+
+pub begin_turns : (ts : List Bool) (n : ℕ) (g : Lcg) → ts ≡ [] → n ≡ 9 → ts ++ map (λ w. w % 2 == 1) (words n g) ≡ map (λ w. w % 2 == 1) (place_words g)
+unfolding place_words
+begin_turns ts n g none nine = ap (λ ts. ts ++ map (λ w. w % 2 == 1) (words n g)) none ∙ ap (λ n. map (λ w. w % 2 == 1) (words n g)) nine
+
+pub begin_after : (n : ℕ) (g : Lcg) → n ≡ 9 → after_words n g ≡ after_places g
+unfolding after_places
+begin_after n g nine = ap (λ n. after_words n g) nine

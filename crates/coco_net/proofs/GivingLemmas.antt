@@ -1,5 +1,5 @@
 -- What is given by the nets in memory was sent, and has what is new unless a letter is lost.
-use Rattle.std.proofs.Common.{◌≡◌, ℕ, zero, suc, ◌+◌, ◌<◌, ◌≤◌, ◌==◌, ◌&&◌, ◌||◌, Bool, true, false, cond, not, List, [], ◌∷◌, ◌++◌, map, length, drop, take, replicate, get_or, refl, sym, ap, ◌∙◌, subst, arith, inl, inr, ◌⊎◌, ◌%◌, length-drop}
+use Rattle.std.proofs.Common.{◌≡◌, ℕ, zero, suc, ◌+◌, ◌-◌, ◌^◌, ◌<◌, ◌≤◌, nat_lt, Result, Ok, Err, OnErr, ◌==◌, ◌&&◌, ◌||◌, Bool, true, false, cond, List, [], ◌∷◌, ◌++◌, map, length, drop, replicate, get_or, refl, sym, ap, subst, arith, inl, inr, ◌⊎◌, ◌%◌, length-drop}
 use Rattle.std.specs.List.{All, AllByRecursion, Contains, list_any}
 use Rattle.std.specs.List.Sorted.{IsPermutation}
 use Rattle.std.proofs.lemmas.List.{get_or-drop}
@@ -7,12 +7,11 @@ use Rattle.std.proofs.lemmas.List.Elements.{All-contains_itself, All-from_recurs
 use Rattle.std.proofs.lemmas.List.Sorted.{IsPermutation-refl, IsPermutation-reverse}
 use Rattle.rand_pcg.specs.Lcg.{Lcg}
 use Rattle.rand_pcg.specs.Pcg.{pcg32}
-use Rattle.coco_net.specs.declared.letter.Letter.{Letter}
 use Rattle.coco_net.specs.declared.letter.Posted.{Posted}
 use Rattle.coco_net.specs.declared.script.Lose.{Lose}
-use Rattle.coco_net.specs.Mail.{MailState, boxed, fresh, given_more, letters_to, turned, waiting_at}
-use Rattle.coco_net.specs.Giving.{Gives, GivesMore}
-use Rattle.coco_net.specs.Rounds.{after_flood, after_quiet, after_script, by_words, is_lost, loses_by, script_gives, script_loses, still_loses, times_by, words}
+use Rattle.coco_net.specs.Mail.{MailState, fresh, given_more, letters_to, turned, waiting_at}
+use Rattle.coco_net.specs.Giving.{GivesMore}
+use Rattle.coco_net.specs.Rounds.{after_seeded, after_words, by_words, is_lost, loses_by, place_words, script_gives, script_loses, times_by, words}
 use Rattle.coco_net.proofs.MailLemmas.{at_place}
 
 permuted : {X : Type 0} (b : Bool) (xs : List X) → IsPermutation xs (turned b xs)
@@ -148,3 +147,25 @@ words_sent_all s may ws =
 pub words_new_all : (s : MailState) (may : Bool) (g : Lcg) → (may && list_any loses_by (words (length (fresh s)) g)) ≡ false → All (Contains (by_words may (words (length (fresh s)) g) (fresh s))) (fresh s)
 words_new_all s may g h =
     All-from_recursion (Contains (by_words may (words (length (fresh s)) g) (fresh s))) (fresh s) (words_new may (words (length (fresh s)) g) (fresh s) (length-words (length (fresh s)) g) h)
+
+pub seeded_gives : (s t : MailState) (g : Lcg) → t ≡ after_seeded g s → GivesMore s.sent (drop s.since s.sent) s.faults t.faults (waiting_at t) s.given t.given
+unfolding after_seeded
+seeded_gives s t g is =
+    let may : Bool = nat_lt s.faults (2 ^ 64 - 1) in
+    let n : ℕ = length (fresh s) in
+    gives s t (by_words may (words n g) (fresh s)) (map (λ w. w % 2 == 1) (place_words (after_words n g))) (may && list_any loses_by (words n g)) is (words_sent_all s may (words n g)) (words_new_all s may g)
+
+pub seeded_faults : (s t : MailState) (g : Lcg) → t ≡ after_seeded g s → (t.faults ≡ s.faults) ⊎ (t.faults ≡ s.faults + 1)
+unfolding after_seeded
+seeded_faults s t g is =
+    let may : Bool = nat_lt s.faults (2 ^ 64 - 1) in
+    let n : ℕ = length (fresh s) in
+    faults_more s t (by_words may (words n g) (fresh s)) (map (λ w. w % 2 == 1) (place_words (after_words n g))) (may && list_any loses_by (words n g)) is
+
+pub always_err : {A E : Type 0} {P : Type 0} (r : Result A E) → P → OnErr r P
+always_err (Ok x) p = tt
+always_err (Err e) p = p
+
+pub seeded_keeps : (s t : MailState) (g : Lcg) → t ≡ after_seeded g s → (t.since ≡ length s.sent) × (t.sent ≡ s.sent) × (t.seed ≡ s.seed)
+unfolding after_seeded
+seeded_keeps s t g is = (ap (λ (u : MailState). u.since) is, ap (λ (u : MailState). u.sent) is, ap (λ (u : MailState). u.seed) is)

@@ -1,11 +1,11 @@
 -- Letters picked by their numbers, and the boxes of the places.
-use Rattle.std.proofs.Common.{◌≡◌, ◌≢◌, ℕ, zero, suc, ◌+◌, ◌^◌, ◌<◌, ◌≤◌, ◌==◌, Bool, true, false, cond, List, [], ◌∷◌, ◌++◌, map, length, drop, take, append_assoc, get_or, Option, None, Some, refl, sym, ap, ◌∙◌, subst, arith, inl, inr, ◌⊎◌}
+use Rattle.std.proofs.Common.{◌≡◌, ℕ, zero, suc, ◌+◌, ◌^◌, ◌<◌, ◌==◌, Bool, true, false, cond, List, [], ◌∷◌, ◌++◌, map, length, drop, take, append_assoc, get_or, Option, None, Some, refl, sym, ap, ◌∙◌, subst, arith, inl, inr}
 use Rattle.std.proofs.Math.ListN.{set}
 use Rattle.std.specs.List.{All, AllByRecursion, cons_option, slice_get}
-use Rattle.std.specs.Option.{MatchOption, option_to_list, unwrap_or}
-use Rattle.std.proofs.lemmas.List.{drop_more, length-reverse, get_or-map, get_or-set_same, get_or-set_other, get_or-append_right, get_or_default, get_or_push, length_push, map-set, nil_from_length, take_more}
+use Rattle.std.specs.Option.{MatchOption, option_to_list}
+use Rattle.std.proofs.lemmas.List.{drop_more, length-reverse, get_or-map, get_or-set_same, get_or-set_other, get_or_push, length_push, map-set, nil_from_length, take_more}
 use Rattle.std.proofs.lemmas.List.Elements.{All-from_recursion, All-set, recursion_from_All}
-use Rattle.std.proofs.lemmas.Bool.{cases_lt, eq-eqb, ne_eqb}
+use Rattle.std.proofs.lemmas.Bool.{cases_lt}
 use Rattle.std.proofs.lemmas.Option.{slice_get-get_or}
 use Rattle.coco_net.specs.declared.letter.Letter.{Letter}
 use Rattle.coco_net.specs.declared.letter.Posted.{Posted}

@@ -1,5 +1,5 @@
 -- What a net keeps: the letters sent and given, with their receivers, and those that wait at each place.
-use Rattle.std.specs.Prelude.{◌≡◌, ℕ, zero, suc, ◌+◌, ◌<◌, ◌≤◌, ◌^◌, ◌==◌, All, List, [], ◌∷◌, ◌++◌, map, Option, None, length, drop, reverse, Bool, false, if◌then◌else◌}
+use Rattle.std.specs.Prelude.{ℕ, zero, suc, ◌+◌, ◌<◌, ◌≤◌, ◌^◌, ◌==◌, All, List, [], ◌∷◌, ◌++◌, map, Option, None, length, drop, reverse, Bool, false, if◌then◌else◌}
 use Rattle.std.specs.List.{cons_option, slice_get, slice_index_or}
 use Rattle.std.specs.Coded.{Coded, code_by, coded×, coded_ℕ, coded_list, coded_option}
 use Rattle.std.specs.Prelude.{refl}

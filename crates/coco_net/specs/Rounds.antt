@@ -1,7 +1,7 @@
 -- What the rounds of the nets in memory give.
-use Rattle.std.specs.Prelude.{◌≡◌, ℕ, zero, suc, ◌+◌, ◌-◌, ◌^◌, ◌%◌, ◌==◌, ◌&&◌, ◌||◌, not, Bool, true, false, List, [], ◌∷◌, ◌++◌, map, take, drop, length, replicate, nat_eq, nat_lt, Option, None, Some, if◌then◌else◌}
+use Rattle.std.specs.Prelude.{ℕ, zero, suc, ◌+◌, ◌-◌, ◌^◌, ◌%◌, ◌==◌, ◌&&◌, ◌||◌, not, Bool, true, false, List, [], ◌∷◌, ◌++◌, map, take, length, replicate, nat_eq, nat_lt, Option, None, Some, if◌then◌else◌}
 use Rattle.std.specs.Cmp.Lexicographic.{pointwise}
-use Rattle.std.specs.List.{flat_map, list_any}
+use Rattle.std.specs.List.{list_any}
 use Rattle.rand_pcg.specs.Lcg.{Lcg}
 use Rattle.rand_pcg.specs.Pcg.{pcg32}
 use Rattle.coco_net.specs.declared.letter.Posted.{Posted}
@@ -69,6 +69,13 @@ abbrev pub after_words : ℕ → Lcg → Lcg
 after_words zero g = g
 after_words (suc n) g = after_words n (pcg32 g).1
 
+-- a word for each of the nine places, and the generator after them
+unfoldable pub place_words : Lcg → List ℕ
+place_words g = words 9 g
+
+unfoldable pub after_places : Lcg → Lcg
+after_places g = after_words 9 g
+
 abbrev pub loses_by : ℕ → Bool
 loses_by word = word % 8 == 0
 
@@ -83,15 +90,15 @@ by_words may_lose (w ∷ ws) [] = []
 by_words may_lose (w ∷ ws) (p ∷ ps) = replicate (times_by may_lose w) p ++ by_words may_lose ws ps
 
 -- a word for each letter, and then one for each place
-abbrev pub after_seeded : Lcg → MailState → MailState
+unfoldable pub after_seeded : Lcg → MailState → MailState
 after_seeded g s =
     let may_lose = nat_lt s.faults (2 ^ 64 - 1) in
     let n = length (fresh s) in
-    given_more s (by_words may_lose (words n g) (fresh s)) (map (λ w. w % 2 == 1) (words 9 (after_words n g))) (may_lose && list_any loses_by (words n g))
+    given_more s (by_words may_lose (words n g) (fresh s)) (map (λ w. w % 2 == 1) (place_words (after_words n g))) (may_lose && list_any loses_by (words n g))
 
 -- the generator after such a round
-abbrev pub next_generator : Lcg → MailState → Lcg
-next_generator g s = after_words 9 (after_words (length (fresh s)) g)
+unfoldable pub next_generator : Lcg → MailState → Lcg
+next_generator g s = after_places (after_words (length (fresh s)) g)
 
 -- whether a seeded net carries an early delivery
 abbrev pub seed_carries : Option ℕ → ℕ → ℕ → ℕ → ℕ → Bool

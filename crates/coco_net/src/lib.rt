@@ -7,12 +7,14 @@ pub mod net;
 mod post;
 pub mod quiet;
 pub mod script;
+pub mod seeded;
 
 pub use flood::FloodNet;
 pub use letter::{Letter, Posted};
 pub use net::Net;
 pub use quiet::QuietNet;
 pub use script::{Lose, ScriptNet};
+pub use seeded::SeededNet;
 
 #[cfg(test)]
 mod tests;

@@ -1,4 +1,4 @@
-use Rattle.std.proofs.Common.{◌≡◌, ◌<◌, ◌^◌, length, arith, get_or, rules, sym}
+use Rattle.std.proofs.Common.{◌<◌, ◌^◌, length, arith, rules}
 use Rattle.coco_net.proofs.MailLemmas.{few_at}
 use Rattle.coco_net.proofs.post.count.Goals as goal
 

@@ -1,5 +1,4 @@
-use Rattle.std.proofs.Common.{◌≡◌, ◌<◌, length, get_or, rules, arith, sym, ap, ◌∙◌}
-use Rattle.std.proofs.lemmas.List.{get_or_read}
+use Rattle.std.proofs.Common.{◌<◌, length, get_or, rules}
 use Rattle.coco_net.proofs.MailLemmas.{one_letter_more}
 use Rattle.coco_net.proofs.post.letters_for.Goals as goal
 

@@ -1,4 +1,4 @@
-use Rattle.std.proofs.Common.{◌≡◌, ◌<◌, ◌++◌, ◌∷◌, [], length, rules, arith}
+use Rattle.std.proofs.Common.{◌<◌, length, arith}
 use Rattle.coco_net.proofs.MailLemmas.{all_pushed, one_picked_more}
 use Rattle.coco_net.proofs.post.numbers_from.Goals as goal
 

@@ -1,4 +1,4 @@
-use Rattle.std.proofs.Common.{◌≡◌, ◌++◌, ◌<◌, ◌≤◌, drop, length}
+use Rattle.std.proofs.Common.{◌≡◌, ◌++◌, ◌<◌, drop, length}
 use Rattle.std.specs.List.{All}
 use Rattle.coco_net.specs.Mail.{picked}
 use Rattle.coco_net.proofs.post.numbers_from.Given as goal

@@ -1,6 +1,5 @@
-use Rattle.std.proofs.Common.{◌≡◌, ◌<◌, ◌^◌, length, arith, get_or, rules, sym, ap, ◌∙◌, None}
-use Rattle.std.specs.Option.{MatchOption, option_to_list}
-use Rattle.coco_net.proofs.MailLemmas.{box_at, box_other, box_same, few_at, few_set, taken, taken_boxes}
+use Rattle.std.proofs.Common.{◌<◌, ◌^◌, length, arith, rules}
+use Rattle.coco_net.proofs.MailLemmas.{box_other, few_at, few_set, taken, taken_boxes}
 use Rattle.coco_net.proofs.post.take_first.Goals as goal
 
 pub returns-in-Some-clause-few : goal.returns-in-Some-clause-few

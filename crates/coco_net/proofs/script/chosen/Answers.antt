@@ -1,7 +1,6 @@
 use Rattle.std.proofs.Common.{◌≡◌, ◌<◌, ◌∙◌, ap, length, arith, take, get_or}
 use Rattle.std.proofs.lemmas.List.{get_or_read}
 use Rattle.coco_net.specs.Rounds.{is_lost}
-use Rattle.coco_net.specs.declared.letter.Posted.{Posted}
 use Rattle.coco_net.proofs.ChoiceLemmas.{script_loss, script_step, within_more}
 use Rattle.coco_net.proofs.MailLemmas.{any_posted}
 use Rattle.coco_net.proofs.script.chosen.Goals as goal

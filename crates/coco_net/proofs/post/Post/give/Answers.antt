@@ -1,4 +1,4 @@
-use Rattle.std.proofs.Common.{◌≡◌, ◌++◌, ◌+◌, ap, ◌∙◌, cond, refl, sym, rules, length}
+use Rattle.std.proofs.Common.{◌≡◌, ◌++◌, ◌+◌, ap, ◌∙◌, cond, refl, sym, rules}
 use Rattle.coco_net.specs.Mail.{MailState, given_more, picked}
 use Rattle.coco_net.proofs.MailLemmas.{picked-append, same_state}
 use Rattle.coco_net.proofs.post.Post.give.Goals as goal

@@ -1,4 +1,4 @@
-use Rattle.std.proofs.Common.{[], false, take, replicate}
+use Rattle.std.proofs.Common.{take, replicate}
 use Rattle.std.proofs.lemmas.Result.{on_ok_weaker}
 use Rattle.coco_net.specs.Mail.{fresh}
 use Rattle.coco_net.specs.Rounds.{script_gives, script_loses, still_loses}
