@@ -1,17 +1,31 @@
 -- What contracts see of a host in memory.
-use Rattle.std.specs.Prelude.{◌≡◌, ℕ, min, List, true, false, Result, Ok, Err}
+use Rattle.std.specs.Prelude.{◌≡◌, ℕ, min, List, true, false, MatchBool, Bool, Result, Ok, Err, ◌∷◌, [], ◌++◌, take}
 use Rattle.coco_types.specs.declared.error.OutFault.{OutFault}
 use Rattle.coco_types.specs.declared.error.OutFault.TheVariants.{Failed, NoMemory}
+use Rattle.coco_io.specs.Counts.{Rose}
 use Rattle.coco_io.specs.Plan.{Plan, next_fails, after_call}
+use Rattle.coco_host.specs.Record.{Event}
+use Rattle.coco_host.specs.Record.Event.{Said}
 
--- a host in memory: the bytes said, how many a call says at most, and its calls
+-- a host in memory: what happened, how many bytes a say says at most, its calls, and how many of them failed
 pub record HostState : Type 0 where
-  pub said : List ℕ
+  pub events : List Event
   pub most : ℕ
   pub plan : Plan
+  pub disk_faults : ℕ
+  pub say_faults : ℕ
 
--- a call says as much of a piece of this length as it may, fails where the plan says so, and lacks memory with nothing changed
+-- a call on files is counted, and fails where the plan says so; nothing else happens
+pub record CountsDiskCall (fails : Bool) (old new : HostState) : Type 0 where
+  pub answer : fails ≡ next_fails old.plan
+  pub plan : new.plan ≡ after_call old.plan
+  pub faults : MatchBool fails (Rose old.disk_faults new.disk_faults) (new.disk_faults ≡ old.disk_faults)
+  pub events : new.events ≡ old.events
+  pub most : new.most ≡ old.most
+  pub say_faults : new.say_faults ≡ old.say_faults
+
+-- a say says as much of a piece of this length as it may, fails where the plan says so, or lacks memory
 abbrev pub SaysByPlan : Result ℕ OutFault → ℕ → HostState → HostState → Type 0
 SaysByPlan (Ok k) len old new = (k ≡ min len old.most) × (next_fails old.plan ≡ false) × (new.most ≡ old.most) × (new.plan ≡ after_call old.plan)
 SaysByPlan (Err Failed) len old new = (next_fails old.plan ≡ true) × (new.most ≡ old.most) × (new.plan ≡ after_call old.plan)
-SaysByPlan (Err NoMemory) len old new = new ≡ old
+SaysByPlan (Err NoMemory) len old new = (next_fails old.plan ≡ false) × (new.most ≡ old.most) × (new.plan ≡ after_call old.plan)

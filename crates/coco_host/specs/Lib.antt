@@ -1,1 +1,5 @@
+pub mod Files
 pub mod HostState
+pub mod Moments
+pub mod Record
+pub mod Recorded

@@ -1,29 +1,51 @@
 //! The host over a folder of the machine, with the standard output as its reply stream.
-ghost use Rattle.std.specs.Prelude.{◌≡◌, None, IfOk, string_bytes};
+ghost use Rattle.std.specs.Prelude.{◌≡◌, None, Ok, IfOk, string_bytes};
+ghost use Rattle.coco_io.specs.Counts.{CountsRead};
+ghost use Rattle.coco_host.specs.Moments.{untold};
 
 use crate::Host;
+use crate::files::Folder;
+use crate::memory::raised;
 use coco_io::{Sink, WriterSink};
-use coco_types::{NoMemory, OutFault};
-use std::io::Stdout;
+use coco_types::{Failed, NoMemory, OutFault};
+use std::io::{self, Stdout};
 
-/// A store's folder, with the standard output as the stream that its replies leave by. It doesn't tell
-/// what it said.
+/// A store's folder, with the standard output as the stream that its replies leave by. File n is `n.coco`
+/// in it. It doesn't tell what it holds, nor what it said.
 #[derive(Drop)]
 pub struct FolderHost {
-    folder: String,
+    folder: Folder,
     replies: WriterSink<Stdout>,
+    disk_faults: u64,
 }
 
 impl FolderHost {
     /// The host over the folder of this name.
     pub fn new(rt: HostRuntime, folder: &str) -> Result<FolderHost, NoMemory>
-        ensures folder { IfOk result (λ host. string_bytes host.folder ≡ folder.now) }
-        ensures faults { IfOk result (λ host. ⟦<FolderHost as Host>⟧.say_faults host ≡ 0) }
+        ensures folder { IfOk result (λ host. string_bytes host.folder.name ≡ folder.now) }
+        ensures say_faults { IfOk result (λ host. ⟦<FolderHost as Host>⟧.say_faults host ≡ 0) }
+        ensures disk_faults { IfOk result (λ host. ⟦<FolderHost as Host>⟧.disk_faults host ≡ 0) }
     {
         Ok(FolderHost {
-            folder: String::from_str(rt.alloc(), folder)?,
+            folder: Folder::new(rt, String::from_str(rt.alloc(), folder)?),
             replies: WriterSink::over(rt.stdout()),
+            disk_faults: 0,
         })
+    }
+
+    // Counts a call on files that failed.
+    fn counted<T: Drop>(&mut self, answer: io::Result<T>) -> Result<T, Failed>
+        ensures counts { CountsRead result self.old.disk_faults self.new.disk_faults }
+        ensures rest { self.new ≡ record self.old { disk_faults = self.new.disk_faults } }
+        ensures same { IfOk result (λ x. answer ≡ Ok x) }
+    {
+        match answer {
+            Ok(x) => Ok(x),
+            Err(_) => {
+                self.disk_faults = raised(self.disk_faults);
+                Err(Failed)
+            }
+        }
     }
 }
 
@@ -32,11 +54,54 @@ impl Host for FolderHost {
 
     ghost say_faults = { λ h. h.replies.faults };
 
+    ghost disk_faults = { λ h. h.disk_faults };
+
+    ghost reads = { λ _. None };
+
+    ghost may_leave = { λ _ _. ⊥ };
+
+    ghost moment = { λ _. 0 };
+
+    ghost observed = { λ _ _ _. ⊥ };
+
+    ghost seen_now = { λ _ _ _ _ image _. image };
+
+    ghost only_now = { λ _ _ since. absurd since };
+
+    ghost reads_left = { λ _ files is. untold files is };
+
+    fn len(&mut self, file: u32) -> Result<u64, Failed> {
+        let answer = self.folder.len(file);
+        self.counted(answer)
+    }
+
+    fn read_at(&mut self, file: u32, at: u64, into: &mut [u8]) -> Result<usize, Failed> {
+        let answer = self.folder.read_at(file, at, into);
+        self.counted(answer)
+    }
+
+    fn write_at(&mut self, file: u32, at: u64, from: &[u8]) -> Result<(), OutFault> {
+        let answer = self.folder.write_at(file, at, from);
+        match self.counted(answer) {
+            Ok(()) => Ok(()),
+            Err(Failed) => Err(OutFault::Failed),
+        }
+    }
+
+    fn sync(&mut self, file: u32) -> Result<(), Failed> {
+        let answer = self.folder.sync(file);
+        self.counted(answer)
+    }
+
     fn say(&mut self, from: &[u8]) -> Result<usize, OutFault> {
         self.replies.write(from)
     }
 
     fn say_faults(&self) -> u64 {
         self.replies.faults()
+    }
+
+    fn disk_faults(&self) -> u64 {
+        self.disk_faults
     }
 }

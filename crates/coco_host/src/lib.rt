@@ -1,12 +1,18 @@
-//! What a store stands on: the stream that its replies leave by, in memory and over the standard output.
+//! What a store stands on: numbered files and the stream that its replies leave by, under one clock; in
+//! memory, and over a folder with the standard output.
 #![tactic(auto)]
 
+mod files;
 pub mod folder;
+pub mod fuse;
+mod held;
 pub mod host;
 pub mod memory;
+mod recorded;
 #[cfg(test)]
 mod tests;
 
 pub use folder::FolderHost;
+pub use fuse::FuseHost;
 pub use host::{Host, say_all};
 pub use memory::MemoryHost;

@@ -1,6 +1,7 @@
-//! Hosts say pieces however they are cut.
-use crate::{FolderHost, Host, MemoryHost, say_all};
-use coco_types::OutFault;
+//! Hosts say pieces however they are cut, and keep files.
+use crate::{FolderHost, FuseHost, Host, MemoryHost, say_all};
+use coco_types::{Failed, OutFault};
+use std::fs;
 use std::test::Fail;
 
 #[test]
@@ -28,6 +29,34 @@ fn a_failing_call_says_nothing(rt: HostRuntime) -> Result<(), Fail> {
 }
 
 #[test]
+fn a_file_reads_as_it_was_written(rt: HostRuntime) -> Result<(), Fail> {
+    let mut host = MemoryHost::new(rt.alloc(), Vec::new(rt.alloc()));
+    assert_eq!(rt; host.len(7), Ok(0));
+    assert_eq!(rt; host.write_at(7, 0, b"a number"), Ok(()));
+    assert_eq!(rt; host.write_at(7, 0, b"letters"), Ok(()));
+    assert_eq!(rt; host.sync(7), Ok(()));
+    assert_eq!(rt; host.len(7), Ok(8));
+    let mut into = [0; 5];
+    assert_eq!(rt; host.read_at(7, 2, &mut into), Ok(5));
+    assert_eq!(rt; into.as_slice(), b"tters".as_slice());
+    assert_eq!(rt; host.read_at(7, 6, &mut into), Ok(2));
+    assert_eq!(rt; &into[..2], b"sr".as_slice());
+    Ok(())
+}
+
+#[test]
+fn a_listed_call_on_a_file_fails(rt: HostRuntime) -> Result<(), Fail> {
+    let mut host = MemoryHost::new(rt.alloc(), vec![in rt.alloc(); 1, 2, 3]?);
+    assert_eq!(rt; host.write_at(0, 0, b"abc"), Ok(()));
+    assert_eq!(rt; host.write_at(0, 0, b"def"), Err(OutFault::Failed));
+    assert_eq!(rt; host.sync(0), Err(Failed));
+    assert_eq!(rt; host.len(0), Err(Failed));
+    assert_eq!(rt; host.disk_faults(), 3);
+    assert_eq!(rt; host.say_faults(), 0);
+    Ok(())
+}
+
+#[test]
 fn a_folder_says_to_the_standard_output(rt: HostRuntime) -> Result<(), Fail> {
     let mut host = FolderHost::new(rt, ".")?;
     assert_eq!(rt;
@@ -35,5 +64,44 @@ fn a_folder_says_to_the_standard_output(rt: HostRuntime) -> Result<(), Fail> {
         Ok(())
     );
     assert_eq!(rt; host.say_faults(), 0);
+    Ok(())
+}
+
+#[test]
+fn a_folder_keeps_files_and_is_one_hosts_alone(rt: HostRuntime) -> Result<(), Fail> {
+    let mut host = FolderHost::new(rt, "a_store")?;
+    assert_eq!(rt; host.len(1), Ok(0));
+    assert_eq!(rt; host.sync(1), Ok(()));
+    assert_eq!(rt; host.write_at(1, 0, b"letters"), Ok(()));
+    assert_eq!(rt; host.write_at(1, 3, b"ting"), Ok(()));
+    assert_eq!(rt; host.sync(1), Ok(()));
+    let mut into = [0; 10];
+    assert_eq!(rt; host.read_at(1, 1, &mut into), Ok(6));
+    assert_eq!(rt; &into[..6], b"etting".as_slice());
+    assert_eq!(rt; host.write_at(1, u64::MAX, b"x"), Err(OutFault::Failed));
+    assert_eq!(rt; host.disk_faults(), 1);
+
+    let mut other = FolderHost::new(rt, "a_store")?;
+    assert_eq!(rt; other.len(1), Err(Failed));
+    assert_eq!(rt; other.disk_faults(), 1);
+    fs::remove_dir_all(&rt, "a_store")?;
+    Ok(())
+}
+
+#[test]
+fn a_fuse_lets_writes_and_syncs_pass_and_then_fails_every_call(
+    rt: HostRuntime,
+) -> Result<(), Fail> {
+    let inner = MemoryHost::new(rt.alloc(), Vec::new(rt.alloc()));
+    let mut host = FuseHost::new(inner, 2);
+    assert_eq!(rt; host.write_at(0, 0, b"ab"), Ok(()));
+    assert_eq!(rt; host.len(0), Ok(2));
+    assert_eq!(rt; host.sync(0), Ok(()));
+    assert_eq!(rt; host.say(b"c"), Err(OutFault::Failed));
+    assert_eq!(rt; host.write_at(0, 0, b"cd"), Err(OutFault::Failed));
+    assert_eq!(rt; host.len(0), Err(Failed));
+    assert_eq!(rt; host.say_faults(), 1);
+    assert_eq!(rt; host.disk_faults(), 2);
+    assert_eq!(rt; host.inner().len(0), Ok(2));
     Ok(())
 }

@@ -1,0 +1,5 @@
+mod Events
+mod Keeping
+mod Places
+pub mod Sees
+mod Tearing

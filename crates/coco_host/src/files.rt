@@ -1,0 +1,210 @@
+//! The files of a folder of the machine.
+ghost use Rattle.std.specs.Prelude.{◌≡◌, ◌+◌, ◌<◌, ◌≤◌, ◌^◌, length, IfOk, OnOk};
+
+use std::fs::{self, File, OpenFile, OpenOptions};
+use std::io::{self, ErrorKind};
+use std::os::fd::AsRawFd;
+use std::os::unix::fs::FileExt;
+
+// Every file ends before this place.
+const END: u64 = 1 << 62;
+
+// An open file, and whether its entry in the folder is known to be durable.
+#[derive(Drop)]
+struct Opened {
+    number: u32,
+    file: File,
+    is_entered: bool,
+}
+
+/// A folder of the machine and its open files. The folder is locked from the first use of a file on, or
+/// from the moment that it is made.
+#[derive(Drop)]
+pub struct Folder {
+    rt: HostRuntime,
+    name: String,
+    held: Option<File>,
+    files: Vec<Opened>,
+}
+
+impl Folder {
+    /// The folder of this name. Nothing is opened yet.
+    pub fn new(rt: HostRuntime, name: String) -> Folder
+        ensures { result.name ≡ name }
+    {
+        Folder {
+            rt,
+            name,
+            held: None,
+            files: Vec::new(rt.alloc()),
+        }
+    }
+
+    /// The length of a file, 0 where it isn't there.
+    pub fn len(&mut self, number: u32) -> io::Result<u64> {
+        match self.find(number)? {
+            Some(place) if place < self.files.len() => Ok(self.files[place].file.metadata()?.len()),
+            _ => Ok(0),
+        }
+    }
+
+    /// Reads as many bytes as fit and are there.
+    pub fn read_at(&mut self, number: u32, at: u64, into: &mut [u8]) -> io::Result<usize>
+        ensures { IfOk result (λ k. k ≤ length into.old) }
+    {
+        match self.find(number)? {
+            Some(place) if place < self.files.len() && at < END => {
+                read_all(&self.files[place].file, at, into)
+            }
+            _ => Ok(0),
+        }
+    }
+
+    /// Writes the whole piece into a file, which is made where it isn't there.
+    pub fn write_at(&mut self, number: u32, at: u64, from: &[u8]) -> io::Result<()>
+        ensures { OnOk result (at + length from.now < 2 ^ 62) }
+    {
+        if at >= END || END - at <= from.len() as u64 {
+            return Err(ErrorKind::InvalidInput.into());
+        }
+        let place = match self.find(number)? {
+            Some(place) => place,
+            None => self.make(number)?,
+        };
+        match self.files.get(place) {
+            Some(opened) => opened.file.write_all_at(from, at),
+            None => Err(ErrorKind::NotFound.into()),
+        }
+    }
+
+    /// Syncs a file, and before the first time the folder's entry for it and the folder's own.
+    pub fn sync(&mut self, number: u32) -> io::Result<()> {
+        let Some(place) = self.find(number)? else {
+            return Ok(());
+        };
+        let Some(opened) = self.files.get(place) else {
+            return Ok(());
+        };
+        sync_all(&opened.file)?;
+        if !opened.is_entered {
+            self.enter()?;
+            if place < self.files.len() {
+                self.files[place].is_entered = true;
+            }
+        }
+        Ok(())
+    }
+
+    // The place of a file among those that are open, none where it isn't there.
+    fn find(&mut self, number: u32) -> io::Result<Option<usize>> {
+        if let Some(place) = self.files.iter().position(|opened| opened.number == number) {
+            return Ok(Some(place));
+        }
+        if !self.hold()? {
+            return Ok(None);
+        }
+        let path = format!(in self.rt.alloc(); "{}/{number}.coco", self.name.as_str())?;
+        match OpenOptions::new()
+            .read(true)
+            .write(true)
+            .open(&self.rt, path.as_str())
+        {
+            Ok(file) => Ok(Some(self.keep(number, file)?)),
+            Err(error) if error.kind() == ErrorKind::NotFound => Ok(None),
+            Err(error) => Err(error),
+        }
+    }
+
+    // Makes a file, and the folder where it isn't there.
+    fn make(&mut self, number: u32) -> io::Result<usize> {
+        if !self.hold()? {
+            fs::create_dir(&self.rt, self.name.as_str())?;
+            if !self.hold()? {
+                return Err(ErrorKind::NotFound.into());
+            }
+        }
+        let path = format!(in self.rt.alloc(); "{}/{number}.coco", self.name.as_str())?;
+        let file = OpenOptions::new()
+            .read(true)
+            .write(true)
+            .create(true)
+            .open(&self.rt, path.as_str())?;
+        self.keep(number, file)
+    }
+
+    // Locks the folder, and says whether it is there.
+    fn hold(&mut self) -> io::Result<bool> {
+        if self.held.is_some() {
+            return Ok(true);
+        }
+        match File::open(&self.rt, self.name.as_str()) {
+            Ok(folder) => {
+                let folder = above_streams(folder)?;
+                folder.try_lock()?;
+                self.held = Some(folder);
+                Ok(true)
+            }
+            Err(error) if error.kind() == ErrorKind::NotFound => Ok(false),
+            Err(error) => Err(error),
+        }
+    }
+
+    // Keeps an open file, and answers its place.
+    fn keep(&mut self, number: u32, file: File) -> io::Result<usize> {
+        let place = self.files.len();
+        self.files.push(Opened {
+            number,
+            file: above_streams(file)?,
+            is_entered: false,
+        })?;
+        Ok(place)
+    }
+
+    // Makes the entries of the folder durable, and its own in the folder above.
+    fn enter(&mut self) -> io::Result<()> {
+        if let Some(folder) = &self.held {
+            sync_all(folder)?;
+        }
+        let above = format!(in self.rt.alloc(); "{}/..", self.name.as_str())?;
+        sync_all(&File::open(&self.rt, above.as_str())?)
+    }
+}
+
+// What is meant for a standard stream that was closed must not land in a file.
+fn above_streams(file: File) -> io::Result<File> {
+    if file.as_raw_fd() <= 2 {
+        file.try_clone()
+    } else {
+        Ok(file)
+    }
+}
+
+// Syncs a file. A call that a signal cut short is made again.
+fn sync_all(file: &File) -> io::Result<()> {
+    for _ in 0..u64::MAX {
+        match file.sync_all() {
+            Err(error) if error.kind() == ErrorKind::Interrupted => {}
+            answer => return answer,
+        }
+    }
+    Err(ErrorKind::Interrupted.into())
+}
+
+// Reads from a place on until the buffer is full or the file ends. Short reads go on.
+fn read_all(file: &File, at: u64, into: &mut [u8]) -> io::Result<usize>
+    ensures { IfOk result (λ k. k ≤ length into.old) }
+{
+    let mut done = 0;
+    'reading: for _ in 0..u64::MAX {
+        if done >= into.len() {
+            break 'reading;
+        }
+        match file.read_at(&mut into[done..], at.wrapping_add(done as u64)) {
+            Ok(0) => break 'reading,
+            Ok(count) => done += count,
+            Err(error) if error.kind() == ErrorKind::Interrupted => {}
+            Err(error) => return Err(error),
+        }
+    }
+    Ok(done)
+}
