@@ -1,7 +1,8 @@
 -- A variable is set where its name is found first.
-use Rattle.std.proofs.Common.{◌≡◌, ℕ, ◌+◌, ◌<◌, true, List, ◌∷◌, ◌++◌, length, take, drop, get_or, nat_eq, ap, sym, refl, ◌∙◌, add-one, take-append-drop, drop-cons}
+use Rattle.std.proofs.Common.{◌≡◌, ℕ, ◌+◌, ◌<◌, true, List, ◌∷◌, ◌++◌, length, take, drop, get_or, nat_eq, ap, sym, refl, ◌∙◌, add-one, take-append-drop, drop-cons, arith}
 use Rattle.std.proofs.Math.ListN.{set}
-use Rattle.std.proofs.lemmas.List.{take-set, drop-set, map-append}
+use Rattle.std.proofs.Math.Seq.{take-set-lt}
+use Rattle.std.proofs.lemmas.List.{take-set, drop-set, map-append, get_or-take, length-take}
 use Rattle.std.specs.Cmp.Lexicographic.{pointwise}
 use Rattle.std.specs.Ordering.{match_ordering}
 use Rattle.std.specs.declared.cmp.Ordering.{Ordering}
@@ -31,6 +32,20 @@ set_at-found vs i r x d lt is left =
     let v = get_or vs i r in let y : Variable = record { name = v.name; value = d } in
     ap variables_of (set_whole vs i y lt) ∙ map-append (λ (w : Variable). (w.name, w.value)) (take i vs) (y ∷ drop (i + 1) vs)
     ∙ ap (λ b. variables_of (take i vs) ++ b) (sym (set_first v (drop (i + 1) vs) x d is)) ∙ ap (λ (b : List Variable). variables_of (take i vs) ++ set_at (variables_of b) x d) (sym (drop_first vs i r lt)) ∙ sym left
+
+-- the same, in the list that has more behind them
+pub set_within : (list vs us : List Variable) (used i : ℕ) (r : Variable) (x : List ℕ) (d e : Datum) → take used list ≡ us → vs ≡ us → i < length vs → r ≡ get_or list i r → e ≡ d
+    → ((v : Variable) (f : Datum) → set_at (variables_of vs) x f ≡ variables_of (set vs i (record { name = (get_or vs i v).name; value = f })))
+    → variables_of (take used (set list i (record { name = r.name; value = e }))) ≡ set_at (variables_of us) x d
+set_within list vs us used i r x d e front same lt at is sets =
+    let whole : vs ≡ take used list = same ∙ sym front in
+    let within : i < used = omega (arith, lt, ap (λ (l : List Variable). length l) whole, length-take used list) in
+    let name : r.name ≡ (get_or vs i r).name = ap (λ (v : Variable). v.name) (at ∙ sym (get_or-take used list i r within) ∙ ap (λ (l : List Variable). get_or l i r) (sym whole)) in
+    ap (λ (f : Datum). variables_of (take used (set list i (record { name = r.name; value = f })))) is
+    ∙ ap variables_of (take-set-lt used list i (record { name = r.name; value = d }) within)
+    ∙ ap (λ (l : List Variable). variables_of (set l i (record { name = r.name; value = d }))) (sym whole)
+    ∙ ap (λ (n : List ℕ). variables_of (set vs i (record { name = n; value = d }))) name
+    ∙ sym (sets r d) ∙ ap (λ (l : List Variable). set_at (variables_of l) x d) same
 
 -- ---- writes
 

@@ -124,22 +124,22 @@ run_begins ps call p there slots grown has m =
     is ∙ alike_ends m slots (statements_flow ps.tables p.body s) (runs m ps.tables p.body c) (all_alike m slots ps.tables p.body s c has a)
     (subst (λ (r : Run). r.rows ≡ put_over m r.writes) is (run_puts_writes ps call m))
 
-pub begun : (ps : Procedures) (call : Call) (p : Procedure) (m : Machine) (spare : Vec Frame Global) (ws : List Write) → IsAccepted ps → procedure_at ps.procs call.proc_no ≡ Some p → IsPrepared p call.args m spare ws → IsRunOf ps call call.proc_no m spare ws stage.Ready
+pub begun : (ps : Procedures) (call : Call) (p : Procedure) (m : Machine) (spare : Vec Frame Global) (ws : List Write) → IsAccepted ps → procedure_at ps.procs call.proc_no ≡ Some p → IsPrepared p call.args m spare → IsRunOf ps call call.proc_no m spare ws stage.Ready
 begun ps call p m spare ws accepted there is = record {
   procedure = p;
   number_is = refl;
   there = there;
   roomy = λ _. record { bounded = bounded_found ps accepted call.proc_no p there; path = is.path_room; spare_path = is.spare_room; given = is.given_room; writes = is.writes_room };
   stands = record {
-    goes = λ rows has. run_begins ps call p there (variables_of m.variables.items) is.grown is.slots rows
+    goes = λ rows has. run_begins ps call p there (variables_of m.variables) is.grown is.slots rows
         ∙ ap (λ (c : Kept). outcome rows (runs rows ps.tables p.body c)) kept
         ∙ ap (λ (fs : List Frame). outcome rows (goes_on rows ps.tables (reverse fs) p.body (kept_of m))) (sym is.path);
     few = omega (arith, ap (λ (gs : List Given). length gs) is.given, ap (λ (vs : List Write). length vs) is.writes, ap (λ (fs : List Frame). weight_on (reverse fs) p.body) is.path, (small_found ps accepted call.proc_no p there).weight);
   };
 }
   where
-    kept : ◌≡◌ {A = Kept} (record { variables = variables_of m.variables.items; given = []; writes = [] }) (kept_of m)
-    kept i = record { variables = variables_of m.variables.items; given = sym is.given i; writes = sym is.writes i }
+    kept : ◌≡◌ {A = Kept} (record { variables = variables_of m.variables; given = []; writes = [] }) (kept_of m)
+    kept i = record { variables = variables_of m.variables; given = sym is.given i; writes = sym is.writes i }
 
 -- ---- steps
 
@@ -193,7 +193,7 @@ given_next ps call p old new v given others is = record {
 }
   where
     kept : with_given (kept_of old) old.asked v ≡ kept_of new
-    kept i = record { variables = variables_of ((sym others i).variables.items); given = sym given i; writes = (sym others i).writes.items }
+    kept i = record { variables = variables_of ((sym others i).variables); given = sym given i; writes = (sym others i).writes.items }
 
 -- ---- what is said
 

@@ -14,7 +14,7 @@ use Rattle.coco_eval.specs.declared.machine.Way.{Way}
 use Rattle.coco_eval.specs.declared.machine.Way.TheVariants as way
 
 abbrev pub kept_of : Machine → Kept
-kept_of m = record { variables = variables_of m.variables.items; given = m.given.items; writes = m.writes.items }
+kept_of m = record { variables = variables_of m.variables; given = m.given.items; writes = m.writes.items }
 
 -- how a part goes on, by how it stood within its statement and by the place within that
 abbrev pub Ahead : Type 0

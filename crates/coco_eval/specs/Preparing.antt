@@ -1,7 +1,6 @@
 -- A state at the start of a procedure.
 use Rattle.std.specs.Prelude.{◌≡◌, ◌≤◌, true, List, [], Vec, vec_capacity}
 use Rattle.std.specs.Global.{Global}
-use Rattle.coco_types.specs.declared.call.Write.{Write}
 use Rattle.coco_ast.specs.Meaning.{Datum, bound}
 use Rattle.coco_ast.specs.Tree.{Procedure}
 use Rattle.coco_eval.specs.Places.{depth}
@@ -9,13 +8,12 @@ use Rattle.coco_eval.specs.Slots.{variables_of, has_slots, IsGrown}
 use Rattle.coco_eval.specs.declared.machine.Frame.{Frame}
 use Rattle.coco_eval.specs.declared.machine.Machine.{Machine}
 
-pub record IsPrepared (p : Procedure) (args : List Datum) (m : Machine) (spare : Vec Frame Global) (settled : List Write) : Type 0 where
-  pub grown : IsGrown (bound p.params args) (variables_of m.variables.items)
-  pub slots : has_slots (variables_of m.variables.items) p.body ≡ true
+pub record IsPrepared (p : Procedure) (args : List Datum) (m : Machine) (spare : Vec Frame Global) : Type 0 where
+  pub grown : IsGrown (bound p.params args) (variables_of m.variables)
+  pub slots : has_slots (variables_of m.variables) p.body ≡ true
   pub given : m.given.items ≡ []
   pub writes : m.writes.items ≡ []
   pub path : m.path.items ≡ []
-  pub none : settled ≡ []
   pub given_room : 64 ≤ vec_capacity m.given
   pub writes_room : 64 ≤ vec_capacity m.writes
   pub path_room : depth p.body ≤ vec_capacity m.path

@@ -59,14 +59,17 @@ fn go_on(machine: &mut Machine, spare: &mut Vec<Frame>, tables: &[Name], body: &
     }
 }
 
-/// Takes the writes out of a state that has ended, none after a refusal.
-pub fn taken_writes(machine: &mut Machine) -> Writes
-    ensures writes { result ≡ settled_writes machine.old.reply machine.old.writes.items }
+/// Settles the writes of a state that has ended, none after a refusal. The state gets the room of
+/// those that were settled before.
+pub fn settle(machine: &mut Machine, settled: &mut Writes)
+    ensures writes { settled.new ≡ settled_writes machine.old.reply machine.old.writes.items }
     ensures others { machine.new ≡ record machine.old { writes = machine.new.writes } }
 {
-    let alloc = *machine.writes.allocator();
     if matches!(&machine.reply, Reply::Refused(_)) {
         machine.writes.clear();
     }
-    Writes::from_vec(mem::replace(&mut machine.writes, Vec::new(alloc)))
+    let none = Writes::new(*machine.writes.allocator());
+    let room = mem::replace(settled, none).into_vec();
+    let writes = mem::replace(&mut machine.writes, room);
+    *settled = Writes::from_vec(writes);
 }

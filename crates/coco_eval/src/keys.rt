@@ -8,7 +8,8 @@ ghost use Rattle.coco_eval.specs.Places.{written_at, given_at};
 ghost use Rattle.coco_eval.specs.Slots.{variables_of};
 
 use crate::machine::Given;
-use crate::operand::Operand;
+use crate::names::are_same_names;
+use crate::operand::{Operand, owned};
 use crate::values::value;
 use crate::variables::Variable;
 use coco_ast::{Name, Place};
@@ -31,7 +32,7 @@ fn table_number(tables: &[Name], name: &Name) -> u16
     ensures { result ≡ table_number tables.now name.now }
 {
     for (i, table) in tables.iter().enumerate() {
-        if *table == *name {
+        if are_same_names(table, name) {
             return i as u16;
         }
     }
@@ -75,18 +76,47 @@ pub fn given(values: &[Given], key: Key) -> Option<&Option<Value>>
 }
 
 /// Puts a write into a list that rises by key, in the place of an earlier one of its key.
-pub fn put(writes: &mut Vec<Write>, key: Key, value: &Option<Value>)
+pub fn put(writes: &mut Vec<Write>, key: Key, value: &Operand<'_>)
     requires { vec_len writes.old < vec_capacity writes.old }
-    ensures list { writes.new.items ≡ put_write key value.now writes.old.items }
+    ensures list { writes.new.items ≡ put_write key (datum_of value.now) writes.old.items }
     ensures len { length writes.new.items ≤ length writes.old.items + 1 }
     ensures room { vec_capacity writes.old ≤ vec_capacity writes.new }
 {
-    let write = Write { key, value: *value };
     match place_among(writes, key) {
-        Ok(at) => writes[at] = write,
-        Err(at) => {
-            let _ = writes.insert(at, write);
+        Ok(at) => {
+            writes[at] = Write {
+                key,
+                value: owned(value),
+            }
         }
+        Err(at) => insert(writes, at, key, value),
+    }
+}
+
+fn insert(writes: &mut Vec<Write>, at: usize, key: Key, value: &Operand<'_>)
+    requires at { at ≤ vec_len writes.old }
+    requires room { vec_len writes.old < vec_capacity writes.old }
+    ensures list { writes.new.items ≡ insert writes.old.items at (record { key = key; value = datum_of value.now }) }
+    ensures room { vec_capacity writes.old ≤ vec_capacity writes.new }
+{
+    if at < writes.len() {
+        let write = Write {
+            key,
+            value: owned(value),
+        };
+        let _ = writes.insert(at, write);
+        return;
+    }
+    // A number is written by itself, and no text's room is copied.
+    match value {
+        Operand::Int(number) => writes.push_reserved(Write {
+            key,
+            value: Some(Value::Int(*number)),
+        }),
+        _ => writes.push_reserved(Write {
+            key,
+            value: owned(value),
+        }),
     }
 }
 

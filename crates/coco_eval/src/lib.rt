@@ -4,6 +4,7 @@
 mod advance;
 mod keys;
 mod machine;
+mod names;
 mod noted;
 mod operand;
 mod room;

@@ -1,7 +1,8 @@
 //! The state of a run: what it keeps, and where it stands.
 
-use crate::variables::Variable;
+use crate::variables::Slots;
 use coco_types::{Key, Reply, Value, Write};
+use std::alloc::Global;
 
 /// A value that a row has on the map that the run reads.
 #[derive(Clone, Copy, Debug)]
@@ -39,12 +40,26 @@ pub enum Stop {
 
 /// What a run keeps, the key that it asks for and the reply that it ends with. Its path says where
 /// it stands, the innermost block first.
-#[derive(Debug, Drop)]
+#[derive(Drop)]
 pub struct Machine {
-    pub variables: Vec<Variable>,
+    pub variables: Slots,
     pub given: Vec<Given>,
     pub writes: Vec<Write>,
     pub path: Vec<Frame>,
     pub asked: Key,
     pub reply: Reply,
+}
+
+impl Machine {
+    /// A state without room.
+    pub fn new(alloc: Global) -> Machine {
+        Machine {
+            variables: Slots::new(alloc),
+            given: Vec::new(alloc),
+            writes: Vec::new(alloc),
+            path: Vec::new(alloc),
+            asked: Key { table: 0, row: 0 },
+            reply: Reply::Ok(None),
+        }
+    }
 }

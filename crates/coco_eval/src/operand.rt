@@ -1,8 +1,9 @@
 //! Values that are lent where they stand.
-ghost use Rattle.std.specs.Prelude.{◌≡◌, nat_eq};
+ghost use Rattle.std.specs.Prelude.{◌≡◌, Some, nat_eq};
 ghost use Rattle.std.specs.Cmp.Lexicographic.{pointwise};
 ghost use Rattle.coco_eval.specs.Lending.{datum_of};
 ghost use Rattle.coco_ast.specs.Meaning.{number_of, same};
+ghost use Rattle.coco_types.specs.declared.value.Value.TheVariants.{Int};
 
 use coco_types::{Cause, Text, Value};
 
@@ -33,6 +34,26 @@ pub fn owned(value: &Operand<'_>) -> Option<Value>
         Operand::None => None,
         Operand::Int(number) => Some(Value::Int(*number)),
         Operand::Text(text) => Some(Value::Text(**text)),
+    }
+}
+
+/// Puts the value into a place, of which only what changes is written.
+pub fn store(slot: &mut Option<Value>, value: &Operand<'_>)
+    ensures { slot.new ≡ datum_of value.now }
+{
+    match value {
+        Operand::None => *slot = None,
+        Operand::Int(number) => store_number(slot, *number),
+        Operand::Text(text) => *slot = Some(Value::Text(**text)),
+    }
+}
+
+fn store_number(slot: &mut Option<Value>, number: i64)
+    ensures { slot.new ≡ Some (Int number) }
+{
+    match slot {
+        Some(Value::Int(place)) => *place = number,
+        _ => *slot = Some(Value::Int(number)),
     }
 }
 

@@ -1,16 +1,17 @@
 //! A run of a call, which stops at each key whose value it needs.
-ghost use Rattle.std.specs.Prelude.{◌≡◌, ◌+◌, ◌≤◌, [], ◌∷◌, ◌++◌, length, IfOk, List};
+ghost use Rattle.std.specs.Prelude.{◌≡◌, ◌+◌, ◌<◌, ◌≤◌, [], ◌∷◌, ◌++◌, length, vec_len, vec_capacity, IfOk, OnOk, OnErr, List};
+ghost use Rattle.std.specs.Option.{option_copied};
 ghost use Rattle.coco_ast.specs.Fitting.{Fits};
 ghost use Rattle.coco_types.specs.declared.call.Reply.{Reply as Answer};
 ghost use Rattle.coco_types.specs.RowKey.{RowKey};
 ghost use Rattle.coco_types.specs.declared.call.Write.{Write as Written};
-ghost use Rattle.coco_eval.specs.Needs.{IsNeedOf, HasFewKeys};
+ghost use Rattle.coco_eval.specs.Needs.{IsNeedOf, IsNextOf, HasFewKeys};
 ghost use Rattle.coco_eval.specs.Standing.{Ready, Asks, Ended, IsSound};
 
-use crate::advance::{advance, procedure, taken_writes};
+use crate::advance::{advance, procedure, settle};
 use crate::machine::{Frame, Given, Machine};
 use crate::noted::Noted;
-use crate::room::Room;
+use crate::room::prepare;
 use coco_ast::Checked;
 use coco_types::{Call, Key, NoMemory, Reply, Value, Writes};
 use std::alloc::Global;
@@ -64,45 +65,40 @@ impl Run {
         requires { Fits procs.now call.now }
         ensures { IfOk result (λ run. run ≡ record { procs = procs.now; call = call.now; given = []; standing = Ready }) }
     {
-        Run::begin(Room::new(alloc), procs, call)
-    }
-
-    /// The run of another call, at its start, with the room of this one.
-    pub fn restart(self, procs: &Checked, call: &Call) -> Result<Run, NoMemory>
-        requires { Fits procs.now call.now }
-        ensures { IfOk result (λ run. run ≡ record { procs = procs.now; call = call.now; given = []; standing = Ready }) }
-    {
-        let Run {
-            procs: _,
-            call: _,
-            number: _,
-            machine,
-            spare,
-            writes,
-            stage,
-        } = self;
-        let ended = matches!(stage, Stage::Ended);
-        Run::begin(Room::of(machine, spare, writes, ended), procs, call)
-    }
-
-    fn begin(room: Room, procs: &Checked, call: &Call) -> Result<Run, NoMemory>
-        requires { Fits procs.now call.now }
-        ensures { IfOk result (λ run. run ≡ record { procs = procs.now; call = call.now; given = []; standing = Ready }) }
-    {
-        let number = call.proc_no;
-        let Some(proc) = procedure(procs, number) else {
+        let mut machine = Machine::new(alloc);
+        let mut spare = Vec::new(alloc);
+        let Some(proc) = procedure(procs, call.proc_no) else {
             unreachable!()
         };
-        let (machine, spare, writes) = room.prepared(proc, &call.args)?;
+        prepare(&mut machine, &mut spare, proc, &call.args)?;
         Ok(Run {
             procs: Noted::of(procs),
             call: Noted::of(call),
-            number,
+            number: call.proc_no,
             machine,
             spare,
-            writes,
+            writes: Writes::new(alloc),
             stage: Stage::Ready,
         })
+    }
+
+    /// Starts the run of another call, with the room of this one, which has ended. Out of memory, it
+    /// is as before.
+    pub fn restart(&mut self, procs: &Checked, call: &Call) -> Result<(), NoMemory>
+        requires fits { Fits procs.now call.now }
+        requires ended { (reply : Answer) × (writes : List Written) × (self.old.standing ≡ Ended reply writes) }
+        ensures ok { OnOk result (self.new ≡ record { procs = procs.now; call = call.now; given = []; standing = Ready }) }
+        ensures err { OnErr result (self.new ≡ self.old) }
+    {
+        let Some(proc) = procedure(procs, call.proc_no) else {
+            unreachable!()
+        };
+        prepare(&mut self.machine, &mut self.spare, proc, &call.args)?;
+        self.procs = Noted::of(procs);
+        self.call = Noted::of(call);
+        self.number = call.proc_no;
+        self.stage = Stage::Ready;
+        Ok(())
     }
 
     /// Goes on to the next key whose value is needed, or to the end. It takes no memory.
@@ -114,13 +110,28 @@ impl Run {
         ensures sound { IsSound self.new }
         ensures few { HasFewKeys self.new self.new.standing }
     {
+        match self.next_key(procs) {
+            Some(key) => Need::Read(key),
+            None => Need::Ended(*self.reply()),
+        }
+    }
+
+    /// The same, where the end has no reply with it: `reply` lends that.
+    pub fn next_key(&mut self, procs: &Checked) -> Option<Key>
+        requires procs { procs.now ≡ self.old.procs }
+        requires ready { self.old.standing ≡ Ready }
+        ensures key { IsNextOf self.new.standing result }
+        ensures others { self.new ≡ record self.old { standing = self.new.standing } }
+        ensures sound { IsSound self.new }
+        ensures few { HasFewKeys self.new self.new.standing }
+    {
         if advance(procs, self.number, &mut self.machine, &mut self.spare) {
             self.stage = Stage::Asking;
-            return Need::Read(self.machine.asked);
+            return Some(self.machine.asked);
         }
-        self.writes = taken_writes(&mut self.machine);
+        settle(&mut self.machine, &mut self.writes);
         self.stage = Stage::Ended;
-        Need::Ended(self.machine.reply)
+        None
     }
 
     /// Takes the value of the key that was asked for. It takes no memory.
@@ -129,9 +140,25 @@ impl Run {
         ensures { (k : RowKey) → self.old.standing ≡ Asks k →
             self.new ≡ record self.old { given = self.old.given ++ record { key = k; value = value } ∷ []; standing = Ready } }
     {
-        let key = self.machine.asked;
-        self.machine.given.push_reserved(Given { key, value });
+        self.give_lent(value.as_ref());
+    }
+
+    /// The same, where the value stays where it is.
+    pub fn give_lent(&mut self, value: Option<&Value>)
+        requires { (k : RowKey) × (self.old.standing ≡ Asks k) }
+        ensures { (k : RowKey) → self.old.standing ≡ Asks k →
+            self.new ≡ record self.old { given = self.old.given ++ record { key = k; value = option_copied value.entry } ∷ []; standing = Ready } }
+    {
+        add_given(&mut self.machine.given, self.machine.asked, value);
         self.stage = Stage::Ready;
+    }
+
+    /// The reply of a run that has ended.
+    pub fn reply(&self) -> &Reply
+        requires { (reply : Answer) × (writes : List Written) × (self.now.standing ≡ Ended reply writes) }
+        ensures { (writes : List Written) × (self.now.standing ≡ Ended result.now writes) }
+    {
+        &self.machine.reply
     }
 
     /// The writes of a run that has ended, rising by key, none after a refusal.
@@ -140,5 +167,23 @@ impl Run {
         ensures { (reply : Answer) × (self.now.standing ≡ Ended reply result.now) }
     {
         &self.writes
+    }
+}
+
+// A number is written by itself, and no text's room is copied.
+fn add_given(values: &mut Vec<Given>, key: Key, value: Option<&Value>)
+    requires { vec_len values.old < vec_capacity values.old }
+    ensures items { values.new.items ≡ values.old.items ++ record { key = key; value = option_copied value.entry } ∷ [] }
+    ensures room { vec_capacity values.new ≡ vec_capacity values.old }
+{
+    match value {
+        Some(Value::Int(number)) => values.push_reserved(Given {
+            key,
+            value: Some(Value::Int(*number)),
+        }),
+        _ => values.push_reserved(Given {
+            key,
+            value: value.copied(),
+        }),
     }
 }

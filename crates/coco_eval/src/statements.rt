@@ -5,15 +5,15 @@ ghost use Rattle.coco_ast.specs.Meaning.{value_of, key_of};
 ghost use Rattle.coco_ast.specs.Views.{expression_of, place_of, statement_of, statements_of};
 ghost use Rattle.coco_types.specs.declared.call.Reply.TheVariants.{Ok as Answers, Refused};
 ghost use Rattle.coco_types.specs.declared.value.Value.TheVariants.{Int};
+ghost use Rattle.coco_eval.specs.Lending.{datum_of};
 ghost use Rattle.coco_eval.specs.Moves.{kept_of, MovesBlock, MovesGet, MovesOne, MovesTurns, ReadMoves, Settles, HasRoom, on_way};
 ghost use Rattle.coco_eval.specs.Places.{Goes, Ends, with, with_variable, with_write, newest, turns, runs, from, chosen, goes_on_repeat, goes_on, weight_get, weight_repeat, weight_one, weight_on, depth_one, depth, are_bounded_in, are_bounded};
 
 use crate::keys::{given, key, put, written};
 use crate::machine::{Frame, Given, Machine, Stop, Way};
-use crate::operand::{number, owned};
-use crate::variables::set;
+use crate::operand::{Operand, lend, number, owned, store};
 use coco_ast::{Expr, Name, Place, Stmt};
-use coco_types::{Cause, Key, Reply, Value};
+use coco_types::{Cause, Key, Reply};
 
 impl Machine {
     /// Runs a block from a place in it on.
@@ -124,6 +124,7 @@ impl Machine {
     }
 
     #[cycle(run)]
+    #[inline(never)]
     fn repeat(
         &mut self,
         tables: &[Name],
@@ -185,24 +186,34 @@ impl Machine {
         ensures kept { kept_of self.new ≡ with_variable (kept_of self.old) name.now (Some (Int (pos turn))) }
         ensures others { self.new ≡ record self.old { variables = self.new.variables } }
     {
-        set(&mut self.variables, name, &Some(Value::Int(turn as i64)));
+        self.variables.set(name, &Operand::Int(turn as i64));
     }
 
+    #[inline(never)]
     fn assign(&mut self, name: &Name, value: &Expr) -> Stop
         ensures { Settles result
             (with (kept_of self.old) (value_of (kept_of self.old).variables (expression_of value.now)) (λ d. Goes (with_variable (kept_of self.old) name.now d)))
             0 self.old self.new }
     {
-        match crate::values::value(value, &self.variables) {
-            Ok(value) => {
-                let value = owned(&value);
-                set(&mut self.variables, name, &value);
-                Stop::Goes
+        match crate::values::value(value, self.variables.as_slice()) {
+            Ok(Operand::None) => self.set(name, &Operand::None),
+            Ok(Operand::Int(number)) => self.set(name, &Operand::Int(number)),
+            Ok(Operand::Text(text)) => {
+                let text = *text;
+                self.set(name, &Operand::Text(&text))
             }
             Err(cause) => self.refuse(cause),
         }
     }
 
+    fn set(&mut self, name: &Name, value: &Operand<'_>) -> Stop
+        ensures { Settles result (Goes (with_variable (kept_of self.old) name.now (datum_of value.now))) 0 self.old self.new }
+    {
+        self.variables.set(name, value);
+        Stop::Goes
+    }
+
+    #[inline(never)]
     fn get(&mut self, tables: &[Name], name: &Name, place: &Place, way: Way) -> Stop
         requires tables { length tables.now < 2 ^ 16 }
         requires room { HasRoom (weight_get way) 0 self.old }
@@ -210,11 +221,10 @@ impl Machine {
     {
         match way {
             Way::Given => {
-                let value = newest(&self.given);
-                set(&mut self.variables, name, &value);
+                self.variables.set(name, &newest(&self.given));
                 Stop::Goes
             }
-            _ => match key(tables, &self.variables, place) {
+            _ => match key(tables, self.variables.as_slice(), place) {
                 Ok(key) => self.read(name, key),
                 Err(cause) => self.refuse(cause),
             },
@@ -225,20 +235,19 @@ impl Machine {
     fn read(&mut self, name: &Name, key: Key) -> Stop
         ensures { ReadMoves result name.now key self.old self.new }
     {
-        let value = match written(&self.writes, key) {
-            Some(value) => *value,
-            None => match given(&self.given, key) {
-                Some(value) => *value,
-                None => {
-                    self.asked = key;
-                    return Stop::Asks(Way::Given);
-                }
-            },
-        };
-        set(&mut self.variables, name, &value);
-        Stop::Goes
+        if let Some(value) = written(&self.writes, key) {
+            self.variables.set(name, &lend(value));
+            return Stop::Goes;
+        }
+        if let Some(value) = given(&self.given, key) {
+            self.variables.set(name, &lend(value));
+            return Stop::Goes;
+        }
+        self.asked = key;
+        Stop::Asks(Way::Given)
     }
 
+    #[inline(never)]
     fn put(&mut self, tables: &[Name], place: &Place, value: &Expr) -> Stop
         requires tables { length tables.now < 2 ^ 16 }
         requires room { HasRoom 1 0 self.old }
@@ -247,10 +256,10 @@ impl Machine {
             with (kept_of self.old) (value_of (kept_of self.old).variables (expression_of value.now)) (λ d. Goes (with_write (kept_of self.old) k d))))
             1 self.old self.new }
     {
-        match key(tables, &self.variables, place) {
-            Ok(key) => match crate::values::value(value, &self.variables) {
+        match key(tables, self.variables.as_slice(), place) {
+            Ok(key) => match crate::values::value(value, self.variables.as_slice()) {
                 Ok(value) => {
-                    put(&mut self.writes, key, &owned(&value));
+                    put(&mut self.writes, key, &value);
                     Stop::Goes
                 }
                 Err(cause) => self.refuse(cause),
@@ -259,6 +268,7 @@ impl Machine {
         }
     }
 
+    #[inline(never)]
     fn delete(&mut self, tables: &[Name], place: &Place) -> Stop
         requires tables { length tables.now < 2 ^ 16 }
         requires room { HasRoom 1 0 self.old }
@@ -266,9 +276,9 @@ impl Machine {
             (with (kept_of self.old) (key_of tables.now (kept_of self.old).variables (place_of place.now)) (λ k. Goes (with_write (kept_of self.old) k None)))
             1 self.old self.new }
     {
-        match key(tables, &self.variables, place) {
+        match key(tables, self.variables.as_slice(), place) {
             Ok(key) => {
-                put(&mut self.writes, key, &None);
+                put(&mut self.writes, key, &Operand::None);
                 Stop::Goes
             }
             Err(cause) => self.refuse(cause),
@@ -282,7 +292,7 @@ impl Machine {
         match way {
             Way::Then => Ok(true),
             Way::Else => Ok(false),
-            _ => match crate::values::value(test, &self.variables) {
+            _ => match crate::values::value(test, self.variables.as_slice()) {
                 Ok(value) => match number(&value) {
                     Ok(number) => Ok(number != 0),
                     Err(cause) => Err(cause),
@@ -292,14 +302,15 @@ impl Machine {
         }
     }
 
+    #[inline(never)]
     fn answer(&mut self, value: &Expr) -> Stop
         ensures { Settles result
             (with (kept_of self.old) (value_of (kept_of self.old).variables (expression_of value.now)) (λ d. Ends (kept_of self.old) (Answers d)))
             0 self.old self.new }
     {
-        match crate::values::value(value, &self.variables) {
+        match crate::values::value(value, self.variables.as_slice()) {
             Ok(value) => {
-                self.reply = Reply::Ok(owned(&value));
+                reply_with(&mut self.reply, &value);
                 Stop::Ends
             }
             Err(cause) => self.refuse(cause),
@@ -315,13 +326,22 @@ impl Machine {
     }
 }
 
+fn reply_with(reply: &mut Reply, value: &Operand<'_>)
+    ensures { reply.new ≡ Answers (datum_of value.now) }
+{
+    match reply {
+        Reply::Ok(slot) => store(slot, value),
+        Reply::Refused(_) => *reply = Reply::Ok(owned(value)),
+    }
+}
+
 // The value that was given last.
-fn newest(values: &[Given]) -> Option<Value>
-    ensures { result ≡ newest values.now }
+fn newest(values: &[Given]) -> Operand<'_>
+    ensures { datum_of result ≡ newest values.now }
 {
     match values.last() {
-        Some(given) => given.value,
-        None => None,
+        Some(given) => lend(&given.value),
+        None => Operand::None,
     }
 }
 

@@ -1,12 +1,15 @@
 //! The variables of a run.
-ghost use Rattle.std.specs.Prelude.{◌≡◌};
-ghost use Rattle.coco_ast.specs.Meaning.{variable_at};
+ghost use Rattle.std.specs.Prelude.{◌≡◌, ◌<◌, ◌∷◌, ◌++◌, [], length, slice_set, slice_index_or, OnOk, MatchOption};
+ghost use Rattle.coco_ast.specs.Meaning.{Datum, variable_at};
 ghost use Rattle.coco_eval.specs.Lending.{datum_of};
 ghost use Rattle.coco_eval.specs.Slots.{variables_of, set_at};
 
-use crate::operand::{Operand, lend};
+use crate::names::are_same_names;
+use crate::operand::{Operand, lend, owned, store};
 use coco_ast::Name;
-use coco_types::Value;
+use coco_types::{NoMemory, Value};
+use std::alloc::Global;
+use std::marker::Model;
 
 /// A variable with its newest value, none until it is set.
 #[derive(Debug, Drop)]
@@ -15,26 +18,100 @@ pub struct Variable {
     pub value: Option<Value>,
 }
 
+/// Variables in a list that may be longer: those behind them are of an earlier run, and lend their
+/// room. Contracts see the variables alone.
+#[derive(Drop)]
+pub struct Slots {
+    list: Vec<Variable>,
+    used: usize,
+}
+
+impl Model for Slots {
+    ghost use Rattle.std.specs.Prelude.{List, ◌≤◌, length, take};
+    ghost use Rattle.coco_eval.specs.declared.variables.Variable.{Variable};
+
+    ghost Value = { List Variable };
+
+    ghost view = { λ s. take s.used s.list.items };
+
+    ghost invariant = { λ s. s.used ≤ length s.list.items };
+}
+
+impl Slots {
+    /// No variables.
+    pub fn new(alloc: Global) -> Slots
+        ensures { result ≡ [] }
+    {
+        Slots {
+            list: Vec::new(alloc),
+            used: 0,
+        }
+    }
+
+    /// Takes all variables away. The list keeps its room.
+    pub fn clear(&mut self)
+        ensures { self.new ≡ [] }
+    {
+        self.used = 0;
+    }
+
+    pub fn as_slice(&self) -> &[Variable]
+        ensures { result.now ≡ self.now }
+    {
+        &self.list[..self.used]
+    }
+
+    /// Adds a variable.
+    pub fn push(&mut self, name: &Name, value: &Operand<'_>) -> Result<(), NoMemory>
+        ensures { OnOk result (self.new ≡ self.old ++ record { name = name.now; value = datum_of value.now } ∷ []) }
+    {
+        if self.used < self.list.len() {
+            let variable = &mut self.list[self.used];
+            variable.name = *name;
+            store(&mut variable.value, value);
+        } else {
+            self.list.push(Variable {
+                name: *name,
+                value: owned(value),
+            })?;
+        }
+        self.used += 1;
+        Ok(())
+    }
+
+    /// Sets the variable of a name, where there is one.
+    pub fn set(&mut self, name: &Name, value: &Operand<'_>)
+        ensures { variables_of self.new ≡ set_at (variables_of self.old) name.now (datum_of value.now) }
+    {
+        if let Some(at) = place_of(self.as_slice(), name) {
+            store(&mut self.list[at].value, value);
+        }
+    }
+}
+
 /// The value of the variable of a name.
 pub fn value_at<'a>(variables: &'a [Variable], name: &Name) -> Operand<'a>
     ensures { datum_of result ≡ variable_at (variables_of variables.now) name.now }
 {
     for variable in variables {
-        if variable.name == *name {
+        if are_same_names(&variable.name, name) {
             return lend(&variable.value);
         }
     }
     Operand::None
 }
 
-/// Sets the variable of a name, where there is one.
-pub fn set(variables: &mut [Variable], name: &Name, value: &Option<Value>)
-    ensures { variables_of variables.new ≡ set_at (variables_of variables.old) name.now value.now }
+// The place of the variable of a name, if there is one.
+fn place_of(variables: &[Variable], name: &Name) -> Option<usize>
+    ensures { MatchOption result
+        ((d : Datum) → set_at (variables_of variables.now) name.now d ≡ variables_of variables.now)
+        (λ i. (i < length variables.now) × ((v : Variable) (d : Datum) → set_at (variables_of variables.now) name.now d
+        ≡ variables_of (slice_set variables.now i (record { name = (slice_index_or variables.now i v).name; value = d })))) }
 {
     for i in 0..variables.len() {
-        if variables[i].name == *name {
-            variables[i].value = *value;
-            return;
+        if are_same_names(&variables[i].name, name) {
+            return Some(i);
         }
     }
+    None
 }

@@ -5,6 +5,10 @@ use Rattle.coco_types.specs.declared.call.Reply.{Reply}
 use Rattle.coco_types.specs.declared.call.Write.{Write}
 use Rattle.coco_ast.specs.Keyed.{Rows, value_at, put_over}
 use Rattle.coco_ast.specs.Meaning.{Datum, run}
+use Rattle.coco_ast.specs.Tree.{Procedures}
+use Rattle.coco_types.specs.declared.call.Call.{Call}
+use Rattle.std.specs.Prelude.{Result, Ok, Err, OnErr}
+use Rattle.coco_serial.specs.Applied.{Applied}
 use Rattle.coco_eval.specs.Needs.{HasFewKeys}
 use Rattle.coco_eval.specs.Standing.{Standing, Ready, Asks, Ended, Evaluation, Says, IsSound, HasGiven, keys_of}
 use Rattle.coco_eval.specs.declared.machine.Given.{Given}
@@ -41,3 +45,20 @@ run_ended m old new reply ws others is sound has =
     let says : Says new (Ended reply ws) m = subst (λ (s : Standing). Says new s m) is (sound m (subst (λ (gs : List Given). HasGiven gs m) (sym (ap (λ (e : Evaluation). e.given) others)) has)) in
     sym (ap (λ (e : Evaluation). run e.procs e.call m) others) ∙ says
     ∙ ap (λ (gs : List Given). record { reply = reply; rows = put_over m ws; needs = keys_of gs; writes = ws }) (ap (λ (e : Evaluation). e.given) others)
+
+pub same_writes : (r s : Reply) (vs ws : List Write) (e : Standing) → e ≡ Ended r vs → e ≡ Ended s ws → vs ≡ ws
+same_writes r s vs ws e one other = let h : Ended r vs ≡ Ended s ws = sym one ∙ other in cc
+
+pub same_reply : (r s : Reply) (vs ws : List Write) (e : Standing) → e ≡ Ended r vs → e ≡ Ended s ws → r ≡ s
+same_reply r s vs ws e one other = let h : Ended r vs ≡ Ended s ws = sym one ∙ other in cc
+
+-- a fresh run of a call on an equal map
+pub same_run : (e : Evaluation) (ps : Procedures) (call : Call) (m n : Rows) → e ≡ record { procs = ps; call = call; given = []; standing = Ready } → m ≡ n → run e.procs e.call m ≡ run ps call n
+same_run e ps call m n fresh same = ap (λ (f : Evaluation). run f.procs f.call m) fresh ∙ ap (run ps call) same
+
+pub applied_same : (m n : Rows) (vs ws : List Write) → m ≡ n → vs ≡ ws → ◌≡◌ {A = Applied} (record { rows = m; writes = vs }) (record { rows = n; writes = ws })
+applied_same m n vs ws a b i = record { rows = a i; writes = b i }
+
+pub on_err : {T E : Type 0} (r : Result T E) (P : Type 0) → P → OnErr r P
+on_err (Ok x) P p = tt
+on_err (Err e) P p = p

@@ -5,9 +5,10 @@ ghost use Rattle.coco_ast.specs.Fitting.{Fits};
 ghost use Rattle.coco_ast.specs.Keyed.{write_at, value_at};
 ghost use Rattle.coco_ast.specs.Meaning.{run};
 
-use crate::running::{Rows, finish, put_all, value_in};
+use crate::running::{Rows, finish, value_in};
 use coco_ast::Checked;
 use coco_eval::Run;
+use coco_types::limits::MOST_KEYS;
 use coco_types::{Call, Key, NoMemory, Reply, Value, Writes};
 use std::alloc::Global;
 use std::collections::HashMap;
@@ -20,7 +21,6 @@ pub struct Executor {
     alloc: Global,
     rows: Rows,
     last: Option<Run>,
-    spare: Option<Run>,
     none: Writes,
 }
 
@@ -47,7 +47,6 @@ impl Executor {
             alloc,
             rows: HashMap::new(alloc),
             last: None,
-            spare: None,
             none: Writes::new(alloc),
         }
     }
@@ -60,16 +59,21 @@ impl Executor {
         ensures writes { OnOk result (self.new.writes ≡ (run procs.now call.now self.old.rows).writes) }
         ensures err { OnErr result (self.new ≡ self.old) }
     {
-        let mut running = match self.spare.take() {
-            None => Run::start(self.alloc, procs, call)?,
-            Some(spare) => spare.restart(procs, call)?,
-        };
-        let reply = finish(&mut running, procs, &self.rows);
-        let writes = running.writes();
-        self.rows.reserve(writes.len())?;
-        put_all(&mut self.rows, writes.as_slice());
-        self.spare = self.last.replace(running);
-        Ok(reply)
+        self.rows.reserve(MOST_KEYS as usize)?;
+        match &mut self.last {
+            Some(last) => {
+                last.restart(procs, call)?;
+                finish(last, procs, &mut self.rows);
+                Ok(*last.reply())
+            }
+            None => {
+                let mut running = Run::start(self.alloc, procs, call)?;
+                finish(&mut running, procs, &mut self.rows);
+                let reply = *running.reply();
+                self.last = Some(running);
+                Ok(reply)
+            }
+        }
     }
 
     /// Adds a pair to the map. Out of memory, the map is as before.
@@ -85,7 +89,7 @@ impl Executor {
     pub fn get(&self, key: Key) -> Option<Value>
         ensures { result ≡ value_at self.now.rows key }
     {
-        value_in(&self.rows, key)
+        value_in(&self.rows, key).copied()
     }
 
     /// The writes of the last call that was run, rising by key, and none before the first.

@@ -1,46 +1,61 @@
 //! How a call is run on a map in memory.
 ghost use Rattle.std.specs.Prelude.{◌≡◌, ◌+◌, ◌≤◌, [], ◌∷◌, length};
 ghost use Rattle.std.specs.HashMap.{spare};
+ghost use Rattle.std.specs.Option.{option_copied};
 ghost use Rattle.coco_ast.specs.Keyed.{put_over, value_at};
 ghost use Rattle.coco_ast.specs.Meaning.{run};
 ghost use Rattle.coco_eval.specs.Standing.{Ready, Ended};
 ghost use Rattle.coco_serial.specs.Applied.{rows_of};
 
 use coco_ast::Checked;
-use coco_eval::{Need, Run};
-use coco_types::{Key, Reply, Value, Write};
+use coco_eval::Run;
+use coco_types::limits::MOST_KEYS;
+use coco_types::{Key, Value, Write};
 use std::collections::HashMap;
 
 /// The rows of a map.
 pub type Rows = HashMap<Key, Value>;
 
 /// What a map has at a key.
-pub fn value_in(rows: &Rows, key: Key) -> Option<Value>
-    ensures { result ≡ value_at (rows_of rows.now) key }
+pub fn value_in(rows: &Rows, key: Key) -> Option<&Value>
+    ensures { option_copied result ≡ value_at (rows_of rows.now) key }
 {
-    rows.get(&key).copied()
+    rows.get(&key)
 }
 
-/// Runs to the end, with the values that a map has.
-pub fn finish(running: &mut Run, procs: &Checked, rows: &Rows) -> Reply
+/// Runs to the end on a map, and puts the writes over it. It has room for them.
+pub fn finish(running: &mut Run, procs: &Checked, rows: &mut Rows)
     requires procs { procs.now ≡ running.old.procs }
     requires ready { running.old.standing ≡ Ready }
     requires fresh { running.old.given ≡ [] }
-    ensures reply { result ≡ (run running.old.procs running.old.call (rows_of rows.now)).reply }
-    ensures ended { running.new.standing ≡ Ended result (run running.old.procs running.old.call (rows_of rows.now)).writes }
+    requires room { MOST_KEYS ≤ spare rows.old }
+    ensures ended { running.new.standing ≡ Ended (run running.old.procs running.old.call (rows_of rows.old)).reply (run running.old.procs running.old.call (rows_of rows.old)).writes }
+    ensures rows { rows_of rows.new ≡ (run running.old.procs running.old.call (rows_of rows.old)).rows }
+{
+    read_all(running, procs, rows);
+    put_all(rows, running.writes().as_slice());
+}
+
+// Runs to the end, with the values that a map has.
+fn read_all(running: &mut Run, procs: &Checked, rows: &Rows)
+    requires procs { procs.now ≡ running.old.procs }
+    requires ready { running.old.standing ≡ Ready }
+    requires fresh { running.old.given ≡ [] }
+    ensures ended { running.new.standing ≡ Ended (run running.old.procs running.old.call (rows_of rows.now)).reply (run running.old.procs running.old.call (rows_of rows.now)).writes }
     ensures rows { (run running.old.procs running.old.call (rows_of rows.now)).rows
         ≡ put_over (rows_of rows.now) (run running.old.procs running.old.call (rows_of rows.now)).writes }
+    ensures few { length (run running.old.procs running.old.call (rows_of rows.now)).writes ≤ MOST_KEYS }
 {
     loop {
-        match running.step(procs) {
-            Need::Read(key) => running.give(value_in(rows, key)),
-            Need::Ended(reply) => return reply,
+        match running.next_key(procs) {
+            Some(key) => running.give_lent(value_in(rows, key)),
+            None => return,
         }
     }
 }
 
-/// Puts writes over a map, which has room for them.
-pub fn put_all(rows: &mut Rows, writes: &[Write])
+// Puts writes over a map, which has room for them.
+fn put_all(rows: &mut Rows, writes: &[Write])
     requires { length writes.now ≤ spare rows.old }
     ensures { rows_of rows.new ≡ put_over (rows_of rows.old) writes.now }
 {

@@ -14,7 +14,7 @@ collect-loop-statement-preserved t c =
     let s = c.statement-item.result in let i = c.loop-statement.statement-index in let inv = c.loop-statement.invariant in
     let split : statements_of (drop i c.args.block.now) ≡ Then (statement_of s) (statements_of (drop (i + 1) c.args.block.now)) =
     ap statements_of (drop_first c.args.block.now i s c.loop-statement-test.true) ∙ ap (λ (u : Stmt). Then (statement_of u) (statements_of (drop (i + 1) c.args.block.now))) (sym c.statement-item.is) in
-    let before = variables_of c.args.variables.now.items in let now = variables_of c.loop-statement.variables.items in let new = variables_of c.collect_from.new.variables.items in
+    let before = variables_of c.args.slots.now in let now = variables_of c.loop-statement.slots in let new = variables_of c.collect_from.new.slots in
     let deeper = ap depth split in
     record {
       grown = grown_on before now new inv.grown c.in_ok-inner.ensures.grown;
@@ -27,8 +27,8 @@ collect-loop-statement-preserved t c =
 
 pub collect_from-returns-in_ok-other-in-If-default-default-Some-clause-slots : goal.collect_from-returns-in_ok-other-in-If-default-default-Some-clause-slots
 collect_from-returns-in_ok-other-in-If-default-default-Some-clause-slots t c =
-    let new = variables_of c.collect-in-If-default-default-Some-2.new.variables.items in
-    let h = else_slots (variables_of c.collect-in-If-default-default-Some.new.variables.items) new
+    let new = variables_of c.collect-in-If-default-default-Some-2.new.slots in
+    let h = else_slots (variables_of c.collect-in-If-default-default-Some.new.slots) new
     (statements_of c.deref-in-If-default-default-Some.result.now) (statements_of c.deref-in-If-default-default-Some-2.result.now)
     c.in_ok-other-in-If-default-default-Some.ensures.grown c.in_ok-one-in-If-default-default-Some.ensures.slots c.in_ok-other-in-If-default-default-Some.ensures.slots in
     search (rules, the_lemmas, h)

@@ -7,7 +7,7 @@ use Rattle.coco_eval.proofs.room.+collect.Given as goal
 
 abbrev pub invariant-collect-loop-statement : goal.invariant-collect-loop-statement
 invariant-collect-loop-statement l = record {
-  grown : IsGrown (variables_of l.initial.variables.items) (variables_of l.variables.items);
-  slots : (vs : Variables) → IsGrown (variables_of l.variables.items) vs → has_slots vs (statements_of (drop l.statement-index l.block)) ≡ true → has_slots vs (statements_of l.block) ≡ true;
+  grown : IsGrown (variables_of l.initial.slots) (variables_of l.slots);
+  slots : (vs : Variables) → IsGrown (variables_of l.slots) vs → has_slots vs (statements_of (drop l.statement-index l.block)) ≡ true → has_slots vs (statements_of l.block) ≡ true;
   deep : depth (statements_of l.block) ≤ max l.deep (depth (statements_of (drop l.statement-index l.block)));
 }

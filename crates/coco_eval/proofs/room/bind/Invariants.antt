@@ -5,4 +5,4 @@ use Rattle.coco_eval.proofs.room.bind.Given as goal
 
 -- the others come behind
 abbrev pub invariant-loop-i : goal.invariant-loop-i
-invariant-loop-i l = variables_of l.variables.items ++ bound (drop l.i l.params) (drop l.i l.args) ≡ bound l.params l.args
+invariant-loop-i l = variables_of l.slots ++ bound (drop l.i l.params) (drop l.i l.args) ≡ bound l.params l.args

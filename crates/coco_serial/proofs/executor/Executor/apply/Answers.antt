@@ -1,26 +1,54 @@
-use Rattle.std.proofs.Common.{◌≡◌, [], List, ap, sym, ◌∙◌}
-use Rattle.coco_types.specs.declared.call.Reply.{Reply}
-use Rattle.coco_types.specs.declared.call.Write.{Write}
-use Rattle.coco_ast.specs.Keyed.{put_over}
-use Rattle.coco_ast.specs.Meaning.{run}
-use Rattle.coco_eval.specs.Standing.{Standing, Ready, Ended, Evaluation}
-use Rattle.coco_serial.specs.Applied.{Applied, rows_of}
+use Rattle.std.proofs.Common.{◌≡◌, refl, ap, sym, ◌∙◌}
+use Rattle.coco_ast.specs.Meaning.{Run, run}
+use Rattle.coco_eval.specs.Standing.{Evaluation}
+use Rattle.coco_serial.specs.Applied.{Applied, rows_of, writes_in, last_writes}
 use Rattle.coco_serial.proofs.RowLemmas.{hash_same}
+use Rattle.coco_serial.proofs.RunningLemmas.{same_reply, same_run, applied_same, on_err}
 use Rattle.coco_serial.proofs.executor.Executor.apply.Goals as goal
-use Rattle.coco_serial.proofs.executor.Executor.apply.Goals.{in-None+in_ok-running-in-None, in-Some+in_ok-running-in-Some}
 
-same_writes : (r s : Reply) (vs ws : List Write) (e : Standing) → e ≡ Ended r vs → e ≡ Ended s ws → vs ≡ ws
-same_writes r s vs ws e one other = let h : Ended r vs ≡ Ended s ws = sym one ∙ other in cc
+pub returns-in_err-restart-in-Some-clause-err : goal.returns-in_err-restart-in-Some-clause-err
+returns-in_err-restart-in-Some-clause-err c =
+    on_err c.from_residual-in_err-restart-in-Some.result _
+    (applied_same _ _ _ _ (hash_same c.self.inside.rows.entries c.reserve.new.self.entries c.reserve.ensures.entries.2)
+    (ap (λ (e : Evaluation). writes_in e.standing) c.in_err-restart-in-Some.ensures.err ∙ ap last_writes (sym c.in-Some.is)) ∙ c.self.view_is)
 
-pub returns-clause-rows : goal.returns-clause-rows
-returns-clause-rows c =
-    let old = rows_of c.self.inside.rows in let before = c.match-take.running in
-    let fresh : before ≡ record { procs = c.args.procs.now; call = c.args.call.now; given = []; standing = Ready } = elim c.match-take.branch [
-      | in-None+in_ok-running-in-None w ↦ w.running-is ∙ w.in_ok-running-in-None.ensures
-      | in-Some+in_ok-running-in-Some w ↦ w.running-is ∙ w.in_ok-running-in-Some.ensures
-    ] in
-    let writes : c.as_slice.result.now ≡ (run before.procs before.call old).writes =
-    c.as_slice.ensures ∙ same_writes c.writes-writes.ensures.0 c.finish-reply.result c.writes-writes.result.now (run before.procs before.call old).writes c.finish-reply.new.running.standing c.writes-writes.ensures.1 c.finish-reply.ensures.ended in
-    c.put_all.ensures ∙ ap (λ (ws : List Write). put_over (rows_of c.reserve.new.self) ws) writes
-    ∙ ap (λ m. put_over m (run before.procs before.call old).writes) (hash_same c.self.inside.rows.entries c.reserve.new.self.entries c.reserve.ensures.entries.2)
-    ∙ sym c.finish-reply.ensures.rows ∙ ap (λ (e : Evaluation). (run e.procs e.call old).rows) fresh ∙ ap (λ (a : Applied). (run c.args.procs.now c.args.call.now a.rows).rows) c.self.view_is
+pub returns-in_err-running-in-None-clause-err : goal.returns-in_err-running-in-None-clause-err
+returns-in_err-running-in-None-clause-err c =
+    on_err c.from_residual-in_err-running-in-None.result _
+    (applied_same _ _ _ _ (hash_same c.self.inside.rows.entries c.reserve.new.self.entries c.reserve.ensures.entries.2) refl ∙ c.self.view_is)
+
+pub returns-in_ok-restart-in-Some-clause-reply : goal.returns-in_ok-restart-in-Some-clause-reply
+returns-in_ok-restart-in-Some-clause-reply c =
+    let rows : rows_of c.reserve.new.self ≡ c.args.self.now.rows = hash_same c.self.inside.rows.entries c.reserve.new.self.entries c.reserve.ensures.entries.2 ∙ ap (λ (a : Applied). a.rows) c.self.view_is in
+    let same = same_run c.restart.new.self c.args.procs.now c.args.call.now (rows_of c.reserve.new.self) c.args.self.now.rows c.in_ok-restart-in-Some.ensures.ok rows in
+    same_reply c.reply.result.now _ c.reply.ensures.0 _ c.finish.new.running.standing c.reply.ensures.1 c.finish.ensures.ended ∙ ap (λ (r : Run). r.reply) same
+
+pub returns-in_ok-restart-in-Some-clause-rows : goal.returns-in_ok-restart-in-Some-clause-rows
+returns-in_ok-restart-in-Some-clause-rows c =
+    let rows : rows_of c.reserve.new.self ≡ c.args.self.now.rows = hash_same c.self.inside.rows.entries c.reserve.new.self.entries c.reserve.ensures.entries.2 ∙ ap (λ (a : Applied). a.rows) c.self.view_is in
+    let same = same_run c.restart.new.self c.args.procs.now c.args.call.now (rows_of c.reserve.new.self) c.args.self.now.rows c.in_ok-restart-in-Some.ensures.ok rows in
+    c.finish.ensures.rows ∙ ap (λ (r : Run). r.rows) same
+
+pub returns-in_ok-restart-in-Some-clause-writes : goal.returns-in_ok-restart-in-Some-clause-writes
+returns-in_ok-restart-in-Some-clause-writes c =
+    let rows : rows_of c.reserve.new.self ≡ c.args.self.now.rows = hash_same c.self.inside.rows.entries c.reserve.new.self.entries c.reserve.ensures.entries.2 ∙ ap (λ (a : Applied). a.rows) c.self.view_is in
+    let same = same_run c.restart.new.self c.args.procs.now c.args.call.now (rows_of c.reserve.new.self) c.args.self.now.rows c.in_ok-restart-in-Some.ensures.ok rows in
+    ap writes_in c.finish.ensures.ended ∙ ap (λ (r : Run). r.writes) same
+
+pub returns-in_ok-running-in-None-clause-reply : goal.returns-in_ok-running-in-None-clause-reply
+returns-in_ok-running-in-None-clause-reply c =
+    let rows : rows_of c.reserve.new.self ≡ c.args.self.now.rows = hash_same c.self.inside.rows.entries c.reserve.new.self.entries c.reserve.ensures.entries.2 ∙ ap (λ (a : Applied). a.rows) c.self.view_is in
+    let same = same_run c.in_ok-running-in-None.running c.args.procs.now c.args.call.now (rows_of c.reserve.new.self) c.args.self.now.rows c.in_ok-running-in-None.ensures rows in
+    same_reply c.reply-reply.result.now _ c.reply-reply.ensures.0 _ c.finish-in-None.new.running.standing c.reply-reply.ensures.1 c.finish-in-None.ensures.ended ∙ ap (λ (r : Run). r.reply) same
+
+pub returns-in_ok-running-in-None-clause-rows : goal.returns-in_ok-running-in-None-clause-rows
+returns-in_ok-running-in-None-clause-rows c =
+    let rows : rows_of c.reserve.new.self ≡ c.args.self.now.rows = hash_same c.self.inside.rows.entries c.reserve.new.self.entries c.reserve.ensures.entries.2 ∙ ap (λ (a : Applied). a.rows) c.self.view_is in
+    let same = same_run c.in_ok-running-in-None.running c.args.procs.now c.args.call.now (rows_of c.reserve.new.self) c.args.self.now.rows c.in_ok-running-in-None.ensures rows in
+    c.finish-in-None.ensures.rows ∙ ap (λ (r : Run). r.rows) same
+
+pub returns-in_ok-running-in-None-clause-writes : goal.returns-in_ok-running-in-None-clause-writes
+returns-in_ok-running-in-None-clause-writes c =
+    let rows : rows_of c.reserve.new.self ≡ c.args.self.now.rows = hash_same c.self.inside.rows.entries c.reserve.new.self.entries c.reserve.ensures.entries.2 ∙ ap (λ (a : Applied). a.rows) c.self.view_is in
+    let same = same_run c.in_ok-running-in-None.running c.args.procs.now c.args.call.now (rows_of c.reserve.new.self) c.args.self.now.rows c.in_ok-running-in-None.ensures rows in
+    ap writes_in c.finish-in-None.ensures.ended ∙ ap (λ (r : Run). r.writes) same

@@ -4,10 +4,8 @@ use Rattle.coco_types.specs.declared.call.Write.{Write}
 use Rattle.coco_ast.specs.Keyed.{Rows}
 use Rattle.coco_serial.specs.Applied.{Applied}
 use Rattle.coco_serial.proofs.RowLemmas.{hash_put}
+use Rattle.coco_serial.proofs.RunningLemmas.{applied_same}
 use Rattle.coco_serial.proofs.executor.Executor.load.Goals as goal
-
-applied_same : (m n : Rows) (vs ws : List Write) → m ≡ n → vs ≡ ws → ◌≡◌ {A = Applied} (record { rows = m; writes = vs }) (record { rows = n; writes = ws })
-applied_same m n vs ws a b i = record { rows = a i; writes = b i }
 
 pub returns-clause-ok : goal.returns-clause-ok
 returns-clause-ok c = applied_same _ _ _ _

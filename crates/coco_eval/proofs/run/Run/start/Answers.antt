@@ -5,17 +5,17 @@ use Rattle.coco_ast.specs.Views.{procedure_of}
 use Rattle.coco_eval.specs.Keeping.{IsRunOf}
 use Rattle.coco_eval.specs.declared.run.Stage.TheVariants as stage
 use Rattle.coco_eval.proofs.StepLemmas.{is_there, as_many, begun}
-use Rattle.coco_eval.proofs.run.Run.begin.Goals as goal
+use Rattle.coco_eval.proofs.run.Run.start.Goals as goal
 
 pub unreachable-requires : goal.unreachable-requires
 unreachable-requires c = is_there c.args.procs.now c.args.call.now c.requires c.in_default.ensures.value
 
-pub prepared-requires : goal.prepared-requires
-prepared-requires c = as_many c.args.procs.now c.args.call.now (procedure_of c.in-Some.proc.now) c.requires c.in-Some.ensures.value
+pub prepare-requires : goal.prepare-requires
+prepare-requires c = as_many c.args.procs.now c.args.call.now (procedure_of c.in-Some.proc.now) c.requires c.in-Some.ensures.value
 
 pub invariant_of-result : goal.invariant_of-result
 invariant_of-result c =
-    let m = c.in_ok-machine.machine in let spare = c.in_ok-machine.spare in let ws = c.in_ok-machine.writes in let call = c.args.call.now in
+    let m = c.prepare.new.machine in let spare = c.prepare.new.spare in let ws = c.new.result in let call = c.args.call.now in
     subst (λ (ps : Procedures). IsRunOf ps c.of-2.result.value call.proc_no m spare ws stage.Ready) (sym c.of.ensures)
     (subst (λ (d : Call). IsRunOf c.args.procs.now d call.proc_no m spare ws stage.Ready) (sym c.of-2.ensures)
-    (begun c.args.procs.now call (procedure_of c.in-Some.proc.now) m spare ws c.in-Some.ensures.accepted (sym c.in-Some.ensures.value) c.in_ok-machine.ensures))
+    (begun c.args.procs.now call (procedure_of c.in-Some.proc.now) m spare ws c.in-Some.ensures.accepted (sym c.in-Some.ensures.value) c.in_ok-prepare.ensures.ok))

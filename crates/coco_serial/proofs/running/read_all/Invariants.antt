@@ -1,7 +1,7 @@
 use Rattle.std.proofs.Common.{◌≡◌, ◌-◌, length}
 use Rattle.coco_eval.specs.Standing.{Ready, HasGiven}
 use Rattle.coco_serial.specs.Applied.{rows_of}
-use Rattle.coco_serial.proofs.running.finish.Given as goal
+use Rattle.coco_serial.proofs.running.read_all.Given as goal
 
 -- it is ready, and has been given what the map has
 abbrev pub invariant-loop-key : goal.invariant-loop-key
