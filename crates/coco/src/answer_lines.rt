@@ -42,8 +42,7 @@ fn answer_all<H: Host, S: Source>(
     size: u32,
 ) -> Ending
     requires some { 0 < size }
-    requires procs { procs.now ≡ builtins }
-    ensures { Runs builtins no_history size
+    ensures { Runs procs.now no_history size
         (record { source = record { given = S.given input.old; left = S.remaining input.old; at_end = S.at_end input.old }; source_faults = S.faults input.old; said = H.said host.old; say_faults = H.say_faults host.old })
         (record { source = record { given = S.given input.new; left = S.remaining input.new; at_end = S.at_end input.new }; source_faults = S.faults input.new; said = H.said host.new; say_faults = H.say_faults host.new }) result }
 {

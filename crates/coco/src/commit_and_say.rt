@@ -2,7 +2,6 @@
 
 ghost use Rattle.std.specs.Prelude.{◌≡◌, ◌⊎◌, ◌+◌, ◌≤◌, ◌<◌, ℕ, length, take, Err, OnOk, OnErr};
 ghost use Rattle.std.specs.Io.KnownBytes.{append_known};
-ghost use Rattle.coco_ast.specs.Builtins.{builtins};
 ghost use Rattle.coco_io.specs.Counts.{CountsWrite};
 ghost use Rattle.coco.specs.Answering.{answers_text};
 ghost use Rattle.coco.specs.Asking.{MayCommit};
@@ -25,12 +24,11 @@ pub fn commit_and_say<H: Host>(
     held: &mut HeldHistory,
     batch: Batch,
 ) -> Result<(), OutFault>
-    requires procs { procs.now ≡ builtins }
-    requires new { MayCommit builtins held.old.kept.dones batch.fresh }
-    ensures commits { OnOk result (Commits builtins batch.fresh held.old held.new) }
+    requires new { MayCommit procs.now held.old.kept.dones batch.fresh }
+    ensures commits { OnOk result (Commits procs.now batch.fresh held.old held.new) }
     ensures says { OnOk result (H.said host.new
         ≡ append_known (H.said host.old) (answers_text held.new.kept.dones batch.answers.items)) }
-    ensures cut { OnErr result (SaysPart builtins batch (H.said host.old) (H.said host.new) held.old held.new) }
+    ensures cut { OnErr result (SaysPart procs.now batch (H.said host.old) (H.said host.new) held.old held.new) }
     ensures counts { CountsWrite result (H.say_faults host.old) (H.say_faults host.new) }
 {
     let Batch { answers, fresh } = batch;

@@ -3,7 +3,6 @@
 ghost use Rattle.std.specs.Prelude.{◌≡◌, ◌+◌, ◌<◌, ◌^◌, [], ◌++◌, length, map, IfOk, OnOk};
 ghost use Rattle.std.specs.List.{AllByRecursion};
 ghost use Rattle.coco_types.specs.declared.call.Done.{Done as Record};
-ghost use Rattle.coco_ast.specs.Builtins.{builtins};
 ghost use Rattle.coco_ast.specs.Fitting.{Fits};
 ghost use Rattle.coco_ast.specs.History.{RepliesAreRuns, rows_after};
 ghost use Rattle.coco_ast.specs.Meaning.{run};
@@ -23,10 +22,9 @@ pub fn run_in_order(
     epoch: u64,
     order: Vec<(u64, Request)>,
 ) -> Result<Vec<Done>, NoMemory>
-    requires procs { procs.now ≡ builtins }
-    requires fit { FitAll builtins order.items }
-    ensures replies { IfOk result (λ dones. RepliesAreRuns builtins executor.old.rows dones.items) }
-    ensures rows { IfOk result (λ dones. executor.new.rows ≡ rows_after builtins executor.old.rows dones.items) }
+    requires fit { FitAll procs.now order.items }
+    ensures replies { IfOk result (λ dones. RepliesAreRuns procs.now executor.old.rows dones.items) }
+    ensures rows { IfOk result (λ dones. executor.new.rows ≡ rows_after procs.now executor.old.rows dones.items) }
     ensures order { IfOk result (λ dones. map timed_of dones.items ≡ order.items) }
     ensures epoch { IfOk result (λ dones. AllByRecursion (λ (d : Record). d.epoch ≡ epoch) dones.items) }
 {
@@ -44,10 +42,9 @@ fn run_one(
     epoch: u64,
     timed: (u64, Request),
 ) -> Result<Done, NoMemory>
-    requires procs { procs.now ≡ builtins }
-    requires fits { Fits builtins timed.1.call }
-    ensures reply { IfOk result (λ done. done.reply ≡ (run builtins done.call executor.old.rows).reply) }
-    ensures rows { IfOk result (λ done. executor.new.rows ≡ (run builtins done.call executor.old.rows).rows) }
+    requires fits { Fits procs.now timed.1.call }
+    ensures reply { IfOk result (λ done. done.reply ≡ (run procs.now done.call executor.old.rows).reply) }
+    ensures rows { IfOk result (λ done. executor.new.rows ≡ (run procs.now done.call executor.old.rows).rows) }
     ensures request { IfOk result (λ done. timed_of done ≡ timed) }
     ensures epoch { IfOk result (λ done. done.epoch ≡ epoch) }
 {
@@ -68,10 +65,9 @@ fn reply_to(
     executor: &mut Executor,
     call: &Call,
 ) -> Result<KeptReply, NoMemory>
-    requires procs { procs.now ≡ builtins }
-    requires fits { Fits builtins call.now }
-    ensures reply { IfOk result (λ reply. reply ≡ (run builtins call.now executor.old.rows).reply) }
-    ensures rows { IfOk result (λ _. executor.new.rows ≡ (run builtins call.now executor.old.rows).rows) }
+    requires fits { Fits procs.now call.now }
+    ensures reply { IfOk result (λ reply. reply ≡ (run procs.now call.now executor.old.rows).reply) }
+    ensures rows { IfOk result (λ _. executor.new.rows ≡ (run procs.now call.now executor.old.rows).rows) }
 {
     match executor.apply(procs, call) {
         Ok(reply) => KeptReply::of(alloc, &reply),

@@ -3,8 +3,8 @@
 ghost use Rattle.std.specs.Prelude.{◌≡◌, ◌+◌, ◌<◌, ◌≤◌, ℕ, [], ◌++◌, length, None, OnErr, OnOk, nat_eq, map};
 ghost use Rattle.std.specs.List.{AllByRecursion, IsDistinct};
 ghost use Rattle.coco_types.specs.declared.call.Done.{Done as Record};
-ghost use Rattle.coco_ast.specs.Builtins.{builtins};
 ghost use Rattle.coco_ast.specs.History.{done_of, ids_of};
+ghost use Rattle.coco_ast.specs.Tree.{Procedures};
 ghost use Rattle.coco_kept.specs.Keeping.{newest_epoch};
 
 use crate::execution::run_in_order;
@@ -36,7 +36,7 @@ impl HeldHistory {
 
     /// The history of a new store.
     pub fn new(alloc: Global) -> HeldHistory
-        ensures { Stands builtins result no_history }
+        ensures { (procs : Procedures) → Stands procs result no_history }
     {
         HeldHistory {
             executor: Executor::new(alloc),
@@ -53,9 +53,8 @@ impl HeldHistory {
         procs: &Checked,
         fresh: NewRequests,
     ) -> Result<(), NoMemory>
-        requires procs { procs.now ≡ builtins }
-        requires new { MayCommit builtins self.old.kept.dones fresh }
-        ensures { OnOk result (Commits builtins fresh self.old self.new) }
+        requires new { MayCommit procs.now self.old.kept.dones fresh }
+        ensures { OnOk result (Commits procs.now fresh self.old self.new) }
     {
         if fresh.len() == 0 {
             return Ok(());
