@@ -1,0 +1,4 @@
+mod Appends
+mod Others
+pub mod Rests
+mod Steps

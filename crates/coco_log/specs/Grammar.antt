@@ -1,0 +1,40 @@
+-- A file that is a log: a header, entries behind open gates, and a gate that isn't open.
+use Rattle.std.specs.Prelude.{◌≡◌, ◌≢◌, ℕ, ◌≤◌, List, [], ◌∷◌, ◌++◌, length}
+use Rattle.std.specs.List.{All, flat_map}
+use Rattle.coco_bytes.specs.Fields.{u32_bytes}
+
+-- the greatest length of an entry's body
+abbrev pub most : ℕ
+most = 67108864
+
+abbrev pub IsShort : List ℕ → Type 0
+IsShort body = length body ≤ most
+
+-- the letters COCOLOG and the kind
+abbrev pub header : ℕ → List ℕ
+header kind = 67 ∷ 79 ∷ 67 ∷ 79 ∷ 76 ∷ 79 ∷ 71 ∷ kind ∷ []
+
+-- what stands behind the gate of an entry, up to the next gate
+abbrev pub counted : List ℕ → List ℕ
+counted body = u32_bytes (length body) ++ body
+
+-- what is written for an entry of this body: all that stands behind its gate, and a closed gate
+pub record IsPiece (body piece : List ℕ) : Type 0 where
+  pub short : IsShort body
+  pub is : piece ≡ counted body ++ 0 ∷ []
+
+-- an entry with its gate, which is open
+abbrev pub entry : List ℕ → List ℕ
+entry body = 1 ∷ counted body
+
+-- all that stands before the last gate
+abbrev pub front : ℕ → List (List ℕ) → List ℕ
+front kind bodies = header kind ++ flat_map entry bodies
+
+-- a file is a log of this kind with entries of these bodies. The last gate isn't open, and anything may stand behind it
+pub record IsLog (kind : ℕ) (bodies : List (List ℕ)) (file : List ℕ) : Type 0 where
+  pub gate : ℕ
+  pub behind : List ℕ
+  pub short : All IsShort bodies
+  pub shut : gate ≢ 1
+  pub is : file ≡ front kind bodies ++ gate ∷ behind

@@ -1,0 +1,36 @@
+//! The two steps of an append.
+ghost use Rattle.std.specs.Prelude.{◌≡◌, ◌≢◌, ℕ, ◌+◌, ◌<◌, ◌≤◌, ◌^◌, List, Some, [], ◌∷◌, ◌++◌, length, IfSome, OnOk};
+ghost use Rattle.coco_host.specs.Files.{Files, Become, Follows};
+ghost use Rattle.coco_host.specs.Moments.{SeesOnly};
+ghost use Rattle.coco_log.specs.Faults.{CountsAppend};
+ghost use Rattle.coco_log.specs.Grammar.{IsPiece};
+ghost use Rattle.coco_log.specs.LogState.{IsReady, IsBeforeOrAfter, ChangesOne, SameBut, IsWritten};
+
+use crate::LogFault;
+use coco_host::Host;
+
+/// Writes what belongs behind a closed gate, syncs it, and then opens the gate.
+pub fn write_entry<H: Host>(
+    host: &mut H,
+    file: u32,
+    gate: u64,
+    piece: &[u8],
+) -> Result<(), LogFault>
+    requires small { gate < 2 ^ 62 }
+    requires room { IfSome (H.reads host.old) (λ files. gate + 1 ≤ length (files file)) }
+    ensures moments { (files : Files) (kind : ℕ) (bodies : List (List ℕ)) (body : List ℕ) → H.reads host.old ≡ Some files → IsReady file kind gate bodies files (H.may_leave host.old) → IsPiece body piece.now
+        → SeesOnly H.moment H.observed host.old host.new (ChangesOne file (IsBeforeOrAfter kind bodies body) (H.may_leave host.old) (H.said host.old)) }
+    ensures ok { OnOk result ((files : Files) (kind : ℕ) (bodies : List (List ℕ)) (body : List ℕ) → H.reads host.old ≡ Some files → IsReady file kind gate bodies files (H.may_leave host.old) → IsPiece body piece.now
+        → IsWritten file kind gate bodies body files (H.reads host.new) (H.may_leave host.new)) }
+    ensures files { Become (SameBut file) (H.reads host.old) (H.reads host.new) }
+    ensures crash { Follows (SameBut file) (H.may_leave host.old) (H.may_leave host.new) }
+    ensures said { H.said host.new ≡ H.said host.old }
+    ensures small { OnOk result (gate + 1 + length piece.now < 2 ^ 62) }
+    ensures counts { CountsAppend result (H.disk_faults host.old) (H.disk_faults host.new) }
+{
+    host.write_at(file, gate + 1, piece)?;
+    host.sync(file)?;
+    host.write_at(file, gate, &[1])?;
+    host.sync(file)?;
+    Ok(())
+}
