@@ -1,10 +1,10 @@
 -- What one event more does to what was seen, to the files and to what a crash may leave.
-use Rattle.std.proofs.Common.{◌≡◌, ◌≢◌, ◌⊎◌, inl, inr, ⊎_elim, ℕ, ◌+◌, ◌<◌, ◌≤◌, Bool, true, false, List, [], ◌∷◌, ◌++◌, length, take, Option, Some, if◌then◌else◌, ◌==◌, refl, sym, ◌∙◌, ap, subst, arith, append_assoc, length-append, take_all}
+use Rattle.std.proofs.Common.{◌≡◌, ◌≢◌, ◌⊎◌, inl, inr, ⊎_elim, ℕ, ◌≤◌, true, false, List, [], ◌∷◌, ◌++◌, length, Option, Some, if◌then◌else◌, ◌==◌, refl, sym, ◌∙◌, ap, subst, arith, append_assoc, length-append, take_all}
 use Rattle.std.proofs.lemmas.Bool.{cases_eq, cases_lt}
 use Rattle.std.proofs.lemmas.Bool.Decides.{nat_tests}
 use Rattle.std.proofs.lemmas.List.{append-nil, take-append-le}
 use Rattle.coco_host.specs.Files.{Files, put, put_into, Torn, TornIn, Become, Follows, NoMore, IsDurable}
-use Rattle.coco_host.specs.Moments.{Observation, Begins, IsSaidBetween, IsNew, Elapses}
+use Rattle.coco_host.specs.Moments.{Observation, IsNew, Elapses}
 use Rattle.coco_host.specs.Record.{Write, Event, Stored, with_writes, content, TornBy, IsImage, after, after_all, stored, files_of, MayLeave, said_of, IsSeenAfter, SeenSince, known}
 use Rattle.coco_host.specs.Record.Event.{Wrote, Synced, Said}
 use Rattle.coco_host.proofs.Tearing.{put_torn}

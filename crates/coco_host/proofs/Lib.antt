@@ -2,4 +2,5 @@ mod Events
 mod Keeping
 mod Places
 pub mod Sees
+mod Saying
 mod Tearing

@@ -1,5 +1,5 @@
 -- What a change of one file in a list of files does to what they hold.
-use Rattle.std.proofs.Common.{◌≡◌, ◌≢◌, ◌⊎◌, inl, inr, ℕ, suc, zero, ◌+◌, ◌<◌, ◌≤◌, Bool, true, false, not, cond, nat_eq, List, [], ◌∷◌, ◌++◌, length, get_or, set, if◌then◌else◌, ◌==◌, Result, Ok, Err, OnErr, refl, sym, ◌∙◌, ap, subst, arith, length-set, add-zero}
+use Rattle.std.proofs.Common.{◌≡◌, ◌≢◌, inl, inr, ℕ, suc, zero, ◌+◌, ◌<◌, ◌≤◌, Bool, true, false, not, cond, nat_eq, List, [], ◌∷◌, ◌++◌, length, get_or, set, if◌then◌else◌, ◌==◌, Result, Ok, Err, OnErr, refl, sym, ◌∙◌, ap, subst, arith, length-set, add-zero}
 use Rattle.std.proofs.lemmas.Bool.{cases_eq}
 use Rattle.std.proofs.lemmas.Bool.Decides.{nat_tests}
 use Rattle.std.proofs.lemmas.List.Sums.{fails_before_first, passes_at_first, prefix_len-le-length, position_or_len_is}

@@ -1,6 +1,6 @@
 -- A write is one of the things that a crash may make of it.
-use Rattle.std.proofs.Common.{◌≡◌, ℕ, ◌+◌, ◌-◌, ◌≤◌, min, max, List, [], ◌∷◌, ◌++◌, length, take, drop, refl, sym, ◌∙◌, ap, arith, append_assoc, length-append, length-drop, length-take, take-append-drop}
-use Rattle.std.proofs.lemmas.List.{take_at, drop_at, drop-drop, drop_all, length-take-le}
+use Rattle.std.proofs.Common.{◌≡◌, ℕ, ◌+◌, ◌-◌, ◌≤◌, max, List, ◌++◌, length, take, drop, sym, ◌∙◌, ap, arith, append_assoc, length-append, length-drop}
+use Rattle.std.proofs.lemmas.List.{take_at, drop_at, drop-drop, length-take-le}
 use Rattle.coco_host.specs.Files.{put, Torn}
 
 pub length-put : (at : ℕ) (bytes file : List ℕ) → at ≤ length file → length (put at bytes file) ≡ max (length file) (at + length bytes)

@@ -1,11 +1,10 @@
 -- What contracts see of a host in memory.
-use Rattle.std.specs.Prelude.{◌≡◌, ℕ, min, List, true, false, MatchBool, Bool, Result, Ok, Err, ◌∷◌, [], ◌++◌, take}
+use Rattle.std.specs.Prelude.{◌≡◌, ℕ, min, List, true, false, MatchBool, Bool, Result, Ok, Err}
 use Rattle.coco_types.specs.declared.error.OutFault.{OutFault}
 use Rattle.coco_types.specs.declared.error.OutFault.TheVariants.{Failed, NoMemory}
 use Rattle.coco_io.specs.Counts.{Rose}
 use Rattle.coco_io.specs.Plan.{Plan, next_fails, after_call}
 use Rattle.coco_host.specs.Record.{Event}
-use Rattle.coco_host.specs.Record.Event.{Said}
 
 -- a host in memory: what happened, how many bytes a say says at most, its calls, and how many of them failed
 pub record HostState : Type 0 where

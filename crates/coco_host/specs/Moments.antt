@@ -1,6 +1,5 @@
 -- What is seen of a store at a moment: files that a crash may leave, and the bytes said.
 use Rattle.std.specs.Prelude.{◌≡◌, ◌⊎◌, ℕ, ◌≤◌, List, ◌++◌, Option, Some, None}
-use Rattle.std.proofs.Common.{subst}
 use Rattle.coco_host.specs.Files.{Files}
 
 -- files that a crash at some moment may leave, and the bytes said by that moment
@@ -44,6 +43,3 @@ pub record SeesOnly {H : Type 0} (moment : H → ℕ) (observed : H → ℕ → 
 abbrev pub IsUntold : Option Files → Type 0
 IsUntold None = Unit {0}
 IsUntold (Some files) = ⊥
-
-pub untold : (files : Files) → None ≡ Some files → ⊥
-untold files is = subst IsUntold is tt

@@ -1,6 +1,6 @@
 -- What a host in memory went through, and what a crash may leave of its files by that.
 use Rattle.std.specs.Prelude.{◌≡◌, ◌⊎◌, ℕ, ◌≤◌, List, [], ◌∷◌, ◌++◌, length, take, Option, Some, None, if◌then◌else◌, ◌==◌}
-use Rattle.std.proofs.Common.{inl, ap, refl, sym, subst, ◌∙◌, take_all, le_refl}
+use Rattle.std.proofs.Common.{inl, ap, sym, subst, take_all, le_refl}
 use Rattle.coco_host.specs.Files.{Files, put, Torn}
 use Rattle.coco_host.specs.Moments.{Observation}
 

@@ -1,8 +1,7 @@
 -- How a host in memory keeps its files beside the record of what happened to them.
 use Rattle.std.specs.Prelude.{◌≡◌, ℕ, ◌+◌, ◌≤◌, Bool, true, false, List, [], ◌∷◌, length, map, vec_capacity, Vec, if◌then◌else◌, ◌==◌}
 use Rattle.std.specs.declared.alloc.Global.{Global}
-use Rattle.coco_host.specs.Files.{put}
-use Rattle.coco_host.specs.Record.{Event, Stored, content, stored, said_of}
+use Rattle.coco_host.specs.Record.{Event, content, stored, said_of}
 use Rattle.coco_host.specs.Record.Event.{Wrote, Synced, Said}
 use Rattle.coco_host.specs.declared.recorded.Happening.{Happening}
 use Rattle.coco_host.specs.declared.recorded.Happening.TheVariants as happening

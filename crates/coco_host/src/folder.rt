@@ -1,7 +1,8 @@
 //! The host over a folder of the machine, with the standard output as its reply stream.
 ghost use Rattle.std.specs.Prelude.{◌≡◌, None, Ok, IfOk, string_bytes};
 ghost use Rattle.coco_io.specs.Counts.{CountsRead};
-ghost use Rattle.coco_host.specs.Moments.{untold};
+ghost use Rattle.std.proofs.Common.{subst};
+ghost use Rattle.coco_host.specs.Moments.{IsUntold};
 
 use crate::Host;
 use crate::files::Folder;
@@ -68,7 +69,7 @@ impl Host for FolderHost {
 
     ghost only_now = { λ _ _ since. absurd since };
 
-    ghost reads_left = { λ _ files is. untold files is };
+    ghost reads_left = { λ _ _ is. subst IsUntold is tt };
 
     fn len(&mut self, file: u32) -> Result<u64, Failed> {
         let answer = self.folder.len(file);

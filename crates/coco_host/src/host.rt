@@ -3,7 +3,7 @@ ghost use Rattle.std.specs.Prelude.{◌≡◌, ℕ, ◌+◌, ◌-◌, ◌*◌, �
 ghost use Rattle.std.specs.Io.KnownBytes.{append_known};
 ghost use Rattle.coco_io.specs.Counts.{CountsRead, CountsWrite};
 ghost use Rattle.coco_host.specs.Files.{Files, put_into, TornIn, Become, Follows, NoMore, IsDurable};
-ghost use Rattle.coco_host.specs.Moments.{Observation, IsNew, Elapses};
+ghost use Rattle.coco_host.specs.Moments.{Observation, IsNew, Elapses, SeesOnly};
 
 use coco_types::{Failed, OutFault};
 
@@ -108,11 +108,17 @@ pub trait Host {
     ghost reads_left: { (host : Self) (files : Files) → reads host ≡ Some files → may_leave host files };
 }
 
-/// Says the whole piece. After an error the front of it was said, maybe nothing.
+/// Says the whole piece. After an error the front of it was said, maybe nothing. At each moment of it a crash may
+/// leave only what one might have left before, and what is said has what was said before as its front and
+/// goes no further than what is said after.
 pub fn say_all<H: Host>(host: &mut H, piece: &[u8]) -> Result<(), OutFault>
     ensures ok { OnOk result (H.said host.new ≡ append_known (H.said host.old) piece.now) }
     ensures err { OnErr result ((k : ℕ) × (k ≤ length piece.now) × (H.said host.new ≡ append_known (H.said host.old) (take k piece.now))) }
+    ensures same { H.reads host.new ≡ H.reads host.old }
+    ensures crash { NoMore (H.may_leave host.old) (H.may_leave host.new) }
+    ensures sees { SeesOnly H.moment H.observed host.old host.new (IsNew (H.may_leave host.old) (H.said host.old) (H.said host.new)) }
     ensures counts { CountsWrite result (H.say_faults host.old) (H.say_faults host.new) }
+    ensures others { H.disk_faults host.new ≡ H.disk_faults host.old }
 {
     let mut done = 0;
     while done < piece.len() {

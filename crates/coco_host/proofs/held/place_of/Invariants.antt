@@ -1,4 +1,4 @@
-use Rattle.std.proofs.Common.{◌≡◌, ◌<◌, ◌≤◌, ℕ, length, get_or, nat_eq, false}
+use Rattle.std.proofs.Common.{◌≡◌, ◌<◌, ℕ, get_or, nat_eq, false}
 use Rattle.coco_host.specs.declared.held.MemoryFile.{MemoryFile}
 use Rattle.coco_host.proofs.held.place_of.Given as goal
 

@@ -1,4 +1,4 @@
-use Rattle.std.proofs.Common.{◌≡◌, ℕ, List, [], ◌∷◌, ◌++◌, take, ap, subst, ◌∙◌, arith}
+use Rattle.std.proofs.Common.{ℕ, List, ◌++◌, ap, ◌∙◌, arith}
 use Rattle.coco_host.specs.Record.{said_of}
 use Rattle.coco_host.specs.HostState.{HostState}
 use Rattle.coco_host.proofs.Events.{from_those, said_grown, said_files, said_no_more, elapses_to}

@@ -1,4 +1,4 @@
-use Rattle.std.proofs.Common.{rules, ◌≡◌, ◌++◌, List, ℕ, refl, sym, ap, ◌∙◌, arith}
+use Rattle.std.proofs.Common.{rules, ◌≡◌, ap, arith}
 use Rattle.coco_host.specs.Record.Event.{Said}
 use Rattle.coco_host.proofs.Keeping.{keeps_said}
 use Rattle.coco_host.proofs.recorded.Recorded.say.Goals as goal
