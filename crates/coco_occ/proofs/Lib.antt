@@ -1,2 +1,9 @@
+pub mod AttemptLemmas
+pub mod Attempts
+pub mod Begun
+pub mod CourseLemmas
+pub mod NeedLemmas
+pub mod ProgressLemmas
 pub mod ScriptLemmas
+pub mod Soundness
 pub mod WorkedScripts

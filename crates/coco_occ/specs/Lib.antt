@@ -1,5 +1,9 @@
+pub mod Course
 pub mod Exchange
+pub mod Keeping
 pub mod Script
 pub mod ScriptExamples
 pub mod Steps
+pub mod Trying
+pub mod TryingCode
 pub mod Unpacked

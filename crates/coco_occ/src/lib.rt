@@ -1,10 +1,14 @@
-//! An attempt at a call by optimistic control with logical times: what its script is, and how it ends.
+//! An attempt at a call by optimistic control with logical times: what it asks of the shards, and how it ends.
 #![tactic(auto)]
 
+pub mod attempt;
+mod course;
 pub mod laws;
 pub mod outcome;
 mod packed;
+mod progress;
 pub mod script;
 
+pub use attempt::Attempt;
 pub use outcome::{Ended, Ends, Move, Outcome, Tailed, Transcript, Tried, Why};
 pub use script::{Script, Step};

@@ -1,0 +1,30 @@
+use Rattle.std.proofs.Common.{◌≡◌, false, [], ◌∷◌, ◌++◌, None, refl, sym, ap, ◌∙◌, subst}
+use Rattle.coco_types.specs.RowKey.{RowKey}
+use Rattle.coco_eval.specs.Standing as eval
+use Rattle.coco_shard.specs.declared.ops.Answer.{Answer}
+use Rattle.coco_shard.specs.declared.ops.Answer.TheVariants.{Got}
+use Rattle.coco_shard.specs.declared.ops.Op.TheVariants.{Read}
+use Rattle.coco_occ.specs.Course.{exchange}
+use Rattle.coco_occ.specs.Keeping.{IsReading}
+use Rattle.coco_occ.proofs.AttemptLemmas.{got_read, gave}
+use Rattle.coco_occ.proofs.progress.accept_read.Goals as goal
+
+pub returns-clause-goes : goal.returns-clause-goes
+returns-clause-goes c before s =
+    let key = c.args.key in
+    let w = s.waits in
+    let same : w.0 ≡ key = (let g : Read key ≡ Read w.0 = w.2 in cc) in
+    let e = c.args.run.now in
+    let value = c.in-Got.value in
+    let answer = Got c.in-Got.wts c.in-Got.rts value in
+    let is : c.give.new.self ≡ gave e key value = c.give.ensures w.0 w.1 ∙ ap (λ (k : RowKey). gave e k value) same in
+    subst (λ (a : Answer). IsReading false c.give.new.self (before ++ exchange (Read key) a ∷ []) c.got.new.self None) (sym c.in-Got.is)
+    (subst (λ (x : eval.Evaluation). IsReading false x (before ++ exchange (Read key) answer ∷ []) c.got.new.self None) (sym is)
+    (got_read e before c.args.course.now c.got.new.self (Read key) key c.in-Got.wts c.in-Got.rts value s refl
+    (record { seen = c.got.ensures.seen; room = c.got.ensures.room; others = c.got.ensures.others })))
+
+pub returns-clause-procs : goal.returns-clause-procs
+returns-clause-procs c = let w = c.requires.2.waits in ap (λ (e : eval.Evaluation). e.procs) (c.give.ensures w.0 w.1)
+
+pub returns-clause-call : goal.returns-clause-call
+returns-clause-call c = let w = c.requires.2.waits in ap (λ (e : eval.Evaluation). e.call) (c.give.ensures w.0 w.1)

@@ -1,0 +1,368 @@
+//! Where an attempt stands behind its reads: what it locks, extends, installs or releases next.
+ghost use Rattle.std.specs.Prelude.{◌≡◌, ◌+◌, ◌-◌, ◌^◌, ◌≤◌, ◌<◌, ◌++◌, ◌∷◌, [], ◌⊎◌, length, max, min, map, List, None, Some, vec_len, vec_capacity, IfNone, IfOk, MatchOption};
+ghost use Rattle.std.specs.List.{list_any, slice_get};
+ghost use Rattle.coco_ast.specs.Keyed.{Rows};
+ghost use Rattle.coco_ast.specs.Meaning.{Run, is_key};
+ghost use Rattle.coco_types.specs.declared.call.AttemptId.{AttemptId};
+ghost use Rattle.coco_shard.specs.declared.ops.Op.TheVariants.{Lock, Extend};
+ghost use Rattle.coco_shard.specs.declared.ops.Answer.TheVariants.{Locked};
+ghost use Rattle.coco_occ.specs.Exchange.{Exchange, MayAnswer};
+ghost use Rattle.coco_occ.specs.declared.course.Stage.TheVariants as stage;
+ghost use Rattle.coco_occ.specs.Course.{wts_in, needs_seen, IsFresh, entered, outcome_by, exchange, IsLocking, IsExtending, IsEnding, Closes, Stands};
+
+use crate::outcome::{Outcome, Why};
+use coco_shard::{Answer, Op};
+use coco_types::limits::{MOST_KEYS, MOST_TIME};
+use coco_types::{Key, NoMemory, Reply, Write};
+use std::alloc::Global;
+use std::cmp::Ordering;
+
+/// A key that was read, with the times that it showed.
+#[derive(Clone, Copy, Debug)]
+pub struct Seen {
+    pub key: Key,
+    pub wts: u64,
+    pub rts: u64,
+}
+
+/// What an attempt does now.
+#[derive(Clone, Copy, Debug)]
+pub enum Stage {
+    Reading,
+    Locking,
+    Extending,
+    Installing,
+    Releasing,
+    Ended,
+}
+
+/// The stage of an attempt, and which of the stage's keys is next.
+#[derive(Debug, Drop)]
+pub struct Course {
+    pub stage: Stage,
+    pub place: usize,
+    /// What was read, in order.
+    pub seen: Vec<Seen>,
+    /// For each write the write time that a read of its key showed.
+    pub expected: Vec<Option<u64>>,
+    /// How many of the keys of the writes are locked.
+    pub locked: usize,
+    /// The greatest of the times that the time of a commit is above.
+    pub greatest: u64,
+    /// The time, once no lock conflicted, none where it would be too great.
+    pub time: Option<u64>,
+    pub conflict: Option<Why>,
+}
+
+impl Course {
+    /// The course of an attempt at its start, with the room for all keys of a call.
+    pub fn new(alloc: Global) -> Result<Course, NoMemory>
+        ensures { IfOk result IsFresh }
+    {
+        Course {
+            stage: Stage::Reading,
+            place: 0,
+            seen: Vec::new(alloc),
+            expected: Vec::new(alloc),
+            locked: 0,
+            greatest: 0,
+            time: None,
+            conflict: None,
+        }
+        .restarted()
+    }
+
+    /// The course of another attempt at its start, with the room of this one.
+    pub fn restarted(self) -> Result<Course, NoMemory>
+        ensures { IfOk result IsFresh }
+    {
+        let Course {
+            mut seen,
+            mut expected,
+            ..
+        } = self;
+        seen.clear();
+        expected.clear();
+        seen.reserve(MOST_KEYS as usize)?;
+        expected.reserve(MOST_KEYS as usize)?;
+        Ok(Course {
+            stage: Stage::Reading,
+            place: 0,
+            seen,
+            expected,
+            locked: 0,
+            greatest: 0,
+            time: None,
+            conflict: None,
+        })
+    }
+
+    /// Ends a snapshot call, at time 0.
+    pub fn finish(&mut self)
+        ensures { self.new ≡ record self.old { stage = stage.Ended; time = Some 0 } }
+    {
+        self.stage = Stage::Ended;
+        self.time = Some(0);
+    }
+
+    /// Takes the times of a read.
+    pub fn got(&mut self, key: Key, wts: u64, rts: u64)
+        requires { vec_len self.old.seen < vec_capacity self.old.seen }
+        ensures seen { self.new.seen.items ≡ self.old.seen.items ++ record { key = key; wts = wts; rts = rts } ∷ [] }
+        ensures room { vec_capacity self.new.seen ≡ vec_capacity self.old.seen }
+        ensures others { self.new ≡ record self.old { seen = self.new.seen; greatest = max self.old.greatest wts } }
+    {
+        self.seen.push_reserved(Seen { key, wts, rts });
+        self.greatest = self.greatest.max(wts);
+    }
+
+    /// Goes to the first lock, once all keys are read.
+    pub fn settle(&mut self, writes: &[Write])
+        requires { length writes.now ≤ vec_capacity self.old.expected }
+        ensures expected { self.new.expected.items ≡ map (λ w. wts_in self.old.seen.items w.key) writes.now }
+        ensures others { self.new ≡ record self.old { stage = stage.Locking; place = 0; expected = self.new.expected } }
+    {
+        self.expected.clear();
+        for write in writes {
+            let wts = wts_in(&self.seen, write.key);
+            self.expected.push_reserved(wts);
+        }
+        self.enter(Stage::Locking);
+    }
+
+    /// What is asked next, none where the attempt has ended.
+    pub fn next(&mut self, writes: &[Write]) -> Option<Op>
+        ensures stands { (r : Run) (m : Rows) (asked : List Exchange) → r.writes ≡ writes.now → Stands r m asked self.old None → Stands r m asked self.new result }
+        ensures ended { IfNone result (self.new.stage ≡ stage.Ended) }
+    {
+        match self.stage {
+            Stage::Locking => self.next_lock(writes),
+            Stage::Extending => self.next_extension(writes),
+            _ => self.next_end(writes),
+        }
+    }
+
+    // The next lock. Behind all locks the time is chosen.
+    fn next_lock(&mut self, writes: &[Write]) -> Option<Op>
+        requires { self.old.stage ≡ stage.Locking }
+        ensures stands { (r : Run) (m : Rows) (asked : List Exchange) → r.writes ≡ writes.now → IsLocking r m asked self.old None → Stands r m asked self.new result }
+        ensures ended { IfNone result (self.new.stage ≡ stage.Ended) }
+    {
+        match writes.get(self.place) {
+            Some(write) => Some(Op::Lock(write.key)),
+            None => self.choose_time(writes),
+        }
+    }
+
+    // Chooses the time, behind all locks.
+    fn choose_time(&mut self, writes: &[Write]) -> Option<Op>
+        requires { self.old.stage ≡ stage.Locking }
+        ensures stands { (r : Run) (m : Rows) (asked : List Exchange) → r.writes ≡ writes.now → IsLocking r m asked self.old None → slice_get r.writes self.old.place ≡ None → Stands r m asked self.new result }
+        ensures ended { IfNone result (self.new.stage ≡ stage.Ended) }
+    {
+        if self.greatest < MOST_TIME {
+            self.time = Some(self.greatest + 1);
+            self.enter(Stage::Extending);
+            self.next_extension(writes)
+        } else {
+            self.enter(Stage::Releasing);
+            self.next_end(writes)
+        }
+    }
+
+    fn next_extension(&mut self, writes: &[Write]) -> Option<Op>
+        requires { self.old.stage ≡ stage.Extending }
+        ensures stands { (r : Run) (m : Rows) (asked : List Exchange) → r.writes ≡ writes.now → IsExtending r m asked self.old None → Stands r m asked self.new result }
+        ensures ended { IfNone result (self.new.stage ≡ stage.Ended) }
+    {
+        match self.extension(writes) {
+            Some(op) => Some(op),
+            None => {
+                self.enter(Stage::Installing);
+                self.next_end(writes)
+            }
+        }
+    }
+
+    fn next_end(&mut self, writes: &[Write]) -> Option<Op>
+        ensures stands { (r : Run) (m : Rows) (asked : List Exchange) → r.writes ≡ writes.now → Closes self.old.stage r m asked self.old None → Stands r m asked self.new result }
+        ensures ended { IfNone result (self.new.stage ≡ stage.Ended) }
+    {
+        match self.ending(writes) {
+            Some(op) => Some(op),
+            None => {
+                self.stage = Stage::Ended;
+                None
+            }
+        }
+    }
+
+    // Goes on to the next key that isn't valid up to the time.
+    fn extension(&mut self, writes: &[Write]) -> Option<Op>
+        ensures due { (r : Run) (m : Rows) (asked : List Exchange) → r.writes ≡ writes.now → IsExtending r m asked self.old None → IsExtending r m asked self.new result }
+        ensures all { IfNone result (self.new.time ≡ None ⊎ (length self.new.seen.items ≤ self.new.place)) }
+        ensures stage { self.new.stage ≡ self.old.stage }
+    {
+        let time = self.time?;
+        while self.place < self.seen.len() {
+            let seen = self.seen[self.place];
+            if needs_extension(&seen, time, writes) {
+                let Seen { key, wts, .. } = seen;
+                return Some(Op::Extend { key, wts, time });
+            }
+            self.place += 1;
+        }
+        None
+    }
+
+    fn ending(&self, writes: &[Write]) -> Option<Op>
+        ensures { (r : Run) (m : Rows) (asked : List Exchange) → r.writes ≡ writes.now → Closes self.now.stage r m asked self.now None →
+            MatchOption result (IsEnding r m asked (outcome_by self.now.conflict self.now.time r.reply) []) (λ op. Closes self.now.stage r m asked self.now (Some op)) }
+    {
+        match self.stage {
+            Stage::Installing => {
+                let time = self.time?;
+                let Write { key, value } = *writes.get(self.place)?;
+                Some(Op::Install { key, time, value })
+            }
+            Stage::Releasing if self.place < self.locked => {
+                Some(Op::Release(writes.get(self.place)?.key))
+            }
+            _ => None,
+        }
+    }
+
+    /// Takes the answer to an operation that isn't a read.
+    pub fn take(&mut self, asked: &Op, answer: &Answer)
+        ensures stage { (self.new.stage ≡ self.old.stage) ⊎ (self.new.stage ≡ stage.Releasing) }
+        ensures stands { (r : Run) (m : Rows) (by : AttemptId) (before : List Exchange) → Stands r m before self.old (Some asked.now) →
+            MayAnswer (record { by = by; op = asked.now }) answer.now → Stands r m (before ++ exchange asked.now answer.now ∷ []) self.new None }
+    {
+        match asked {
+            Op::Lock(key) => self.take_lock(*key, answer),
+            Op::Extend { key, wts, time } => self.take_extension(*key, *wts, *time, answer),
+            _ => self.pass(),
+        }
+    }
+
+    fn take_lock(&mut self, key: Key, answer: &Answer)
+        ensures stage { (self.new.stage ≡ self.old.stage) ⊎ (self.new.stage ≡ stage.Releasing) }
+        ensures stands { (r : Run) (m : Rows) (by : AttemptId) (before : List Exchange) → IsLocking r m before self.old (Some (Lock key)) → self.old.stage ≡ stage.Locking →
+            MayAnswer (record { by = by; op = Lock key }) answer.now → Stands r m (before ++ exchange (Lock key) answer.now ∷ []) self.new None }
+    {
+        match answer {
+            Answer::Locked { wts, rts } => self.lock(key, *wts, *rts),
+            Answer::Marked { holder } => self.give_up(Why::Marked {
+                key,
+                holder: *holder,
+            }),
+            _ => {}
+        }
+    }
+
+    fn take_extension(&mut self, key: Key, wts: u64, time: u64, answer: &Answer)
+        ensures stage { (self.new.stage ≡ self.old.stage) ⊎ (self.new.stage ≡ stage.Releasing) }
+        ensures stands { (r : Run) (m : Rows) (by : AttemptId) (before : List Exchange) → IsExtending r m before self.old (Some (Extend key wts time)) → self.old.stage ≡ stage.Extending →
+            MayAnswer (record { by = by; op = Extend key wts time }) answer.now → Stands r m (before ++ exchange (Extend key wts time) answer.now ∷ []) self.new None }
+    {
+        match answer {
+            Answer::Extended => self.pass(),
+            Answer::Marked { holder } => self.give_up(Why::Marked {
+                key,
+                holder: *holder,
+            }),
+            Answer::Changed { wts: found } => self.give_up(Why::Changed {
+                key,
+                read: wts,
+                found: *found,
+            }),
+            _ => {}
+        }
+    }
+
+    // Goes on to the stage's next key.
+    fn pass(&mut self)
+        ensures { self.new ≡ record self.old { place = min (self.old.place + 1) (2 ^ 64 - 1) } }
+    {
+        self.place = self.place.saturating_add(1);
+    }
+
+    // Takes a lock, and whether the key is as it was read.
+    fn lock(&mut self, key: Key, wts: u64, rts: u64)
+        ensures stage { (self.new.stage ≡ self.old.stage) ⊎ (self.new.stage ≡ stage.Releasing) }
+        ensures stands { (r : Run) (m : Rows) (before : List Exchange) → IsLocking r m before self.old (Some (Lock key)) → self.old.stage ≡ stage.Locking →
+            Stands r m (before ++ exchange (Lock key) (Locked wts rts) ∷ []) self.new None }
+    {
+        let read = self.expected.get(self.place).copied().flatten();
+        self.pass();
+        self.locked = self.place;
+        self.greatest = self.greatest.max(rts);
+        let found = wts;
+        match read {
+            None => {}
+            Some(read) => {
+                if read != found {
+                    self.give_up(Why::Changed { key, read, found });
+                }
+            }
+        }
+    }
+
+    fn give_up(&mut self, why: Why)
+        ensures { self.new ≡ entered stage.Releasing (record self.old { conflict = Some why }) }
+    {
+        self.conflict = Some(why);
+        self.enter(Stage::Releasing);
+    }
+
+    fn enter(&mut self, stage: Stage)
+        ensures { self.new ≡ entered stage self.old }
+    {
+        self.stage = stage;
+        self.place = 0;
+    }
+
+    /// How an attempt ends that stands here, where its run replies so.
+    pub fn outcome(&self, reply: &Reply) -> Outcome
+        ensures { result ≡ outcome_by self.now.conflict self.now.time reply.now }
+    {
+        match (self.conflict, self.time) {
+            (Some(why), _) => Outcome::Conflict(why),
+            (None, Some(time)) => Outcome::Committed {
+                time,
+                reply: *reply,
+            },
+            (None, None) => Outcome::OverTime,
+        }
+    }
+}
+
+// The write time that the read of a key showed.
+fn wts_in(seen: &[Seen], key: Key) -> Option<u64>
+    ensures { result ≡ wts_in seen.now key }
+{
+    for read in seen {
+        if key.compare(&read.key) == Ordering::Equal {
+            return Some(read.wts);
+        }
+    }
+    None
+}
+
+// Whether a key that was read isn't valid up to the time, and isn't written.
+fn needs_extension(seen: &Seen, time: u64, writes: &[Write]) -> bool
+    ensures { result ≡ needs_seen time writes.now seen.now }
+{
+    seen.rts < time && !is_written(writes, seen.key)
+}
+
+fn is_written(writes: &[Write], key: Key) -> bool
+    ensures { result ≡ list_any (λ w. is_key key w.key) writes.now }
+{
+    for write in writes {
+        if key.compare(&write.key) == Ordering::Equal {
+            return true;
+        }
+    }
+    false
+}

@@ -1,0 +1,122 @@
+//! How an attempt goes on, and what an answer makes of it: its run while it reads, and its course behind its reads.
+ghost use Rattle.std.specs.Prelude.{◌≡◌, ◌⊎◌, ◌++◌, ◌∷◌, [], Bool, true, false, List, None, Some};
+ghost use Rattle.coco_types.specs.declared.call.Reply.{Reply as Replied};
+ghost use Rattle.coco_types.specs.declared.call.AttemptId.{AttemptId};
+ghost use Rattle.coco_shard.specs.declared.ops.Op.TheVariants.{Read, Past};
+ghost use Rattle.coco_occ.specs.Course.{exchange};
+ghost use Rattle.coco_occ.specs.Exchange.{Exchange, MayAnswer};
+ghost use Rattle.coco_occ.specs.Keeping.{reading, Goes, IsReading, rests_in};
+ghost use Rattle.coco_occ.specs.Trying.{Ready};
+ghost use Rattle.coco_occ.specs.declared.course.Stage.TheVariants as stage;
+
+use crate::course::{Course, Stage};
+use coco_ast::Checked;
+use coco_eval::{Need, Run};
+use coco_shard::{Answer, Op};
+use coco_types::{Key, Reply};
+
+/// What is asked next, none where the attempt has ended.
+pub fn proceed(
+    run: &mut Run,
+    course: &mut Course,
+    reply: &mut Reply,
+    snapshot: bool,
+    procs: &Checked,
+) -> Option<Op>
+    requires procs { procs.now ≡ run.old.procs }
+    requires ready { rests_in course.old.stage course.old reply.old [] ≡ Ready }
+    requires goes { (asked : List Exchange) × Goes snapshot run.old asked course.old reply.old None }
+    ensures goes { (asked : List Exchange) → Goes snapshot run.old asked course.old reply.old None → Goes snapshot run.new asked course.new reply.new result }
+    ensures run { run.new ≡ record run.old { standing = run.new.standing } }
+    ensures ended { result ≡ None → course.new.stage ≡ stage.Ended }
+{
+    if let Stage::Reading = course.stage {
+        read_on(run, course, reply, snapshot, procs)
+    } else {
+        course.next(run.writes().as_slice())
+    }
+}
+
+// Goes on to the next key that is read, or behind the reads.
+fn read_on(
+    run: &mut Run,
+    course: &mut Course,
+    reply: &mut Reply,
+    snapshot: bool,
+    procs: &Checked,
+) -> Option<Op>
+    requires procs { procs.now ≡ run.old.procs }
+    requires stage { course.old.stage ≡ stage.Reading }
+    requires goes { (asked : List Exchange) × IsReading snapshot run.old asked course.old None }
+    ensures goes { (asked : List Exchange) → IsReading snapshot run.old asked course.old None → Goes snapshot run.new asked course.new reply.new result }
+    ensures run { run.new ≡ record run.old { standing = run.new.standing } }
+    ensures ended { result ≡ None → course.new.stage ≡ stage.Ended }
+{
+    match run.step(procs) {
+        Need::Read(key) => Some(reading(snapshot, key)),
+        Need::Ended(ended) => {
+            *reply = ended;
+            if snapshot {
+                course.finish();
+                None
+            } else {
+                let writes = run.writes().as_slice();
+                course.settle(writes);
+                course.next(writes)
+            }
+        }
+    }
+}
+
+fn reading(snapshot: bool, key: Key) -> Op
+    ensures { result ≡ reading snapshot key }
+{
+    if snapshot {
+        Op::Past(key)
+    } else {
+        Op::Read(key)
+    }
+}
+
+/// Takes the answer to what was asked.
+pub fn accept(run: &mut Run, course: &mut Course, asked: &Op, answer: &Answer)
+    requires { (snapshot : Bool) × (before : List Exchange) × (reply : Replied) × (by : AttemptId) × Goes snapshot run.old before course.old reply (Some asked.now) × MayAnswer (record { by = by; op = asked.now }) answer.now }
+    ensures goes { (snapshot : Bool) (before : List Exchange) (reply : Replied) (by : AttemptId) → Goes snapshot run.old before course.old reply (Some asked.now) → MayAnswer (record { by = by; op = asked.now }) answer.now →
+        Goes snapshot run.new (before ++ exchange asked.now answer.now ∷ []) course.new reply None }
+    ensures stage { (course.new.stage ≡ course.old.stage) ⊎ (course.new.stage ≡ stage.Releasing) }
+    ensures procs { run.new.procs ≡ run.old.procs }
+    ensures call { run.new.call ≡ run.old.call }
+{
+    match asked {
+        Op::Read(key) => accept_read(run, course, *key, answer),
+        Op::Past(key) => accept_past(run, course, *key, answer),
+        _ => course.take(asked, answer),
+    }
+}
+
+fn accept_read(run: &mut Run, course: &mut Course, key: Key, answer: &Answer)
+    requires { (before : List Exchange) × (by : AttemptId) × IsReading false run.old before course.old (Some (Read key)) × MayAnswer (record { by = by; op = Read key }) answer.now }
+    ensures goes { (before : List Exchange) → IsReading false run.old before course.old (Some (Read key)) → IsReading false run.new (before ++ exchange (Read key) answer.now ∷ []) course.new None }
+    ensures stage { course.new.stage ≡ course.old.stage }
+    ensures procs { run.new.procs ≡ run.old.procs }
+    ensures call { run.new.call ≡ run.old.call }
+{
+    let Answer::Got { wts, rts, value } = answer else {
+        unreachable!()
+    };
+    course.got(key, *wts, *rts);
+    run.give(*value);
+}
+
+// The course of a snapshot call stays.
+fn accept_past(run: &mut Run, course: &Course, key: Key, answer: &Answer)
+    requires { (before : List Exchange) × (by : AttemptId) × IsReading true run.old before course.now (Some (Past key)) × MayAnswer (record { by = by; op = Past key }) answer.now }
+    ensures goes { (before : List Exchange) → IsReading true run.old before course.now (Some (Past key)) → IsReading true run.new (before ++ exchange (Past key) answer.now ∷ []) course.now None }
+    ensures procs { run.new.procs ≡ run.old.procs }
+    ensures call { run.new.call ≡ run.old.call }
+{
+    let Answer::Stood(value) = answer else {
+        unreachable!()
+    };
+    run.give(*value);
+}
