@@ -1,0 +1,17 @@
+pub mod Tables
+pub mod MessageLemmas
+pub mod SetLemmas
+pub mod PutLemmas
+pub mod WholeLemmas
+pub mod HearLemmas
+pub mod KeepLemmas
+pub mod SendLemmas
+pub mod ManyLemmas
+pub mod NoteLemmas
+pub mod AskLemmas
+pub mod AnswerLemmas
+pub mod TakeLemmas
+pub mod DeliverLemmas
+pub mod GoingLemmas
+pub mod RoundLemmas
+pub mod ExampleLemmas

@@ -1,0 +1,17 @@
+use Rattle.std.proofs.Common.{◌≡◌, ◌++◌, List, length}
+use Rattle.coco_net.specs.declared.letter.Posted.{Posted}
+use Rattle.coco_ship.specs.Letters.{AreInside}
+use Rattle.coco_ship.proofs.mail.send_all.Given as goal
+
+abbrev pub decreases-loop-posted : goal.decreases-loop-posted
+decreases-loop-posted g l = length l.letters.items
+
+-- what was sent, and what is still in hand
+abbrev pub invariant-loop-posted : goal.invariant-loop-posted
+invariant-loop-posted g l = record {
+  inside : AreInside l.letters.items;
+  some : (xs : List Posted) × (g.N.Net.sent l.net ≡ g.N.Net.sent l.initial.net ++ xs) × (xs ++ l.letters.items ≡ l.initial.letters.items);
+  given : g.N.Net.given l.net ≡ g.N.Net.given l.initial.net;
+  since : g.N.Net.since l.net ≡ g.N.Net.since l.initial.net;
+  faults : g.N.Net.faults l.net ≡ g.N.Net.faults l.initial.net;
+}

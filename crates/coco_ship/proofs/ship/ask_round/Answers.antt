@@ -1,0 +1,43 @@
+use Rattle.std.proofs.Common.{◌≡◌, ◌*◌, arith, length}
+use Rattle.std.specs.List.{All, Contains}
+use Rattle.std.proofs.lemmas.Result.{on_ok_weaker}
+use Rattle.coco_ship.specs.Going.{AreTold}
+use Rattle.coco_ship.specs.Shipping.{news}
+use Rattle.coco_ship.proofs.RoundLemmas.{ask_going, asks_inside, asks_phase, done_by, on_ok_three, on_ok_two, passes_none, told_after, unless_then}
+use Rattle.coco_ship.proofs.ship.ask_round.Goals as goal
+
+pub carry-requires-clause-inside : goal.carry-requires-clause-inside
+carry-requires-clause-inside g c = asks_inside c.args.ring c.args.epoch c.args.pieces.now c.args.lines.now c.in_ok-letters.letters.items c.requires.ring c.in_ok-letters.ensures
+
+pub carry-requires-clause-phase : goal.carry-requires-clause-phase
+carry-requires-clause-phase g c = asks_phase c.args.ring c.args.epoch c.args.pieces.now c.args.lines.now c.in_ok-letters.letters.items c.in_ok-letters.ensures
+
+pub returns-in_err-letters-clause-passes : goal.returns-in_err-letters-clause-passes
+returns-in_err-letters-clause-passes g c =
+    passes_none c.args.ring c.args.epoch (g.N.Net.sent c.args.net.now) (g.N.Net.given c.args.net.now) (g.N.Net.since c.args.net.now) c.args.copies.now c.requires.begun c.requires.counted
+
+pub returns-clause-going : goal.returns-clause-going
+returns-clause-going g c =
+    let ring = c.args.ring in
+    let posts = news (g.N.Net.given c.args.net.now) (g.N.Net.given c.carry.new.net) in
+    let after : length c.carry.new.copies ≡ ring.partitions * ring.copies = omega arith in
+    on_ok_three c.carry.result
+    (λ is among heard. ask_going ring c.args.epoch c.args.pieces.now posts (g.N.Net.sent c.args.net.now) c.in_ok-letters.letters.items (g.N.Net.sent c.carry.new.net) c.args.lines.now c.args.copies.now c.carry.new.lines c.carry.new.copies c.requires.pieces
+    c.requires.lines c.requires.copies after c.in_ok-letters.ensures c.requires.going is among heard c.carry.ensures.passes.gains)
+    c.carry.ensures.sent c.carry.ensures.were_sent c.carry.ensures.heard
+
+pub returns-clause-done : goal.returns-clause-done
+returns-clause-done g c =
+    let posts = news (g.N.Net.given c.args.net.now) (g.N.Net.given c.carry.new.net) in
+    on_ok_weaker c.carry.result (λ heard. done_by c.args.ring c.args.epoch posts c.args.lines.now c.args.copies.now c.carry.new.lines c.carry.new.copies c.requires.ring (omega arith) heard) c.carry.ensures.heard
+
+pub returns-clause-told : goal.returns-clause-told
+returns-clause-told g c =
+    let ring = c.args.ring in
+    let letters = c.in_ok-letters.letters.items in
+    let posts = news (g.N.Net.given c.args.net.now) (g.N.Net.given c.carry.new.net) in
+    let after : length c.carry.new.copies ≡ ring.partitions * ring.copies = omega arith in
+    on_ok_two c.carry.result
+    (λ heard arrived. unless_then (g.N.Net.faults c.args.net.now) (g.N.Net.faults c.carry.new.net) (All (Contains posts) letters) (AreTold ring c.args.pieces.now c.carry.new.lines)
+    (λ came. told_after ring c.args.epoch c.args.pieces.now posts letters c.args.lines.now c.args.copies.now c.carry.new.lines c.carry.new.copies c.requires.lines c.requires.copies after c.in_ok-letters.ensures came c.requires.going.lines_fit heard) arrived)
+    c.carry.ensures.heard c.carry.ensures.came

@@ -1,0 +1,141 @@
+use Rattle.std.proofs.Common.{◌≡◌, ◌+◌, ◌*◌, ◌<◌, ◌≤◌, ℕ, arith, inl, inr, length}
+use Rattle.coco_ship.specs.Going.{HasAnswered}
+use Rattle.coco_ship.specs.Placing.{holder_of}
+use Rattle.coco_ship.specs.Shipping.{news}
+use Rattle.coco_ship.proofs.RoundLemmas.{done_none, done_then, is_silent_then, loop_faults, passes_none, passes_then, waited_not, was_given, whole_all}
+use Rattle.coco_ship.proofs.ship.exchanges.Goals as goal
+
+pub loop-exchange-init : goal.loop-exchange-init
+loop-exchange-init g c = record {
+  going = c.requires.going;
+  passes = passes_none c.args.ring c.args.epoch (g.N.Net.sent c.args.net.now) (g.N.Net.given c.args.net.now) (g.N.Net.since c.args.net.now) c.args.copies.now c.requires.begun c.requires.counted;
+  done = done_none c.args.ring c.args.epoch (g.N.Net.given c.args.net.now) c.args.lines.now c.args.copies.now;
+  faults = inl (omega arith);
+  alone = λ none i. g.N.Net.sent c.args.net.now;
+}
+
+pub exchange-requires-clause-begun : goal.exchange-requires-clause-begun
+exchange-requires-clause-begun g c = c.loop-exchange.invariant.passes.begun
+
+pub exchange-requires-clause-counted : goal.exchange-requires-clause-counted
+exchange-requires-clause-counted g c = c.loop-exchange.invariant.passes.counted
+
+pub exchange-requires-clause-going : goal.exchange-requires-clause-going
+exchange-requires-clause-going g c = c.loop-exchange.invariant.going
+
+no_copy : (j n : ℕ) → j < n → n ≡ 0 → ⊥
+no_copy j n less none = omega arith
+
+pub loop-exchange-preserved : goal.loop-exchange-preserved
+loop-exchange-preserved g c =
+    let ring = c.args.ring in
+    let before = c.loop-exchange.invariant in
+    let s0 = g.N.Net.sent c.args.net.now in
+    let g0 = g.N.Net.given c.args.net.now in
+    let ls = c.args.lines.now in
+    let ts = c.args.copies.now in
+    let ms = c.loop-exchange.lines in
+    let us = c.loop-exchange.copies in
+    let lines : length ms ≡ ring.partitions * ring.copies = omega (arith, c.loop-exchange.auto.lines, c.requires.lines) in
+    let copies : length us ≡ ring.partitions * ring.copies = omega (arith, c.loop-exchange.auto.copies, c.requires.copies) in
+    let waited = c.in-Some.ensures.0 in
+    record {
+      going = c.in_ok-exchange-in-Some.ensures.going;
+      passes = passes_then ring c.args.epoch s0 g0 ts (g.N.Net.sent c.loop-exchange.net) (g.N.Net.given c.loop-exchange.net) (g.N.Net.since c.loop-exchange.net) us (g.N.Net.sent c.exchange.new.net) (g.N.Net.given c.exchange.new.net) (g.N.Net.since c.exchange.new.net) c.exchange.new.copies copies before.passes c.exchange.ensures.passes;
+      done = done_then ring c.args.epoch g0 (g.N.Net.given c.loop-exchange.net) (g.N.Net.given c.exchange.new.net) ls ts ms us c.exchange.new.lines c.exchange.new.copies before.passes.gives c.exchange.ensures.passes.gives lines copies before.done c.in_ok-exchange-in-Some.ensures.done;
+      faults = loop_faults (g.N.Net.faults c.args.net.now) c.loop-exchange._exchange (g.N.Net.faults c.loop-exchange.net) (g.N.Net.faults c.exchange.new.net) ((n : ℕ) → HasAnswered ring ms n) ((n : ℕ) → HasAnswered ring c.exchange.new.lines n) (waited_not ring ms c.in-Some._node waited) before.faults c.in_ok-exchange-in-Some.ensures.faults;
+      alone = λ none. absurd (no_copy waited.j ring.copies waited.is_copy.copy none);
+    }
+
+pub returns-in_err-exchange-in-Some-clause-passes : goal.returns-in_err-exchange-in-Some-clause-passes
+returns-in_err-exchange-in-Some-clause-passes g c =
+    let ring = c.args.ring in
+    let before = c.loop-exchange.invariant in
+    let s0 = g.N.Net.sent c.args.net.now in
+    let g0 = g.N.Net.given c.args.net.now in
+    let ls = c.args.lines.now in
+    let ts = c.args.copies.now in
+    let ms = c.loop-exchange.lines in
+    let us = c.loop-exchange.copies in
+    let lines : length ms ≡ ring.partitions * ring.copies = omega (arith, c.loop-exchange.auto.lines, c.requires.lines) in
+    let copies : length us ≡ ring.partitions * ring.copies = omega (arith, c.loop-exchange.auto.copies, c.requires.copies) in
+    passes_then ring c.args.epoch s0 g0 ts (g.N.Net.sent c.loop-exchange.net) (g.N.Net.given c.loop-exchange.net) (g.N.Net.since c.loop-exchange.net) us (g.N.Net.sent c.exchange.new.net) (g.N.Net.given c.exchange.new.net) (g.N.Net.since c.exchange.new.net) c.exchange.new.copies copies before.passes c.exchange.ensures.passes
+
+pub returns-in_err-exchange-in-Some-clause-alone : goal.returns-in_err-exchange-in-Some-clause-alone
+returns-in_err-exchange-in-Some-clause-alone g c = let waited = c.in-Some.ensures.0 in λ none. absurd (no_copy waited.j c.args.ring.copies waited.is_copy.copy none)
+
+pub returns-in-None-clause-whole : goal.returns-in-None-clause-whole
+returns-in-None-clause-whole g c =
+    let ring = c.args.ring in
+    let before = c.loop-exchange.invariant in
+    let s0 = g.N.Net.sent c.args.net.now in
+    let g0 = g.N.Net.given c.args.net.now in
+    let ls = c.args.lines.now in
+    let ts = c.args.copies.now in
+    let ms = c.loop-exchange.lines in
+    let us = c.loop-exchange.copies in
+    let lines : length ms ≡ ring.partitions * ring.copies = omega (arith, c.loop-exchange.auto.lines, c.requires.lines) in
+    let copies : length us ≡ ring.partitions * ring.copies = omega (arith, c.loop-exchange.auto.copies, c.requires.copies) in
+    whole_all ring c.args.epoch c.args.pieces.now (g.N.Net.sent c.loop-exchange.net) ms us c.requires.pieces lines before.going c.in-None.ensures
+
+pub returns-in-None-clause-answered : goal.returns-in-None-clause-answered
+returns-in-None-clause-answered g c =
+    let ring = c.args.ring in
+    let before = c.loop-exchange.invariant in
+    let s0 = g.N.Net.sent c.args.net.now in
+    let g0 = g.N.Net.given c.args.net.now in
+    let ls = c.args.lines.now in
+    let ts = c.args.copies.now in
+    let ms = c.loop-exchange.lines in
+    let us = c.loop-exchange.copies in
+    let lines : length ms ≡ ring.partitions * ring.copies = omega (arith, c.loop-exchange.auto.lines, c.requires.lines) in
+    let copies : length us ≡ ring.partitions * ring.copies = omega (arith, c.loop-exchange.auto.copies, c.requires.copies) in
+    λ p j copy. was_given ring c.args.epoch (news g0 (g.N.Net.given c.loop-exchange.net)) ls ts ms us c.requires.lines c.requires.copies lines copies c.requires.waiting before.done (holder_of ring p j) (c.in-None.ensures (holder_of ring p j)) p j copy (λ i. holder_of ring p j)
+
+pub returns-in-None-silent-clause-whole : goal.returns-in-None-silent-clause-whole
+returns-in-None-silent-clause-whole g c =
+    let ring = c.args.ring in
+    let before = c.loop-exchange.invariant in
+    let s0 = g.N.Net.sent c.args.net.now in
+    let g0 = g.N.Net.given c.args.net.now in
+    let ls = c.args.lines.now in
+    let ts = c.args.copies.now in
+    let ms = c.loop-exchange.lines in
+    let us = c.loop-exchange.copies in
+    let lines : length ms ≡ ring.partitions * ring.copies = omega (arith, c.loop-exchange.auto.lines, c.requires.lines) in
+    let copies : length us ≡ ring.partitions * ring.copies = omega (arith, c.loop-exchange.auto.copies, c.requires.copies) in
+    whole_all ring c.args.epoch c.args.pieces.now (g.N.Net.sent c.loop-exchange.net) ms us c.requires.pieces lines before.going c.in-None-silent.ensures
+
+pub returns-in-None-silent-clause-answered : goal.returns-in-None-silent-clause-answered
+returns-in-None-silent-clause-answered g c =
+    let ring = c.args.ring in
+    let before = c.loop-exchange.invariant in
+    let s0 = g.N.Net.sent c.args.net.now in
+    let g0 = g.N.Net.given c.args.net.now in
+    let ls = c.args.lines.now in
+    let ts = c.args.copies.now in
+    let ms = c.loop-exchange.lines in
+    let us = c.loop-exchange.copies in
+    let lines : length ms ≡ ring.partitions * ring.copies = omega (arith, c.loop-exchange.auto.lines, c.requires.lines) in
+    let copies : length us ≡ ring.partitions * ring.copies = omega (arith, c.loop-exchange.auto.copies, c.requires.copies) in
+    λ p j copy. was_given ring c.args.epoch (news g0 (g.N.Net.given c.loop-exchange.net)) ls ts ms us c.requires.lines c.requires.copies lines copies c.requires.waiting before.done (holder_of ring p j) (c.in-None-silent.ensures (holder_of ring p j)) p j copy (λ i. holder_of ring p j)
+
+pub returns-in-Some-silent-clause-silent : goal.returns-in-Some-silent-clause-silent
+returns-in-Some-silent-clause-silent g c =
+    let ring = c.args.ring in
+    let before = c.loop-exchange.invariant in
+    let s0 = g.N.Net.sent c.args.net.now in
+    let g0 = g.N.Net.given c.args.net.now in
+    let ls = c.args.lines.now in
+    let ts = c.args.copies.now in
+    let ms = c.loop-exchange.lines in
+    let us = c.loop-exchange.copies in
+    let lines : length ms ≡ ring.partitions * ring.copies = omega (arith, c.loop-exchange.auto.lines, c.requires.lines) in
+    let copies : length us ≡ ring.partitions * ring.copies = omega (arith, c.loop-exchange.auto.copies, c.requires.copies) in
+    let waited = c.in-Some-silent.ensures.0 in
+    let last : c.loop-exchange._exchange ≡ 16 = omega arith in
+    let faults : g.N.Net.faults c.args.net.now + 16 ≤ g.N.Net.faults c.loop-exchange.net = elim before.faults [
+      | inl rose ↦ omega (arith, rose, last)
+      | inr all ↦ absurd (waited_not ring ms c.in-Some-silent.node waited all)
+    ] in
+    is_silent_then ring c.args.epoch (news g0 (g.N.Net.given c.loop-exchange.net)) ls ts ms us (g.N.Net.faults c.args.net.now) (g.N.Net.faults c.loop-exchange.net) c.in-Some-silent.node c.requires.lines c.requires.copies lines copies c.requires.waiting before.done waited c.in-Some-silent.ensures.1 faults

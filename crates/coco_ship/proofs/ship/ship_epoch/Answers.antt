@@ -1,0 +1,42 @@
+use Rattle.std.proofs.Common.{List, subst, sym}
+use Rattle.coco_ship.specs.declared.line.Line.{Line}
+use Rattle.coco_ship.specs.Going.{IsGoing}
+use Rattle.coco_ship.specs.Shipping.{news}
+use Rattle.coco_ship.proofs.RoundLemmas.{gain_only, going_first, passes_none}
+use Rattle.coco_ship.proofs.TakeLemmas.{brings_none}
+use Rattle.coco_ship.proofs.ship.ship_epoch.Goals as goal
+
+pub exchanges-requires-clause-going : goal.exchanges-requires-clause-going
+exchanges-requires-clause-going g c =
+    let lines = c.in_ok-lines.ensures.lines in
+    subst (λ (ls : List Line). IsGoing c.args.ring c.args.epoch c.args.pieces.now (g.N.Net.sent c.args.net.now) ls c.args.copies.now) (sym c.deref_mut.ensures.value)
+    (going_first c.args.ring c.args.epoch c.args.pieces.now (g.N.Net.sent c.args.net.now) c.in_ok-lines.lines.items c.args.copies.now c.requires.tables c.requires.fresh lines)
+
+pub returns-clause-gains : goal.returns-clause-gains
+returns-clause-gains g c = gain_only c.args.ring c.args.epoch (news (g.N.Net.given c.args.net.now) (g.N.Net.given c.exchanges.new.net)) c.args.copies.now c.exchanges.new.copies c.exchanges.ensures.passes.gains
+
+pub returns-clause-given : goal.returns-clause-given
+returns-clause-given g c = c.exchanges.ensures.passes.gives
+
+pub returns-clause-sent : goal.returns-clause-sent
+returns-clause-sent g c = c.exchanges.ensures.passes.sends
+
+pub returns-clause-phase : goal.returns-clause-phase
+returns-clause-phase g c = c.exchanges.ensures.passes.phase
+
+pub returns-clause-counted : goal.returns-clause-counted
+returns-clause-counted g c = c.exchanges.ensures.passes.counted
+
+pub returns-in_err-lines-clause-gains : goal.returns-in_err-lines-clause-gains
+returns-in_err-lines-clause-gains g c =
+    let posts = news (g.N.Net.given c.args.net.now) (g.N.Net.given c.args.net.now) in
+    gain_only c.args.ring c.args.epoch posts c.args.copies.now c.args.copies.now (brings_none c.args.ring c.args.epoch posts c.args.copies.now)
+
+pub returns-in_err-lines-clause-given : goal.returns-in_err-lines-clause-given
+returns-in_err-lines-clause-given g c = let none = passes_none c.args.ring c.args.epoch (g.N.Net.sent c.args.net.now) (g.N.Net.given c.args.net.now) (g.N.Net.since c.args.net.now) c.args.copies.now c.requires.tables.begun c.requires.counted in none.gives
+
+pub returns-in_err-lines-clause-sent : goal.returns-in_err-lines-clause-sent
+returns-in_err-lines-clause-sent g c = let none = passes_none c.args.ring c.args.epoch (g.N.Net.sent c.args.net.now) (g.N.Net.given c.args.net.now) (g.N.Net.since c.args.net.now) c.args.copies.now c.requires.tables.begun c.requires.counted in none.sends
+
+pub returns-in_err-lines-clause-phase : goal.returns-in_err-lines-clause-phase
+returns-in_err-lines-clause-phase g c = let none = passes_none c.args.ring c.args.epoch (g.N.Net.sent c.args.net.now) (g.N.Net.given c.args.net.now) (g.N.Net.since c.args.net.now) c.args.copies.now c.requires.tables.begun c.requires.counted in none.phase

@@ -1,0 +1,10 @@
+pub mod Placing
+pub mod Sets
+pub mod Pieces
+pub mod Letters
+pub mod Lines
+pub mod Shipping
+pub mod Sending
+pub mod Taking
+pub mod Going
+pub mod Examples
