@@ -1,0 +1,7 @@
+pub mod Contents
+pub mod Entries
+pub mod Laws
+pub mod Placement
+pub mod Rules
+pub mod StoreExamples
+pub mod Texts
