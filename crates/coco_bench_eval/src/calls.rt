@@ -1,10 +1,10 @@
-//! Calls from lines of words.
+//! Calls and rows from lines of words.
 ghost use Rattle.std.specs.Prelude.{IfOk, IfSome};
 ghost use Rattle.coco_ast.specs.Fitting.{Fits};
 
 use coco_ast::Checked;
 use coco_types::limits::MOST_ARGUMENTS;
-use coco_types::{Args, Call, NoMemory, Text, Value};
+use coco_types::{Args, Call, Key, NoMemory, Text, Value};
 use std::alloc::Global;
 
 /// The call of a line: a procedure's name and its arguments. None where it fits no procedure.
@@ -39,6 +39,19 @@ fn fitting(procs: &Checked, proc_no: u16, args: Args) -> Option<Call>
         }),
         _ => None,
     }
+}
+
+/// The row that a line loads: the word `load`, a table's number, a row's and a value. None for any other line.
+pub fn row_of(line: &str) -> Option<(Key, Value)> {
+    let mut words = line.split_whitespace();
+    if words.next()? != "load" {
+        return None;
+    }
+    let table = words.next()?.parse::<u16>().ok()?;
+    let row = words.next()?.parse::<i64>().ok()?;
+    let row = u64::try_from(row).ok()?;
+    let value = value_of(words.next()?)?;
+    Some((Key { table, row }, value))
 }
 
 // A whole number, a text between quotes, or none for any other word.

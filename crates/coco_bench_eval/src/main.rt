@@ -7,7 +7,7 @@ ghost use Rattle.coco_ast.specs.Fitting.{Fits};
 mod calls;
 mod replies;
 
-use crate::calls::call_of;
+use crate::calls::{call_of, row_of};
 use crate::replies::print_reply;
 use coco_ast::Checked;
 use coco_check::check;
@@ -15,14 +15,14 @@ use coco_lex::lex;
 use coco_parse::parse;
 use coco_serial::Executor;
 use coco_types::limits::MOST_PROCEDURE_BYTES;
-use coco_types::{Call, NoMemory, Reply};
+use coco_types::{Call, Key, NoMemory, Reply, Value};
 use std::alloc::Global;
 use std::env;
 use std::io::{self, ErrorKind, Read};
 use std::time::Instant;
 
-// Calls stand behind a line of two equal signs, one on each line. A number on the command line says how
-// often each is run; nanoseconds of each are said on the error stream.
+// Calls, and rows to load, stand behind a line of two equal signs, one on each line. A number on the
+// command line says how often each call is run; nanoseconds of each are said on the error stream.
 fn main(rt: HostRuntime) -> io::Result<()> {
     let turns = turns(rt)?;
     let mut input = String::new(rt.alloc());
@@ -50,7 +50,10 @@ fn run_all(rt: HostRuntime, turns: u32, text: &str, calls: &str) -> io::Result<(
     };
     let mut executor = Executor::new(rt.alloc());
     for line in calls.lines() {
-        run_line(rt, turns, &procs, &mut executor, line)?;
+        match row_of(line) {
+            Some((key, value)) => load_row(rt, &mut executor, line, key, value)?,
+            None => run_line(rt, turns, &procs, &mut executor, line)?,
+        }
     }
     Ok(())
 }
@@ -66,6 +69,20 @@ fn accepted(alloc: Global, text: &str) -> Option<Checked> {
     match parse(alloc, text.as_bytes(), tokens.as_slice()) {
         Ok(procs) => check(alloc, procs).ok(),
         Err(_) => None,
+    }
+}
+
+// Says what the row has then.
+fn load_row(
+    rt: HostRuntime,
+    executor: &mut Executor,
+    line: &str,
+    key: Key,
+    value: Value,
+) -> io::Result<()> {
+    match executor.load(key, value) {
+        Ok(()) => print_reply(&rt, line, &Reply::Ok(executor.get(key)), 0),
+        Err(NoMemory) => Err(io::Error::from(ErrorKind::OutOfMemory)),
     }
 }
 
@@ -99,7 +116,7 @@ fn timed(
 {
     let began = Instant::now(&rt)?;
     for _ in 1..turns {
-        reply_to(procs, executor, call)?;
+        run_once(procs, executor, call)?;
     }
     let reply = reply_to(procs, executor, call)?;
     let nanoseconds = began.elapsed(&rt)?.as_nanos() / u128::from(turns.max(1));
@@ -112,6 +129,16 @@ fn reply_to(procs: &Checked, executor: &mut Executor, call: &Call) -> io::Result
 {
     match executor.apply(procs, call) {
         Ok(reply) => Ok(reply),
+        Err(NoMemory) => Err(io::Error::from(ErrorKind::OutOfMemory)),
+    }
+}
+
+// The same, for its turns alone.
+fn run_once(procs: &Checked, executor: &mut Executor, call: &Call) -> io::Result<()>
+    requires { Fits procs.now call.now }
+{
+    match executor.apply(procs, call) {
+        Ok(_) => Ok(()),
         Err(NoMemory) => Err(io::Error::from(ErrorKind::OutOfMemory)),
     }
 }

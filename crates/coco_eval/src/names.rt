@@ -11,7 +11,8 @@ pub fn are_same_names(one: &Name, other: &Name) -> bool
     are_same_bytes(one.as_bytes(), other.as_bytes())
 }
 
-fn are_same_bytes(one: &[u8], other: &[u8]) -> bool
+/// The same of bytes, for a search that takes a name's bytes once.
+pub fn are_same_bytes(one: &[u8], other: &[u8]) -> bool
     ensures { result ≡ pointwise nat_eq one.now other.now }
 {
     if one.len() != other.len() {

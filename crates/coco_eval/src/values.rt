@@ -1,5 +1,5 @@
 //! The values of expressions.
-ghost use Rattle.std.specs.Prelude.{◌≡◌, not, neg_ℤ};
+ghost use Rattle.std.specs.Prelude.{◌≡◌, not, neg_ℤ, IfSome, Ok};
 ghost use Rattle.coco_ast.specs.Meaning.{value_of, combined, numbers, number_of, and_then, is_true, truth, within_range};
 ghost use Rattle.coco_ast.specs.Tree.{Add, Subtract, Multiply, Divide, Remainder};
 ghost use Rattle.coco_ast.specs.Views.{expression_of, sign_of};
@@ -11,8 +11,33 @@ use crate::variables::{Variable, value_at};
 use coco_ast::{Expr, TwoOp};
 use coco_types::Cause;
 
-/// What an expression comes to. The value is lent from the expression or from the variables.
+/// What an expression comes to. The value is lent from the expression or from the variables. Most
+/// expressions are names and numbers, so these are read in place, and the others by a call.
+#[inline(always)]
 pub fn value<'a>(expr: &'a Expr, variables: &'a [Variable]) -> Result<Operand<'a>, Cause>
+    ensures { computed_of result ≡ value_of (variables_of variables.now) (expression_of expr.now) }
+{
+    match plain(expr, variables) {
+        Some(value) => Ok(value),
+        None => computed(expr, variables),
+    }
+}
+
+// The value of a name, a number or `none`, and None for any other expression.
+#[inline(always)]
+fn plain<'a>(expr: &'a Expr, variables: &'a [Variable]) -> Option<Operand<'a>>
+    ensures { IfSome result (λ v. value_of (variables_of variables.now) (expression_of expr.now) ≡ Ok (datum_of v)) }
+{
+    match expr {
+        Expr::Var(name) => Some(value_at(variables, name)),
+        Expr::Number(number) => Some(Operand::Int(*number)),
+        Expr::None => Some(Operand::None),
+        _ => None,
+    }
+}
+
+#[inline(never)]
+fn computed<'a>(expr: &'a Expr, variables: &'a [Variable]) -> Result<Operand<'a>, Cause>
     ensures { computed_of result ≡ value_of (variables_of variables.now) (expression_of expr.now) }
 {
     match expr {
@@ -20,23 +45,30 @@ pub fn value<'a>(expr: &'a Expr, variables: &'a [Variable]) -> Result<Operand<'a
         Expr::Text(text) => Ok(Operand::Text(text.as_ref())),
         Expr::None => Ok(Operand::None),
         Expr::Var(name) => Ok(value_at(variables, name)),
-        Expr::Not(operand) => match value(operand, variables) {
+        Expr::Not(operand) => match computed(operand, variables) {
             Ok(operand) => whole(inverted(&operand)),
             Err(cause) => Err(cause),
         },
-        Expr::Negate(operand) => match value(operand, variables) {
+        Expr::Negate(operand) => match computed(operand, variables) {
             Ok(operand) => whole(negated(&operand)),
             Err(cause) => Err(cause),
         },
         Expr::Two { op, left, right } => {
-            let left = match value(left, variables) {
-                Ok(left) => left,
-                Err(cause) => return Err(cause),
+            let left = match plain(left, variables) {
+                Some(left) => left,
+                None => match computed(left, variables) {
+                    Ok(left) => left,
+                    Err(cause) => return Err(cause),
+                },
             };
-            match value(right, variables) {
-                Ok(right) => whole(combination(*op, &left, &right)),
-                Err(cause) => Err(cause),
-            }
+            let right = match plain(right, variables) {
+                Some(right) => right,
+                None => match computed(right, variables) {
+                    Ok(right) => right,
+                    Err(cause) => return Err(cause),
+                },
+            };
+            whole(combination(*op, &left, &right))
         }
     }
 }

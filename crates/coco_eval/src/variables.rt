@@ -4,7 +4,7 @@ ghost use Rattle.coco_ast.specs.Meaning.{Datum, variable_at};
 ghost use Rattle.coco_eval.specs.Lending.{datum_of};
 ghost use Rattle.coco_eval.specs.Slots.{variables_of, set_at};
 
-use crate::names::are_same_names;
+use crate::names::{are_same_bytes, are_same_names};
 use crate::operand::{Operand, lend, owned, store};
 use coco_ast::Name;
 use coco_types::{NoMemory, Value};
@@ -90,11 +90,13 @@ impl Slots {
 }
 
 /// The value of the variable of a name.
+#[inline(always)]
 pub fn value_at<'a>(variables: &'a [Variable], name: &Name) -> Operand<'a>
     ensures { datum_of result ≡ variable_at (variables_of variables.now) name.now }
 {
+    let name = name.as_bytes();
     for variable in variables {
-        if are_same_names(&variable.name, name) {
+        if are_same_bytes(variable.name.as_bytes(), name) {
             return lend(&variable.value);
         }
     }

@@ -1,11 +1,12 @@
 //! How a call is run on a map in memory.
-ghost use Rattle.std.specs.Prelude.{◌≡◌, ◌+◌, ◌≤◌, [], ◌∷◌, length};
+ghost use Rattle.std.specs.Prelude.{◌≡◌, ◌+◌, ◌≤◌, false, true, [], ◌∷◌, length, Some};
 ghost use Rattle.std.specs.HashMap.{spare};
 ghost use Rattle.std.specs.Option.{option_copied};
-ghost use Rattle.coco_ast.specs.Keyed.{put_over, value_at};
+ghost use Rattle.coco_ast.specs.Keyed.{put_over, value_at, write_at};
 ghost use Rattle.coco_ast.specs.Meaning.{run};
 ghost use Rattle.coco_eval.specs.Standing.{Ready, Ended};
 ghost use Rattle.coco_serial.specs.Applied.{rows_of};
+ghost use Rattle.coco_types.specs.declared.value.Value.TheVariants.{Int};
 
 use coco_ast::Checked;
 use coco_eval::Run;
@@ -70,11 +71,54 @@ fn put(rows: &mut Rows, write: &Write)
     ensures room { spare rows.old ≤ spare rows.new + 1 }
 {
     match &write.value {
-        Some(value) => {
-            let _ = rows.insert(write.key, *value);
-        }
+        Some(value) => put_value(rows, write.key, value),
         None => {
             rows.remove(&write.key);
         }
+    }
+}
+
+fn put_value(rows: &mut Rows, key: Key, value: &Value)
+    requires { 1 ≤ spare rows.old }
+    ensures rows { rows_of rows.new ≡ write_at (rows_of rows.old) key (Some value.now) }
+    ensures room { spare rows.old ≤ spare rows.new + 1 }
+{
+    if !replace(rows, key, value) {
+        let _ = rows.insert(key, *value);
+    }
+}
+
+// Writes the value of a key that has one, and says whether it has.
+fn replace(rows: &mut Rows, key: Key, value: &Value) -> bool
+    ensures replaced { result ≡ true → rows_of rows.new ≡ write_at (rows_of rows.old) key (Some value.now) }
+    ensures missing { result ≡ false → rows.new ≡ rows.old }
+    ensures room { spare rows.new ≡ spare rows.old }
+{
+    match rows.get_mut(&key) {
+        Some(place) => {
+            store(place, value);
+            true
+        }
+        None => false,
+    }
+}
+
+// Of a number in the place of a number, that alone is written.
+fn store(place: &mut Value, value: &Value)
+    ensures { place.new ≡ value.now }
+{
+    if let Value::Int(number) = value {
+        store_number(place, *number);
+    } else {
+        *place = *value;
+    }
+}
+
+fn store_number(place: &mut Value, number: i64)
+    ensures { place.new ≡ Int number }
+{
+    match place {
+        Value::Int(old) => *old = number,
+        Value::Text(_) => *place = Value::Int(number),
     }
 }

@@ -1,14 +1,11 @@
-use Rattle.std.proofs.Common.{ap, sym, ◌∙◌, arith}
+use Rattle.std.proofs.Common.{ap, sym, ◌∙◌}
 use Rattle.coco_ast.specs.Keyed.{write_at}
 use Rattle.coco_serial.specs.Applied.{rows_of}
-use Rattle.coco_serial.proofs.RowLemmas.{hash_put, hash_taken, on_ok}
+use Rattle.coco_serial.proofs.RowLemmas.{hash_taken}
 use Rattle.coco_serial.proofs.running.put.Goals as goal
 
 pub returns-in-Some-clause-rows : goal.returns-in-Some-clause-rows
-returns-in-Some-clause-rows c =
-    let updates = on_ok c.insert.result _ (c.insert.ensures.succeeds (omega (arith, c.requires))) c.insert.ensures.updates in
-    hash_put c.args.rows.now.entries c.insert.new.self.entries c.args.write.now.key c.in-Some.value updates.0
-    ∙ ap (write_at (rows_of c.args.rows.now) c.args.write.now.key) (sym c.in-Some.is)
+returns-in-Some-clause-rows c = c.put_value.ensures.rows ∙ ap (write_at (rows_of c.args.rows.now) c.args.write.now.key) (sym c.in-Some.is)
 
 pub returns-in-None-clause-rows : goal.returns-in-None-clause-rows
 returns-in-None-clause-rows c =

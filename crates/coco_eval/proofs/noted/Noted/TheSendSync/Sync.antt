@@ -1,5 +1,5 @@
 use denote.RattleType.{RattleType}
-use denote.Param.Send.{IsSend, IsSync, part_keyless}
+use denote.Param.Send.{IsSync, part_keyless}
 use Rattle.coco_eval.specs.contracts.noted.Noted.{the_row}
 use Rattle.coco_eval.proofs.noted.Noted.TheSendSync.Send.{send}
 

@@ -1,5 +1,5 @@
 use Rattle.std.proofs.Common.{◌≡◌, refl, ap, sym, ◌∙◌}
-use Rattle.coco_ast.specs.Meaning.{Run, run}
+use Rattle.coco_ast.specs.Meaning.{Run}
 use Rattle.coco_eval.specs.Standing.{Evaluation}
 use Rattle.coco_serial.specs.Applied.{Applied, rows_of, writes_in, last_writes}
 use Rattle.coco_serial.proofs.RowLemmas.{hash_same}

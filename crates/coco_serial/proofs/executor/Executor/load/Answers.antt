@@ -1,7 +1,5 @@
-use Rattle.std.proofs.Common.{◌≡◌, List, ap, ◌∙◌}
+use Rattle.std.proofs.Common.{ap, ◌∙◌}
 use Rattle.std.specs.FinMap.{insert}
-use Rattle.coco_types.specs.declared.call.Write.{Write}
-use Rattle.coco_ast.specs.Keyed.{Rows}
 use Rattle.coco_serial.specs.Applied.{Applied}
 use Rattle.coco_serial.proofs.RowLemmas.{hash_put}
 use Rattle.coco_serial.proofs.RunningLemmas.{applied_same}
