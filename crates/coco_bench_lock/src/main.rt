@@ -1,14 +1,14 @@
-//! Times reads of rows through journaled shards, by 1, 2 and 4 threads on one and on four shards, and reads of a bare shard beside them.
+//! Times reads of rows through journaled shards, by 1, 2 and 4 threads on one, on four and on sixteen shards, and reads of a bare shard beside them.
 #![tactic(auto)]
 
-pub mod bare;
 pub mod lane;
 pub mod measure;
 pub mod readers;
 #[cfg(test)]
 mod tests;
 
-use measure::{Copied, on_bare, on_four, on_one};
+use measure::{Run, on_bare, on_shards};
+use readers::Order;
 use std::io::ErrorKind;
 use std::{env, io};
 
@@ -26,19 +26,20 @@ fn main(rt: HostRuntime) -> io::Result<()> {
         }
     }
     for _ in 0..rounds {
-        for copied in [Copied::Nothing, Copied::Entry, Copied::EntryAndCall] {
-            let time = on_bare(&rt, alloc, copied, steps)?;
-            eprintln!(rt; "{copied:?} {}", time.as_nanos())?;
-        }
-        for threads in [1, 2, 4] {
-            let one = on_one(&rt, alloc, threads, steps)?;
-            let four = on_four(&rt, alloc, threads, steps)?;
-            println!(rt; "{threads} {} {}", one.calls, four.calls)?;
-            eprintln!(rt;
-                "{threads} {} {}",
-                one.time.as_nanos(),
-                four.time.as_nanos()
-            )?;
+        let time = on_bare(&rt, alloc, steps)?;
+        eprintln!(rt; "bare {}", time.as_nanos())?;
+        for (shards, order) in [(1, Order::Rising), (4, Order::Rising), (16, Order::Random)] {
+            for threads in [1, 2, 4] {
+                let run = Run {
+                    shards,
+                    threads,
+                    steps,
+                    order,
+                };
+                let timed = on_shards(&rt, alloc, &run)?;
+                println!(rt; "{shards} {threads} {}", timed.calls)?;
+                eprintln!(rt; "{shards} {threads} {}", timed.time.as_nanos())?;
+            }
         }
     }
     Ok(())

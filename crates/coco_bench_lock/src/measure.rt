@@ -1,20 +1,31 @@
 //! The time that so many steps take.
 
-ghost use Rattle.std.specs.Prelude.{◌≡◌, ◌<◌, ◌≤◌, All, IfOk, length, vec_len};
+ghost use Rattle.std.specs.Prelude.{◌≡◌, ◌<◌, All};
 
-use crate::bare::Bare;
 use crate::lane::{Desk, read_of};
-use crate::readers::{ROWS, Reader, read_in_threads};
-use coco_journaled::{Journaled, Pass};
-use coco_shard::Shard;
-use coco_types::NoMemory;
+use crate::readers::{Order, ROWS, Reader, read_in_threads};
+use coco_journaled::{Journaled, Kept, Pass, Room};
+use coco_shard::{PackedAnswer, PackedAsk, Shard};
+use coco_types::{Machine, NoMemory};
 use std::alloc::Global;
 use std::io;
 use std::io::ErrorKind;
 use std::rt::Clock;
-use std::sync::Wait;
+use std::sync::{Arc, Wait};
 use std::thread::Threads;
 use std::time::{Duration, Instant};
+
+// A kept entry takes at most 100 bytes, but for a text.
+const _: () = prove!(size_of::<Kept<PackedAsk, PackedAnswer>>() <= 100);
+
+/// How many steps are made, and how.
+#[derive(Clone, Copy, Debug)]
+pub struct Run {
+    pub shards: u32,
+    pub threads: u32,
+    pub steps: u32,
+    pub order: Order,
+}
 
 /// How long so many calls took.
 #[derive(Clone, Copy, Debug)]
@@ -23,117 +34,80 @@ pub struct Timed {
     pub calls: usize,
 }
 
-/// Threads on one journaled shard.
-pub fn on_one<R: Threads + Wait + Clock + Sync>(
+/// Threads on journaled shards, each of them on all of these.
+pub fn on_shards<R: Threads + Wait + Clock + Sync>(
     rt: &R,
     alloc: Global,
-    threads: u32,
-    steps: u32,
+    run: &Run,
 ) -> io::Result<Timed>
-    requires { 0 < threads }
+    requires { 0 < run.now.threads }
 {
-    let (shard, passes) = start(alloc, threads).map_err(refused)?;
-    let mut desks = [Desk {
-        shard: &shard,
-        passes,
-    }];
-    on_desks(rt, alloc, desks.as_mut_slice(), threads, steps)
-}
-
-/// Threads on four journaled shards, each of them on all four.
-pub fn on_four<R: Threads + Wait + Clock + Sync>(
-    rt: &R,
-    alloc: Global,
-    threads: u32,
-    steps: u32,
-) -> io::Result<Timed>
-    requires { 0 < threads }
-{
-    let (first, firsts) = start(alloc, threads).map_err(refused)?;
-    let (second, seconds) = start(alloc, threads).map_err(refused)?;
-    let (third, thirds) = start(alloc, threads).map_err(refused)?;
-    let (fourth, fourths) = start(alloc, threads).map_err(refused)?;
-    let mut desks = [
-        Desk {
-            shard: &first,
-            passes: firsts,
-        },
-        Desk {
-            shard: &second,
-            passes: seconds,
-        },
-        Desk {
-            shard: &third,
-            passes: thirds,
-        },
-        Desk {
-            shard: &fourth,
-            passes: fourths,
-        },
-    ];
-    on_desks(rt, alloc, desks.as_mut_slice(), threads, steps)
-}
-
-/// What is copied of each call of a bare shard.
-#[derive(Clone, Copy, Debug)]
-pub enum Copied {
-    Nothing,
-    Entry,
-    EntryAndCall,
-}
-
-/// A shard without a lock, on this thread.
-pub fn on_bare(rt: &impl Clock, alloc: Global, copied: Copied, steps: u32) -> io::Result<Duration> {
-    let mut bare = Bare::new(alloc, Shard::new(alloc));
-    let began = Instant::now(rt)?;
-    read_bare(&mut bare, copied, steps).map_err(refused)?;
-    began.elapsed(rt)
-}
-
-fn read_bare(bare: &mut Bare<Shard>, copied: Copied, steps: u32) -> Result<(), NoMemory> {
-    for step in 0..steps {
-        let ask = read_of(step % ROWS);
-        match copied {
-            Copied::Nothing => bare.ask(ask)?,
-            Copied::Entry => bare.enter(ask)?,
-            Copied::EntryAndCall => bare.note(ask)?,
-        }
+    let mut desks = Vec::new(alloc);
+    for _ in 0..run.shards {
+        desks.push(opened(alloc, run).map_err(refused)?)?;
     }
-    Ok(())
-}
-
-// An empty shard behind a journaled lock, with its passes.
-fn start(alloc: Global, passes: u32) -> Result<(Journaled<Shard>, Vec<Pass<Shard>>), NoMemory>
-    requires { 0 < passes }
-    ensures { IfOk result (λ r. All (λ pass. pass.lock ≡ r.0.id) r.1.items) }
-{
-    match Journaled::start(alloc, Shard::new(alloc), passes) {
-        Ok(made) => Ok(made),
-        Err((_, NoMemory)) => Err(NoMemory),
-    }
+    on_desks(rt, alloc, run, desks.as_mut_slice())
 }
 
 // A reader for each thread, and the steps divided among them.
-fn on_desks<'a, R: Threads + Wait + Clock + Sync>(
+fn on_desks<R: Threads + Wait + Clock + Sync>(
     rt: &R,
     alloc: Global,
-    desks: &mut [Desk<'a>],
-    threads: u32,
-    steps: u32,
+    run: &Run,
+    desks: &mut [Desk],
 ) -> io::Result<Timed>
-    requires { 0 < threads }
+    requires { 0 < run.now.threads }
 {
     let mut readers = Vec::new(alloc);
-    for _ in 0..threads {
+    for _ in 0..run.threads {
         readers.push(Reader::new(alloc, desks).map_err(refused)?)?;
     }
     let began = Instant::now(rt)?;
-    read_in_threads(rt, readers.as_mut_slice(), steps / threads);
+    read_in_threads(
+        rt,
+        readers.as_mut_slice(),
+        run.steps / run.threads,
+        run.order,
+    );
     let time = began.elapsed(rt)?;
     let calls = readers
         .iter()
         .fold(0, |sum: usize, reader| sum.saturating_add(reader.calls()));
     Ok(Timed { time, calls })
+}
+
+/// A shard without a lock, on this thread.
+pub fn on_bare(rt: &impl Clock, alloc: Global, steps: u32) -> io::Result<Duration> {
+    let mut shard = Shard::new(alloc);
+    let began = Instant::now(rt)?;
+    for step in 0..steps {
+        shard.apply(read_of(step % ROWS)).map_err(refused)?;
+    }
+    began.elapsed(rt)
+}
+
+// An empty shard behind a journaled lock, with its passes and with room as an earlier run would leave it.
+fn opened(alloc: Global, run: &Run) -> Result<Desk, NoMemory>
+    requires { 0 < run.now.threads }
+{
+    let room = Room::new(alloc, run.steps as usize, run.threads)?;
+    let Ok((shard, passes)) = Journaled::start(alloc, Shard::new(alloc), run.threads, room) else {
+        return Err(NoMemory);
+    };
+    desk_of(alloc, shard, passes)
+}
+
+fn desk_of(
+    alloc: Global,
+    shard: Journaled<Shard>,
+    passes: Vec<Pass<Shard>>,
+) -> Result<Desk, NoMemory>
+    requires { All (λ pass. pass.lock ≡ shard.id) passes.items }
+{
+    let Ok(shard) = Arc::new(alloc, shard) else {
+        return Err(NoMemory);
+    };
+    Ok(Desk { shard, passes })
 }
 
 fn refused(_error: NoMemory) -> io::Error {

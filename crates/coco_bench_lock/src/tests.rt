@@ -2,26 +2,25 @@
 
 ghost use Rattle.std.specs.Prelude.{◌≡◌, []};
 
-use crate::lane::{Lane, read_of};
-use coco_journaled::{Closed, Entry, Journaled, Pass, Placed};
-use coco_shard::{Answer, Ask, Shard};
+use crate::lane::read_of;
+use coco_journaled::{Closed, Journal, Journaled, Pass, Room};
+use coco_shard::Shard;
 use std::sync::Wait;
 use std::test::Fail;
 use std::thread;
 use std::thread::Threads;
 
 // Reads rows 0 to 999, or as many as there is memory for.
-fn all_read(rt: &impl Wait, shard: &Journaled<Shard>, pass: Pass<Shard>) -> Pass<Shard>
+fn all_read(rt: &impl Wait, shard: &Journaled<Shard>, mut pass: Pass<Shard>) -> Pass<Shard>
     requires { pass.lock ≡ shard.now.id }
     ensures { result.lock ≡ shard.now.id }
 {
-    let mut lane = Lane::new(shard, pass);
     for row in 0..1000 {
-        if lane.read(rt, row).is_err() {
-            return lane.into_pass();
+        if shard.step(rt, &mut pass, read_of(row)).is_err() {
+            return pass;
         }
     }
-    lane.into_pass()
+    pass
 }
 
 // Two threads read side by side.
@@ -65,31 +64,35 @@ fn closed(
     Some(shard.close(passes))
 }
 
-// Whether each call stands further on than the one before it.
-fn rises(calls: &[Placed<Ask, Answer>]) -> bool {
-    calls
+// Whether each place is further on than the one before it.
+fn rises(places: &[u64]) -> bool {
+    places
         .iter()
-        .zip(calls.iter().skip(1))
-        .all(|(call, next)| call.place < next.place)
+        .zip(places.iter().skip(1))
+        .all(|(place, next)| place < next)
 }
 
 // Whether the entries of the pass read rows 0 to 999, in order.
-fn reads_each_row_once(journal: &[Entry<Ask, Answer>], pass: u32) -> bool {
-    let mut asks = journal
-        .iter()
-        .filter(|entry| entry.pass == pass)
-        .map(|entry| entry.ask);
-    for row in 0..1000 {
-        if asks.next() != Some(read_of(row)) {
+fn reads_each_row_once(journal: &Journal<Shard>, pass: u32) -> bool {
+    let mut next: u32 = 0;
+    for place in 0..journal.len() {
+        let Some(entry) = journal.get(place) else {
             return false;
+        };
+        if entry.pass == pass {
+            if entry.ask != read_of(next) {
+                return false;
+            }
+            next = next.wrapping_add(1);
         }
     }
-    asks.next().is_none()
+    next == 1000
 }
 
 #[test]
 fn two_threads_read_1000_rows_each_of_one_shard(rt: HostRuntime) -> Result<(), Fail> {
-    let made = Journaled::start(rt.alloc(), Shard::new(rt.alloc()), 2);
+    let room = Room::new(rt.alloc(), 0, 0)?;
+    let made = Journaled::start(rt.alloc(), Shard::new(rt.alloc()), 2, room);
     let Ok((shard, mut passes)) = made else {
         return Err(Fail::from("no memory"));
     };
@@ -98,13 +101,13 @@ fn two_threads_read_1000_rows_each_of_one_shard(rt: HostRuntime) -> Result<(), F
     };
     let (one, other) = both(&rt, &shard, one, other);
     for pass in [&one, &other] {
-        assert_eq!(rt; pass.calls().len(), 1000);
-        assert!(rt; rises(pass.calls()));
+        assert_eq!(rt; pass.places().len(), 1000);
+        assert!(rt; rises(pass.places()));
     }
     let closed = closed(shard, passes, one, other).ok_or("no memory")?;
     assert_eq!(rt; closed.journal.len(), 2000);
     for pass in [0, 1] {
-        assert!(rt; reads_each_row_once(closed.journal.as_slice(), pass));
+        assert!(rt; reads_each_row_once(&closed.journal, pass));
     }
     assert_eq!(rt; closed.machine.greatest_time(), 0);
     Ok(())

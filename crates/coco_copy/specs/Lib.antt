@@ -1,5 +1,6 @@
+pub mod Codes
 pub mod CopyState
-pub mod Puts
 pub mod Greatest
 pub mod Kept
-pub mod Codes
+pub mod Packed
+pub mod Puts

@@ -4,11 +4,13 @@
 mod kept;
 pub mod law;
 pub mod ops;
+pub mod packed;
 mod rows;
 mod settle;
 pub mod table;
 
 pub use ops::{CopyAnswer, CopyAsk};
+pub use packed::PackedPut;
 pub use table::CopyTable;
 
 #[cfg(test)]

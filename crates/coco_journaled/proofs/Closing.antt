@@ -7,7 +7,7 @@ use Rattle.coco_seen.specs.Notes.{TableId, Known, fresh}
 use Rattle.coco_seen.specs.Rules.{how_often}
 use Rattle.coco_journaled.specs.declared.entry.Entry.{Entry}
 use Rattle.coco_journaled.specs.declared.entry.Placed.{Placed}
-use Rattle.coco_journaled.specs.Passes.{Passing, entry_of, noted, places, new_pass, pass_at, IsPassOf}
+use Rattle.coco_journaled.specs.Passes.{Passing, Rises, entry_of, noted, called, places, new_pass, pass_at, IsPassOf}
 use Rattle.coco_journaled.specs.Replay.{after, Replays}
 
 all_from_map : {X Y : Type 0} (P : Y → Type 0) (f : X → Y) (xs : List X) → All P (map f xs) → All (λ x. P (f x)) xs
@@ -50,12 +50,16 @@ module _ {M Q A : Type 0} where
   pub sum_of_lengths : (passes : List (Passing M Q A)) → sum_by (λ (p : Passing M Q A). length (map (noted p.number) p.calls)) passes ≡ sum_by (λ (p : Passing M Q A). length p.calls) passes
   sum_of_lengths passes = sum_of_same _ _ (λ p. length_of p.number p.calls) passes
 
-  -- a pass and its note
-  pub note_is : (number : ℕ) (note : Known (Entry Q A) M) (calls : List (Placed Q A)) → IsPassOf number note calls → note ≡ record { lock = note.lock; number = number; root = note.root; list = note.list; calls = map (noted number) calls; holds = false }
-  note_is number note calls is = λ i. record { lock = note.lock; number = is.number_is i; root = note.root; list = note.list; calls = is.calls_are i; holds = is.free i }
-
-  pub begins : (note : Known (Entry Q A) M) (calls : List (Placed Q A)) → (note.calls ≡ []) × (note.holds ≡ false) → calls ≡ [] → IsPassOf note.number note calls
-  begins note calls is none = subst (IsPassOf note.number note) (sym none) record { number_is = refl; free = is.1; calls_are = is.0; before = All-nil (λ (c : Placed Q A). c.place < length note.list); rises = λ i j d less below. absurd (omega arith) }
+  -- a pass that has done nothing
+  pub begins : (note : Known (Entry Q A) M) (own : List ℕ) → (note.calls ≡ []) × (note.holds ≡ false) → own ≡ [] → IsPassOf note.number note own
+  begins note own is none = record {
+    number_is = refl;
+    free = is.1;
+    calls_are = is.0 ∙ ap (λ cs. map (noted note.number) (called cs)) (sym is.0);
+    places_are = none ∙ ap (λ cs. places (called cs)) (sym is.0);
+    before = subst (λ cs. All (λ (c : Placed Q A). c.place < length note.list) (called cs)) (sym is.0) (All-nil (λ (c : Placed Q A). c.place < length note.list));
+    rises = subst (λ cs. Rises (called cs)) (sym is.0) (λ i j d less below. absurd (omega arith));
+  }
 
 -- a machine comes from itself by an empty journal
 pub from_itself : {M Q A : Type 0} (answer_to : M → Q → A) (state_after : M → Q → M) (machine : M) (journal : List (Entry Q A)) → journal ≡ [] → Replays answer_to state_after machine journal machine

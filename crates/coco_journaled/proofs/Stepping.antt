@@ -1,5 +1,5 @@
 -- One more entry in a journal, and one more call of a pass.
-use Rattle.std.proofs.Common.{◌≡◌, ℕ, zero, suc, ◌+◌, ◌<◌, ◌≤◌, ◌⊎◌, inl, inr, ⊎_elim, List, [], ◌∷◌, ◌++◌, length, take, true, false, Some, refl, sym, ap, ◌∙◌, subst, arith, length-append}
+use Rattle.std.proofs.Common.{◌≡◌, ℕ, zero, suc, ◌+◌, ◌<◌, ◌≤◌, ◌⊎◌, inl, inr, ⊎_elim, List, [], ◌∷◌, ◌++◌, map, length, take, true, false, All, Some, refl, sym, ap, ◌∙◌, subst, arith, length-append}
 use Rattle.std.specs.Prelude.{slice_get}
 use mathlib.Core.List.{IsPrefix}
 use Rattle.std.proofs.lemmas.List.{take-append-le, map_push}
@@ -9,7 +9,8 @@ use Rattle.std.proofs.lemmas.List.Sums.{fold_push}
 use Rattle.coco_seen.specs.Notes.{Known}
 use Rattle.coco_journaled.specs.declared.entry.Entry.{Entry}
 use Rattle.coco_journaled.specs.declared.entry.Placed.{Placed}
-use Rattle.coco_journaled.specs.Passes.{entry, placed, noted, IsPassOf}
+use Rattle.std.specs.List.{AllPairs}
+use Rattle.coco_journaled.specs.Passes.{entry, placed, noted, called, places, passing, Rises, Steps, IsPassOf}
 use Rattle.coco_journaled.specs.Replay.{after, Replays}
 
 -- an entry of a longer journal stood there before, or is the last one
@@ -44,22 +45,46 @@ module _ {M Q A : Type 0} (answer_to : M → Q → A) (state_after : M → Q →
 
 module _ {M Q A : Type 0} where
   -- a pass whose note took the value, entered a call, and gave the value back
-  pub pass_entered : (number : ℕ) (old taken gave : Known (Entry Q A) M) (calls kept now : List (Placed Q A)) (found : List (Entry Q A)) (ask : Q) (answer : A) → IsPassOf number old calls → taken ≡ record old { list = found; holds = true } → IsPrefix old.list found
-      → gave ≡ record taken { list = taken.list ++ entry number ask answer ∷ []; calls = taken.calls ++ (length taken.list, entry number ask answer) ∷ []; holds = false } → kept ≡ calls → now ≡ kept ++ placed (length taken.list) ask answer ∷ []
+  pub pass_entered : (number : ℕ) (old taken gave : Known (Entry Q A) M) (own kept now : List ℕ) (found : List (Entry Q A)) (ask : Q) (answer : A) → IsPassOf number old own → taken ≡ record old { list = found; holds = true } → IsPrefix old.list found
+      → gave ≡ record taken { list = taken.list ++ entry number ask answer ∷ []; calls = taken.calls ++ (length taken.list, entry number ask answer) ∷ []; holds = false } → kept ≡ own → now ≡ kept ++ length taken.list ∷ []
       → IsPassOf number gave now
-  pass_entered number old taken gave calls kept now found ask answer is takes begins gives same more =
+  pass_entered number old taken gave own kept now found ask answer is takes begins gives same more =
       let e : Entry Q A = entry number ask answer in
       let c : Placed Q A = placed (length found) ask answer in
+      let calls : List (Placed Q A) = called old.calls in
       let go : Known (Entry Q A) M → Known (Entry Q A) M = λ k. record k { list = k.list ++ e ∷ []; calls = k.calls ++ (length k.list, e) ∷ []; holds = false } in
       let note : record old { list = found ++ e ∷ []; calls = old.calls ++ (length found, e) ∷ []; holds = false } ≡ gave = ap go (sym takes) ∙ sym gives in
       let size : length taken.list ≡ length found = ap (λ (k : Known (Entry Q A) M). length k.list) takes in
-      let grown : calls ++ c ∷ [] ≡ now = ap (λ l. l ++ c ∷ []) (sym same) ∙ (ap (λ n. kept ++ placed n ask answer ∷ []) (sym size) ∙ sym more) in
+      let grown : own ++ length found ∷ [] ≡ now = ap (λ l. l ++ length found ∷ []) (sym same) ∙ (ap (λ n. kept ++ n ∷ []) (sym size) ∙ sym more) in
       let longer : length old.list ≤ length found = omega (arith, length-append old.list begins.0, ap length begins.1) in
       let all : length (found ++ e ∷ []) ≡ length found + 1 = length-append found (e ∷ []) in
-      subst (λ (p : Known (Entry Q A) M × List (Placed Q A)). IsPassOf number p.0 p.1) (λ i. (note i, grown i)) record {
+      let one_more : called (old.calls ++ (length found, e) ∷ []) ≡ calls ++ c ∷ [] = map_push (λ (x : ℕ × Entry Q A). placed x.0 x.1.ask x.1.answer) old.calls (length found, e) in
+      let rising : AllPairs (λ (x y : Placed Q A). x.place < y.place) (calls ++ c ∷ []) = all_pairs_push (λ (x y : Placed Q A). x.place < y.place) calls c is.rises (λ k d below. omega (arith, is.before k d below, longer)) in
+      let below : All (λ (x : Placed Q A). x.place < length (found ++ e ∷ [])) (calls ++ c ∷ []) = All-push (λ (x : Placed Q A). x.place < length (found ++ e ∷ [])) calls c (λ k d below. omega (arith, is.before k d below, longer, all)) (omega (arith, all)) in
+      subst (λ (p : Known (Entry Q A) M × List ℕ). IsPassOf number p.0 p.1) (λ i. (note i, grown i)) record {
         number_is = is.number_is;
         free = refl;
-        calls_are = ap (λ l. l ++ (length found, e) ∷ []) is.calls_are ∙ sym (map_push (noted number) calls c);
-        before = All-push (λ (x : Placed Q A). x.place < length (found ++ e ∷ [])) calls c (λ k d below. omega (arith, is.before k d below, longer, all)) (omega (arith, all));
-        rises = all_pairs_push (λ (x y : Placed Q A). x.place < y.place) calls c is.rises (λ k d below. omega (arith, is.before k d below, longer));
+        calls_are = ap (λ l. l ++ (length found, e) ∷ []) is.calls_are ∙ (sym (map_push (noted number) calls c) ∙ ap (map (noted number)) (sym one_more));
+        places_are = ap (λ l. l ++ length found ∷ []) is.places_are ∙ (sym (map_push (λ (x : Placed Q A). x.place) calls c) ∙ ap places (sym one_more));
+        before = subst (All (λ (x : Placed Q A). x.place < length (found ++ e ∷ []))) (sym one_more) below;
+        rises = subst Rises (sym one_more) rising;
       }
+
+  -- what it tells of the step
+  pub pass_steps : (answer_to : M → Q → A) (state_after : M → Q → M) (number : ℕ) (old taken gave : Known (Entry Q A) M) (root machine : M) (found : List (Entry Q A)) (ask : Q) (answer : A) → taken ≡ record old { list = found; holds = true } → IsPrefix old.list found
+      → old.root ≡ Some root → Replays answer_to state_after root found machine → answer ≡ answer_to machine ask
+      → gave ≡ record taken { list = taken.list ++ entry number ask answer ∷ []; calls = taken.calls ++ (length taken.list, entry number ask answer) ∷ []; holds = false }
+      → Steps answer_to state_after (passing number old) ask answer (passing number gave)
+  pass_steps answer_to state_after number old taken gave root machine found ask answer takes begins rooted run says gives =
+      let e : Entry Q A = entry number ask answer in
+      let seen : List (Entry Q A) = old.list ++ begins.0 in
+      let from : List (Entry Q A) → Known (Entry Q A) M = λ l. record old { list = l ++ e ∷ []; calls = old.calls ++ (length l, e) ∷ []; holds = false } in
+      let go : Known (Entry Q A) M → Known (Entry Q A) M = λ k. record k { list = k.list ++ e ∷ []; calls = k.calls ++ (length k.list, e) ∷ []; holds = false } in
+      let note : gave ≡ from seen = gives ∙ (ap go takes ∙ ap from (sym begins.1)) in
+      let one_more : called (old.calls ++ (length seen, e) ∷ []) ≡ called old.calls ++ placed (length seen) ask answer ∷ [] = map_push (λ (x : ℕ × Entry Q A). placed x.0 x.1.ask x.1.answer) old.calls (length seen, e) in (
+        root,
+        begins.0,
+        rooted,
+        says ∙ ap (λ m. answer_to m ask) (run.machine_is ∙ ap (after state_after root) (sym begins.1)),
+        ap (passing number) note ∙ ap (λ cs. record (passing number old) { list = seen ++ e ∷ []; calls = cs }) one_more,
+      )

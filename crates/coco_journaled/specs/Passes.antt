@@ -29,6 +29,10 @@ module _ {Q A : Type 0} where
   abbrev pub noted : ℕ → Placed Q A → ℕ × Entry Q A
   noted number c = (c.place, entry_of number c)
 
+  -- the calls that a note has
+  abbrev pub called : List (ℕ × Entry Q A) → List (Placed Q A)
+  called calls = map (λ (c : ℕ × Entry Q A). placed c.0 c.1.ask c.1.answer) calls
+
   abbrev pub places : List (Placed Q A) → List ℕ
   places calls = map (λ (c : Placed Q A). c.place) calls
 
@@ -45,24 +49,26 @@ module _ {M Q A : Type 0} where
   abbrev pub new_pass : TableId → M → ℕ → Passing M Q A
   new_pass lock machine number = record { lock = lock; number = number; root = Some machine; list = []; calls = [] }
 
-  abbrev pub passing : ℕ → Known (Entry Q A) M → List (Placed Q A) → Passing M Q A
-  passing number note calls = record { lock = note.lock; number = number; root = note.root; list = note.list; calls = calls }
+  -- a pass, by its note
+  abbrev pub passing : ℕ → Known (Entry Q A) M → Passing M Q A
+  passing number note = record { lock = note.lock; number = number; root = note.root; list = note.list; calls = called note.calls }
 
   -- the pass of a new note
   abbrev pub pass_at : Known (Entry Q A) M → Passing M Q A
-  pass_at note = passing note.number note []
+  pass_at note = passing note.number note
 
   -- the note of a pass
   abbrev pub note_of : Passing M Q A → Known (Entry Q A) M
   note_of p = record { lock = p.lock; number = p.number; root = p.root; list = p.list; calls = map (noted p.number) p.calls; holds = false }
 
-  -- what is true of every pass: its calls are its note's, and they rise
-  pub record IsPassOf (number : ℕ) (note : Known (Entry Q A) M) (calls : List (Placed Q A)) : Type 0 where
+  -- what is true of every pass: its note's calls are entered under its number and rise, and it has their places
+  pub record IsPassOf (number : ℕ) (note : Known (Entry Q A) M) (own : List ℕ) : Type 0 where
     pub number_is : note.number ≡ number
     pub free : note.holds ≡ false
-    pub calls_are : note.calls ≡ map (noted number) calls
-    pub before : All (λ (c : Placed Q A). c.place < length note.list) calls
-    pub rises : Rises calls
+    pub calls_are : note.calls ≡ map (noted number) (called note.calls)
+    pub places_are : own ≡ places (called note.calls)
+    pub before : All (λ (c : Placed Q A). c.place < length note.list) (called note.calls)
+    pub rises : Rises (called note.calls)
 
 -- what a pass sees of a step that entered nothing: entries of other passes
 abbrev pub Looks : {M Q A : Type 0} → Passing M Q A → Passing M Q A → Type 0

@@ -2,25 +2,31 @@
 
 ghost use Rattle.std.specs.Prelude.{◌≡◌, ℕ, ◌<◌, ◌≤◌, [], ◌∷◌, ◌++◌, map, length, true, false, All, Some, slice_get, IfOk, IfErr, OnOk, sum_by, vec_len, vec_capacity};
 ghost use Rattle.coco_seen.specs.Rules.{numbers, how_often, once_below};
+ghost use Rattle.coco_journaled.specs.Packing.{unpacked, unpacked_entry};
 ghost use Rattle.coco_journaled.specs.Passes.{HasPasses, placed, entry_of, places, Rises, new_pass, pass_at, Steps, Looks};
 ghost use Rattle.coco_journaled.specs.Replay.{Replays};
 
-use crate::entry::{Closed, Entry, Placed};
+use crate::entry::Entry;
 use crate::guarded::Guarded;
+use crate::journal::{Journal, Kept};
 use crate::pass::Pass;
+use crate::room::{Closed, Room};
+use coco_packs::Packs;
 use coco_seen::{Note, Seen};
-use coco_types::{Machine, NoMemory, Sequence};
+use coco_types::NoMemory;
 use std::alloc::Global;
 use std::marker::Model;
 use std::sync::Wait;
 
 /// A machine behind a lock that keeps a journal of its calls. To a contract it is its identity and the number of its passes.
 #[derive(Drop)]
-pub struct Journaled<M: Machine> {
+pub struct Journaled<M: Packs> {
     seen: Seen<Guarded<M>>,
+    /// Takes the lists of the passes in at the end, for which it has room.
+    lists: Vec<Vec<u64>>,
 }
 
-impl<M: Machine> Model for Journaled<M> {
+impl<M: Packs> Model for Journaled<M> {
     ghost use Rattle.coco_seen.specs.Notes.{Lock};
 
     ghost Value = { Lock };
@@ -28,12 +34,13 @@ impl<M: Machine> Model for Journaled<M> {
     ghost view = { λ j. j.seen };
 }
 
-impl<M: Machine> Journaled<M> {
-    /// A machine behind a lock, and `passes` passes for it. Out of memory, the machine comes back.
+impl<M: Packs> Journaled<M> {
+    /// A machine behind a lock, and `passes` passes for it. The journal and the passes begin with this room. Out of memory, the machine comes back, and the room is let go.
     pub fn start(
         alloc: Global,
         machine: M,
         passes: u32,
+        room: Room<M>,
     ) -> Result<(Journaled<M>, Vec<Pass<M>>), (M, NoMemory)>
         requires { 0 < passes }
         ensures lock { IfOk result (λ r. r.0.notes ≡ passes) }
@@ -41,17 +48,22 @@ impl<M: Machine> Journaled<M> {
         ensures passes { IfOk result (λ r. r.1.items ≡ map (new_pass r.0.id machine) (numbers 0 passes)) }
         ensures err { IfErr result (λ e. e.0 ≡ machine) }
     {
+        let Room { journal, mut lists } = room;
+        let more = (passes as usize).saturating_sub(lists.len());
+        if lists.reserve(more).is_err() {
+            return Err((machine, NoMemory));
+        }
         let Ok(list) = Vec::with_capacity(alloc, passes as usize) else {
             return Err((machine, NoMemory));
         };
         let guarded = Guarded {
             machine,
-            journal: Vec::new(alloc),
+            journal: journal.into_room(),
         };
         match Seen::make(alloc, guarded, passes) {
             Ok((seen, notes)) => {
-                let list = passes_of(alloc, notes, list);
-                Ok((Journaled { seen }, list))
+                let list = passes_of(alloc, notes, list, &mut lists);
+                Ok((Journaled { seen, lists }, list))
             }
             Err((guarded, NoMemory)) => {
                 let Guarded {
@@ -74,7 +86,10 @@ impl<M: Machine> Journaled<M> {
         ensures ok { IfOk result (λ answer. Steps M.answer_to M.state_after pass.old ask answer pass.new) }
         ensures err { IfErr result (λ _. Looks pass.old pass.new) }
     {
-        make_room(&mut pass.calls)?;
+        make_room(&mut pass.places)?;
+        let alloc = *pass.places.allocator();
+        let kept_ask = M::pack_ask(alloc, &ask)?;
+        let spare = spare_of::<M>(alloc, &mut pass.spare)?;
         let mut guarded = self.seen.take(rt, &mut pass.note);
         let Ok(()) = make_room(&mut guarded.journal) else {
             self.seen.give(&mut pass.note, guarded);
@@ -84,13 +99,20 @@ impl<M: Machine> Journaled<M> {
             self.seen.give(&mut pass.note, guarded);
             return Err(NoMemory);
         };
+        let (kept_answer, spare) = M::pack_answer(&answer, spare);
+        pass.spare = spare;
+        let kept = Kept {
+            pass: pass.number,
+            ask: kept_ask,
+            answer: kept_answer,
+        };
         let entry = Entry {
             pass: pass.number,
             ask,
             answer,
         };
-        let place = self.enter(&mut pass.note, guarded, entry);
-        pass.calls.push_reserved(Placed { place, ask, answer });
+        let place = self.enter(&mut pass.note, guarded, kept, entry);
+        pass.places.push_reserved(place);
         Ok(answer)
     }
 
@@ -105,11 +127,12 @@ impl<M: Machine> Journaled<M> {
         ensures passes { map (λ pass. pass.number) passes.items ≡ numbers 0 (length passes.items) → HasPasses passes.items result.journal }
         ensures sized { length result.journal ≡ sum_by (λ pass. length pass.calls) passes.items }
     {
-        let Journaled { seen } = self;
-        let Guarded { machine, journal } = seen.close_of(passes);
+        let Journaled { seen, mut lists } = self;
+        let Guarded { machine, journal } = seen.close_of(passes, &mut lists);
         Closed {
             machine,
-            journal: Sequence::from_vec(journal),
+            journal: Journal::of(journal),
+            lists,
         }
     }
 
@@ -118,24 +141,34 @@ impl<M: Machine> Journaled<M> {
         &self,
         note: &mut Note<Guarded<M>>,
         mut guarded: Guarded<M>,
+        kept: Kept<M::PackedAsk, M::PackedAnswer>,
         entry: Entry<M::Ask, M::Answer>,
     ) -> u64
         requires lock { note.old.lock ≡ self.now.id }
         requires holds { note.old.holds ≡ true }
-        requires list { guarded.journal.items ≡ note.old.list }
-        requires from { (root : M) × (note.old.root ≡ Some root) × Replays M.answer_to M.state_after root (guarded.journal.items ++ entry ∷ []) guarded.machine }
+        requires kept { unpacked_entry M.ask_of M.answer_of kept ≡ entry }
+        requires list { unpacked M.ask_of M.answer_of guarded.journal.items ≡ note.old.list }
+        requires from { (root : M) × (note.old.root ≡ Some root) × Replays M.answer_to M.state_after root (unpacked M.ask_of M.answer_of guarded.journal.items ++ entry ∷ []) guarded.machine }
         requires room { vec_len guarded.journal < vec_capacity guarded.journal }
         ensures place { result ≡ length note.old.list }
         ensures note { note.new ≡ record note.old { list = note.old.list ++ entry ∷ []; calls = note.old.calls ++ (length note.old.list, entry) ∷ []; holds = false } }
     {
-        guarded.journal.push_reserved(entry);
+        guarded.journal.push_reserved(kept);
         let place = self.seen.append(note, entry);
         self.seen.give(note, guarded);
         place
     }
 }
 
-// Takes the room for one more item. Items are large, and are copied where a list grows, so a full list becomes four times as long, or twice where memory is short.
+// Takes the spare memory, or makes some where there is none.
+fn spare_of<M: Packs>(alloc: Global, spare: &mut Option<M::Spare>) -> Result<M::Spare, NoMemory> {
+    match spare.take() {
+        Some(spare) => Ok(spare),
+        None => M::spare(alloc),
+    }
+}
+
+// Takes the room for one more item. Items are copied where a list grows, so a full list becomes four times as long, or one longer where memory is short.
 fn make_room<T>(items: &mut Vec<T>) -> Result<(), NoMemory>
     ensures items { items.new.items ≡ items.old.items }
     ensures room { OnOk result (vec_len items.new < vec_capacity items.new) }
@@ -151,10 +184,11 @@ fn make_room<T>(items: &mut Vec<T>) -> Result<(), NoMemory>
 }
 
 // A pass for each note, in their order. There is room for them.
-fn passes_of<M: Machine>(
+fn passes_of<M: Packs>(
     alloc: Global,
     notes: Vec<Note<Guarded<M>>>,
     mut list: Vec<Pass<M>>,
+    lists: &mut Vec<Vec<u64>>,
 ) -> Vec<Pass<M>>
     requires empty { list.items ≡ [] }
     requires room { vec_len notes ≤ vec_capacity list }
@@ -163,11 +197,34 @@ fn passes_of<M: Machine>(
     ensures passes { result.items ≡ map pass_at notes.items }
 {
     for note in notes {
-        list.push_reserved(Pass {
-            number: note.number(),
-            note,
-            calls: Vec::new(alloc),
-        });
+        list.push_reserved(pass_of(note, empty_list(alloc, lists)));
     }
     list
+}
+
+// A pass that has done nothing.
+fn pass_of<M: Packs>(note: Note<Guarded<M>>, places: Vec<u64>) -> Pass<M>
+    requires new { (note.calls ≡ []) × (note.holds ≡ false) }
+    requires empty { places.items ≡ [] }
+    ensures { result ≡ pass_at note }
+{
+    Pass {
+        number: note.number(),
+        note,
+        places,
+        spare: None,
+    }
+}
+
+// One of the lists, emptied, or a new one where none is left.
+fn empty_list(alloc: Global, lists: &mut Vec<Vec<u64>>) -> Vec<u64>
+    ensures { result.items ≡ [] }
+{
+    match lists.pop() {
+        Some(mut list) => {
+            list.clear();
+            list
+        }
+        None => Vec::new(alloc),
+    }
 }

@@ -3,12 +3,16 @@
 
 pub mod entry;
 mod guarded;
+pub mod journal;
 pub mod journaled;
 pub mod pass;
+pub mod room;
 
-pub use entry::{Closed, Entry, Journal, Placed};
+pub use entry::{Entry, Placed};
+pub use journal::{Journal, Kept};
 pub use journaled::Journaled;
 pub use pass::Pass;
+pub use room::{Closed, Room};
 
 #[cfg(test)]
 mod tests;

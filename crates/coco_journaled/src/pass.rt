@@ -1,62 +1,73 @@
-//! A pass: the right to step a journaled machine, with the calls that were made by it.
+//! A pass: the right to step a journaled machine, with the places of the calls that were made by it.
 
 ghost use Rattle.std.specs.Prelude.{◌≡◌};
+ghost use Rattle.coco_journaled.specs.Passes.{places};
 
-use crate::entry::Placed;
 use crate::guarded::Guarded;
+use coco_packs::Packs;
 use coco_seen::{HoldsNote, Note};
-use coco_types::Machine;
 use std::marker::Model;
 
 /// What one caller knows of a journaled lock and has done under it. To a contract it is its number, the machine at the start, the entries that it has seen, and its own calls with their places.
-pub struct Pass<M: Machine> {
+pub struct Pass<M: Packs> {
     pub(crate) number: u32,
     pub(crate) note: Note<Guarded<M>>,
-    pub(crate) calls: Vec<Placed<M::Ask, M::Answer>>,
+    pub(crate) places: Vec<u64>,
+    /// Memory for the packing of the next answer.
+    pub(crate) spare: Option<M::Spare>,
 }
 
-impl<M: Machine> Model for Pass<M> {
+impl<M: Packs> Model for Pass<M> {
     ghost use Rattle.coco_journaled.specs.Passes.{Passing, passing, IsPassOf};
 
     ghost Value = { Passing M M.Ask M.Answer };
 
-    ghost view = { λ p. passing p.number p.note p.calls.items };
+    ghost view = { λ p. passing p.number p.note };
 
-    ghost invariant = { λ p. IsPassOf p.number p.note p.calls.items };
+    ghost invariant = { λ p. IsPassOf p.number p.note p.places.items };
 }
 
-impl<M: Machine> Drop for Pass<M> {
+impl<M: Packs> Drop for Pass<M> {
     fn drop(self) {
         let Pass {
             number: _,
             note: _,
-            calls: _,
+            places: _,
+            spare: _,
         } = self;
     }
 }
 
-impl<M: Machine> Pass<M> {
-    /// Its calls, in the order in which it made them.
-    pub fn calls(&self) -> &[Placed<M::Ask, M::Answer>]
-        ensures { result.now ≡ self.now.calls }
+impl<M: Packs> Pass<M> {
+    /// The places of its calls, in the order in which it made them.
+    pub fn places(&self) -> &[u64]
+        ensures { result.now ≡ places self.now.calls }
     {
-        self.calls.as_slice()
+        self.places.as_slice()
     }
 }
 
-impl<M: Machine> HoldsNote<Guarded<M>> for Pass<M> {
+impl<M: Packs> HoldsNote<Guarded<M>> for Pass<M> {
     ghost use Rattle.coco_journaled.specs.Passes.{note_of, Rises};
 
     ghost note = { note_of };
 
     ghost fact = { λ p. Rises p.calls };
 
-    fn into_note(self) -> Note<Guarded<M>> {
+    type Rests = Vec<Vec<u64>>;
+
+    // The list is kept where there is room for it.
+    fn into_note(self, lists: &mut Vec<Vec<u64>>) -> Note<Guarded<M>> {
         let Self {
             number: _,
             note,
-            calls: _,
+            mut places,
+            spare: _,
         } = self;
+        places.clear();
+        if lists.len() < lists.capacity() {
+            lists.push_reserved(places);
+        }
         note
     }
 }

@@ -3,7 +3,9 @@
 ghost use Rattle.std.specs.Prelude.{◌≡◌, ◌+◌, ◌%◌, ◌^◌, []};
 
 use super::*;
+use coco_packs::Packs;
 use coco_types::{Machine, NoMemory};
+use std::alloc::Global;
 use std::sync::Wait;
 use std::test::*;
 use std::thread;
@@ -28,6 +30,39 @@ impl Machine for Tally {
         let before = self.total;
         self.total = before.wrapping_add(u64::from(ask));
         Ok(before)
+    }
+}
+
+// Numbers are kept as they are.
+impl Packs for Tally {
+    type PackedAsk = u32;
+
+    type PackedAnswer = u64;
+
+    type Spare = ();
+
+    ghost ask_of = { λ ask. ask };
+
+    ghost answer_of = { λ answer. answer };
+
+    fn pack_ask(_alloc: Global, ask: &u32) -> Result<u32, NoMemory> {
+        Ok(*ask)
+    }
+
+    fn spare(_alloc: Global) -> Result<(), NoMemory> {
+        Ok(())
+    }
+
+    fn pack_answer(answer: &u64, _spare: ()) -> (u64, Option<()>) {
+        (*answer, None)
+    }
+
+    fn unpack_ask(packed: &u32) -> u32 {
+        *packed
+    }
+
+    fn unpack_answer(packed: &u64) -> u64 {
+        *packed
     }
 }
 
@@ -85,17 +120,64 @@ fn closed(
     Some(tally.close(passes))
 }
 
-#[test]
-fn two_threads_leave_one_journal_of_all_their_calls(rt: HostRuntime) -> Result<(), Fail> {
-    let Ok((tally, mut passes)) = Journaled::start(rt.alloc(), Tally { total: 0 }, 2) else {
-        return Err(Fail::from("no memory"));
+// Two threads ask 500 times each, on a lock with this room.
+fn asked_by_two<R: Threads + Wait + Sync>(
+    rt: &R,
+    alloc: Global,
+    room: Room<Tally>,
+) -> Option<Closed<Tally>> {
+    let Ok((tally, mut passes)) = Journaled::start(alloc, Tally { total: 0 }, 2, room) else {
+        return None;
     };
     let (Some(other), Some(one)) = (passes.pop(), passes.pop()) else {
-        return Err(Fail::from("no passes"));
+        return None;
     };
-    let (one, other) = both(&rt, &tally, one, other);
-    assert_eq!(rt; (one.calls().len(), other.calls().len()), (500, 500));
-    let closed = closed(tally, passes, one, other).ok_or("no memory")?;
+    let (one, other) = both(rt, &tally, one, other);
+    if (one.places().len(), other.places().len()) != (500, 500) {
+        return None;
+    }
+    closed(tally, passes, one, other)
+}
+
+// Whether each entry asks for 1, and is answered how many there were before.
+fn counts_up(journal: &Journal<Tally>) -> bool {
+    for place in 0..journal.len() {
+        let Some(entry) = journal.get(place) else {
+            return false;
+        };
+        if (entry.ask, entry.answer) != (1, place as u64) {
+            return false;
+        }
+    }
+    true
+}
+
+#[test]
+fn two_threads_leave_one_journal_of_all_their_calls(rt: HostRuntime) -> Result<(), Fail> {
+    let room = Room::new(rt.alloc(), 0, 0)?;
+    let closed = asked_by_two(&rt, rt.alloc(), room).ok_or("no memory")?;
     assert_eq!(rt; (closed.journal.len(), closed.machine.total), (1000, 1000));
+    assert!(rt; counts_up(&closed.journal));
+    assert!(rt; !closed.journal.is_empty());
+    Ok(())
+}
+
+#[test]
+fn a_lock_begins_with_the_room_that_the_last_one_left(rt: HostRuntime) -> Result<(), Fail> {
+    let room = Room::new(rt.alloc(), 0, 0)?;
+    let closed = asked_by_two(&rt, rt.alloc(), room).ok_or("no memory")?;
+    assert!(rt;
+        closed
+            .lists
+            .iter()
+            .all(|list| list.is_empty() && list.capacity() >= 500)
+    );
+    let room = Room {
+        journal: closed.journal,
+        lists: closed.lists,
+    };
+    let closed = asked_by_two(&rt, rt.alloc(), room).ok_or("no memory")?;
+    assert_eq!(rt; (closed.journal.len(), closed.lists.len()), (1000, 2));
+    assert!(rt; counts_up(&closed.journal));
     Ok(())
 }

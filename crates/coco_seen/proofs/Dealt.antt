@@ -35,21 +35,21 @@ one_more f xs x n e is =
 
 module _ {S E R : Type 0} (entries : S → List E) (comes : R → S → Type 0) where
   pub first_fills : (notes slots id count : ℕ) (me : Me (Option S) (View E R)) (value : S) (root : R) → me ≡ (beginner count, []) → comes root value
-      → Allows (Kept entries comes notes) slots id me 2 (λ n. either (eqb n 0) 1 n) (filled comes (step 0 0 0 0 (opt.some (Some value))) me)
+      → Allows (Kept entries comes notes) slots id me 9 (λ n. either (eqb n 0) 1 n) (filled comes (step 0 0 0 0 (opt.some (Some value))) me)
   first_fills notes slots id count me value root is from =
       let st : Step (Option S) = step 0 0 0 0 (opt.some (Some value)) in
-      subst (λ (m : Me (Option S) (View E R)). Allows (Kept entries comes notes) slots id m 2 (λ n. either (eqb n 0) 1 n) (filled comes st m)) (sym is)
+      subst (λ (m : Me (Option S) (View E R)). Allows (Kept entries comes notes) slots id m 9 (λ n. either (eqb n 0) 1 n) (filled comes st m)) (sym is)
       (fills_it entries comes notes slots id (beginner count) value root st from refl refl refl)
 
   pub first_gives : (notes slots id count : ℕ) (me : Me (Option S) (View E R)) (value : S) (root : R) → 0 < count → comes root value → entries value ≡ []
       → me ≡ (record { roots = root ∷ []; marks = numbers 0 count; list = []; calls = []; holds = true; fills = false }, (0, Some value) ∷ [])
-      → Allows (Kept entries comes notes) slots id me 2 (λ _. 2) (λ _. gave (step 0 0 0 0 opt.none) me 2)
+      → Allows (Kept entries comes notes) slots id me 9 (λ _. 2) (λ _. gave (step 0 0 0 0 opt.none) me 2)
   first_gives notes slots id count me value root some from empty is =
       let st : Step (Option S) = step 0 0 0 0 opt.none in
       let v : View E R = record { roots = root ∷ []; marks = numbers 0 count; list = []; calls = []; holds = true; fills = false } in
       let size : length (numbers 0 count) ≡ count = length_numbers 0 count in
       let marked : v.marks ≢ [] = λ e. absurd (omega (arith, some, size, ap length e)) in
-      subst (λ (m : Me (Option S) (View E R)). Allows (Kept entries comes notes) slots id m 2 (λ _. 2) (λ _. gave st m 2)) (sym is)
+      subst (λ (m : Me (Option S) (View E R)). Allows (Kept entries comes notes) slots id m 9 (λ _. 2) (λ _. gave st m 2)) (sym is)
       (gives_it entries comes notes slots id v value root st marked refl refl from empty)
 
   pub splits_off : (notes id k n : ℕ) (me : Me (Option S) (View E R)) (root : R) → k + 1 < n → me ≡ (started root (numbers k (n - k)), []) → Splits (Kept entries comes notes) id me.0 (without_first me.0) (only_first me.0)

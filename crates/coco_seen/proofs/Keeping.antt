@@ -11,7 +11,7 @@ use Rattle.atomic_table.specs.Table.{State, Me, Step, Act, keeps, takes, gives, 
 use Rattle.atomic_table.proofs.Lists.{set_again, exchanged, at_set, at_snoc}
 use Rattle.std.proofs.lemmas.List.Sums.{sum_by_push}
 use Rattle.coco_seen.specs.declared.view.View.{View}
-use Rattle.coco_seen.specs.Rules.{how_often, once_below, numbers, as_one, places, beginner, Fits, ToFill, AtHome, Held, Kept}
+use Rattle.coco_seen.specs.Rules.{how_often, once_below, numbers, as_one, places, words_of, beginner, Fits, ToFill, AtHome, Held, Kept}
 use Rattle.coco_seen.specs.Steps.{tail_of, without_first, only_first, joined, spent, with_entry, filled, taken, appended, gave}
 use Rattle.coco_seen.proofs.Lists.{each_set, sum_set, sum_same, at_most, two_at_most, only_one, prefix_self, prefix_trans, get_front, get_last, longer_begins, empty_if, often_push, often_append, often_split, length_split, once_more, often_first, none_below, length_numbers}
 
@@ -49,18 +49,18 @@ module _ {S E R : Type 0} (entries : S → List E) (comes : R → S → Type 0) 
       (λ h. ⊎_elim (λ (a : AtHome entries comes k.place s.homes s.views k.log k.root). absurd (omega (arith, one, most, a.holders))) (λ b. b) h)
       k.lies
 
-  word_where : (notes : ℕ) (s : Here) (k : Kept entries comes notes s) → slice_index s.words 2 ≡ k.place
-  word_where notes s k = ap (λ ws. slice_index ws 2) k.words
+  word_where : (notes : ℕ) (s : Here) (k : Kept entries comes notes s) → slice_index s.words 9 ≡ k.place
+  word_where notes s k = ap (λ ws. slice_index ws 9) k.words
 
   -- a step that found another number changes nothing
-  stays : (notes id : ℕ) (v : View E R) (s : Here) → Kept entries comes notes s → get_elem? s.views id ≡ opt.some v → Kept entries comes notes (stepped s 2 (slice_index s.words 2) id [] v keeps)
+  stays : (notes id : ℕ) (v : View E R) (s : Here) → Kept entries comes notes s → get_elem? s.views id ≡ opt.some v → Kept entries comes notes (stepped s 9 (slice_index s.words 9) id [] v keeps)
   stays notes id v s k at =
-      let words : slice_set s.words 2 (slice_index s.words 2) ≡ s.words = ap (λ ws. slice_set ws 2 (slice_index ws 2)) k.words ∙ sym k.words in
+      let words : slice_set s.words 9 (slice_index s.words 9) ≡ s.words = ap (λ ws. slice_set ws 9 (slice_index ws 9)) k.words ∙ sym k.words in
       let views : set s.views id v ≡ s.views = set_again s.views id v at in
       subst (Kept entries comes notes) (λ i. record { words = sym words i; homes = s.homes; views = sym views i }) k
 
   take_home : (notes id : ℕ) (v : View E R) (from : R) (st : Step (Option S)) → v.marks ≢ [] → slice_get v.roots 0 ≡ Some from → v.holds ≡ false → (s : Here) (k : Kept entries comes notes s) → get_elem? s.views id ≡ opt.some v → (n : ℕ) → n ≡ 2
-      → AtHome entries comes k.place s.homes s.views k.log k.root → Goes notes id 2 [] s 1 (taken entries comes st (v, []) n)
+      → AtHome entries comes k.place s.homes s.views k.log k.root → Goes notes id 9 [] s 1 (taken entries comes st (v, []) n)
   take_home notes id v from st marked known free s k at n is h =
       let w : View E R = record v { list = entries h.value; holds = true } in
       let old : Fits k.root k.log v = k.each id v at in
@@ -84,7 +84,7 @@ module _ {S E R : Type 0} (entries : S → List E) (comes : R → S → Type 0) 
           log = k.log;
           root = k.root;
           place = 1;
-          words = ap (λ ws. slice_set ws 2 1) k.words;
+          words = ap (λ ws. slice_set ws 9 1) k.words;
           lies = inr (inr record {
             from = h.from;
             word = refl;
@@ -103,16 +103,16 @@ module _ {S E R : Type 0} (entries : S → List E) (comes : R → S → Type 0) 
       )
 
   pub takes_it : (notes slots id : ℕ) (v : View E R) (from : R) (st : Step (Option S)) → v.marks ≢ [] → slice_get v.roots 0 ≡ Some from → v.holds ≡ false
-      → Allows (Kept entries comes notes) slots id (v, []) 2 (λ n. either (eqb n 2) 1 n) (taken entries comes st (v, []))
+      → Allows (Kept entries comes notes) slots id (v, []) 9 (λ n. either (eqb n 2) 1 n) (taken entries comes st (v, []))
   takes_it notes slots id v from st marked known free s k _ at _ =
-      let n : ℕ = slice_index s.words 2 in
-      exchanged n 2 1 (λ m. Goes notes id 2 [] s m (taken entries comes st (v, []) n))
+      let n : ℕ = slice_index s.words 9 in
+      exchanged n 2 1 (λ m. Goes notes id 9 [] s m (taken entries comes st (v, []) n))
       (λ is. ⊎_elim (take_home notes id v from st marked known free s k at n is) (λ (h : Held entries comes k.place s.homes s.views k.root). absurd (omega (arith, is, word_where notes s k, h.word))) (not_to_fill notes id v from s k at known))
       (λ no. (v, keeps, tt, stays notes id v s k at, ((λ is. absurd (no is)), λ _. refl)))
 
   appends_to : (notes id : ℕ) (v : View E R) (c : List (ℕ × Option S)) (st : Step (Option S)) (said : Option E) (entry : E) → said ≡ Some entry → v.marks ≢ [] → v.holds ≡ true → length v.list + 1 < 2 ^ 64
       → (s : Here) (k : Kept entries comes notes s) → get_elem? s.views id ≡ opt.some v → Held entries comes k.place s.homes s.views k.root
-      → Goes notes id 1 c s ((slice_index s.words 1 + 1) % 2 ^ 64) (appended said st (v, c) (slice_index s.words 1))
+      → Goes notes id 8 c s ((slice_index s.words 8 + 1) % 2 ^ 64) (appended said st (v, c) (slice_index s.words 8))
   appends_to notes id v c st said entry says marked has room s k at h =
       let w : View E R = with_entry v entry in
       let old : Fits k.root k.log v = k.each id v at in
@@ -120,7 +120,7 @@ module _ {S E R : Type 0} (entries : S → List E) (comes : R → S → Type 0) 
       let longer_by : length log ≡ length k.log + 1 = length-append k.log (entry ∷ []) in
       let same : v.list ≡ k.log = old.whole has in
       let size : length v.list ≡ length k.log = ap length same in
-      let found : slice_index s.words 1 ≡ length k.log = ap (λ ws. slice_index ws 1) k.words in
+      let found : slice_index s.words 8 ≡ length k.log = ap (λ ws. slice_index ws 8) k.words in
       let small : length k.log + 1 < 2 ^ 64 = omega arith in
       let next : (length k.log + 1) % 2 ^ 64 ≡ length log = omega arith in
       let grown : v.list ++ entry ∷ [] ≡ log = ap (λ l. l ++ entry ∷ []) same in
@@ -152,7 +152,7 @@ module _ {S E R : Type 0} (entries : S → List E) (comes : R → S → Type 0) 
           log = log;
           root = k.root;
           place = k.place;
-          words = ap (λ ws. slice_set ws 1 ((slice_index ws 1 + 1) % 2 ^ 64)) k.words ∙ ap (λ x. 0 ∷ x ∷ k.place ∷ []) next;
+          words = ap (λ ws. slice_set ws 8 ((slice_index ws 8 + 1) % 2 ^ 64)) k.words ∙ ap (λ x. words_of x k.place) next;
           lies = inr (inr record {
             from = h.from;
             word = h.word;
@@ -177,11 +177,11 @@ module _ {S E R : Type 0} (entries : S → List E) (comes : R → S → Type 0) 
       )
 
   pub appends_it : (notes slots id : ℕ) (v : View E R) (c : List (ℕ × Option S)) (st : Step (Option S)) (said : Option E) (entry : E) → said ≡ Some entry → v.marks ≢ [] → v.holds ≡ true → length v.list + 1 < 2 ^ 64
-      → Allows (Kept entries comes notes) slots id (v, c) 1 (λ n. (n + 1) % 2 ^ 64) (appended said st (v, c))
+      → Allows (Kept entries comes notes) slots id (v, c) 8 (λ n. (n + 1) % 2 ^ 64) (appended said st (v, c))
   appends_it notes slots id v c st said entry says marked has room s k _ at _ = appends_to notes id v c st said entry says marked has room s k at (is_held notes id v s k at has)
 
   pub gives_it : (notes slots id : ℕ) (v : View E R) (value : S) (root : R) (st : Step (Option S)) → v.marks ≢ [] → v.holds ≡ true → slice_get v.roots 0 ≡ Some root → comes root value → entries value ≡ v.list
-      → Allows (Kept entries comes notes) slots id (v, (0, Some value) ∷ []) 2 (λ _. 2) (λ _. gave st (v, (0, Some value) ∷ []) 2)
+      → Allows (Kept entries comes notes) slots id (v, (0, Some value) ∷ []) 9 (λ _. 2) (λ _. gave st (v, (0, Some value) ∷ []) 2)
   gives_it notes slots id v value root st marked has root_is from list_is s k _ at _ =
       let h = is_held notes id v s k at has in
       let w : View E R = record v { holds = false } in
@@ -203,7 +203,7 @@ module _ {S E R : Type 0} (entries : S → List E) (comes : R → S → Type 0) 
           log = k.log;
           root = k.root;
           place = 2;
-          words = ap (λ ws. slice_set ws 2 2) k.words;
+          words = ap (λ ws. slice_set ws 9 2) k.words;
           lies = inr (inl record {
             value = value;
             from = root;
@@ -234,7 +234,7 @@ module _ {S E R : Type 0} (entries : S → List E) (comes : R → S → Type 0) 
       k.lies
 
   fill_first : (notes id : ℕ) (v : View E R) (value : S) (root : R) (st : Step (Option S)) → comes root value → v.fills ≡ true → v.list ≡ [] → st.said ≡ opt.some (Some value)
-      → (s : Here) (k : Kept entries comes notes s) → get_elem? s.views id ≡ opt.some v → ToFill entries comes k.place s.homes s.views k.log k.root → Goes notes id 2 [] s 1 (filled comes st (v, []) (slice_index s.words 2))
+      → (s : Here) (k : Kept entries comes notes s) → get_elem? s.views id ≡ opt.some v → ToFill entries comes k.place s.homes s.views k.log k.root → Goes notes id 9 [] s 1 (filled comes st (v, []) (slice_index s.words 9))
   fill_first notes id v value root st from fills empty said s k at t =
       let w : View E R = record v { roots = root ∷ []; holds = true; fills = false } in
       let old : Fits k.root k.log v = k.each id v at in
@@ -268,7 +268,7 @@ module _ {S E R : Type 0} (entries : S → List E) (comes : R → S → Type 0) 
           log = k.log;
           root = Some root;
           place = 1;
-          words = ap (λ ws. slice_set ws 2 1) k.words;
+          words = ap (λ ws. slice_set ws 9 1) k.words;
           lies = inr (inr record {
             from = root;
             word = refl;
@@ -287,11 +287,11 @@ module _ {S E R : Type 0} (entries : S → List E) (comes : R → S → Type 0) 
       )
 
   pub fills_it : (notes slots id : ℕ) (v : View E R) (value : S) (root : R) (st : Step (Option S)) → comes root value → v.fills ≡ true → v.list ≡ [] → st.said ≡ opt.some (Some value)
-      → Allows (Kept entries comes notes) slots id (v, []) 2 (λ n. either (eqb n 0) 1 n) (filled comes st (v, []))
+      → Allows (Kept entries comes notes) slots id (v, []) 9 (λ n. either (eqb n 0) 1 n) (filled comes st (v, []))
   fills_it notes slots id v value root st from fills empty said s k _ at _ =
-      let n : ℕ = slice_index s.words 2 in
+      let n : ℕ = slice_index s.words 9 in
       let t = filling notes id v s k at fills in
-      exchanged n 0 1 (λ m. Goes notes id 2 [] s m (filled comes st (v, []) n)) (λ _. fill_first notes id v value root st from fills empty said s k at t) (λ no. absurd (no (word_where notes s k ∙ t.word)))
+      exchanged n 0 1 (λ m. Goes notes id 9 [] s m (filled comes st (v, []) n)) (λ _. fill_first notes id v value root st from fills empty said s k at t) (λ no. absurd (no (word_where notes s k ∙ t.word)))
 
   -- the value lies where it lay, where as many seats hold it and have to fill as before
   resettles : (place : ℕ) (homes : List (opt.Option (Option S))) (views now : List (View E R)) (log : List E) (root : Option R) → sum_by holds_one now ≡ sum_by holds_one views → sum_by fills_one now ≡ sum_by fills_one views
@@ -364,7 +364,7 @@ module _ {S E R : Type 0} (entries : S → List E) (comes : R → S → Type 0) 
       no_marks (x ∷ xs) ys some e = absurd cc
 
   -- the table at the start: one seat stands for all notes, and the slot is empty
-  pub begins_so : (notes : ℕ) → 0 < notes → Kept entries comes notes record { words = 0 ∷ 0 ∷ 0 ∷ []; homes = opt.some None ∷ []; views = beginner notes ∷ [] }
+  pub begins_so : (notes : ℕ) → 0 < notes → Kept entries comes notes record { words = words_of 0 0; homes = opt.some None ∷ []; views = beginner notes ∷ [] }
   begins_so notes some =
       let marks : length (numbers 0 notes) ≡ notes = length_numbers 0 notes in record {
         log = [];

@@ -22,22 +22,22 @@ module _ {S E R : Type 0} (entries : S → List E) (comes : R → S → Type 0) 
   rooted number me is = ap (λ rs. slice_get rs 0) is.roots
 
   pub note_takes : (notes slots id number : ℕ) (me : Me (Option S) (View E R)) → IsSeatOf number me → me.0.holds ≡ false
-      → Allows (Kept entries comes notes) slots id me 2 (λ n. either (eqb n 2) 1 n) (taken entries comes any_step me)
+      → Allows (Kept entries comes notes) slots id me 9 (λ n. either (eqb n 2) 1 n) (taken entries comes any_step me)
   note_takes notes slots id number me is free =
       let empty : me.1 ≡ [] = is.slot ∙ ap carried free in
-      subst (λ (m : Me (Option S) (View E R)). Allows (Kept entries comes notes) slots id m 2 (λ n. either (eqb n 2) 1 n) (taken entries comes any_step m)) (λ i. (me.0, sym empty i))
+      subst (λ (m : Me (Option S) (View E R)). Allows (Kept entries comes notes) slots id m 9 (λ n. either (eqb n 2) 1 n) (taken entries comes any_step m)) (λ i. (me.0, sym empty i))
       (takes_it entries comes notes slots id me.0 is.root any_step (marked number me is) (rooted number me is) free)
 
   pub note_appends : (notes slots id number : ℕ) (me : Me (Option S) (View E R)) (said : Option E) (entry : E) → IsSeatOf number me → said ≡ Some entry → me.0.holds ≡ true → length me.0.list < 2 ^ 63 - 1
-      → Allows (Kept entries comes notes) slots id me 1 (λ n. (n + 1) % 2 ^ 64) (appended said any_step me)
+      → Allows (Kept entries comes notes) slots id me 8 (λ n. (n + 1) % 2 ^ 64) (appended said any_step me)
   note_appends notes slots id number me said entry is says has room = appends_it entries comes notes slots id me.0 me.1 any_step said entry says (marked number me is) has (omega arith)
 
   pub note_gives : (notes slots id number : ℕ) (me now : Me (Option S) (View E R)) (value : S) → IsSeatOf number me → me.0.holds ≡ true → now ≡ (me.0, (0, Some value) ∷ rest me.1) → ComesFrom comes (slice_get me.0.roots 0) value → entries value ≡ me.0.list
-      → Allows (Kept entries comes notes) slots id now 2 (λ _. 2) (λ _. gave any_step now 2)
+      → Allows (Kept entries comes notes) slots id now 9 (λ _. 2) (λ _. gave any_step now 2)
   note_gives notes slots id number me now value is has now_is from list =
       let empty : rest me.1 ≡ [] = ap rest (is.slot ∙ ap carried has) in
       let same : (me.0, (0, Some value) ∷ []) ≡ now = (λ i. (me.0, (0, Some value) ∷ sym empty i)) ∙ sym now_is in
-      subst (λ (m : Me (Option S) (View E R)). Allows (Kept entries comes notes) slots id m 2 (λ _. 2) (λ _. gave any_step m 2)) same
+      subst (λ (m : Me (Option S) (View E R)). Allows (Kept entries comes notes) slots id m 9 (λ _. 2) (λ _. gave any_step m 2)) same
       (gives_it entries comes notes slots id me.0 value from.0 any_step (marked number me is) has from.1 from.2 list)
 
 module _ {S E R : Type 0} where

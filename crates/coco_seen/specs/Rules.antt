@@ -1,5 +1,5 @@
 -- The rule of the lock's table.
--- Word 1 is the length of the log, and word 2 says where the value is: 0 where it has still to be put into its slot, 2 where it is at home, 1 where a seat holds it.
+-- Word 8 is the length of the log, and word 9 says where the value is: 0 where it has still to be put into its slot, 2 where it is at home, 1 where a seat holds it. The words around these two are never written.
 use Rattle.std.specs.Prelude.{◌≡◌, ◌⊎◌, ℕ, zero, suc, ◌==◌, nat_lt, if◌then◌else◌, List, [], ◌∷◌, map, length, Bool, true, false, All, Option, Some, None, slice_get, sum_by, count_by}
 use mathlib.Core.Option as opt
 use mathlib.Core.List.{IsPrefix}
@@ -19,6 +19,10 @@ once_below x n = if nat_lt x n then 1 else 0
 abbrev pub numbers : ℕ → ℕ → List ℕ
 numbers k zero = []
 numbers k (suc n) = k ∷ numbers (suc k) n
+
+-- the words, of which two are used
+abbrev pub words_of : ℕ → ℕ → List ℕ
+words_of size place = 0 ∷ 0 ∷ 0 ∷ 0 ∷ 0 ∷ 0 ∷ 0 ∷ 0 ∷ size ∷ place ∷ 0 ∷ 0 ∷ 0 ∷ 0 ∷ 0 ∷ 0 ∷ 0 ∷ []
 
 abbrev pub as_one : Bool → ℕ
 as_one b = if b then 1 else 0
@@ -74,7 +78,7 @@ module _ {S E R : Type 0} (entries : S → List E) (comes : R → S → Type 0) 
     pub log : List E
     pub root : Option R
     pub place : ℕ
-    pub words : s.words ≡ 0 ∷ length log ∷ place ∷ []
+    pub words : s.words ≡ words_of (length log) place
     pub lies : ToFill place s.homes s.views log root ⊎ (AtHome place s.homes s.views log root ⊎ Held place s.homes s.views root)
     pub each : (i : ℕ) (v : View E R) → get_elem? s.views i ≡ opt.some v → Fits root log v
     pub marked : (m : ℕ) → sum_by (λ (v : View E R). how_often m v.marks) s.views ≡ once_below m notes

@@ -8,7 +8,7 @@ use crate::note::{Note, SeatOf};
 use crate::plays::{Fill, Give, OneMark};
 use crate::seen::Seen;
 use crate::stores::Stores;
-use crate::view::{HELD, HOME, TO_FILL, VALUE, WHERE};
+use crate::view::{HELD, HOME, TO_FILL, VALUE, WHERE, WORDS};
 use atomic_table::Table;
 use coco_types::NoMemory;
 use std::alloc::Global;
@@ -32,7 +32,7 @@ impl<S: Stores> Seen<S> {
         let Ok(list) = Vec::with_capacity(alloc, notes as usize) else {
             return Err((value, NoMemory));
         };
-        let made = Table::vacant(alloc, &[0, 0, TO_FILL], 1, &notes);
+        let made = Table::vacant(alloc, &[TO_FILL; WORDS], 1, &notes);
         let Ok((table, seat)) = made else {
             list.destroy_empty();
             return Err((value, NoMemory));

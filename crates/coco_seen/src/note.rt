@@ -37,7 +37,10 @@ pub trait HoldsNote<S: Stores> {
     /// What is true of it beside that.
     ghost fact: { Self → Type 0 };
 
-    fn into_note(self) -> Note<S>
+    /// Where it puts what it has beside the note.
+    type Rests;
+
+    fn into_note(self, rests: &mut Self::Rests) -> Note<S>
         ensures note { result ≡ note self }
         ensures fact { fact self };
 }
@@ -47,7 +50,9 @@ impl<S: Stores> HoldsNote<S> for Note<S> {
 
     ghost fact = { λ _. Unit {0} };
 
-    fn into_note(self) -> Note<S> {
+    type Rests = ();
+
+    fn into_note(self, _rests: &mut ()) -> Note<S> {
         self
     }
 }

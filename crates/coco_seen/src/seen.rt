@@ -34,7 +34,7 @@ impl<S: Stores> Model for Seen<S> {
 
     ghost view = { λ s. record { id = s.table.shared.table_id; notes = s.table.shared.key } };
 
-    ghost invariant = { λ s. (s.table.shared.table_id.words ≡ 3) × (s.table.shared.table_id.slots ≡ 1) × (0 < s.table.shared.key) };
+    ghost invariant = { λ s. (s.table.shared.table_id.words ≡ 17) × (s.table.shared.table_id.slots ≡ 1) × (0 < s.table.shared.key) };
 }
 
 // How often a thread looks before it sleeps.
@@ -144,11 +144,11 @@ impl<S: Stores> Seen<S> {
         ensures once { (place : ℕ) → sum_by (λ note. how_often place (map (λ call. call.0) note.calls)) notes.items ≡ once_below place (length (S.entries result)) }
         ensures sized { length (S.entries result) ≡ sum_by (λ note. length note.calls) notes.items }
     {
-        self.close_of(notes)
+        self.close_of(notes, &mut ())
     }
 
-    /// The same with what holds the notes.
-    pub fn close_of<H: HoldsNote<S>>(self, holders: Vec<H>) -> S
+    /// The same with what holds the notes. What the holders have beside their notes goes to `rests`.
+    pub fn close_of<H: HoldsNote<S>>(self, holders: Vec<H>, rests: &mut H::Rests) -> S
         requires lock { All (λ h. (H.note h).lock ≡ self.id) holders.items }
         requires free { All (λ h. (H.note h).holds ≡ false) holders.items }
         requires all { vec_len holders ≡ self.notes }
@@ -158,7 +158,7 @@ impl<S: Stores> Seen<S> {
         ensures sized { length (S.entries result) ≡ sum_by (λ h. length (H.note h).calls) holders.items }
         ensures facts { All H.fact holders.items }
     {
-        let seat = self.gather(holders);
+        let seat = self.gather(holders, rests);
         let Seen { table, sleepers: _ } = self;
         let mut closed = table.close_with(seat);
         let value = closed.take(0);
@@ -170,7 +170,7 @@ impl<S: Stores> Seen<S> {
     }
 
     // One seat that stands for all notes.
-    fn gather<H: HoldsNote<S>>(&self, mut holders: Vec<H>) -> SeatOf<S>
+    fn gather<H: HoldsNote<S>>(&self, mut holders: Vec<H>, rests: &mut H::Rests) -> SeatOf<S>
         requires lock { All (λ h. (H.note h).lock ≡ self.now.id) holders.items }
         requires free { All (λ h. (H.note h).holds ≡ false) holders.items }
         requires some { 0 < vec_len holders }
@@ -181,9 +181,9 @@ impl<S: Stores> Seen<S> {
         let Some(first) = holders.pop() else {
             unreachable!()
         };
-        let mut seat = first.into_note().into_seat();
+        let mut seat = first.into_note(rests).into_seat();
         while let Some(holder) = holders.pop() {
-            let other = holder.into_note().into_seat();
+            let other = holder.into_note(rests).into_seat();
             self.table.shared.join_seat::<OneMark>(&mut seat, other);
         }
         holders.destroy_empty();

@@ -4,11 +4,14 @@ use crate::stores::Stores;
 use atomic_table::TableRule;
 use std::collections::LinkedList;
 
+/// How many words there are. Before and behind the two that are used lie as many as a cache line has, so that nothing else lies in their line.
+pub(crate) const WORDS: usize = 17;
+
 /// The word that is the length of the log.
-pub(crate) const LENGTH: usize = 1;
+pub(crate) const LENGTH: usize = 8;
 
 /// The word that says where the value is.
-pub(crate) const WHERE: usize = 2;
+pub(crate) const WHERE: usize = 9;
 
 /// The value has still to be put into its slot.
 pub(crate) const TO_FILL: u64 = 0;

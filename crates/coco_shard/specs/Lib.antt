@@ -1,5 +1,6 @@
 pub mod Codes
 pub mod Kept
 pub mod Law
+pub mod Packed
 pub mod RowState
 pub mod Table

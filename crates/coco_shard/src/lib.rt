@@ -4,12 +4,14 @@
 mod kept;
 pub mod law;
 pub mod ops;
+pub mod packed;
 mod settle;
 pub mod shard;
 mod table;
 mod values;
 
 pub use ops::{Answer, Ask, Op};
+pub use packed::{PackedAnswer, PackedAsk, PackedOp};
 pub use shard::Shard;
 
 #[cfg(test)]
