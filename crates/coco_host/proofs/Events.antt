@@ -1,5 +1,6 @@
 -- What one event more does to what was seen, to the files and to what a crash may leave.
-use Rattle.std.proofs.Common.{◌≡◌, ◌≢◌, ◌⊎◌, inl, inr, ⊎_elim, ℕ, ◌≤◌, true, false, List, [], ◌∷◌, ◌++◌, length, Option, Some, if◌then◌else◌, ◌==◌, refl, sym, ◌∙◌, ap, subst, arith, append_assoc, length-append, take_all}
+use Rattle.std.proofs.Common.{◌≡◌, ◌≢◌, ◌⊎◌, inl, inr, ⊎_elim, ℕ, ◌+◌, ◌≤◌, true, false, List, [], ◌∷◌, ◌++◌, length, Option, Some, if◌then◌else◌, ◌==◌, refl, sym, ◌∙◌, ap, subst, arith, append_assoc, length-append, take_all}
+use Rattle.std.proofs.Math.Seq.{drop-nil}
 use Rattle.std.proofs.lemmas.Bool.{cases_eq, cases_lt}
 use Rattle.std.proofs.lemmas.Bool.Decides.{nat_tests}
 use Rattle.std.proofs.lemmas.List.{append-nil, take-append-le}
@@ -71,7 +72,7 @@ pub no_more_said : (es : List Event) (bytes : List ℕ) → NoMore (MayLeave es)
 no_more_said es bytes c left n = subst (λ (s : Stored). IsImage s (c n)) (stored-push es (Said bytes) n) (left n)
 
 -- a sync leaves the files as they read, and less for a crash to leave
-content_synced : (n file : ℕ) (s : Stored) → content (after n s (Synced file)) ≡ content s
+pub content_synced : (n file : ℕ) (s : Stored) → content (after n s (Synced file)) ≡ content s
 content_synced n file s = elim (n == file) as (λ b. content (if b then record { synced = content s; unsynced = [] } else s) ≡ content s) [ true ↦ refl | false ↦ refl ]
 
 whole : (s : Stored) (c : List ℕ) → s.unsynced ≡ [] → IsImage s c → c ≡ content s
@@ -103,7 +104,7 @@ pub durable_clean : (es : List Event) (file : ℕ) → (stored es file).unsynced
 durable_clean es file clean c left = whole (stored es file) (c file) clean (left file)
 
 -- a write
-content_wrote : (n : ℕ) (w : Write) (s : Stored) → content (after n s (Wrote w)) ≡ (if n == w.file then put w.at w.bytes (content s) else content s)
+pub content_wrote : (n : ℕ) (w : Write) (s : Stored) → content (after n s (Wrote w)) ≡ (if n == w.file then put w.at w.bytes (content s) else content s)
 content_wrote n w s = elim (n == w.file) as (λ b. content (if b then record s { unsynced = w ∷ s.unsynced } else s) ≡ (if b then put w.at w.bytes (content s) else content s)) [ true ↦ refl | false ↦ refl ]
 
 pub files_wrote : (es : List Event) (w : Write) → files_of (es ++ Wrote w ∷ []) ≡ put_into w.file w.at w.bytes (files_of es)
@@ -158,6 +159,10 @@ module _ (old new : List Event) (bytes : List ℕ) (is : new ≡ old ++ Said byt
   pub said_no_more : NoMore (MayLeave old) (MayLeave new)
   said_no_more = subst (λ (es : List Event). NoMore (MayLeave old) (MayLeave es)) (sym is) (no_more_said old bytes)
 
+-- a file without unsynced writes
+pub settled : (s : Stored) → s.unsynced ≡ [] → s ≡ record { synced = content s; unsynced = [] }
+settled s none = subst (λ (ws : List Write). (let t : Stored = record { synced = s.synced; unsynced = ws } in t ≡ record { synced = with_writes s.synced ws; unsynced = [] })) (sym none) refl
+
 -- after a sync
 module _ (old new : List Event) (file : ℕ) (is : (new ≡ old ++ Synced file ∷ []) ⊎ ((new ≡ old) × ((stored old file).unsynced ≡ []))) where
   pub synced_files : files_of new ≡ files_of old
@@ -173,6 +178,18 @@ module _ (old new : List Event) (file : ℕ) (is : (new ≡ old ++ Synced file �
 
   pub synced_elapses : Elapses (length old) (length new) (SeenSince old) (SeenSince new) (NewIn old new)
   synced_elapses = ⊎_elim (λ e. elapses_to old new (Synced file) e) (λ e. elapses_same old new e.0) is
+
+  pub synced_here : stored new file ≡ record { synced = content (stored old file); unsynced = [] }
+  synced_here = ⊎_elim
+      (λ e. ap (λ (es : List Event). stored es file) e ∙ stored-push old (Synced file) file ∙ ap (λ b. if b then record { synced = content (stored old file); unsynced = [] } else stored old file) (same_number file))
+      (λ e. ap (λ (es : List Event). stored es file) e.0 ∙ settled (stored old file) e.1) is
+
+  pub synced_elsewhere : (n : ℕ) → n ≢ file → stored new n ≡ stored old n
+  synced_elsewhere n far =
+      let off : (n == file) ≡ false = grind (arith, nat_tests) in
+      ⊎_elim
+      (λ e. ap (λ (es : List Event). stored es n) e ∙ stored-push old (Synced file) n ∙ ap (λ b. if b then record { synced = content (stored old n); unsynced = [] } else stored old n) off)
+      (λ e. ap (λ (es : List Event). stored es n) e.0) is
 
   pub synced_durable : IsDurable file (Some (files_of old)) (MayLeave new)
   synced_durable files told c left =
@@ -194,6 +211,23 @@ module _ (old new : List Event) (w : Write) (at : w.at ≤ length (files_of old 
 
   pub wrote_torn : TornIn w.file w.at w.count (files_of old) (files_of new)
   wrote_torn = subst (λ (es : List Event). TornIn w.file w.at w.count (files_of old) (files_of es)) (sym is) (torn_wrote old w at short)
+
+-- after a write to an empty file, from its beginning on
+module _ (old new : List Event) (w : Write) (is : new ≡ old ++ Wrote w ∷ []) where
+  pub said_wrote : said_of new ≡ said_of old
+  said_wrote = ap said_of is ∙ said_of-push old (Wrote w) ∙ append-nil (said_of old)
+
+  pub wrote_elsewhere : (n : ℕ) → n ≢ w.file → stored new n ≡ stored old n
+  wrote_elsewhere n far =
+      let off : (n == w.file) ≡ false = grind (arith, nat_tests) in
+      ap (λ (es : List Event). stored es n) is ∙ stored-push old (Wrote w) n ∙ ap (λ b. if b then record (stored old n) { unsynced = w ∷ (stored old n).unsynced } else stored old n) off
+
+  pub filled_content : content (stored old w.file) ≡ [] → w.at ≡ 0 → content (stored new w.file) ≡ w.bytes
+  filled_content empty start =
+      ap (λ (es : List Event). content (stored es w.file)) is ∙ ap content (stored-push old (Wrote w) w.file) ∙ content_wrote w.file w (stored old w.file)
+      ∙ ap (λ b. if b then put w.at w.bytes (content (stored old w.file)) else content (stored old w.file)) (same_number w.file)
+      ∙ ap (λ (l : List ℕ). put w.at w.bytes l) empty ∙ ap (λ (n : ℕ). put n w.bytes []) start
+      ∙ ap (λ (l : List ℕ). w.bytes ++ l) (drop-nil (0 + length w.bytes)) ∙ append-nil w.bytes
 
 -- after a write that was cut short, of which nothing may be left
 pub torn_self : (file at count : ℕ) (files : Files) → TornIn file at count files files

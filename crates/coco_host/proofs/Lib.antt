@@ -1,3 +1,5 @@
+mod Crashing
+mod Cutting
 mod Events
 mod Keeping
 mod Places

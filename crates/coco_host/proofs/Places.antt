@@ -1,11 +1,11 @@
 -- What a change of one file in a list of files does to what they hold.
-use Rattle.std.proofs.Common.{◌≡◌, ◌≢◌, inl, inr, ℕ, suc, zero, ◌+◌, ◌<◌, ◌≤◌, Bool, true, false, not, cond, nat_eq, List, [], ◌∷◌, ◌++◌, length, get_or, set, if◌then◌else◌, ◌==◌, Result, Ok, Err, OnErr, refl, sym, ◌∙◌, ap, subst, arith, length-set, add-zero}
+use Rattle.std.proofs.Common.{◌≡◌, ◌≢◌, inl, inr, ℕ, suc, zero, ◌+◌, ◌<◌, ◌≤◌, Bool, true, false, not, nat_eq, List, [], ◌∷◌, ◌++◌, length, get_or, set, take, if◌then◌else◌, ◌==◌, Result, Ok, Err, OnErr, refl, sym, ◌∙◌, ap, subst, arith, length-set}
 use Rattle.std.proofs.lemmas.Bool.{cases_eq}
 use Rattle.std.proofs.lemmas.Bool.Decides.{nat_tests}
+use Rattle.std.proofs.lemmas.List.{take_all}
 use Rattle.std.proofs.lemmas.List.Sums.{fails_before_first, passes_at_first, prefix_len-le-length, position_or_len_is}
-use Rattle.std.proofs.lemmas.List.Folds.{position_or_len_push}
 use Rattle.std.specs.List.{position_or_len}
-use Rattle.coco_host.specs.Recorded.{held_in, one_if, unsynced_count, Same, Takes, Settles}
+use Rattle.coco_host.specs.Recorded.{held_in, one_if, unsynced_count, Same, Takes, Settles, Shortens}
 use Rattle.coco_host.specs.declared.held.MemoryFile.{MemoryFile}
 
 -- whether a file has this number
@@ -163,6 +163,32 @@ settles_nowhere number fs at_end = record {
     left true = held_nowhere (λ x. x.unsynced) false number fs at_end
     left false = refl
 
+pub shortens_set : (number len : ℕ) (fs : List MemoryFile) (i : ℕ) (f d : MemoryFile) → f.number ≡ (get_or fs i d).number → f.bytes.items ≡ take len (get_or fs i d).bytes.items → f.unsynced ≡ (get_or fs i d).unsynced → IsAt number fs i → Shortens number len fs (set fs i f)
+shortens_set number len fs i f d is bytes mark at = record {
+  bytes_of = λ n. held_in-set (λ x. x.bytes.items) [] number fs i f (is ∙ number_at number fs i d at) at n
+      ∙ ap (λ v. if n == number then v else held_in (λ x. x.bytes.items) [] n fs) (bytes ∙ ap (λ (l : List ℕ). take len l) (sym (held_at (λ x. x.bytes.items) [] number fs i d at)));
+  unsynced_of = held_in-again (λ x. x.unsynced) false number fs i f d (is ∙ number_at number fs i d at) mark at;
+  count = count_same number fs i f d mark at;
+}
+
+-- a file that isn't there has nothing to be cut
+pub shortens_nowhere : (number len : ℕ) (fs : List MemoryFile) → position_or_len (is_of number) fs ≡ length fs → Shortens number len fs fs
+shortens_nowhere number len fs at_end = record {
+  bytes_of = λ n. elim (cases_eq n number) [
+    | inl here ↦ subst (λ m. held_in (λ x. x.bytes.items) [] m fs ≡ (if m == number then take len (held_in (λ x. x.bytes.items) [] number fs) else held_in (λ x. x.bytes.items) [] m fs)) (sym here) (left (number == number))
+    | inr far ↦ let other : (n == number) ≡ false = grind (arith, nat_tests) in sym (ap (λ b. if b then take len (held_in (λ x. x.bytes.items) [] number fs) else held_in (λ x. x.bytes.items) [] n fs) other)
+  ];
+  unsynced_of = λ n. refl;
+  count = refl;
+}
+  where
+    none : held_in (λ x. x.bytes.items) [] number fs ≡ []
+    none = held_nowhere (λ x. x.bytes.items) [] number fs at_end
+
+    left : (b : Bool) → held_in (λ x. x.bytes.items) [] number fs ≡ (if b then take len (held_in (λ x. x.bytes.items) [] number fs) else held_in (λ x. x.bytes.items) [] number fs)
+    left true = none ∙ sym (take_all len [] (omega arith)) ∙ ap (λ (l : List ℕ). take len l) (sym none)
+    left false = refl
+
 -- the place that was found
 pub is_place : (number : ℕ) (fs : List MemoryFile) (i : ℕ) → i ≡ position_or_len (is_of number) fs → i < length fs → IsAt number fs i
 is_place number fs i is within = subst (IsAt number fs) (sym is) (is_at number fs (subst (λ n. n < length fs) is within))
@@ -174,18 +200,6 @@ at_err (Err e) p = p
 -- no place is behind all others
 pub nowhere : (number : ℕ) (fs : List MemoryFile) (i : ℕ) → i ≡ position_or_len (is_of number) fs → length fs ≤ i → position_or_len (is_of number) fs ≡ length fs
 nowhere number fs i is far = omega (arith, is, far, prefix_len-le-length (λ x. not (is_of number x)) fs)
-
--- a file of the number behind all others is the first of it
-pub place_push : (number : ℕ) (fs : List MemoryFile) (f : MemoryFile) → f.number ≡ number → position_or_len (is_of number) fs ≡ length fs → position_or_len (is_of number) (fs ++ f ∷ []) ≡ length fs
-place_push number fs f is at_end =
-    let yes : is_of number f ≡ true = grind (arith, nat_tests) in
-    let far : nat_eq (position_or_len (is_of number) fs) (length fs) ≡ true = grind (arith, nat_tests) in
-    position_or_len_push (is_of number) fs f
-    ∙ ap (λ b. cond b (length fs + cond (is_of number f) 0 1) (position_or_len (is_of number) fs)) far
-    ∙ ap (λ b. length fs + cond b 0 1) yes ∙ add-zero (length fs)
-
-pub same_items : (fs gs : List MemoryFile) → gs ≡ fs → Same fs gs
-same_items fs gs is = subst (Same fs) (sym is) (same_self fs)
 
 pub count-le-length : (fs : List MemoryFile) → unsynced_count fs ≤ length fs
 count-le-length [] = omega arith

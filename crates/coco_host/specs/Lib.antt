@@ -1,3 +1,4 @@
+pub mod Crash
 pub mod Files
 pub mod HostState
 pub mod Moments

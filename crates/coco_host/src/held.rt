@@ -2,7 +2,7 @@
 ghost use Rattle.std.specs.Prelude.{◌≡◌, ◌<◌, ◌≤◌, ℕ, length, IfOk, OnOk, OnErr, nat_eq};
 ghost use Rattle.std.specs.List.{position_or_len};
 ghost use Rattle.coco_host.specs.Files.{put};
-ghost use Rattle.coco_host.specs.Recorded.{bytes_in, Same, Takes, Settles};
+ghost use Rattle.coco_host.specs.Recorded.{bytes_in, Same, Takes, Settles, Shortens};
 
 use std::alloc::{AllocError, Global};
 
@@ -103,4 +103,16 @@ pub fn settle(files: &mut [MemoryFile], number: u32) -> bool
     let had = file.unsynced;
     file.unsynced = false;
     had
+}
+
+/// Lets a file have at most so many bytes.
+pub fn shorten(files: &mut [MemoryFile], number: u32, len: usize)
+    ensures { Shortens number len files.old files.new }
+{
+    let place = place_of(files, number);
+    if place >= files.len() {
+        return;
+    }
+    let file = &mut files[place];
+    file.bytes.truncate(len);
 }

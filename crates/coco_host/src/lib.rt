@@ -2,6 +2,7 @@
 //! memory, and over a folder with the standard output.
 #![tactic(auto)]
 
+mod crash;
 mod files;
 pub mod folder;
 pub mod fuse;

@@ -4,12 +4,12 @@ ghost use Rattle.coco_io.specs.Counts.{Rose, CountsWrite};
 ghost use Rattle.coco_host.specs.Files.{Files, NoMore};
 ghost use Rattle.coco_host.specs.Moments.{Observation, IsNew, Elapses};
 ghost use Rattle.coco_host.specs.Record.{Event, said_of, files_of, MayLeave, SeenSince, seen_now, only_now, reads_left};
-ghost use Rattle.coco_host.specs.HostState.{CountsDiskCall, SaysByPlan};
+ghost use Rattle.coco_host.specs.HostState.{CountsDiskCall, SaysByPlan, IsAfterCrash, CutsFile};
 
 use crate::Host;
 use crate::recorded::Recorded;
 use coco_io::FaultPlan;
-use coco_types::{Failed, OutFault};
+use coco_types::{Failed, NoMemory, OutFault};
 use std::alloc::Global;
 use std::marker::Model;
 
@@ -73,6 +73,36 @@ impl MemoryHost {
         ensures { result.now ≡ said_of self.now.events }
     {
         self.past.said()
+    }
+
+    /// Shortens a file while no call runs, as if that had been synced. Nothing changes where it isn't longer.
+    pub fn cut(&mut self, file: u32, len: u64)
+        ensures short { length (files_of self.old.events file) ≤ len → self.new ≡ self.old }
+        ensures cut { len < length (files_of self.old.events file) → CutsFile file len self.old self.new }
+    {
+        if len < self.past.bytes(file).len() as u64 {
+            self.past.cut(file, len as usize);
+        }
+    }
+
+    /// One of the images that a crash at this moment may leave, as a host that has said nothing and whose calls
+    /// don't fail. The digits of the pick to base 8, the last one first, say what becomes of one unsynced write after
+    /// another, file by file:
+    ///
+    /// - 0: it is there; 1: it isn't; 7: all but its last byte is
+    /// - 2: its range has zeroes; 3: its range has the byte 255
+    /// - 4: its front half is there; 5: its back half is
+    /// - 6: its bytes are in turn what was written, what stood before, 0 and 255
+    ///
+    /// Where nothing stood before that is 0, and of a write that was refused what stood before is there. A file
+    /// ends where the last of these bytes stands.
+    pub fn crash(self, pick: u64) -> Result<MemoryHost, NoMemory>
+        ensures { IfOk result (λ host. IsAfterCrash self host) }
+    {
+        let past = self.past.crash(self.alloc, pick)?;
+        let mut host = MemoryHost::new(self.alloc, Vec::new(self.alloc));
+        host.past = past;
+        Ok(host)
     }
 
     // Counts a call on files, and says whether it fails.

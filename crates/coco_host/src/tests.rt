@@ -102,6 +102,43 @@ fn a_fuse_lets_writes_and_syncs_pass_and_then_fails_every_call(
     assert_eq!(rt; host.len(0), Err(Failed));
     assert_eq!(rt; host.say_faults(), 1);
     assert_eq!(rt; host.disk_faults(), 2);
-    assert_eq!(rt; host.inner().len(0), Ok(2));
+    let mut left = host.inner().crash(1)?;
+    assert_eq!(rt; left.len(0), Ok(2));
+    Ok(())
+}
+
+#[test]
+fn a_crash_tears_an_unsynced_write_by_its_pick(rt: HostRuntime) -> Result<(), Fail> {
+    for (pick, left) in [
+        (0, b"12345678".as_slice()),
+        (1, b"abcdef".as_slice()),
+        (2, b"\0\0\0\0\0\0\0\0".as_slice()),
+        (3, b"\xff\xff\xff\xff\xff\xff\xff\xff".as_slice()),
+        (4, b"1234ef".as_slice()),
+        (5, b"abcd5678".as_slice()),
+        (6, b"1b\0\xff5f\0\xff".as_slice()),
+        (7, b"1234567".as_slice()),
+    ] {
+        let mut host = MemoryHost::new(rt.alloc(), Vec::new(rt.alloc()));
+        assert_eq!(rt; host.write_at(0, 0, b"abcdef"), Ok(()));
+        assert_eq!(rt; host.sync(0), Ok(()));
+        assert_eq!(rt; host.write_at(0, 0, b"12345678"), Ok(()));
+        let mut host = host.crash(pick)?;
+        let mut into = [0; 10];
+        assert_eq!(rt; host.read_at(0, 0, &mut into), Ok(left.len()));
+        assert!(rt; into.starts_with(left), "pick {pick}");
+    }
+    Ok(())
+}
+
+#[test]
+fn a_file_that_is_cut_stays_so(rt: HostRuntime) -> Result<(), Fail> {
+    let mut host = MemoryHost::new(rt.alloc(), Vec::new(rt.alloc()));
+    assert_eq!(rt; host.write_at(0, 0, b"abcdef"), Ok(()));
+    host.cut(0, 6);
+    assert_eq!(rt; host.len(0), Ok(6));
+    host.cut(0, 2);
+    let mut host = host.crash(0)?;
+    assert_eq!(rt; host.len(0), Ok(2));
     Ok(())
 }

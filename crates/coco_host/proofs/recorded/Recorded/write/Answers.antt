@@ -1,7 +1,7 @@
-use Rattle.std.proofs.Common.{rules, ◌≡◌, List, ℕ, sym, ap, subst, ◌∙◌, arith}
+use Rattle.std.proofs.Common.{rules, ◌≡◌, ◌≤◌, List, ℕ, length, sym, ap, subst, ◌∙◌, arith}
 use Rattle.std.proofs.lemmas.List.{with_items_is}
 use Rattle.coco_host.specs.Files.{put}
-use Rattle.coco_host.specs.Record.{Write}
+use Rattle.coco_host.specs.Record.{Write, Event, content, stored}
 use Rattle.coco_host.specs.Record.Event.{Wrote}
 use Rattle.coco_host.specs.Recorded.{bytes_in, Takes, IsRecorded}
 use Rattle.coco_host.specs.declared.held.MemoryFile.{MemoryFile}
@@ -18,6 +18,6 @@ invariant_of-self-2 c =
     let takes = subst (λ (fs : List MemoryFile). Takes c.args.file (put c.args.at c.args.bytes.now (bytes_in c.args.file fs)) fs now) c.deref_mut.ensures.value c.in_ok-take.ensures.ok in
     subst (λ (fs : List MemoryFile). IsRecorded c.push.new.self fs c.self.inside.said.items) (sym items)
     (keeps_wrote c.self.inside.happened c.reserve.new.self c.push.new.self c.self.inside.files.items there.items now c.self.inside.said.items w _ _ _
-    c.self.invariant c.place_for.ensures.same c.reserve.ensures.items c.reserve.ensures.capacity c.in_ok-reserve.ensures.ok (omega (arith, c.len.ensures, there.ok.0))
+    (subst (λ (es : List Event). c.args.at ≤ length (content (stored es c.args.file))) (sym c.self.view_is) c.requires) c.self.invariant c.place_for.ensures.same c.reserve.ensures.items c.reserve.ensures.capacity c.in_ok-reserve.ensures.ok (omega (arith, c.len.ensures, there.ok.0))
     takes c.push.ensures.items c.push.ensures.capacity (c.push.ensures.succeeds (omega (arith, c.in_ok-reserve.ensures.ok)))
     (ap (λ (b : List ℕ). Wrote (record { file = c.args.file; at = c.args.at; count = c.args.count; bytes = b })) same))
