@@ -1,0 +1,8 @@
+pub mod ShardLemmas
+pub mod RunLemmas
+pub mod PieceLemmas
+pub mod PlaceLemmas
+pub mod Snapshots
+pub mod EpochLemmas
+pub mod TailLemmas
+pub mod SerialLemmas

@@ -1,0 +1,4 @@
+pub mod Shards
+pub mod Pieces
+pub mod SerialEpoch
+pub mod Running

@@ -1,0 +1,51 @@
+//! The row of a key, in the shard of its partition.
+
+ghost use Rattle.std.specs.Prelude.{◌≡◌, ◌<◌, ◌≤◌, ◌%◌, None, length, IfOk, OnOk, OnErr};
+ghost use Rattle.coco_shard.specs.Table.{extended, installed};
+ghost use Rattle.coco_epoch.specs.Shards.{newest_in, row_in, stable_in, with_row_in};
+
+use coco_shard::Shard;
+use coco_types::{Key, NoMemory, Value, Write};
+
+/// The partition of a key, of so many.
+pub fn partition_of(key: Key, count: usize) -> usize
+    requires { 0 < count }
+    ensures is { result ≡ key.row % count }
+    ensures within { result < count }
+{
+    (key.row % count as u64) as usize
+}
+
+/// The newest value of a key, which is valid until the time from then on. Out of memory, nothing has changed.
+pub fn read_key(shards: &mut [Shard], key: Key, time: u64) -> Result<Option<Value>, NoMemory>
+    requires some { 0 < length shards.old }
+    requires unmarked { (row_in shards.old key).mark ≡ None }
+    requires later { (row_in shards.old key).rts ≤ time }
+    ensures value { IfOk result (λ value. value ≡ newest_in shards.old key) }
+    ensures ok { OnOk result (shards.new ≡ with_row_in shards.old key (extended time (row_in shards.old key))) }
+    ensures err { OnErr result (shards.new ≡ shards.old) }
+{
+    let place = partition_of(key, shards.len());
+    shards[place].read_at(key, time)
+}
+
+/// Makes a write at the time. Out of memory, nothing has changed.
+pub fn put_key(shards: &mut [Shard], write: &Write, time: u64) -> Result<(), NoMemory>
+    requires some { 0 < length shards.old }
+    requires unmarked { (row_in shards.old write.now.key).mark ≡ None }
+    requires later { (row_in shards.old write.now.key).rts ≤ time }
+    ensures ok { OnOk result (shards.new ≡ with_row_in shards.old write.now.key (installed time write.now.value (row_in shards.old write.now.key))) }
+    ensures err { OnErr result (shards.new ≡ shards.old) }
+{
+    let place = partition_of(write.key, shards.len());
+    shards[place].put_at(write.key, time, write.value)
+}
+
+/// The value of a key in the last committed epoch.
+pub fn stable_key(shards: &[Shard], key: Key) -> Option<Value>
+    requires { 0 < length shards.now }
+    ensures { result ≡ stable_in shards.now key }
+{
+    let place = partition_of(key, shards.len());
+    shards[place].stable(key)
+}
