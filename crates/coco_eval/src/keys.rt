@@ -8,7 +8,7 @@ ghost use Rattle.coco_eval.specs.Places.{written_at, given_at};
 ghost use Rattle.coco_eval.specs.Slots.{variables_of};
 
 use crate::machine::Given;
-use crate::names::are_same_names;
+use crate::names::are_same_bytes;
 use crate::operand::{Operand, owned};
 use crate::values::value;
 use crate::variables::Variable;
@@ -17,6 +17,7 @@ use coco_types::{Cause, Key, Value, Write};
 use std::cmp::Ordering;
 
 /// The key of a place.
+#[inline(always)]
 pub fn key(tables: &[Name], variables: &[Variable], place: &Place) -> Result<Key, Cause>
     requires { length tables.now < 2 ^ 16 }
     ensures { result ≡ key_of tables.now (variables_of variables.now) (place_of place.now) }
@@ -31,8 +32,9 @@ fn table_number(tables: &[Name], name: &Name) -> u16
     requires { length tables.now < 2 ^ 16 }
     ensures { result ≡ table_number tables.now name.now }
 {
+    let bytes = name.as_bytes();
     for (i, table) in tables.iter().enumerate() {
-        if are_same_names(table, name) {
+        if are_same_bytes(table.as_bytes(), bytes) {
             return i as u16;
         }
     }

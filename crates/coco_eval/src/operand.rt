@@ -66,6 +66,7 @@ pub fn number(value: &Operand<'_>) -> Result<i64, Cause>
     }
 }
 
+#[inline(always)]
 pub fn are_same(left: &Operand<'_>, right: &Operand<'_>) -> bool
     ensures { result ≡ same (datum_of left.now) (datum_of right.now) }
 {

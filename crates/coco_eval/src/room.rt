@@ -7,7 +7,7 @@ ghost use Rattle.coco_eval.specs.Preparing.{IsPrepared};
 ghost use Rattle.coco_eval.specs.Slots.{variables_of, has_slot, has_slots, has_slots_in, IsGrown};
 
 use crate::machine::{Frame, Machine};
-use crate::names::are_same_names;
+use crate::names::are_same_bytes;
 use crate::operand::{Operand, lend};
 use crate::variables::{Slots, Variable};
 use coco_ast::{Name, Proc, Stmt};
@@ -85,6 +85,7 @@ fn collect(slots: &mut Slots, block: &[Stmt]) -> Result<usize, NoMemory>
 }
 
 #[cycle(collect)]
+#[inline(always)]
 fn collect_from(slots: &mut Slots, statement: &Stmt) -> Result<usize, NoMemory>
     ensures grown { OnOk result (IsGrown (variables_of slots.old) (variables_of slots.new)) }
     ensures slots { OnOk result (has_slots_in (variables_of slots.new) (statement_of statement.now) ≡ true) }
@@ -136,10 +137,13 @@ fn add(slots: &mut Slots, name: &Name) -> Result<(), NoMemory>
 fn has(variables: &[Variable], name: &Name) -> bool
     ensures { result ≡ has_slot (variables_of variables.now) name.now }
 {
-    for variable in variables {
-        if are_same_names(&variable.name, name) {
+    let bytes = name.as_bytes();
+    let mut rest = variables;
+    while let Some((variable, others)) = rest.split_first() {
+        if are_same_bytes(variable.name.as_bytes(), bytes) {
             return true;
         }
+        rest = others;
     }
     false
 }

@@ -18,6 +18,7 @@ use coco_types::{Cause, Key, Reply};
 impl Machine {
     /// Runs a block from a place in it on.
     #[cycle(run)]
+    #[inline(always)]
     pub fn block(&mut self, tables: &[Name], block: &[Stmt], path: &[Frame]) -> Stop
         requires tables { length tables.now < 2 ^ 16 }
         requires bounded { are_bounded (statements_of block.now) ≡ true }
@@ -124,7 +125,6 @@ impl Machine {
     }
 
     #[cycle(run)]
-    #[inline(never)]
     fn repeat(
         &mut self,
         tables: &[Name],
@@ -189,7 +189,6 @@ impl Machine {
         self.variables.set(name, &Operand::Int(turn as i64));
     }
 
-    #[inline(never)]
     fn assign(&mut self, name: &Name, value: &Expr) -> Stop
         ensures { Settles result
             (with (kept_of self.old) (value_of (kept_of self.old).variables (expression_of value.now)) (λ d. Goes (with_variable (kept_of self.old) name.now d)))
@@ -213,7 +212,6 @@ impl Machine {
         Stop::Goes
     }
 
-    #[inline(never)]
     fn get(&mut self, tables: &[Name], name: &Name, place: &Place, way: Way) -> Stop
         requires tables { length tables.now < 2 ^ 16 }
         requires room { HasRoom (weight_get way) 0 self.old }
@@ -247,7 +245,6 @@ impl Machine {
         Stop::Asks(Way::Given)
     }
 
-    #[inline(never)]
     fn put(&mut self, tables: &[Name], place: &Place, value: &Expr) -> Stop
         requires tables { length tables.now < 2 ^ 16 }
         requires room { HasRoom 1 0 self.old }
@@ -268,7 +265,6 @@ impl Machine {
         }
     }
 
-    #[inline(never)]
     fn delete(&mut self, tables: &[Name], place: &Place) -> Stop
         requires tables { length tables.now < 2 ^ 16 }
         requires room { HasRoom 1 0 self.old }
@@ -286,6 +282,7 @@ impl Machine {
     }
 
     // Whether the first block of an `if` is taken.
+    #[inline(always)]
     fn takes_first(&self, test: &Expr, way: Way) -> Result<bool, Cause>
         ensures { result ≡ chosen way (kept_of self.now) (expression_of test.now) }
     {
@@ -302,7 +299,6 @@ impl Machine {
         }
     }
 
-    #[inline(never)]
     fn answer(&mut self, value: &Expr) -> Stop
         ensures { Settles result
             (with (kept_of self.old) (value_of (kept_of self.old).variables (expression_of value.now)) (λ d. Ends (kept_of self.old) (Answers d)))

@@ -62,6 +62,7 @@ impl Slots {
     }
 
     /// Adds a variable.
+    #[inline(always)]
     pub fn push(&mut self, name: &Name, value: &Operand<'_>) -> Result<(), NoMemory>
         ensures { OnOk result (self.new ≡ self.old ++ record { name = name.now; value = datum_of value.now } ∷ []) }
     {
@@ -80,6 +81,7 @@ impl Slots {
     }
 
     /// Sets the variable of a name, where there is one.
+    #[inline(always)]
     pub fn set(&mut self, name: &Name, value: &Operand<'_>)
         ensures { variables_of self.new ≡ set_at (variables_of self.old) name.now (datum_of value.now) }
     {
@@ -94,11 +96,13 @@ impl Slots {
 pub fn value_at<'a>(variables: &'a [Variable], name: &Name) -> Operand<'a>
     ensures { datum_of result ≡ variable_at (variables_of variables.now) name.now }
 {
-    let name = name.as_bytes();
-    for variable in variables {
-        if are_same_bytes(variable.name.as_bytes(), name) {
+    let bytes = name.as_bytes();
+    let mut rest = variables;
+    while let Some((variable, others)) = rest.split_first() {
+        if are_same_bytes(variable.name.as_bytes(), bytes) {
             return lend(&variable.value);
         }
+        rest = others;
     }
     Operand::None
 }

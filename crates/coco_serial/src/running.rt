@@ -18,6 +18,7 @@ use std::collections::HashMap;
 pub type Rows = HashMap<Key, Value>;
 
 /// What a map has at a key.
+#[inline(always)]
 pub fn value_in(rows: &Rows, key: Key) -> Option<&Value>
     ensures { option_copied result ≡ value_at (rows_of rows.now) key }
 {
