@@ -11,9 +11,16 @@ abbrev pub log_fault_of : OutFault → LogFault
 log_fault_of Failed = fault.Disk
 log_fault_of NoMemory = fault.NoMemory
 
--- a write to a log is a disk fault where the host's count rose, lacks memory where it didn't, and finds a log
-abbrev pub CountsAppend : {T : Type 0} → Result T LogFault → ℕ → ℕ → Type 0
-CountsAppend (Ok x) old new = new ≡ old
-CountsAppend (Err fault.Disk) old new = Rose old new
-CountsAppend (Err fault.NoMemory) old new = new ≡ old
-CountsAppend (Err (fault.NotALog at)) old new = ⊥
+-- a call that refuses no file is a disk fault where the host's count rose, and lacks memory where it didn't
+abbrev pub CountsFault : {T : Type 0} → Result T LogFault → ℕ → ℕ → Type 0
+CountsFault (Ok x) old new = new ≡ old
+CountsFault (Err fault.Disk) old new = Rose old new
+CountsFault (Err fault.NoMemory) old new = new ≡ old
+CountsFault (Err (fault.NotALog at)) old new = ⊥
+
+-- so is a call that may refuse one, for which the count stays
+abbrev pub CountsOpen : {T : Type 0} → Result T LogFault → ℕ → ℕ → Type 0
+CountsOpen (Ok x) old new = new ≡ old
+CountsOpen (Err fault.Disk) old new = Rose old new
+CountsOpen (Err fault.NoMemory) old new = new ≡ old
+CountsOpen (Err (fault.NotALog at)) old new = new ≡ old

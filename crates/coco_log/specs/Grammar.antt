@@ -1,5 +1,5 @@
 -- A file that is a log: a header, entries behind open gates, and a gate that isn't open.
-use Rattle.std.specs.Prelude.{◌≡◌, ◌≢◌, ℕ, ◌≤◌, List, [], ◌∷◌, ◌++◌, length}
+use Rattle.std.specs.Prelude.{◌≡◌, ◌≢◌, ◌⊎◌, ℕ, ◌+◌, ◌<◌, ◌≤◌, List, [], ◌∷◌, ◌++◌, length, take}
 use Rattle.std.specs.List.{All, flat_map}
 use Rattle.coco_bytes.specs.Fields.{u32_bytes}
 
@@ -38,3 +38,22 @@ pub record IsLog (kind : ℕ) (bodies : List (List ℕ)) (file : List ℕ) : Typ
   pub short : All IsShort bodies
   pub shut : gate ≢ 1
   pub is : file ≡ front kind bodies ++ gate ∷ behind
+
+-- the file isn't as the header of this kind: first at this place, or it ends there
+pub record IsNoHeader (kind : ℕ) (file : List ℕ) (at : ℕ) : Type 0 where
+  pub early : at < 8
+  pub same : take at file ≡ take at (header kind)
+  pub differs : take (at + 1) file ≢ take (at + 1) (header kind)
+
+-- behind the entries of these bodies an open gate stands at this place, and behind it no body with its length and a next gate
+pub record IsCutShort (kind : ℕ) (file : List ℕ) (at : ℕ) : Type 0 where
+  pub bodies : List (List ℕ)
+  pub behind : List ℕ
+  pub short : All IsShort bodies
+  pub is : file ≡ front kind bodies ++ 1 ∷ behind
+  pub here : at ≡ length (front kind bodies)
+  pub broken : (body rest : List ℕ) (gate : ℕ) → IsShort body → behind ≢ counted body ++ gate ∷ rest
+
+-- from this place on the file fits no log of this kind: it has another header, ends where its first gate belongs, or its last entry is cut short
+abbrev pub FitsNoLog : ℕ → List ℕ → ℕ → Type 0
+FitsNoLog kind file at = IsNoHeader kind file at ⊎ ((at ≡ 8) × (file ≡ header kind)) ⊎ IsCutShort kind file at

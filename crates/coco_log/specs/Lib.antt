@@ -1,3 +1,5 @@
 pub mod Faults
+pub mod Gates
 pub mod Grammar
 pub mod LogState
+pub mod Reading

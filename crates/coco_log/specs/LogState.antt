@@ -1,7 +1,7 @@
 -- What contracts see of a log that is open.
-use Rattle.std.specs.Prelude.{◌≡◌, ◌≢◌, ◌⊎◌, ℕ, ◌+◌, Bool, false, List, [], ◌∷◌, ◌++◌, length, Option, Some}
-use Rattle.coco_host.specs.Files.{Files, put}
-use Rattle.coco_host.specs.Moments.{Observation}
+use Rattle.std.specs.Prelude.{◌≡◌, ◌≢◌, ◌⊎◌, ℕ, ◌+◌, Bool, false, List, [], ◌∷◌, ◌++◌, length, drop, slice_index, Option, Some}
+use Rattle.coco_host.specs.Files.{Files, put, NoMore}
+use Rattle.coco_host.specs.Moments.{Observation, SeesOnly}
 use Rattle.coco_log.specs.Grammar.{header, front, entry, IsLog}
 
 -- a log: its file and kind, the places of its entries' gates and that of the last gate, and whether it may be used no more
@@ -30,6 +30,16 @@ pub record Holds (log : LogState) (bodies : List (List ℕ)) (file : List ℕ) :
   pub is_log : IsLog log.kind bodies file
   pub places : log.places ≡ places_from 8 bodies
   pub end : log.end ≡ length (front log.kind bodies)
+
+-- the places of all gates, the last one too
+abbrev pub gates : LogState → List ℕ
+gates log = log.places ++ log.end ∷ []
+
+-- the entry of this number stands in the file where the log knows it, with this body
+pub record HasEntry (log : LogState) (number : ℕ) (body file : List ℕ) : Type 0 where
+  pub rest : List ℕ
+  pub is : drop (slice_index (gates log) number) file ≡ entry body ++ rest
+  pub next : slice_index (gates log) (number + 1) ≡ slice_index (gates log) number + length (entry body)
 
 -- a file is a log of these entries, or of these and one more
 abbrev pub IsBeforeOrAfter : ℕ → List (List ℕ) → List ℕ → List ℕ → Type 0
@@ -83,3 +93,26 @@ pub record IsMade (log : LogState) (file kind : ℕ) (before : Files) (reads : O
   pub rest : IsAtRest log [] files may_leave
   pub bytes : files file ≡ put 0 (header kind ++ 0 ∷ []) (before file)
   pub others : (n : ℕ) → n ≢ file → files n ≡ before n
+
+-- seen at a moment: files that a crash might have left before, and no more said
+pub record IsAsBefore (may_leave : Files → Type 0) (bytes : Option (List ℕ)) (seen : Observation) : Type 0 where
+  pub image : may_leave seen.image
+  pub said : bytes ≡ Some seen.said
+
+-- a host that was only read and synced: its files read as before, nothing is said, and nothing is seen that a crash might not have left before
+pub record IsOnlyRead {H : Type 0} (moment : H → ℕ) (observed : H → ℕ → Observation → Type 0) (said : H → Option (List ℕ)) (reads : H → Option Files) (may_leave : H → Files → Type 0) (old new : H) : Type 0 where
+  pub same : reads new ≡ reads old
+  pub quiet : said new ≡ said old
+  pub crash : NoMore (may_leave old) (may_leave new)
+  pub moments : SeesOnly moment observed old new (IsAsBefore (may_leave old) (said old))
+
+-- a log of this kind in this file that may be used
+pub record IsFresh (log : LogState) (file kind : ℕ) : Type 0 where
+  pub in_file : log.file ≡ file
+  pub of_kind : log.kind ≡ kind
+  pub unspent : log.spent ≡ false
+
+-- a log that was opened: it has the entries of its file, and a crash leaves that file as it reads
+pub record IsOpened (log : LogState) (files : Files) (may_leave : Files → Type 0) : Type 0 where
+  pub bodies : List (List ℕ)
+  pub rest : IsAtRest log bodies files may_leave

@@ -4,6 +4,7 @@ ghost use Rattle.coco_types.specs.declared.error.OutFault.TheVariants as out;
 ghost use Rattle.coco_log.specs.declared.fault.LogFault.TheVariants as fault;
 
 use coco_types::{Failed, NoMemory, OutFault};
+use std::alloc::{AllocError, AllocFailed};
 
 /// Why a call on a log failed.
 #[derive(Clone, Copy, Debug, PartialEq, Eq)]
@@ -41,5 +42,21 @@ impl From<OutFault> for LogFault {
             OutFault::Failed => LogFault::Disk,
             OutFault::NoMemory => LogFault::NoMemory,
         }
+    }
+}
+
+impl From<AllocError> for LogFault {
+    ghost from_gives = { λ _ e. e ≡ fault.NoMemory };
+
+    fn from(_: AllocError) -> LogFault {
+        LogFault::NoMemory
+    }
+}
+
+impl<T: Drop> From<AllocFailed<T>> for LogFault {
+    ghost from_gives = { λ _ e. e ≡ fault.NoMemory };
+
+    fn from(_: AllocFailed<T>) -> LogFault {
+        LogFault::NoMemory
     }
 }

@@ -1,11 +1,16 @@
 //! Logs in the files of a host: entries behind gates. An append is whole or absent in all that a crash may leave.
 #![tactic(auto)]
 
+pub mod entries;
 pub mod fault;
+mod gates;
+pub mod laws;
 pub mod log;
 #[cfg(test)]
 mod tests;
+mod window;
 mod writing;
 
+pub use entries::Entries;
 pub use fault::LogFault;
 pub use log::Log;

@@ -1,13 +1,14 @@
 //! A log that is open.
-ghost use Rattle.std.specs.Prelude.{◌≡◌, ◌≢◌, ℕ, ◌+◌, ◌<◌, ◌≤◌, ◌^◌, List, Some, false, true, [], ◌∷◌, ◌++◌, length, vec_len, vec_capacity, IfSome, IfOk, OnOk, OnErr};
+ghost use Rattle.std.specs.Prelude.{◌≡◌, ◌≢◌, ℕ, ◌+◌, ◌<◌, ◌≤◌, ◌^◌, List, Some, false, true, [], ◌∷◌, ◌++◌, length, vec_len, vec_capacity, IfSome, IfOk, OnOk, OnErr, Err, slice_index, slice_index_or};
 ghost use Rattle.coco_host.specs.Files.{Files, Become, Follows};
 ghost use Rattle.coco_host.specs.Moments.{SeesOnly};
-ghost use Rattle.coco_log.specs.Faults.{CountsAppend};
-ghost use Rattle.coco_log.specs.Grammar.{most, counted};
-ghost use Rattle.coco_log.specs.LogState.{without_entries, with_entry, IsAtRest, IsBeforeOrAfter, ChangesOne, SameBut, IsAppended, IsMade};
+ghost use Rattle.coco_log.specs.declared.fault.LogFault.TheVariants as fault;
+ghost use Rattle.coco_log.specs.Faults.{CountsFault, CountsOpen};
+ghost use Rattle.coco_log.specs.Grammar.{most, counted, FitsNoLog};
+ghost use Rattle.coco_log.specs.LogState.{without_entries, with_entry, gates, IsAtRest, IsBeforeOrAfter, ChangesOne, SameBut, IsAppended, IsMade, IsOnlyRead, IsFresh, IsOpened, Holds, HasEntry};
 
-use crate::LogFault;
 use crate::writing::write_entry;
+use crate::{Entries, LogFault};
 use coco_bytes::put_u32;
 use coco_host::Host;
 use coco_types::NoMemory;
@@ -46,7 +47,7 @@ impl Log {
         ensures files { Become (SameBut file) (H.reads host.old) (H.reads host.new) }
         ensures crash { Follows (SameBut file) (H.may_leave host.old) (H.may_leave host.new) }
         ensures said { H.said host.new ≡ H.said host.old }
-        ensures counts { CountsAppend result (H.disk_faults host.old) (H.disk_faults host.new) }
+        ensures counts { CountsFault result (H.disk_faults host.old) (H.disk_faults host.new) }
     {
         host.write_at(
             file,
@@ -62,6 +63,79 @@ impl Log {
             is_spent: false,
             piece: Vec::new(alloc),
         })
+    }
+
+    /// Opens the log of this kind in a file, which stays as it is. The file is synced first, so that a crash
+    /// leaves what was read.
+    pub fn reopen<H: Host>(
+        alloc: Global,
+        host: &mut H,
+        file: u32,
+        kind: u8,
+    ) -> Result<Log, LogFault>
+        ensures log { IfOk result (λ log. IsFresh log file kind) }
+        ensures ok { IfOk result (λ log. (files : Files) → H.reads host.old ≡ Some files → IsOpened log files (H.may_leave host.new)) }
+        ensures refused { (at : ℕ) (files : Files) → result ≡ Err (fault.NotALog at) → H.reads host.old ≡ Some files → FitsNoLog kind (files file) at }
+        ensures read { IsOnlyRead H.moment H.observed H.said H.reads H.may_leave host.old host.new }
+        ensures counts { CountsOpen result (H.disk_faults host.old) (H.disk_faults host.new) }
+    {
+        let mut entries = Entries::open(alloc, host, file, kind)?;
+        while entries.next(host)? {}
+        Ok(entries.into_log())
+    }
+
+    // A log whose entries were found at these places.
+    pub(crate) fn found(file: u32, kind: u8, places: Vec<u64>, end: u64, piece: Vec<u8>) -> Log
+        requires { end < 2 ^ 62 }
+        ensures { result ≡ record { file = file; kind = kind; places = places.items; end = end; spent = false } }
+    {
+        Log {
+            file,
+            kind,
+            places,
+            end,
+            is_spent: false,
+            piece,
+        }
+    }
+
+    /// The body of an entry, counted from 0. It is no log any more where the file ends within the entry.
+    pub fn entry<H: Host>(
+        &mut self,
+        alloc: Global,
+        host: &mut H,
+        number: u64,
+    ) -> Result<Vec<u8>, LogFault>
+        requires { number < length self.old.places }
+        ensures ok { IfOk result (λ body. (files : Files) (bodies : List (List ℕ)) → H.reads host.old ≡ Some files → Holds self.old bodies (files self.old.file)
+            → body.items ≡ slice_index_or bodies number []) }
+        ensures refused { (at : ℕ) → result ≡ Err (fault.NotALog at) → (at ≡ slice_index (gates self.old) number)
+            × ((files : Files) (body : List ℕ) → H.reads host.old ≡ Some files → HasEntry self.old number body (files self.old.file) → ⊥) }
+        ensures same { self.new ≡ self.old }
+        ensures read { IsOnlyRead H.moment H.observed H.said H.reads H.may_leave host.old host.new }
+        ensures counts { CountsOpen result (H.disk_faults host.old) (H.disk_faults host.new) }
+    {
+        let number = number as usize;
+        let gate = self.gate(number);
+        let next = self.gate(number + 1);
+        let length = next.saturating_sub(gate).saturating_sub(5);
+        let mut body = vec![in alloc; 0; length as usize]?;
+        if host.read_at(self.file, next - length, &mut body)? < body.len() {
+            return Err(LogFault::NotALog { at: gate });
+        }
+        Ok(body)
+    }
+
+    // The place of a gate, counted from 0: that of an entry, or the last one.
+    fn gate(&self, number: usize) -> u64
+        requires { number ≤ length self.now.places }
+        ensures { result ≡ slice_index (gates self.now) number }
+    {
+        if number < self.places.len() {
+            self.places[number]
+        } else {
+            self.end
+        }
     }
 
     /// How many entries the log has.
@@ -93,7 +167,7 @@ impl Log {
         ensures files { Become (SameBut self.old.file) (H.reads host.old) (H.reads host.new) }
         ensures crash { Follows (SameBut self.old.file) (H.may_leave host.old) (H.may_leave host.new) }
         ensures said { H.said host.new ≡ H.said host.old }
-        ensures counts { CountsAppend result (H.disk_faults host.old) (H.disk_faults host.new) }
+        ensures counts { CountsFault result (H.disk_faults host.old) (H.disk_faults host.new) }
     {
         self.is_spent = true;
         stage(&mut self.piece, &mut self.places, body)?;

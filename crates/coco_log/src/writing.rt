@@ -2,7 +2,7 @@
 ghost use Rattle.std.specs.Prelude.{◌≡◌, ◌≢◌, ℕ, ◌+◌, ◌<◌, ◌≤◌, ◌^◌, List, Some, [], ◌∷◌, ◌++◌, length, IfSome, OnOk};
 ghost use Rattle.coco_host.specs.Files.{Files, Become, Follows};
 ghost use Rattle.coco_host.specs.Moments.{SeesOnly};
-ghost use Rattle.coco_log.specs.Faults.{CountsAppend};
+ghost use Rattle.coco_log.specs.Faults.{CountsFault};
 ghost use Rattle.coco_log.specs.Grammar.{IsPiece};
 ghost use Rattle.coco_log.specs.LogState.{IsReady, IsBeforeOrAfter, ChangesOne, SameBut, IsWritten};
 
@@ -26,7 +26,7 @@ pub fn write_entry<H: Host>(
     ensures crash { Follows (SameBut file) (H.may_leave host.old) (H.may_leave host.new) }
     ensures said { H.said host.new ≡ H.said host.old }
     ensures small { OnOk result (gate + 1 + length piece.now < 2 ^ 62) }
-    ensures counts { CountsAppend result (H.disk_faults host.old) (H.disk_faults host.new) }
+    ensures counts { CountsFault result (H.disk_faults host.old) (H.disk_faults host.new) }
 {
     host.write_at(file, gate + 1, piece)?;
     host.sync(file)?;
