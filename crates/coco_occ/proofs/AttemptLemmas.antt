@@ -16,7 +16,7 @@ use Rattle.coco_shard.specs.declared.ops.Op.{Op}
 use Rattle.coco_shard.specs.declared.ops.Op.TheVariants.{Read, Past}
 use Rattle.coco_shard.specs.declared.ops.Answer.TheVariants.{Got, Stood}
 use Rattle.std.specs.FinMap.{empty}
-use Rattle.coco_occ.specs.Course.{IsFresh, lock, install, release, StandsIn, seen_of, wts_in, exchange, IsLocking}
+use Rattle.coco_occ.specs.Course.{IsFresh, Rise, lock, install, release, StandsIn, seen_of, wts_in, exchange, IsLocking}
 use Rattle.coco_occ.specs.Exchange.{Exchange, Found, read}
 use Rattle.coco_occ.specs.Keeping.{given_of, reading, HasReads, HasAsked, IsReading, IsBehind, GoesIn}
 use Rattle.coco_occ.specs.Script.{time_of, extension, past}
@@ -24,7 +24,8 @@ use Rattle.coco_occ.specs.declared.course.Course.{Course}
 use Rattle.coco_occ.specs.declared.course.Stage.{Stage}
 use Rattle.coco_occ.specs.declared.course.Stage.TheVariants as stage
 use Rattle.coco_occ.proofs.CourseLemmas.{greatest-push, first_write}
-use Rattle.coco_occ.proofs.NeedLemmas.{AreApart, run_apart, apart_before, others_stay, has_given_more}
+use Rattle.coco_occ.proofs.Searches.{rise}
+use Rattle.coco_occ.proofs.NeedLemmas.{AreApart, run_apart, run_ascends, apart_before, others_stay, has_given_more}
 
 -- ---- a key that is asked for
 
@@ -159,7 +160,7 @@ found_values (f ∷ reads) m has = (has.0, found_values reads m has.1)
 
 -- the course at the first lock
 pub record Settles (c d : Course) (writes : List Write) : Type 0 where
-  pub expected : d.expected.items ≡ map (λ w. wts_in c.seen.items w.key) writes
+  pub expected : Rise writes → d.expected.items ≡ map (λ w. wts_in c.seen.items w.key) writes
   pub others : d ≡ record c { stage = stage.Locking; place = 0; expected = d.expected }
 
 pub reads_end : (e : eval.Evaluation) (asked : List Exchange) (c d : Course) (reply : Reply) (writes : List Write) → IsReading false e asked c None → eval.IsSound (ended e reply writes) → length e.given + length writes ≤ 64 → Settles c d writes →
@@ -169,6 +170,7 @@ reads_end e asked c d reply writes s sound few t =
     let is = run_is e reply writes s.rows sound s.has in
     let r = run e.procs e.call s.rows in
     let writes_are : r.writes ≡ writes = ap (λ (x : Run). x.writes) is.1 in
+    let rising : Rise r.writes = rise r.writes (run_ascends e.procs e.call s.rows) in
     let needs_are : r.needs ≡ eval.keys_of e.given = ap (λ (x : Run). x.needs) is.1 in
     let reads_few : length h.reads ≡ length e.given = sym (length-map h.reads given_of) ∙ ap length h.given_is in (
       s.rows,
@@ -185,9 +187,10 @@ reads_end e asked c d reply writes s sound few t =
             values = found_values h.reads s.rows (subst (λ (l : List Given). eval.HasGiven l s.rows) (sym h.given_is) s.has);
           };
           seen = h.seen ∙ sym (ap (λ (x : Course). x.seen.items) t.others);
-          expected = t.expected ∙ ap (λ l. map (λ w. wts_in c.seen.items w.key) l) (sym writes_are) ∙ ap (λ (x : Course). map (λ w. wts_in x.seen.items w.key) r.writes) (sym t.others);
+          expected = t.expected (subst Rise writes_are rising) ∙ ap (λ l. map (λ w. wts_in c.seen.items w.key) l) (sym writes_are) ∙ ap (λ (x : Course). map (λ w. wts_in x.seen.items w.key) r.writes) (sym t.others);
           few_reads = omega (arith, reads_few, few);
           few_writes = omega (arith, ap length writes_are, few);
+          rising = rising;
         };
         has_locked = record {
           asked = record { all = refl; clear = tt };

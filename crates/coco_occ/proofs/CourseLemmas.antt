@@ -132,7 +132,7 @@ time_chosen r m asked c s get below =
       done = [];
       left = s.reads;
       parts = s.parts ∙ sym (append-nil (map read s.reads ++ s.locks));
-      has_read = record { reading = s.has_read.reading; seen = s.has_read.seen; expected = s.has_read.expected; few_reads = s.has_read.few_reads; few_writes = s.has_read.few_writes };
+      has_read = record { reading = s.has_read.reading; seen = s.has_read.seen; expected = s.has_read.expected; few_reads = s.has_read.few_reads; few_writes = s.has_read.few_writes; rising = s.has_read.rising };
       has_locked = record { asked = now.asked; held = now.held; locked = now.locked; greatest_is = now.greatest_is; no_conflict = now.no_conflict };
       time_is = ap (λ t. Some t) is;
       fits = subst (λ (t : ℕ). nat_le t most_time ≡ true) is (le-leb (c.greatest + 1) most_time (omega (arith, below)));
@@ -242,7 +242,7 @@ extension_passed r m asked c k wts rts t s get timed unneeded =
       done = s.done ++ f ∷ [];
       left = next.1;
       parts = s.parts;
-      has_read = record { reading = s.has_read.reading; seen = s.has_read.seen; expected = s.has_read.expected; few_reads = s.has_read.few_reads; few_writes = s.has_read.few_writes };
+      has_read = record { reading = s.has_read.reading; seen = s.has_read.seen; expected = s.has_read.expected; few_reads = s.has_read.few_reads; few_writes = s.has_read.few_writes; rising = s.has_read.rising };
       has_locked = record { asked = s.has_locked.asked; held = s.has_locked.held; locked = s.has_locked.locked; greatest_is = s.has_locked.greatest_is; no_conflict = s.has_locked.no_conflict };
       time_is = s.time_is;
       fits = s.fits;
@@ -433,7 +433,7 @@ lock_kept r m before c key wts rts s why_not =
       done = s.done ++ w ∷ [];
       left = next.1;
       parts = ap (λ l. l ++ e ∷ []) s.parts ∙ append_assoc (map read s.reads) s.locks (e ∷ []);
-      has_read = record { reading = s.has_read.reading; seen = s.has_read.seen; expected = s.has_read.expected; few_reads = s.has_read.few_reads; few_writes = s.has_read.few_writes };
+      has_read = record { reading = s.has_read.reading; seen = s.has_read.seen; expected = s.has_read.expected; few_reads = s.has_read.few_reads; few_writes = s.has_read.few_writes; rising = s.has_read.rising };
       has_locked = record {
         asked = record {
           all = asked_more r m before c key s w (Locked wts rts) next.3;
@@ -549,7 +549,7 @@ extension_kept r m before c op s =
       done = s.done ++ f ∷ [];
       left = more;
       parts = ap (λ l. l ++ e ∷ []) s.parts ∙ append_assoc (map read s.reads ++ s.locks) s.extensions (e ∷ []);
-      has_read = record { reading = s.has_read.reading; seen = s.has_read.seen; expected = s.has_read.expected; few_reads = s.has_read.few_reads; few_writes = s.has_read.few_writes };
+      has_read = record { reading = s.has_read.reading; seen = s.has_read.seen; expected = s.has_read.expected; few_reads = s.has_read.few_reads; few_writes = s.has_read.few_writes; rising = s.has_read.rising };
       has_locked = record { asked = s.has_locked.asked; held = s.has_locked.held; locked = s.has_locked.locked; greatest_is = s.has_locked.greatest_is; no_conflict = s.has_locked.no_conflict };
       time_is = s.time_is;
       fits = s.fits;

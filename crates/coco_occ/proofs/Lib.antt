@@ -2,8 +2,12 @@ pub mod AttemptLemmas
 pub mod Attempts
 pub mod Begun
 pub mod CourseLemmas
+pub mod Interleavings
 pub mod NeedLemmas
+pub mod OneTurn
 pub mod ProgressLemmas
+pub mod Restarts
 pub mod ScriptLemmas
+pub mod Searches
 pub mod Soundness
 pub mod WorkedScripts

@@ -1,9 +1,10 @@
 -- What an attempt has asked behind its reads, by its stage.
-use Rattle.std.specs.Prelude.{◌≡◌, ⊤, ℕ, ◌≤◌, Bool, true, not, ◌&&◌, nat_le, nat_lt, List, [], ◌∷◌, ◌++◌, length, map, filter, Option, None, Some, vec_capacity}
-use Rattle.std.specs.List.{find, list_any, filter_map}
+use Rattle.std.specs.Prelude.{◌≡◌, ⊤, ℕ, ◌≤◌, Bool, true, false, not, ◌&&◌, nat_le, nat_lt, List, [], ◌∷◌, ◌++◌, length, map, filter, Option, None, Some, vec_capacity}
+use Rattle.std.specs.List.{find, list_any, filter_map, AllByRecursion}
+use Rattle.std.specs.declared.cmp.Ordering.TheVariants.{Less}
 use Rattle.std.specs.Option.{option_map, option_or}
 use Rattle.coco_types.specs.Limits.{most_time}
-use Rattle.coco_types.specs.RowKey.{RowKey}
+use Rattle.coco_types.specs.RowKey.{RowKey, key_cmp}
 use Rattle.coco_types.specs.declared.call.Reply.{Reply}
 use Rattle.coco_types.specs.declared.call.Write.{Write}
 use Rattle.coco_ast.specs.Keyed.{Rows}
@@ -45,6 +46,11 @@ release w = Release w.key
 abbrev pub keys : List Write → List RowKey
 keys ws = map (λ w. w.key) ws
 
+-- each key is below those behind it
+abbrev pub Rise : List Write → Type 0
+Rise [] = ⊤
+Rise (w ∷ ws) = AllByRecursion (λ k. key_cmp w.key k ≡ Less) (keys ws) × Rise ws
+
 abbrev pub exchange : Op → Answer → Exchange
 exchange op answer = record { op = op; answer = answer }
 
@@ -57,6 +63,14 @@ abbrev pub IsDue : Option Op → List Op → Type 0
 IsDue None left = ⊤
 IsDue (Some op) left = (more : List Op) × (left ≡ op ∷ more)
 
+abbrev pub is_ended : Stage → Bool
+is_ended stage.Reading = false
+is_ended stage.Locking = false
+is_ended stage.Extending = false
+is_ended stage.Installing = false
+is_ended stage.Releasing = false
+is_ended stage.Ended = true
+
 -- how an attempt ends that has a conflict or a time
 abbrev pub outcome_by : Option Why → Option ℕ → Reply → Outcome
 outcome_by (Some why) time reply = Conflict why
@@ -64,6 +78,12 @@ outcome_by None (Some time) reply = Committed time reply
 outcome_by None None reply = OverTime
 
 -- nothing was read, and there is room for what a call may read and write
+pub record HasRoom (c : Course) : Type 0 where
+  pub seen : c.seen.items ≡ []
+  pub seen_room : 64 ≤ vec_capacity c.seen
+  pub expected_room : 64 ≤ vec_capacity c.expected
+
+-- at the start of an attempt
 pub record IsFresh (c : Course) : Type 0 where
   pub stage_is : c.stage ≡ stage.Reading
   pub seen : c.seen.items ≡ []
@@ -81,6 +101,7 @@ pub record HasRead (r : Run) (m : Rows) (reads : List Found) (c : Course) : Type
   pub expected : c.expected.items ≡ map (λ w. wts_in c.seen.items w.key) r.writes
   pub few_reads : length reads ≤ 64
   pub few_writes : length r.writes ≤ 64
+  pub rising : Rise r.writes
 
 -- the keys of these writes are locked, and none conflicted
 pub record HasLocked (reads : List Found) (locks : List Exchange) (writes : List Write) (c : Course) : Type 0 where

@@ -1,5 +1,6 @@
 pub mod Course
 pub mod Exchange
+pub mod Interleaving
 pub mod Keeping
 pub mod Script
 pub mod ScriptExamples

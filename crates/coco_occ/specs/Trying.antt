@@ -1,5 +1,5 @@
 -- An attempt as its callers see it: what it has asked, and where it stands.
-use Rattle.std.specs.Prelude.{◌≡◌, ℕ, List, [], ◌∷◌, ◌++◌}
+use Rattle.std.specs.Prelude.{◌≡◌, ℕ, Bool, true, false, List, [], ◌∷◌, ◌++◌}
 use Rattle.coco_types.specs.declared.call.AttemptId.{AttemptId}
 use Rattle.coco_types.specs.declared.call.Call.{Call}
 use Rattle.coco_types.specs.declared.call.Write.{Write}
@@ -47,3 +47,8 @@ IsMoveOf s (move.Ask shard ask) = s ≡ Waits shard ask
 IsMoveOf s (move.Committed time reply) = (writes : List Write) × (s ≡ Ended (Committed time reply) writes)
 IsMoveOf s (move.Conflict why) = (writes : List Write) × (s ≡ Ended (Conflict why) writes)
 IsMoveOf s move.OverTime = (writes : List Write) × (s ≡ Ended OverTime writes)
+
+abbrev pub has_ended : Standing → Bool
+has_ended Ready = false
+has_ended (Waits shard ask) = false
+has_ended (Ended outcome writes) = true

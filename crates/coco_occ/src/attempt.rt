@@ -1,11 +1,11 @@
 //! An attempt at a call: it asks shards, takes their answers, and ends by a commit or a conflict.
-ghost use Rattle.std.specs.Prelude.{◌≡◌, ◌≤◌, ℕ, [], IfOk, OnOk, OnErr, List};
+ghost use Rattle.std.specs.Prelude.{◌≡◌, ◌≤◌, ℕ, true, [], IfOk, OnOk, OnErr, List};
 ghost use Rattle.coco_ast.specs.Fitting.{Fits};
 ghost use Rattle.coco_shard.specs.declared.ops.Ask.{Ask as Asked};
 ghost use Rattle.coco_types.specs.declared.call.Write.{Write as Written};
 ghost use Rattle.coco_occ.specs.Exchange.{shard_of, MayAnswer};
 ghost use Rattle.coco_occ.specs.declared.outcome.Outcome.{Outcome as End};
-ghost use Rattle.coco_occ.specs.Trying.{Ready, Waits, Ended, IsSound, IsMoveOf, answered};
+ghost use Rattle.coco_occ.specs.Trying.{Ready, Waits, Ended, IsSound, IsMoveOf, answered, has_ended};
 
 use crate::course::Course;
 use crate::outcome::{Move, Outcome};
@@ -85,6 +85,31 @@ impl Attempt {
         })
     }
 
+    /// Another attempt at a call in the place of one that has ended, with its room. Out of memory, nothing has changed.
+    pub fn restart(
+        &mut self,
+        procs: &Checked,
+        request: &Request,
+        by: AttemptId,
+        partitions: u8,
+    ) -> Result<(), NoMemory>
+        requires fits { Fits procs.now request.now.call }
+        requires partitions { 1 ≤ partitions }
+        requires ended { has_ended self.old.standing ≡ true }
+        ensures ok { OnOk result (self.new ≡ record { procs = procs.now; call = request.now.call; by = by; partitions = partitions; script = []; standing = Ready }) }
+        ensures err { OnErr result (self.new ≡ self.old) }
+    {
+        self.course.clear()?;
+        self.run.restart(procs, &request.call)?;
+        self.course.restart();
+        self.script.clear();
+        self.by = by;
+        self.partitions = partitions;
+        self.snapshot = request.call.snapshot;
+        self.waits = false;
+        Ok(())
+    }
+
     /// What it does next. It takes no memory.
     pub fn next(&mut self, procs: &Checked) -> Move
         requires procs { procs.now ≡ self.old.procs }
@@ -126,6 +151,13 @@ impl Attempt {
         self.waits = false;
         accept(&mut self.run, &mut self.course, &self.asked, &answer);
         Ok(())
+    }
+
+    /// Whether it has ended.
+    pub fn has_ended(&self) -> bool
+        ensures { result ≡ has_ended self.now.standing }
+    {
+        !self.waits && self.course.has_ended()
     }
 
     /// The writes of an attempt that has ended, rising by key, none after a refusal.

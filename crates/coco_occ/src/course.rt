@@ -1,6 +1,6 @@
 //! Where an attempt stands behind its reads: what it locks, extends, installs or releases next.
-ghost use Rattle.std.specs.Prelude.{◌≡◌, ◌+◌, ◌-◌, ◌^◌, ◌≤◌, ◌<◌, ◌++◌, ◌∷◌, [], ◌⊎◌, length, max, min, map, List, None, Some, vec_len, vec_capacity, IfNone, IfOk, MatchOption};
-ghost use Rattle.std.specs.List.{list_any, slice_get};
+ghost use Rattle.std.specs.Prelude.{◌≡◌, false, ◌+◌, ◌-◌, ◌^◌, ◌≤◌, ◌<◌, ◌++◌, ◌∷◌, [], ◌⊎◌, length, max, min, map, List, None, Some, vec_len, vec_capacity, IfNone, IfSome, IfOk, OnOk, MatchOption};
+ghost use Rattle.std.specs.List.{list_any, slice_get, HoldsAt};
 ghost use Rattle.coco_ast.specs.Keyed.{Rows};
 ghost use Rattle.coco_ast.specs.Meaning.{Run, is_key};
 ghost use Rattle.coco_types.specs.declared.call.AttemptId.{AttemptId};
@@ -8,14 +8,13 @@ ghost use Rattle.coco_shard.specs.declared.ops.Op.TheVariants.{Lock, Extend};
 ghost use Rattle.coco_shard.specs.declared.ops.Answer.TheVariants.{Locked};
 ghost use Rattle.coco_occ.specs.Exchange.{Exchange, MayAnswer};
 ghost use Rattle.coco_occ.specs.declared.course.Stage.TheVariants as stage;
-ghost use Rattle.coco_occ.specs.Course.{wts_in, needs_seen, IsFresh, entered, outcome_by, exchange, IsLocking, IsExtending, IsEnding, Closes, Stands};
+ghost use Rattle.coco_occ.specs.Course.{wts_in, needs_seen, Rise, HasRoom, IsFresh, entered, outcome_by, is_ended, exchange, IsLocking, IsExtending, IsEnding, Closes, Stands};
 
 use crate::outcome::{Outcome, Why};
 use coco_shard::{Answer, Op};
 use coco_types::limits::{MOST_KEYS, MOST_TIME};
 use coco_types::{Key, NoMemory, Reply, Write};
 use std::alloc::Global;
-use std::cmp::Ordering;
 
 /// A key that was read, with the times that it showed.
 #[derive(Clone, Copy, Debug)]
@@ -59,7 +58,7 @@ impl Course {
     pub fn new(alloc: Global) -> Result<Course, NoMemory>
         ensures { IfOk result IsFresh }
     {
-        Course {
+        let mut course = Course {
             stage: Stage::Reading,
             place: 0,
             seen: Vec::new(alloc),
@@ -68,33 +67,33 @@ impl Course {
             greatest: 0,
             time: None,
             conflict: None,
-        }
-        .restarted()
+        };
+        course.clear()?;
+        Ok(course)
     }
 
-    /// The course of another attempt at its start, with the room of this one.
-    pub fn restarted(self) -> Result<Course, NoMemory>
-        ensures { IfOk result IsFresh }
+    /// Forgets what was read, and makes the room for all keys of a call.
+    pub fn clear(&mut self) -> Result<(), NoMemory>
+        ensures others { self.new ≡ record self.old { seen = self.new.seen; expected = self.new.expected } }
+        ensures room { OnOk result (HasRoom self.new) }
     {
-        let Course {
-            mut seen,
-            mut expected,
-            ..
-        } = self;
-        seen.clear();
-        expected.clear();
-        seen.reserve(MOST_KEYS as usize)?;
-        expected.reserve(MOST_KEYS as usize)?;
-        Ok(Course {
-            stage: Stage::Reading,
-            place: 0,
-            seen,
-            expected,
-            locked: 0,
-            greatest: 0,
-            time: None,
-            conflict: None,
-        })
+        self.seen.clear();
+        self.expected.clear();
+        self.seen.reserve(MOST_KEYS as usize)?;
+        self.expected.reserve(MOST_KEYS as usize)?;
+        Ok(())
+    }
+
+    /// Goes to the start of another attempt.
+    pub fn restart(&mut self)
+        requires { HasRoom self.old }
+        ensures { IsFresh self.new }
+    {
+        self.enter(Stage::Reading);
+        self.locked = 0;
+        self.greatest = 0;
+        self.time = None;
+        self.conflict = None;
     }
 
     /// Ends a snapshot call, at time 0.
@@ -119,14 +118,14 @@ impl Course {
     /// Goes to the first lock, once all keys are read.
     pub fn settle(&mut self, writes: &[Write])
         requires { length writes.now ≤ vec_capacity self.old.expected }
-        ensures expected { self.new.expected.items ≡ map (λ w. wts_in self.old.seen.items w.key) writes.now }
+        ensures expected { Rise writes.now → self.new.expected.items ≡ map (λ w. wts_in self.old.seen.items w.key) writes.now }
         ensures others { self.new ≡ record self.old { stage = stage.Locking; place = 0; expected = self.new.expected } }
     {
         self.expected.clear();
-        for write in writes {
-            let wts = wts_in(&self.seen, write.key);
-            self.expected.push_reserved(wts);
+        for _ in writes {
+            self.expected.push_reserved(None);
         }
+        note_times(&self.seen, writes, &mut self.expected);
         self.enter(Stage::Locking);
     }
 
@@ -322,6 +321,13 @@ impl Course {
         self.place = 0;
     }
 
+    /// Whether there is nothing more to do.
+    pub fn has_ended(&self) -> bool
+        ensures { result ≡ is_ended self.now.stage }
+    {
+        matches!(self.stage, Stage::Ended)
+    }
+
     /// How an attempt ends that stands here, where its run replies so.
     pub fn outcome(&self, reply: &Reply) -> Outcome
         ensures { result ≡ outcome_by self.now.conflict self.now.time reply.now }
@@ -337,32 +343,36 @@ impl Course {
     }
 }
 
-// The write time that the read of a key showed.
-fn wts_in(seen: &[Seen], key: Key) -> Option<u64>
-    ensures { result ≡ wts_in seen.now key }
+// Notes for each write the write time that the first read of its key showed.
+fn note_times(seen: &[Seen], writes: &[Write], times: &mut [Option<u64>])
+    requires { times.old ≡ map (λ _. None) writes.now }
+    ensures { Rise writes.now → times.new ≡ map (λ w. wts_in seen.now w.key) writes.now }
 {
     for read in seen {
-        if key.compare(&read.key) == Ordering::Equal {
-            return Some(read.wts);
+        if let Some(place) = place_of(writes, read.key) {
+            let time = times[place].or(Some(read.wts));
+            times[place] = time;
         }
     }
-    None
 }
 
 // Whether a key that was read isn't valid up to the time, and isn't written.
 fn needs_extension(seen: &Seen, time: u64, writes: &[Write]) -> bool
-    ensures { result ≡ needs_seen time writes.now seen.now }
+    ensures { Rise writes.now → result ≡ needs_seen time writes.now seen.now }
 {
     seen.rts < time && !is_written(writes, seen.key)
 }
 
 fn is_written(writes: &[Write], key: Key) -> bool
-    ensures { result ≡ list_any (λ w. is_key key w.key) writes.now }
+    ensures { Rise writes.now → result ≡ list_any (λ w. is_key key w.key) writes.now }
 {
-    for write in writes {
-        if key.compare(&write.key) == Ordering::Equal {
-            return true;
-        }
-    }
-    false
+    place_of(writes, key).is_some()
+}
+
+// Where the write of a key stands.
+fn place_of(writes: &[Write], key: Key) -> Option<usize>
+    ensures found { IfSome result (λ place. (place < length writes.now) × HoldsAt (λ w. w.key ≡ key) writes.now place) }
+    ensures none { Rise writes.now → IfNone result (list_any (λ w. is_key key w.key) writes.now ≡ false) }
+{
+    writes.binary_search_by_key(&key, |write| write.key).ok()
 }

@@ -8,7 +8,9 @@ pub mod outcome;
 mod packed;
 mod progress;
 pub mod script;
+mod turns;
 
 pub use attempt::Attempt;
 pub use outcome::{Ended, Ends, Move, Outcome, Tailed, Transcript, Tried, Why};
 pub use script::{Script, Step};
+pub use turns::{run_steps, take_turn};

@@ -25,7 +25,8 @@ use Rattle.coco_occ.specs.declared.outcome.Outcome.{Outcome}
 use Rattle.coco_occ.specs.declared.outcome.Outcome.TheVariants.{Committed, Conflict, OverTime}
 use Rattle.coco_order.specs.OneKey.{Among, is_attempt, own, on, left, walk, AreTold, Installs, IsMine, ReadsTheLast, Validates, MarksAreOwn}
 use Rattle.coco_occ.specs.declared.outcome.Tried.{Tried}
-use Rattle.coco_order.specs.Execution.{Beginning, Execution, IsTried, IsExecution, journal_on, transcript_of, concat, taken}
+use Rattle.coco_occ.specs.Steps.{taken}
+use Rattle.coco_order.specs.Execution.{Beginning, Execution, IsTried, IsExecution, journal_on, transcript_of, concat}
 use Rattle.coco_order.proofs.Attempts.{by_bool, not_both, attempt_itself, one_attempt, none_some, same_some, Among-append, Among-left, Among-right}
 use Rattle.coco_order.proofs.Walking.{Holds, Step, Wrote, Kept}
 use Rattle.coco_order.proofs.Chains.{Good, good_at, good_step, good_next, next_holds, walk_holds, installs_above}

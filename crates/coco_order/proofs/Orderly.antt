@@ -17,7 +17,8 @@ use Rattle.coco_occ.specs.declared.script.Step.{Step}
 use Rattle.coco_occ.specs.declared.outcome.Outcome.{Outcome}
 use Rattle.coco_order.specs.OneKey.{Among, own, on, IsTidy, IsOrderly, OnEachKey}
 use Rattle.coco_occ.specs.declared.outcome.Tried.{Tried}
-use Rattle.coco_order.specs.Execution.{Beginning, Execution, IsTried, IsExecution, journal_on, transcript_of, taken}
+use Rattle.coco_occ.specs.Steps.{taken}
+use Rattle.coco_order.specs.Execution.{Beginning, Execution, IsTried, IsExecution, journal_on, transcript_of}
 use Rattle.coco_order.proofs.Attempts.{by_bool}
 use Rattle.coco_order.proofs.Needs.{Apart, needs_apart, writes_apart}
 use Rattle.coco_order.proofs.Passes.{IsSent, AreSent, key_steps, script_steps, below_some, all_among}

@@ -14,7 +14,8 @@ use Rattle.coco_journaled.specs.declared.entry.Entry.{Entry as Logged}
 use Rattle.coco_occ.specs.declared.script.Step.{Step}
 use Rattle.coco_order.specs.OneKey.{Among, is_attempt, own, on}
 use Rattle.coco_occ.specs.declared.outcome.Tried.{Tried}
-use Rattle.coco_order.specs.Execution.{Beginning, Execution, Journal, Transcript, IsTried, AreOf, RiseByNumber, IsExecution, journal_of, journal_on, transcript_of, logged, steps_of, of_pass, taken, at_shard, all_at_shard}
+use Rattle.coco_occ.specs.Steps.{at_shard, taken}
+use Rattle.coco_order.specs.Execution.{Beginning, Execution, Journal, Transcript, IsTried, AreOf, RiseByNumber, IsExecution, journal_of, journal_on, transcript_of, logged, steps_of, of_pass, all_at_shard}
 use Rattle.coco_order.proofs.Attempts.{one_attempt, attempt_itself, by_bool, not_both}
 use Rattle.coco_order.proofs.Chains.{own_append}
 

@@ -27,7 +27,8 @@ use Rattle.coco_occ.specs.declared.outcome.Outcome.{Outcome}
 use Rattle.coco_occ.specs.declared.outcome.Outcome.TheVariants.{Committed, Conflict, OverTime}
 use Rattle.coco_order.specs.OneKey.{Among, own, on, left, walk, Installs}
 use Rattle.coco_occ.specs.declared.outcome.Tried.{Tried}
-use Rattle.coco_order.specs.Execution.{Beginning, Execution, IsTried, IsExecution, journal_on, transcript_of, concat, taken}
+use Rattle.coco_occ.specs.Steps.{taken}
+use Rattle.coco_order.specs.Execution.{Beginning, Execution, IsTried, IsExecution, journal_on, transcript_of, concat}
 use Rattle.coco_order.specs.Laws.{TimesAreFew}
 use Rattle.coco_order.proofs.Attempts.{by_bool, none_some, same_some, Among-append, Among-left, Among-right}
 use Rattle.coco_order.proofs.Walking.{Holds, Step, Wrote, Kept}

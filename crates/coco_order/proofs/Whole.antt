@@ -10,7 +10,8 @@ use Rattle.coco_shard.specs.Law.{Entry}
 use Rattle.coco_occ.specs.declared.script.Step.{Step}
 use Rattle.coco_occ.specs.declared.outcome.Tried.{Tried}
 use Rattle.coco_order.specs.OneKey.{Among, own, on, IsMine}
-use Rattle.coco_order.specs.Execution.{Beginning, Execution, IsTried, IsExecution, journal_of, transcript_of, steps_of, taken, at_shard}
+use Rattle.coco_occ.specs.Steps.{at_shard, taken}
+use Rattle.coco_order.specs.Execution.{Beginning, Execution, IsTried, IsExecution, journal_of, transcript_of, steps_of}
 use Rattle.coco_order.specs.Laws.{StepsAreMine}
 use Rattle.coco_order.proofs.OneKey.{marks_own}
 use Rattle.coco_order.proofs.Passes.{IsSent, AreSent, own_steps, no_steps, script_of, script_cases, all_among}

@@ -12,6 +12,7 @@ use Rattle.coco_shard.specs.declared.ops.Answer.{Answer}
 use Rattle.coco_shard.specs.Law.{Entry, IsLawful}
 use Rattle.coco_journaled.specs.declared.entry.Entry.{Entry as Logged}
 use Rattle.coco_occ.specs.Script.{IsScript}
+use Rattle.coco_occ.specs.Steps.{at_shard}
 use Rattle.coco_occ.specs.declared.script.Step.{Step}
 use Rattle.coco_occ.specs.declared.outcome.Outcome.{Outcome}
 use Rattle.coco_occ.specs.declared.outcome.Tried.{Tried}
@@ -59,13 +60,6 @@ journal_on b x k = steps_of (journal_of x (k.row % b.partitions))
 
 abbrev pub of_pass : ℕ → Journal → List Entry
 of_pass pass journal = steps_of (filter (λ e. nat_eq e.pass pass) journal)
-
--- without the shard
-abbrev pub taken : Step → Entry
-taken s = record { ask = s.ask; answer = s.answer }
-
-abbrev pub at_shard : ℕ → List Step → List Entry
-at_shard shard script = map taken (filter (λ s. nat_eq s.shard shard) script)
 
 abbrev pub all_at_shard : ℕ → Transcript → List Entry
 all_at_shard shard [] = []

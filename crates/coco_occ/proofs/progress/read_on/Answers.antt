@@ -1,7 +1,7 @@
-use Rattle.std.proofs.Common.{◌≡◌, List, map, sym, ap, ◌∙◌}
+use Rattle.std.proofs.Common.{◌≡◌, List, map, sym, ap, ◌∙◌, subst}
 use Rattle.coco_types.specs.declared.call.Write.{Write}
 use Rattle.coco_eval.specs.Standing as eval
-use Rattle.coco_occ.specs.Course.{wts_in}
+use Rattle.coco_occ.specs.Course.{wts_in, Rise}
 use Rattle.coco_occ.proofs.ProgressLemmas.{reads_next, snapshot_next, course_next}
 use Rattle.coco_occ.proofs.progress.read_on.Goals as goal
 
@@ -22,5 +22,5 @@ returns-else-snapshot-clause-goes c asked s =
     let is = c.in-Ended.ensures.others ∙ ap (λ (x : eval.Standing). record c.args.run.now { standing = x }) need.1 in
     let written : c.as_slice-writes.result.now ≡ need.0 = c.as_slice-writes.ensures ∙ (let g : eval.Ended c.writes.ensures.0 c.writes.result.now ≡ eval.Ended c.in-Ended.ended need.0 = sym c.writes.ensures.1 ∙ need.1 in cc) in
     course_next c.args.snapshot c.args.run.now c.step.new.self asked c.args.course.now c.settle.new.self c.next.new.self c.in-Ended.ended need.0 c.next.result c.if-snapshot.false is
-    (record { expected = c.settle.ensures.expected ∙ ap (λ (ws : List Write). map (λ w. wts_in c.args.course.now.seen.items w.key) ws) written; others = c.settle.ensures.others })
+    (record { expected = λ rising. c.settle.ensures.expected (subst Rise (sym written) rising) ∙ ap (λ (ws : List Write). map (λ w. wts_in c.args.course.now.seen.items w.key) ws) written; others = c.settle.ensures.others })
     s c.in-Ended.ensures.sound c.in-Ended.ensures.few (λ r m w. c.next.ensures.stands r m asked (w ∙ sym written))
