@@ -1,7 +1,8 @@
 //! Puts out of order, and both ends of an epoch.
 
 use crate::*;
-use coco_types::{Key, Machine, Value, Write};
+use coco_packs::Packs;
+use coco_types::{Key, Machine, Text, Value, Write};
 use std::alloc::Global;
 use std::process::Abort;
 use std::test::Fail;
@@ -80,5 +81,20 @@ fn a_revert_forgets_what_pends(rt: HostRuntime) -> Result<(), Fail> {
     );
     table.load(FIVE, None)?;
     assert!(rt; table.rows()?.is_empty());
+    Ok(())
+}
+
+#[test]
+fn a_packed_put_is_read_back(rt: HostRuntime) -> Result<(), Fail> {
+    let text = Text::of("fifty").ok_or("no text")?;
+    for value in [None, int(5), Some(Value::Text(text))] {
+        let asked = put(3, 2, FIVE, value);
+        let packed = CopyTable::pack_ask(rt.alloc(), &asked)?;
+        assert_eq!(rt; CopyTable::unpack_ask(&packed), asked);
+    }
+    let older = CopyAnswer::Older { time: 2 };
+    CopyTable::spare(rt.alloc())?;
+    let (packed, _left) = CopyTable::pack_answer(&older, ());
+    assert_eq!(rt; CopyTable::unpack_answer(&packed), older);
     Ok(())
 }

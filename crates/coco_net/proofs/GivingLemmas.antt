@@ -1,8 +1,8 @@
 -- What is given by the nets in memory was sent, and has what is new unless a letter is lost.
-use Rattle.std.proofs.Common.{◌≡◌, ℕ, zero, suc, ◌+◌, ◌-◌, ◌^◌, ◌<◌, ◌≤◌, nat_lt, Result, Ok, Err, OnErr, ◌==◌, ◌&&◌, ◌||◌, Bool, true, false, cond, List, [], ◌∷◌, ◌++◌, map, length, drop, replicate, get_or, refl, sym, ap, subst, arith, inl, inr, ◌⊎◌, ◌%◌, length-drop}
+use Rattle.std.proofs.Common.{◌≡◌, ℕ, zero, suc, ◌+◌, ◌-◌, ◌^◌, ◌<◌, ◌≤◌, nat_lt, Result, Ok, Err, OnErr, ◌==◌, ◌&&◌, ◌||◌, Bool, true, false, cond, List, [], ◌∷◌, ◌++◌, map, length, drop, replicate, get_or, refl, sym, ap, ◌∙◌, subst, arith, inl, inr, ◌⊎◌, ◌%◌, length-drop}
 use Rattle.std.specs.List.{All, AllByRecursion, Contains, list_any}
 use Rattle.std.specs.List.Sorted.{IsPermutation}
-use Rattle.std.proofs.lemmas.List.{get_or-drop}
+use Rattle.std.proofs.lemmas.List.{drop_all, get_or-drop}
 use Rattle.std.proofs.lemmas.List.Elements.{All-contains_itself, All-from_recursion, recursion_from_All, Contains-append_left, Contains-append_right}
 use Rattle.std.proofs.lemmas.List.Sorted.{IsPermutation-refl, IsPermutation-reverse}
 use Rattle.rand_pcg.specs.Lcg.{Lcg}
@@ -39,6 +39,10 @@ gives s t these turns loses is sent new =
         wait = λ place le. subst (IsPermutation (letters_to place these)) (sym (at_place turns these place (omega arith))) (permuted (get_or turns place false) (letters_to place these));
       },
     )
+
+-- after a round nothing is new
+pub none_fresh : (s t : MailState) (these : List Posted) (turns : List Bool) (loses : Bool) → t ≡ given_more s these turns loses → fresh t ≡ []
+none_fresh s t these turns loses is = ap (λ (t : MailState). fresh t) is ∙ drop_all (length s.sent) s.sent (omega arith)
 
 pub faults_more : (s t : MailState) (these : List Posted) (turns : List Bool) (loses : Bool) → t ≡ given_more s these turns loses → (t.faults ≡ s.faults) ⊎ (t.faults ≡ s.faults + 1)
 faults_more s t these turns loses is = subst (λ (t : MailState). (t.faults ≡ s.faults) ⊎ (t.faults ≡ s.faults + 1)) (sym is) (by_loss loses)
@@ -166,6 +170,6 @@ pub always_err : {A E : Type 0} {P : Type 0} (r : Result A E) → P → OnErr r 
 always_err (Ok x) p = tt
 always_err (Err e) p = p
 
-pub seeded_keeps : (s t : MailState) (g : Lcg) → t ≡ after_seeded g s → (t.since ≡ length s.sent) × (t.sent ≡ s.sent) × (t.seed ≡ s.seed)
+pub seeded_keeps : (s t : MailState) (g : Lcg) → t ≡ after_seeded g s → (fresh t ≡ []) × (t.sent ≡ s.sent) × (t.seed ≡ s.seed)
 unfolding after_seeded
-seeded_keeps s t g is = (ap (λ (u : MailState). u.since) is, ap (λ (u : MailState). u.sent) is, ap (λ (u : MailState). u.seed) is)
+seeded_keeps s t g is = (ap (λ (u : MailState). fresh u) is ∙ drop_all (length s.sent) s.sent (omega arith), ap (λ (u : MailState). u.sent) is, ap (λ (u : MailState). u.seed) is)

@@ -1,8 +1,8 @@
 //! A net that gives every letter again and again.
 
-ghost use Rattle.std.specs.Prelude.{◌≡◌, ◌+◌, ◌≤◌, ◌⊎◌, ℕ, List, true, drop, length, OnOk, OnErr};
+ghost use Rattle.std.specs.Prelude.{◌≡◌, ◌+◌, ◌≤◌, ◌⊎◌, ℕ, List, [], true, OnOk, OnErr};
 ghost use Rattle.coco_net.specs.Giving.{GivesMore};
-ghost use Rattle.coco_net.specs.Mail.{no_mail, waiting_at};
+ghost use Rattle.coco_net.specs.Mail.{fresh, no_mail, waiting_at};
 ghost use Rattle.coco_net.specs.Rounds.{after_flood};
 
 use crate::post::{Post, numbers_from};
@@ -40,7 +40,7 @@ impl Net for FloodNet {
 
     ghost given = { λ s. s.post.given };
 
-    ghost since = { λ s. s.post.since };
+    ghost fresh = { λ s. fresh s.post };
 
     ghost waiting = { λ s p. waiting_at s.post p };
 
@@ -55,10 +55,10 @@ impl Net for FloodNet {
     }
 
     fn round(&mut self) -> Result<(), NoMemory>
-        ensures ok { OnOk result (GivesMore self.old.post.sent (drop self.old.post.since self.old.post.sent) self.old.post.faults self.new.post.faults (waiting_at self.new.post) self.old.post.given self.new.post.given) }
-        ensures since { OnOk result (self.new.post.since ≡ length self.old.post.sent) }
+        ensures ok { OnOk result (GivesMore self.old.post.sent (fresh self.old.post) self.old.post.faults self.new.post.faults (waiting_at self.new.post) self.old.post.given self.new.post.given) }
+        ensures fresh { OnOk result (fresh self.new.post ≡ []) }
         ensures faults { OnOk result ((self.new.post.faults ≡ self.old.post.faults) ⊎ (self.new.post.faults ≡ self.old.post.faults + 1)) }
-        ensures err { OnErr result ((self.new.post.given ≡ self.old.post.given) × (self.new.post.since ≡ self.old.post.since) × (self.new.post.faults ≡ self.old.post.faults)) }
+        ensures err { OnErr result ((self.new.post.given ≡ self.old.post.given) × (fresh self.new.post ≡ fresh self.old.post) × (self.new.post.faults ≡ self.old.post.faults)) }
         ensures still_waiting { OnErr result ((p : ℕ) → waiting_at self.new.post p ≡ waiting_at self.old.post p) }
         ensures sent { self.new.post.sent ≡ self.old.post.sent }
         ensures seed { self.new.post.seed ≡ self.old.post.seed }

@@ -1,6 +1,6 @@
 //! The trait of nets.
 
-ghost use Rattle.std.specs.Prelude.{◌≡◌, ◌+◌, ◌≤◌, ◌⊎◌, ◌≢◌, ℕ, Bool, List, Option, Some, [], ◌∷◌, ◌++◌, drop, length, MatchOption, OnOk, OnErr};
+ghost use Rattle.std.specs.Prelude.{◌≡◌, ◌+◌, ◌≤◌, ◌⊎◌, ◌≢◌, ℕ, Bool, List, Option, Some, [], ◌∷◌, ◌++◌, length, MatchOption, OnOk, OnErr};
 ghost use Rattle.coco_net.specs.declared.letter.Letter.{Letter as Mail};
 ghost use Rattle.coco_net.specs.declared.letter.Posted.{Posted as Sent};
 ghost use Rattle.coco_net.specs.Giving.{GivesMore};
@@ -16,8 +16,8 @@ pub trait Net {
     /// The letters given, with their receivers, whether or not they were taken.
     ghost given: { Self → List Sent };
 
-    /// How many letters had been sent at the last round.
-    ghost since: { Self → ℕ };
+    /// The letters sent since the last round.
+    ghost fresh: { Self → List Sent };
 
     /// The letters that wait at a place.
     ghost waiting: { Self → ℕ → List Mail };
@@ -36,19 +36,19 @@ pub trait Net {
         requires from { from ≤ 8 }
         requires to { to ≤ 8 }
         ensures ok { OnOk result (sent self.new ≡ sent self.old ++ record { to = to; letter = record { from = from; bytes = bytes.items } } ∷ []) }
-        ensures err { OnErr result (sent self.new ≡ sent self.old) }
+        ensures fresh { OnOk result (fresh self.new ≡ fresh self.old ++ record { to = to; letter = record { from = from; bytes = bytes.items } } ∷ []) }
+        ensures err { OnErr result ((sent self.new ≡ sent self.old) × (fresh self.new ≡ fresh self.old)) }
         ensures given { given self.new ≡ given self.old }
-        ensures since { since self.new ≡ since self.old }
         ensures waiting { (p : ℕ) → waiting self.new p ≡ waiting self.old p }
         ensures faults { faults self.new ≡ faults self.old }
         ensures seed { last_seed self.new ≡ last_seed self.old };
 
     /// Fixes the letters of this round for each place. Out of memory, nothing has changed.
     fn round(&mut self) -> Result<(), NoMemory>
-        ensures ok { OnOk result (GivesMore (sent self.old) (drop (since self.old) (sent self.old)) (faults self.old) (faults self.new) (waiting self.new) (given self.old) (given self.new)) }
-        ensures since { OnOk result (since self.new ≡ length (sent self.old)) }
+        ensures ok { OnOk result (GivesMore (sent self.old) (fresh self.old) (faults self.old) (faults self.new) (waiting self.new) (given self.old) (given self.new)) }
+        ensures fresh { OnOk result (fresh self.new ≡ []) }
         ensures faults { OnOk result ((faults self.new ≡ faults self.old) ⊎ (faults self.new ≡ faults self.old + 1)) }
-        ensures err { OnErr result ((given self.new ≡ given self.old) × (since self.new ≡ since self.old) × (faults self.new ≡ faults self.old)) }
+        ensures err { OnErr result ((given self.new ≡ given self.old) × (fresh self.new ≡ fresh self.old) × (faults self.new ≡ faults self.old)) }
         ensures still_waiting { OnErr result ((p : ℕ) → waiting self.new p ≡ waiting self.old p) }
         ensures sent { sent self.new ≡ sent self.old }
         ensures seed { last_seed self.new ≡ last_seed self.old };
@@ -65,7 +65,7 @@ pub trait Net {
         ensures others { (p : ℕ) → p ≢ to → waiting self.new p ≡ waiting self.old p }
         ensures sent { sent self.new ≡ sent self.old }
         ensures given { given self.new ≡ given self.old }
-        ensures since { since self.new ≡ since self.old }
+        ensures fresh { fresh self.new ≡ fresh self.old }
         ensures faults { faults self.new ≡ faults self.old }
         ensures seed { last_seed self.new ≡ last_seed self.old };
 
@@ -78,7 +78,7 @@ pub trait Net {
         ensures seed { last_seed self.new ≡ Some seed }
         ensures sent { sent self.new ≡ sent self.old }
         ensures given { given self.new ≡ given self.old }
-        ensures since { since self.new ≡ since self.old }
+        ensures fresh { fresh self.new ≡ fresh self.old }
         ensures faults { faults self.new ≡ faults self.old }
         ensures waiting { (p : ℕ) → waiting self.new p ≡ waiting self.old p };
 

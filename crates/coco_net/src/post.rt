@@ -2,7 +2,7 @@
 
 ghost use Rattle.std.specs.Prelude.{◌≡◌, ◌+◌, ◌-◌, ◌^◌, ◌<◌, ◌≤◌, ◌≢◌, ◌==◌, ◌||◌, ℕ, All, List, Option, Some, [], ◌∷◌, ◌++◌, drop, length, map, replicate, true, false, MatchOption, IfOk, OnOk, OnErr, if◌then◌else◌};
 ghost use Rattle.std.specs.List.{slice_index_or};
-ghost use Rattle.coco_net.specs.Mail.{below, boxed, given_more, letters_to, IsFew, no_mail, picked, turned, waiting_at};
+ghost use Rattle.coco_net.specs.Mail.{below, boxed, fresh, given_more, letters_to, IsFew, no_mail, picked, turned, waiting_at};
 
 use crate::{Letter, Posted};
 use coco_types::{Bytes, NoMemory};
@@ -60,6 +60,7 @@ impl Post {
 
     pub fn send(&mut self, from: u8, to: u8, bytes: Vec<u8>) -> Result<(), NoMemory>
         ensures ok { OnOk result (self.new ≡ record self.old { sent = self.old.sent ++ record { to = to; letter = record { from = from; bytes = bytes.items } } ∷ [] }) }
+        ensures fresh { OnOk result (fresh self.new ≡ fresh self.old ++ record { to = to; letter = record { from = from; bytes = bytes.items } } ∷ []) }
         ensures err { OnErr result (self.new ≡ self.old) }
     {
         let bytes = Bytes::from_vec(bytes);

@@ -1,6 +1,6 @@
 //! A net that disturbs by a generator of random words.
 
-ghost use Rattle.std.specs.Prelude.{◌≡◌, ◌+◌, ◌≤◌, ◌⊎◌, ℕ, None, List, ◌<◌, ◌-◌, ◌^◌, ◌%◌, ◌==◌, ◌&&◌, ◌++◌, nat_lt, map, Bool, Some, All as Each, drop, option_map, IfOk, if◌then◌else◌, length, OnOk, OnErr};
+ghost use Rattle.std.specs.Prelude.{◌≡◌, ◌+◌, ◌≤◌, ◌⊎◌, ℕ, None, List, [], ◌<◌, ◌-◌, ◌^◌, ◌%◌, ◌==◌, ◌&&◌, ◌++◌, nat_lt, map, Bool, Some, All as Each, drop, option_map, IfOk, if◌then◌else◌, length, OnOk, OnErr};
 ghost use Rattle.coco_net.specs.Giving.{GivesMore};
 ghost use Rattle.coco_net.specs.Mail.{MailState, fresh, no_mail, picked, waiting_at};
 ghost use Rattle.std.specs.List.{list_any};
@@ -135,7 +135,7 @@ impl Net for SeededNet {
 
     ghost given = { λ s. s.post.given };
 
-    ghost since = { λ s. s.post.since };
+    ghost fresh = { λ s. fresh s.post };
 
     ghost waiting = { λ s p. waiting_at s.post p };
 
@@ -150,10 +150,10 @@ impl Net for SeededNet {
     }
 
     fn round(&mut self) -> Result<(), NoMemory>
-        ensures ok { OnOk result (GivesMore self.old.post.sent (drop self.old.post.since self.old.post.sent) self.old.post.faults self.new.post.faults (waiting_at self.new.post) self.old.post.given self.new.post.given) }
-        ensures since { OnOk result (self.new.post.since ≡ length self.old.post.sent) }
+        ensures ok { OnOk result (GivesMore self.old.post.sent (fresh self.old.post) self.old.post.faults self.new.post.faults (waiting_at self.new.post) self.old.post.given self.new.post.given) }
+        ensures fresh { OnOk result (fresh self.new.post ≡ []) }
         ensures faults { OnOk result ((self.new.post.faults ≡ self.old.post.faults) ⊎ (self.new.post.faults ≡ self.old.post.faults + 1)) }
-        ensures err { OnErr result ((self.new.post.given ≡ self.old.post.given) × (self.new.post.since ≡ self.old.post.since) × (self.new.post.faults ≡ self.old.post.faults)) }
+        ensures err { OnErr result ((self.new.post.given ≡ self.old.post.given) × (fresh self.new.post ≡ fresh self.old.post) × (self.new.post.faults ≡ self.old.post.faults)) }
         ensures still_waiting { OnErr result ((p : ℕ) → waiting_at self.new.post p ≡ waiting_at self.old.post p) }
         ensures sent { self.new.post.sent ≡ self.old.post.sent }
         ensures seed { self.new.post.seed ≡ self.old.post.seed }
@@ -191,7 +191,7 @@ impl Net for SeededNet {
         ensures seed { self.new.post.seed ≡ Some seed }
         ensures sent { self.new.post.sent ≡ self.old.post.sent }
         ensures given { self.new.post.given ≡ self.old.post.given }
-        ensures since { self.new.post.since ≡ self.old.post.since }
+        ensures fresh { fresh self.new.post ≡ fresh self.old.post }
         ensures faults { self.new.post.faults ≡ self.old.post.faults }
         ensures waiting { (p : ℕ) → waiting_at self.new.post p ≡ waiting_at self.old.post p }
         ensures words { self.new.words ≡ Some (pcg32_of_seed (pcg32_seed 16 seed)) }

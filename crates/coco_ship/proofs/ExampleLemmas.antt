@@ -20,7 +20,7 @@ use Rattle.coco_ship.specs.Examples.{three, AreNumbered, IsNumber}
 use Rattle.coco_ship.proofs.RoundLemmas.{same_write}
 use Rattle.coco_ship.proofs.Tables.{one_read}
 
-same_place : {X : Type 0} (xs : List X) (x y : X) (i j : ℕ) → i < length xs → j < length xs → get_or xs i x ≡ x → get_or xs j y ≡ y → i ≡ j → x ≡ y
+pub same_place : {X : Type 0} (xs : List X) (x y : X) (i j : ℕ) → i < length xs → j < length xs → get_or xs i x ≡ x → get_or xs j y ≡ y → i ≡ j → x ≡ y
 same_place xs x y i j within within' is_x is_y same =
     one_read (slice_get xs i) x y (slice_get-get_or xs i x within ∙ ap Some is_x) (ap (slice_get xs) same ∙ slice_get-get_or xs j y within' ∙ ap Some is_y)
 
@@ -52,7 +52,7 @@ numbered_shippable pieces numbered = record {
 }
 
 -- one item more, of which this holds as of the others
-pushed_each : {X : Type 0} (P : ℕ → X → Type 0) (xs : List X) (n : ℕ) (x : X) → length xs ≡ n → ((k : ℕ) (d : X) → k < length xs → P k (get_or xs k d)) → P n x → (k : ℕ) (d : X) → k < length (xs ++ x ∷ []) → P k (get_or (xs ++ x ∷ []) k d)
+pub pushed_each : {X : Type 0} (P : ℕ → X → Type 0) (xs : List X) (n : ℕ) (x : X) → length xs ≡ n → ((k : ℕ) (d : X) → k < length xs → P k (get_or xs k d)) → P n x → (k : ℕ) (d : X) → k < length (xs ++ x ∷ []) → P k (get_or (xs ++ x ∷ []) k d)
 pushed_each {X = X} P xs n x count all is k d h =
     let more : length (xs ++ x ∷ []) ≡ length xs + 1 = longer xs in
     elim (cases_lt k (length xs)) [

@@ -1,5 +1,5 @@
 -- Rounds of the phase: what they send and give, and what holds after them.
-use Rattle.std.proofs.Common.{◌≡◌, ℕ, zero, suc, ◌+◌, ◌*◌, ◌<◌, ◌≤◌, ◌==◌, Bool, true, false, cond, List, [], ◌∷◌, ◌++◌, length, drop, get_or, append-nil, append_assoc, length-append, Option, Some, None, Ok, Err, Result, refl, sym, ap, ◌∙◌, subst, arith, inl, inr, ◌⊎◌}
+use Rattle.std.proofs.Common.{◌≡◌, ℕ, ◌+◌, ◌*◌, ◌<◌, ◌≤◌, ◌==◌, Bool, true, false, cond, List, [], ◌++◌, length, get_or, append-nil, append_assoc, Option, Some, None, Ok, Err, Result, refl, sym, ap, ◌∙◌, subst, arith, inl, inr, ◌⊎◌}
 use Rattle.std.specs.FinMap.{get}
 use Rattle.std.specs.List.{slice_get, All as Each, Contains}
 use Rattle.std.specs.Option.{option_map, IfSome}
@@ -23,7 +23,7 @@ use Rattle.coco_ship.specs.Sets.{has}
 use Rattle.coco_ship.specs.Pieces.{AreShippable, HasPieces, IsOf, IsWritten}
 use Rattle.coco_ship.specs.Letters.{all_of, letter_of, posted_of, ship_of, AreInside, AreOther, Gains, IsInside, IsOther}
 use Rattle.coco_ship.specs.Lines.{answered, AreLines, AreWaiting, IsLine}
-use Rattle.coco_ship.specs.Shipping.{news, AreBegun, ArePhase, AreWhole, IsPhase, IsSilent}
+use Rattle.coco_ship.specs.Shipping.{news, AreBegun, ArePhase, AreWhole, AreWritten, IsPhase, IsSilent}
 use Rattle.coco_ship.specs.Sending.{answer_of, ask_of, reply_of, AreAnswers, AreAsks, IsAnswer}
 use Rattle.coco_ship.specs.Taking.{Brings, Hears, OfBoth, OfTables}
 use Rattle.coco_ship.specs.Going.{AreHonest, AreTold, HasAnswered, IsDoneBy, IsGoing, IsHonest, IsTold, IsWaitedFor, Passes, Unless}
@@ -108,52 +108,43 @@ news_joined a b c first second = news_is a c (news a b ++ news b c) (joined a b 
 gained : (old new these : List Posted) → new ≡ old ++ these → new ≡ old ++ news old new
 gained old new these is = is ∙ ap (λ (ps : List Posted). old ++ ps) (sym (news_is old new these is))
 
-pub passes_given : (ring : Ring) (epoch : ℕ) (sent given : List Posted) (tables : List CopyState) (sent' given' : List Posted) (since' : ℕ) (tables' : List CopyState) (xs : List Posted) → sent' ≡ sent ++ xs → given' ≡ given ++ news given given'
-    → ArePhase epoch xs → OfTables ring (Brings ring epoch (news given given')) tables tables' → Each (λ t. t.epoch ≡ epoch) tables' → since' ≤ length sent' → Passes ring epoch sent given tables sent' given' since' tables'
-passes_given ring epoch sent given tables sent' given' since' tables' xs sends gives phase gains begun counted = record {
+pub passes_given : (ring : Ring) (epoch : ℕ) (sent given : List Posted) (tables : List CopyState) (sent' given' : List Posted) (tables' : List CopyState) (xs : List Posted) → sent' ≡ sent ++ xs → given' ≡ given ++ news given given'
+    → ArePhase epoch xs → OfTables ring (Brings ring epoch (news given given')) tables tables' → Each (λ t. t.epoch ≡ epoch) tables' → Passes ring epoch sent given tables sent' given' tables'
+passes_given ring epoch sent given tables sent' given' tables' xs sends gives phase gains begun = record {
   sends = gained sent sent' xs sends;
   gives = gives;
   phase = subst (ArePhase epoch) (sym (news_is sent sent' xs sends)) phase;
   gains = gains;
   begun = begun;
-  counted = counted;
 }
 
 -- letters were sent, and nothing else happened
-pub passes_sent : (ring : Ring) (epoch : ℕ) (sent given : List Posted) (since : ℕ) (tables : List CopyState) (sent' given' : List Posted) (since' : ℕ) (xs : List Posted) → sent' ≡ sent ++ xs → given' ≡ given → since' ≡ since
-    → ArePhase epoch xs → Each (λ t. t.epoch ≡ epoch) tables → since ≤ length sent → Passes ring epoch sent given tables sent' given' since' tables
-passes_sent ring epoch sent given since tables sent' given' since' xs sends gives same phase begun counted =
-    let longer : length sent' ≡ length sent + length xs = ap length sends ∙ length-append sent xs in
-    passes_given ring epoch sent given tables sent' given' since' tables xs sends (gained given given' [] (gives ∙ sym (append-nil given))) phase (brings_none ring epoch (news given given') tables) begun (omega (arith, longer, same, counted))
+pub passes_sent : (ring : Ring) (epoch : ℕ) (sent given : List Posted) (tables : List CopyState) (sent' given' : List Posted) (xs : List Posted) → sent' ≡ sent ++ xs → given' ≡ given
+    → ArePhase epoch xs → Each (λ t. t.epoch ≡ epoch) tables → Passes ring epoch sent given tables sent' given' tables
+passes_sent ring epoch sent given tables sent' given' xs sends gives phase begun =
+    passes_given ring epoch sent given tables sent' given' tables xs sends (gained given given' [] (gives ∙ sym (append-nil given))) phase (brings_none ring epoch (news given given') tables) begun
 
-pub passes_none : (ring : Ring) (epoch : ℕ) (sent given : List Posted) (since : ℕ) (tables : List CopyState) → Each (λ t. t.epoch ≡ epoch) tables → since ≤ length sent → Passes ring epoch sent given tables sent given since tables
-passes_none ring epoch sent given since tables begun counted =
-    passes_sent ring epoch sent given since tables sent given since [] (sym (append-nil sent)) refl refl (λ i d h. absurd (omega (arith, h))) begun counted
+pub passes_none : (ring : Ring) (epoch : ℕ) (sent given : List Posted) (tables : List CopyState) → Each (λ t. t.epoch ≡ epoch) tables → Passes ring epoch sent given tables sent given tables
+passes_none ring epoch sent given tables begun = passes_sent ring epoch sent given tables sent given [] (sym (append-nil sent)) refl (λ i d h. absurd (omega (arith, h))) begun
 
-pub passes_then : (ring : Ring) (epoch : ℕ) (s0 g0 : List Posted) (t0 : List CopyState) (s1 g1 : List Posted) (n1 : ℕ) (t1 : List CopyState) (s2 g2 : List Posted) (n2 : ℕ) (t2 : List CopyState) → length t1 ≡ ring.partitions * ring.copies
-    → Passes ring epoch s0 g0 t0 s1 g1 n1 t1 → Passes ring epoch s1 g1 t1 s2 g2 n2 t2 → Passes ring epoch s0 g0 t0 s2 g2 n2 t2
-passes_then ring epoch s0 g0 t0 s1 g1 n1 t1 s2 g2 n2 t2 count first second =
+pub passes_then : (ring : Ring) (epoch : ℕ) (s0 g0 : List Posted) (t0 : List CopyState) (s1 g1 : List Posted) (t1 : List CopyState) (s2 g2 : List Posted) (t2 : List CopyState) → length t1 ≡ ring.partitions * ring.copies
+    → Passes ring epoch s0 g0 t0 s1 g1 t1 → Passes ring epoch s1 g1 t1 s2 g2 t2 → Passes ring epoch s0 g0 t0 s2 g2 t2
+passes_then ring epoch s0 g0 t0 s1 g1 t1 s2 g2 t2 count first second =
     let sent : s2 ≡ s0 ++ (news s0 s1 ++ news s1 s2) = joined s0 s1 s2 first.sends second.sends in
     let given : g2 ≡ g0 ++ (news g0 g1 ++ news g1 g2) = joined g0 g1 g2 first.gives second.gives in
-    passes_given ring epoch s0 g0 t0 s2 g2 n2 t2 (news s0 s1 ++ news s1 s2) sent (gained g0 g2 (news g0 g1 ++ news g1 g2) given)
+    passes_given ring epoch s0 g0 t0 s2 g2 t2 (news s0 s1 ++ news s1 s2) sent (gained g0 g2 (news g0 g1 ++ news g1 g2) given)
     (All-append (λ (s : Posted). (m : Message) × IsPhase epoch m × (s.letter.bytes ≡ bytes_of m)) (news s0 s1) (news s1 s2) first.phase second.phase)
     (subst (λ (ps : List Posted). OfTables ring (Brings ring epoch ps) t0 t2) (sym (news_is g0 g2 (news g0 g1 ++ news g1 g2) given)) (brings_both ring epoch (news g0 g1) (news g1 g2) t0 t1 t2 count first.gains second.gains))
-    second.begun second.counted
+    second.begun
 
 -- a part of letters of the phase
 pub phase_front : (epoch : ℕ) (xs ys zs : List Posted) → xs ++ ys ≡ zs → ArePhase epoch zs → ArePhase epoch xs
 phase_front epoch xs ys zs is phase i d h =
     All-contains (λ (s : Posted). (m : Message) × IsPhase epoch m × (s.letter.bytes ≡ bytes_of m)) zs (get_or xs i d) phase (subst (λ (ps : List Posted). Contains ps (get_or xs i d)) is (Contains-append_left xs ys (get_or xs i d) (Contains-get_or xs i d h)))
 
-in_dropped : (n : ℕ) (xs ys : List Posted) (s : Posted) → n ≤ length xs → Contains ys s → Contains (drop n (xs ++ ys)) s
-in_dropped zero xs ys s h has = Contains-append_right xs ys s has
-in_dropped (suc n) [] ys s h has = absurd (omega (arith, h))
-in_dropped (suc n) (x ∷ xs) ys s h has = in_dropped n xs ys s (omega (arith, h)) has
-
--- without a fault all letters that were sent in a round are given
-pub all_came : (since : ℕ) (sent letters posts : List Posted) → since ≤ length sent → Each (Contains posts) (drop since (sent ++ letters)) → Each (Contains posts) letters
-all_came since sent letters posts counted all i d h =
-    All-contains (Contains posts) (drop since (sent ++ letters)) (get_or letters i d) all (in_dropped since sent letters (get_or letters i d) counted (Contains-get_or letters i d h))
+-- what came has all that was sent in the round
+pub all_came : (fresh letters posts : List Posted) → Each (Contains posts) (fresh ++ letters) → Each (Contains posts) letters
+all_came fresh letters posts all i d h = All-contains (Contains posts) (fresh ++ letters) (get_or letters i d) all (Contains-append_right fresh letters (get_or letters i d) (Contains-get_or letters i d h))
 
 -- ---- which lines are done
 
@@ -207,22 +198,26 @@ done_answered ring epoch posts old ts mid new us were done p j copy l t m u l_is
 pub same_write : (w : Write) (k : RowKey) (v : Option Value) → w.key ≡ k → w.value ≡ v → w ≡ record { key = k; value = v }
 same_write w k v a b i = record { key = a i; value = b i }
 
-written_kept : (ring : Ring) (epoch : ℕ) (pieces : List Piece) (posts : List Posted) (ls : List Line) (ts us : List CopyState) → length ts ≡ ring.partitions * ring.copies → AreHonest ring epoch pieces ls posts
-    → ((p j : ℕ) → IsCopy ring p j → (t : CopyState) → slice_get ts (table_of ring p j) ≡ Some t → IsWritten pieces p t) → OfTables ring (Brings ring epoch posts) ts us
-    → (p j : ℕ) → IsCopy ring p j → (u : CopyState) → slice_get us (table_of ring p j) ≡ Some u → IsWritten pieces p u
-written_kept ring epoch pieces posts ls ts us count honest before brings p j copy u u_is k time value pends =
-    let t = item_at ring ts count p j copy in
-    let gains : Gains epoch p (letters_to (holder_of ring p j) posts) t.0 u = brings p j copy t.0 u t.1 u_is in
-    elim (gains.pending k) [
-      | inl same ↦ before p j copy t.0 t.1 k time value (sym same ∙ pends)
-      | inr by ↦
-          let x : Piece = by.1 in
-          let w : Write = by.2 in
-          let in' : Contains posts (posted_of by.0 (holder_of ring p j) (ship_of epoch x)) = out_letters (holder_of ring p j) posts (letter_of by.0 (ship_of epoch x)) by.3 in
-          let of : IsOf pieces x.partition x = honest (posted_of by.0 (holder_of ring p j) (ship_of epoch x)) (ship_of epoch x) in' by.8 refl refl in
-          let row : (time, value) ≡ (x.time, w.value) = one_read (get u.pending k) (time, value) (x.time, w.value) pends by.7 in
-          (x, record { among = of.among; partition = by.4 }, sym (ap (λ (q : ℕ × Option Value). q.0) row), subst (Contains x.writes) (same_write w k value by.6 (sym (ap (λ (q : ℕ × Option Value). q.1) row))) by.5)
-    ]
+pub written_kept : (ring : Ring) (epoch : ℕ) (pieces : List Piece) (posts : List Posted) (ls : List Line) (ts us : List CopyState) → length ts ≡ ring.partitions * ring.copies → AreHonest ring epoch pieces ls posts
+    → AreWritten ring pieces ts → OfTables ring (Brings ring epoch posts) ts us → AreWritten ring pieces us
+written_kept ring epoch pieces posts ls ts us count honest before brings p j copy = at (slice_get us (table_of ring p j)) refl
+  where
+    at : (o : Option CopyState) → slice_get us (table_of ring p j) ≡ o → IfSome o (IsWritten pieces p)
+    at None u_is = tt
+    at (Some u) u_is = λ k time value pends.
+        let t = item_at ring ts count p j copy in
+        let was : IsWritten pieces p t.0 = subst (λ o. IfSome o (IsWritten pieces p)) t.1 (before p j copy) in
+        let gains : Gains epoch p (letters_to (holder_of ring p j) posts) t.0 u = brings p j copy t.0 u t.1 u_is in
+        elim (gains.pending k) [
+          | inl same ↦ was k time value (sym same ∙ pends)
+          | inr by ↦
+              let x : Piece = by.1 in
+              let w : Write = by.2 in
+              let in' : Contains posts (posted_of by.0 (holder_of ring p j) (ship_of epoch x)) = out_letters (holder_of ring p j) posts (letter_of by.0 (ship_of epoch x)) by.3 in
+              let of : IsOf pieces x.partition x = honest (posted_of by.0 (holder_of ring p j) (ship_of epoch x)) (ship_of epoch x) in' by.8 refl refl in
+              let row : (time, value) ≡ (x.time, w.value) = one_read (get u.pending k) (time, value) (x.time, w.value) pends by.7 in
+              (x, record { among = of.among; partition = by.4 }, sym (ap (λ (q : ℕ × Option Value). q.0) row), subst (Contains x.writes) (same_write w k value by.6 (sym (ap (λ (q : ℕ × Option Value). q.1) row))) by.5)
+        ]
 
 -- ---- going on
 
@@ -297,24 +292,15 @@ answered_after ring epoch pieces posts letters old ts mid new us lines tables af
 
 -- ---- letters carried by a round
 
-pub carry_counted : (n0 n1 n2 : ℕ) (s0 s1 s2 xs : List Posted) → n1 ≡ n0 → n0 ≤ length s0 → s1 ≡ s0 ++ xs → s2 ≡ s1 → (n2 ≡ n1) ⊎ (n2 ≡ length s1) → n2 ≤ length s2
-carry_counted n0 n1 n2 s0 s1 s2 xs same counted more is since =
-    let longer : length s1 ≡ length s0 + length xs = ap length more ∙ length-append s0 xs in
-    let as_long : length s2 ≡ length s1 = ap length is in
-    elim since [
-      | inl kept ↦ omega (arith, longer, as_long, same, counted, kept)
-      | inr all ↦ omega (arith, as_long, all)
-    ]
-
-pub carry_came : (f0 f1 f2 n0 n1 : ℕ) (s0 s1 letters gv0 gv1 given' : List Posted) → f1 ≡ f0 → n1 ≡ n0 → n0 ≤ length s0 → s1 ≡ s0 ++ letters → gv1 ≡ gv0
-    → (f2 ≡ f1 → Each (Contains (news gv1 given')) (drop n1 s1)) → (f2 ≡ f1) ⊎ (f2 ≡ f1 + 1) → Unless f0 f2 (Each (Contains (news gv0 given')) letters)
-carry_came f0 f1 f2 n0 n1 s0 s1 letters gv0 gv1 given' f n counted sent gv new_ones faults = elim faults [
+-- without a fault all letters that were sent in a round are given
+pub carry_came : (f0 f1 f2 : ℕ) (fresh fresh' letters gv0 gv1 given' : List Posted) → f1 ≡ f0 → fresh' ≡ fresh ++ letters → gv1 ≡ gv0
+    → (f2 ≡ f1 → Each (Contains (news gv1 given')) fresh') → (f2 ≡ f1) ⊎ (f2 ≡ f1 + 1) → Unless f0 f2 (Each (Contains (news gv0 given')) letters)
+carry_came f0 f1 f2 fresh fresh' letters gv0 gv1 given' f more gv new_ones faults = elim faults [
   | inl same ↦ inr (
     same ∙ f,
-    all_came n0 s0 letters (news gv0 given') counted
-        (subst (λ (z : List Posted). Each (Contains (news z given')) (drop n0 (s0 ++ letters))) gv (subst (λ (z : List Posted). Each (Contains (news gv1 given')) (drop n0 z)) sent (subst (λ (k : ℕ). Each (Contains (news gv1 given')) (drop k s1)) n (new_ones same)))),
+    all_came fresh letters (news gv0 given') (subst (λ (z : List Posted). Each (Contains (news z given')) (fresh ++ letters)) gv (subst (λ (z : List Posted). Each (Contains (news gv1 given')) z) more (new_ones same))),
   )
-  | inr more ↦ inl (omega (arith, more, f))
+  | inr rose ↦ inl (omega (arith, rose, f))
 ]
 
 pub unless_then : (a b : ℕ) (P Q : Type 0) → (P → Q) → Unless a b P → Unless a b Q
@@ -324,18 +310,39 @@ unless_then a b P Q then h = elim h [ inl rose ↦ inl rose | inr fact ↦ inr (
 
 pub ask_going : (ring : Ring) (epoch : ℕ) (pieces : List Piece) (posts sent letters sent' : List Posted) (ls : List Line) (ts : List CopyState) (ms : List Line) (us : List CopyState) → AreShippable ring pieces
     → length ls ≡ ring.partitions * ring.copies → length ts ≡ ring.partitions * ring.copies → length us ≡ ring.partitions * ring.copies → AreAsks ring epoch pieces ls letters → IsGoing ring epoch pieces sent ls ts
-    → sent' ≡ sent ++ letters → Each (Contains sent') posts → OfBoth ring (Hears ring epoch posts) ls ts ms us → OfTables ring (Brings ring epoch posts) ts us → IsGoing ring epoch pieces sent' ms us
+    → sent' ≡ sent ++ letters → Each (Contains (sent ++ letters)) posts → OfBoth ring (Hears ring epoch posts) ls ts ms us → OfTables ring (Brings ring epoch posts) ts us → IsGoing ring epoch pieces sent' ms us
 ask_going ring epoch pieces posts sent letters sent' ls ts ms us fit lines tables after asks going is among hears brings =
     going_heard ring epoch pieces posts sent' ls ts ms us fit lines tables after
-    (subst (λ (ps : List Posted). IsGoing ring epoch pieces ps ls ts) (sym is) (going_asked ring epoch pieces sent letters ls ts tables asks going)) among hears brings
+    (subst (λ (ps : List Posted). IsGoing ring epoch pieces ps ls ts) (sym is) (going_asked ring epoch pieces sent letters ls ts tables asks going)) (subst (λ (ps : List Posted). Each (Contains ps) posts) (sym is) among) hears brings
 
 pub answer_going : (ring : Ring) (epoch : ℕ) (pieces : List Piece) (posts sent letters sent' : List Posted) (old : List Line) (ts : List CopyState) (mid new : List Line) (us : List CopyState) → IsRing ring → AreShippable ring pieces
     → length old ≡ ring.partitions * ring.copies → length ts ≡ ring.partitions * ring.copies → length mid ≡ ring.partitions * ring.copies → length us ≡ ring.partitions * ring.copies
     → ((p j : ℕ) → IsCopy ring p j → slice_get mid (table_of ring p j) ≡ option_map answered (slice_get old (table_of ring p j))) → AreAnswers ring epoch old letters → IsGoing ring epoch pieces sent old ts
-    → sent' ≡ sent ++ letters → Each (Contains sent') posts → OfBoth ring (Hears ring epoch posts) mid ts new us → OfTables ring (Brings ring epoch posts) ts us → IsGoing ring epoch pieces sent' new us
+    → sent' ≡ sent ++ letters → Each (Contains (sent ++ letters)) posts → OfBoth ring (Hears ring epoch posts) mid ts new us → OfTables ring (Brings ring epoch posts) ts us → IsGoing ring epoch pieces sent' new us
 answer_going ring epoch pieces posts sent letters sent' old ts mid new us ring_fit fit lines tables mids after were answers going is among hears brings =
     going_heard ring epoch pieces posts sent' mid ts new us fit mids tables after
-    (subst (λ (ps : List Posted). IsGoing ring epoch pieces ps mid ts) (sym is) (going_answered ring epoch pieces sent letters old mid ts ring_fit lines tables were answers going)) among hears brings
+    (subst (λ (ps : List Posted). IsGoing ring epoch pieces ps mid ts) (sym is) (going_answered ring epoch pieces sent letters old mid ts ring_fit lines tables were answers going)) (subst (λ (ps : List Posted). Each (Contains ps) posts) (sym is) among) hears brings
+
+-- what pends was written by pieces, whatever a round came to
+pub ask_written : (ring : Ring) (epoch : ℕ) (pieces : List Piece) (posts sent letters : List Posted) (ls : List Line) (ts us : List CopyState) → length ts ≡ ring.partitions * ring.copies → AreAsks ring epoch pieces ls letters → IsGoing ring epoch pieces sent ls ts
+    → Each (Contains (sent ++ letters)) posts → OfTables ring (Brings ring epoch posts) ts us → AreWritten ring pieces us
+ask_written ring epoch pieces posts sent letters ls ts us tables asks going among brings =
+    let asked = going_asked ring epoch pieces sent letters ls ts tables asks going in
+    written_kept ring epoch pieces posts ls ts us tables (honest_some ring epoch pieces ls (sent ++ letters) posts asked.honest among) going.written brings
+
+pub answer_written : (ring : Ring) (epoch : ℕ) (pieces : List Piece) (posts sent letters : List Posted) (old mid : List Line) (ts us : List CopyState) → IsRing ring → length old ≡ ring.partitions * ring.copies → length ts ≡ ring.partitions * ring.copies
+    → ((p j : ℕ) → IsCopy ring p j → slice_get mid (table_of ring p j) ≡ option_map answered (slice_get old (table_of ring p j))) → AreAnswers ring epoch old letters → IsGoing ring epoch pieces sent old ts
+    → Each (Contains (sent ++ letters)) posts → OfTables ring (Brings ring epoch posts) ts us → AreWritten ring pieces us
+answer_written ring epoch pieces posts sent letters old mid ts us fit lines tables were answers going among brings =
+    let said = going_answered ring epoch pieces sent letters old mid ts fit lines tables were answers going in
+    written_kept ring epoch pieces posts mid ts us tables (honest_some ring epoch pieces mid (sent ++ letters) posts said.honest among) going.written brings
+
+-- nothing was given
+pub none_given : (sent given given' : List Posted) → given' ≡ given → Each (Contains sent) (news given given')
+none_given sent given given' same = subst (Each (Contains sent)) (sym (news_none given given' same)) (λ i d h. absurd (omega (arith, h)))
+
+pub tables_begun : (ring : Ring) (epoch : ℕ) (pieces : List Piece) (tables : List CopyState) → length tables ≡ ring.partitions * ring.copies → Each (λ t. t.epoch ≡ epoch) tables → AreWritten ring pieces tables → AreBegun ring epoch pieces tables
+tables_begun ring epoch pieces tables count begun written = record { count = count; begun = begun; written = written }
 
 pub exchange_faults : (f0 f1 f2 : ℕ) (P Q R : Type 0) → (P → Q → R) → Unless f0 f1 P → Unless f1 f2 Q → Unless f0 f2 R
 exchange_faults f0 f1 f2 P Q R both first second = elim first [
@@ -365,7 +372,7 @@ others_honest ring epoch pieces lines posts other s m has' is bytes = by m (othe
 pub going_first : (ring : Ring) (epoch : ℕ) (pieces : List Piece) (sent : List Posted) (lines : List Line) (tables : List CopyState) → AreBegun ring epoch pieces tables → AreOther epoch sent → AreLines ring pieces lines tables → IsGoing ring epoch pieces sent lines tables
 going_first ring epoch pieces sent lines tables begun other fits = record {
   lines_fit = fits;
-  written = λ p j copy table is. subst (λ o. IfSome o (IsWritten pieces p)) is (begun.written p j copy);
+  written = begun.written;
   honest = others_honest ring epoch pieces lines sent other;
 }
 
@@ -389,7 +396,7 @@ whole_all ring epoch pieces sent lines tables fit count going all p j copy = by 
         let line = item_at ring lines count p j copy in
         let done : line.0.is_done ≡ true = all (holder_of ring p j) p j copy refl line.0 line.1 in
         let fits : IsLine pieces p line.0 t = going.lines_fit p j copy line.0 t line.1 is in
-        whole ring epoch pieces p t fit (going.written p j copy t is) (λ x of. fits.there x of (fits.done done x of))
+        whole ring epoch pieces p t fit (subst (λ o. IfSome o (IsWritten pieces p)) is (going.written p j copy)) (λ x of. fits.there x of (fits.done done x of))
 
 -- a line that is done now, and was not: its All was given
 pub was_given : (ring : Ring) (epoch : ℕ) (posts : List Posted) (ls : List Line) (ts : List CopyState) (ms : List Line) (us : List CopyState) → length ls ≡ ring.partitions * ring.copies → length ts ≡ ring.partitions * ring.copies

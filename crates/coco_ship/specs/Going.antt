@@ -1,5 +1,5 @@
 -- What holds between the exchanges of a ship phase.
-use Rattle.std.specs.Prelude.{◌≡◌, ℕ, ◌+◌, ◌≤◌, ◌++◌, true, false, is_some, length, List, [], All as Each, Contains, Some, ◌⊎◌}
+use Rattle.std.specs.Prelude.{◌≡◌, ℕ, ◌+◌, ◌≤◌, ◌++◌, true, false, is_some, List, [], All as Each, Contains, Some, ◌⊎◌}
 use Rattle.std.specs.List.{slice_get}
 use Rattle.coco_types.specs.declared.call.Piece.{Piece}
 use Rattle.coco_msg.specs.declared.message.Message.{Message}
@@ -11,10 +11,10 @@ use Rattle.coco_ship.specs.declared.line.Line.{Line}
 use Rattle.coco_ship.specs.declared.ring.Ring.{Ring}
 use Rattle.coco_ship.specs.Placing.{holder_of, table_of, IsCopy}
 use Rattle.coco_ship.specs.Sets.{has, is_in}
-use Rattle.coco_ship.specs.Pieces.{AreShippable, IsOf, IsWritten}
+use Rattle.coco_ship.specs.Pieces.{AreShippable, IsOf}
 use Rattle.coco_ship.specs.Letters.{all_of}
 use Rattle.coco_ship.specs.Lines.{AreLines, ArePlacesOf}
-use Rattle.coco_ship.specs.Shipping.{news, ArePhase}
+use Rattle.coco_ship.specs.Shipping.{news, ArePhase, AreWritten}
 use Rattle.coco_ship.specs.Taking.{Brings, OfTables}
 
 -- All pieces of a partition but those at these places are there.
@@ -36,7 +36,7 @@ AreHonest ring epoch pieces lines posts = (s : Posted) (m : Message) → Contain
 -- The lines fit the pieces and the tables, what pends was written by pieces, and all letters sent tell what is so.
 pub record IsGoing (ring : Ring) (epoch : ℕ) (pieces : List Piece) (sent : List Posted) (lines : List Line) (tables : List CopyState) : Type 0 where
   pub lines_fit : AreLines ring pieces lines tables
-  pub written : (p j : ℕ) → IsCopy ring p j → (table : CopyState) → slice_get tables (table_of ring p j) ≡ Some table → IsWritten pieces p table
+  pub written : AreWritten ring pieces tables
   pub honest : AreHonest ring epoch pieces lines sent
 
 -- a line of this node whose All the primary hasn't
@@ -71,13 +71,12 @@ AreTold ring pieces lines = (p j : ℕ) → IsCopy ring p j → (line : Line) �
 
 -- What rounds of the phase do, also where memory runs out: the letters that are sent are of the phase, and rows
 -- change only by letters that are given.
-pub record Passes (ring : Ring) (epoch : ℕ) (sent given : List Posted) (tables : List CopyState) (sent_after given_after : List Posted) (since_after : ℕ) (tables_after : List CopyState) : Type 0 where
+pub record Passes (ring : Ring) (epoch : ℕ) (sent given : List Posted) (tables : List CopyState) (sent_after given_after : List Posted) (tables_after : List CopyState) : Type 0 where
   pub sends : sent_after ≡ sent ++ news sent sent_after
   pub gives : given_after ≡ given ++ news given given_after
   pub phase : ArePhase epoch (news sent sent_after)
   pub gains : OfTables ring (Brings ring epoch (news given given_after)) tables tables_after
   pub begun : Each (λ t. t.epoch ≡ epoch) tables_after
-  pub counted : since_after ≤ length sent_after
 
 -- The count of faults rose, or else it is as before and this holds.
 abbrev pub Unless : ℕ → ℕ → Type 0 → Type 0
@@ -87,6 +86,10 @@ Unless faults faults_after Fact = (faults + 1 ≤ faults_after) ⊎ ((faults_aft
 abbrev pub GoesOn : Ring → ℕ → List Posted → List Line → List CopyState → List Posted → List Line → List CopyState → Type 0
 GoesOn ring epoch sent lines tables sent_after lines_after tables_after =
     (pieces : List Piece) → AreShippable ring pieces → IsGoing ring epoch pieces sent lines tables → IsGoing ring epoch pieces sent_after lines_after tables_after
+
+-- what pends was written by pieces still, also where memory runs out
+abbrev pub StaysWritten : Ring → ℕ → List Posted → List Line → List CopyState → List CopyState → Type 0
+StaysWritten ring epoch sent lines tables tables_after = (pieces : List Piece) → IsGoing ring epoch pieces sent lines tables → AreWritten ring pieces tables_after
 
 -- copies that were told all and have all have answered All
 abbrev pub Answered : Ring → List Line → List CopyState → List Line → Type 0

@@ -15,11 +15,15 @@ use Rattle.coco_ship.specs.Placing.{holder_of, table_of, IsCopy}
 use Rattle.coco_ship.specs.Pieces.{HasPieces, IsWritten}
 use Rattle.coco_ship.specs.Letters.{all_of, Gains}
 
+-- what pends in each copy was written by pieces of its partition
+abbrev pub AreWritten : Ring → List Piece → List CopyState → Type 0
+AreWritten ring pieces tables = (p j : ℕ) → IsCopy ring p j → IfSome (slice_get tables (table_of ring p j)) (IsWritten pieces p)
+
 -- The tables stand in the order of partitions and copies, each in this epoch, with what early deliveries brought.
 pub record AreBegun (ring : Ring) (epoch : ℕ) (pieces : List Piece) (tables : List CopyState) : Type 0 where
   pub count : length tables ≡ ring.partitions * ring.copies
   pub begun : All (λ t. t.epoch ≡ epoch) tables
-  pub written : (p j : ℕ) → IsCopy ring p j → IfSome (slice_get tables (table_of ring p j)) (IsWritten pieces p)
+  pub written : AreWritten ring pieces tables
 
 -- what a list has gained at its end
 abbrev pub news : List Posted → List Posted → List Posted

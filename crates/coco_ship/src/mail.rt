@@ -37,7 +37,7 @@ pub(crate) fn send_all<N: Net>(net: &mut N, letters: VecDeque<Posted>) -> Result
     ensures sent { OnOk result (N.sent net.new ≡ N.sent net.old ++ letters.items) }
     ensures some { (xs : List Sent) × (ys : List Sent) × (N.sent net.new ≡ N.sent net.old ++ xs) × (xs ++ ys ≡ letters.items) }
     ensures given { N.given net.new ≡ N.given net.old }
-    ensures since { N.since net.new ≡ N.since net.old }
+    ensures fresh { OnOk result (N.fresh net.new ≡ N.fresh net.old ++ letters.items) }
     ensures faults { N.faults net.new ≡ N.faults net.old }
 {
     let mut letters = letters;
@@ -59,7 +59,6 @@ pub(crate) fn take_all<N: Net>(
     ensures others { (p : ℕ) → p ≢ place → N.waiting net.new p ≡ N.waiting net.old p }
     ensures sent { N.sent net.new ≡ N.sent net.old }
     ensures given { N.given net.new ≡ N.given net.old }
-    ensures since { N.since net.new ≡ N.since net.old }
     ensures faults { N.faults net.new ≡ N.faults net.old }
 {
     let mut letters = Vec::new(alloc);

@@ -1,15 +1,15 @@
 //! The exchanges of the ship phase.
 
-ghost use Rattle.std.specs.Prelude.{◌≡◌, ◌+◌, ◌*◌, ◌<◌, ◌≤◌, ℕ, ◌⊎◌, All, Contains, IfErr, ◌++◌, OnOk, MatchOption, length, drop};
+ghost use Rattle.std.specs.Prelude.{◌≡◌, ◌+◌, ◌*◌, ◌<◌, ◌≤◌, ℕ, ◌⊎◌, All, Contains, IfErr, ◌++◌, OnOk, MatchOption, length};
 ghost use Rattle.std.specs.Bool.{MatchBool};
 ghost use Rattle.coco_ship.specs.declared.ship.ShipFault.TheVariants.{NoMemory as Spent};
-ghost use Rattle.coco_ship.specs.Going.{Answered, AreTold, GoesOn, HasAnswered, IsDoneBy, IsGoing, IsWaitedFor, Passes, Unless};
+ghost use Rattle.coco_ship.specs.Going.{Answered, AreTold, GoesOn, HasAnswered, IsDoneBy, IsGoing, IsWaitedFor, Passes, StaysWritten, Unless};
 ghost use Rattle.coco_ship.specs.Taking.{waiting_below, Brings, Hears, OfBoth, OfTables};
 ghost use Rattle.coco_ship.specs.Letters.{AreInside, AreOther};
 ghost use Rattle.coco_ship.specs.Lines.{AreWaiting};
 ghost use Rattle.coco_ship.specs.Pieces.{AreShippable};
 ghost use Rattle.coco_ship.specs.Placing.{IsRing};
-ghost use Rattle.coco_ship.specs.Shipping.{news, AreBegun, ArePhase, AreWhole, GainOnly, HaveAnswered, OnSilent};
+ghost use Rattle.coco_ship.specs.Shipping.{news, AreBegun, ArePhase, AreWhole, AreWritten, GainOnly, HaveAnswered, OnSilent};
 
 use crate::Ring;
 use crate::answer::answers;
@@ -59,7 +59,6 @@ fn hand_out<N: Net>(
     ensures tables { OfTables ring (Brings ring epoch (waiting_below (N.waiting net.old) ring.nodes)) copies.old copies.new }
     ensures begun { All (λ t. t.epoch ≡ epoch) copies.new }
     ensures given { N.given net.new ≡ N.given net.old }
-    ensures since { N.since net.new ≡ N.since net.old }
     ensures sent { N.sent net.new ≡ N.sent net.old }
     ensures faults { N.faults net.new ≡ N.faults net.old }
 {
@@ -88,8 +87,7 @@ fn deliver<N: Net>(
     ensures begun { All (λ t. t.epoch ≡ epoch) copies.new }
     ensures given { N.given net.new ≡ N.given net.old ++ news (N.given net.old) (N.given net.new) }
     ensures were_sent { All (Contains (N.sent net.old)) (news (N.given net.old) (N.given net.new)) }
-    ensures new_ones { OnOk result (N.faults net.new ≡ N.faults net.old → All (Contains (news (N.given net.old) (N.given net.new))) (drop (N.since net.old) (N.sent net.old))) }
-    ensures since { (N.since net.new ≡ N.since net.old) ⊎ (N.since net.new ≡ length (N.sent net.old)) }
+    ensures new_ones { OnOk result (N.faults net.new ≡ N.faults net.old → All (Contains (news (N.given net.old) (N.given net.new))) (N.fresh net.old)) }
     ensures sent { N.sent net.new ≡ N.sent net.old }
     ensures faults { OnOk result ((N.faults net.new ≡ N.faults net.old) ⊎ (N.faults net.new ≡ N.faults net.old + 1)) }
 {
@@ -111,12 +109,11 @@ fn carry<N: Net>(
     requires lines { length lines.old ≡ ring.partitions * ring.copies }
     requires copies { length copies.old ≡ ring.partitions * ring.copies }
     requires begun { All (λ t. t.epoch ≡ epoch) copies.old }
-    requires counted { N.since net.old ≤ length (N.sent net.old) }
     requires inside { AreInside letters.items }
     requires phase { ArePhase epoch letters.items }
-    ensures passes { Passes ring epoch (N.sent net.old) (N.given net.old) copies.old (N.sent net.new) (N.given net.new) (N.since net.new) copies.new }
+    ensures passes { Passes ring epoch (N.sent net.old) (N.given net.old) copies.old (N.sent net.new) (N.given net.new) copies.new }
     ensures sent { OnOk result (N.sent net.new ≡ N.sent net.old ++ letters.items) }
-    ensures were_sent { OnOk result (All (Contains (N.sent net.new)) (news (N.given net.old) (N.given net.new))) }
+    ensures were_sent { All (Contains (N.sent net.old ++ letters.items)) (news (N.given net.old) (N.given net.new)) }
     ensures heard { OnOk result (OfBoth ring (Hears ring epoch (news (N.given net.old) (N.given net.new))) lines.old copies.old lines.new copies.new) }
     ensures came { OnOk result (Unless (N.faults net.old) (N.faults net.new) (All (Contains (news (N.given net.old) (N.given net.new))) letters.items)) }
 {
@@ -139,10 +136,10 @@ fn ask_round<N: Net>(
     requires lines { length lines.old ≡ ring.partitions * ring.copies }
     requires copies { length copies.old ≡ ring.partitions * ring.copies }
     requires begun { All (λ t. t.epoch ≡ epoch) copies.old }
-    requires counted { N.since net.old ≤ length (N.sent net.old) }
     requires going { IsGoing ring epoch pieces.now (N.sent net.old) lines.old copies.old }
-    ensures passes { Passes ring epoch (N.sent net.old) (N.given net.old) copies.old (N.sent net.new) (N.given net.new) (N.since net.new) copies.new }
+    ensures passes { Passes ring epoch (N.sent net.old) (N.given net.old) copies.old (N.sent net.new) (N.given net.new) copies.new }
     ensures going { OnOk result (IsGoing ring epoch pieces.now (N.sent net.new) lines.new copies.new) }
+    ensures written { AreWritten ring pieces.now copies.new }
     ensures done { OnOk result (OfBoth ring (IsDoneBy ring epoch (news (N.given net.old) (N.given net.new))) lines.old copies.old lines.new copies.new) }
     ensures told { OnOk result (Unless (N.faults net.old) (N.faults net.new) (AreTold ring pieces.now lines.new)) }
 {
@@ -163,9 +160,9 @@ fn answer_round<N: Net>(
     requires lines { length lines.old ≡ ring.partitions * ring.copies }
     requires copies { length copies.old ≡ ring.partitions * ring.copies }
     requires begun { All (λ t. t.epoch ≡ epoch) copies.old }
-    requires counted { N.since net.old ≤ length (N.sent net.old) }
-    ensures passes { Passes ring epoch (N.sent net.old) (N.given net.old) copies.old (N.sent net.new) (N.given net.new) (N.since net.new) copies.new }
+    ensures passes { Passes ring epoch (N.sent net.old) (N.given net.old) copies.old (N.sent net.new) (N.given net.new) copies.new }
     ensures going { OnOk result (GoesOn ring epoch (N.sent net.old) lines.old copies.old (N.sent net.new) lines.new copies.new) }
+    ensures written { StaysWritten ring epoch (N.sent net.old) lines.old copies.old copies.new }
     ensures done { OnOk result (OfBoth ring (IsDoneBy ring epoch (news (N.given net.old) (N.given net.new))) lines.old copies.old lines.new copies.new) }
     ensures answered { OnOk result (Unless (N.faults net.old) (N.faults net.new) (Answered ring lines.old copies.old lines.new)) }
 {
@@ -188,10 +185,10 @@ fn exchange<N: Net>(
     requires lines { length lines.old ≡ ring.partitions * ring.copies }
     requires copies { length copies.old ≡ ring.partitions * ring.copies }
     requires begun { All (λ t. t.epoch ≡ epoch) copies.old }
-    requires counted { N.since net.old ≤ length (N.sent net.old) }
     requires going { IsGoing ring epoch pieces.now (N.sent net.old) lines.old copies.old }
-    ensures passes { Passes ring epoch (N.sent net.old) (N.given net.old) copies.old (N.sent net.new) (N.given net.new) (N.since net.new) copies.new }
+    ensures passes { Passes ring epoch (N.sent net.old) (N.given net.old) copies.old (N.sent net.new) (N.given net.new) copies.new }
     ensures going { OnOk result (IsGoing ring epoch pieces.now (N.sent net.new) lines.new copies.new) }
+    ensures written { AreWritten ring pieces.now copies.new }
     ensures done { OnOk result (OfBoth ring (IsDoneBy ring epoch (news (N.given net.old) (N.given net.new))) lines.old copies.old lines.new copies.new) }
     // An exchange without a fault ends the phase.
     ensures faults { OnOk result (Unless (N.faults net.old) (N.faults net.new) ((node : ℕ) → HasAnswered ring lines.new node)) }
@@ -245,10 +242,10 @@ fn exchanges<N: Net>(
     requires lines { length lines.old ≡ ring.partitions * ring.copies }
     requires copies { length copies.old ≡ ring.partitions * ring.copies }
     requires begun { All (λ t. t.epoch ≡ epoch) copies.old }
-    requires counted { N.since net.old ≤ length (N.sent net.old) }
     requires going { IsGoing ring epoch pieces.now (N.sent net.old) lines.old copies.old }
     requires waiting { AreWaiting ring lines.old }
-    ensures passes { Passes ring epoch (N.sent net.old) (N.given net.old) copies.old (N.sent net.new) (N.given net.new) (N.since net.new) copies.new }
+    ensures passes { Passes ring epoch (N.sent net.old) (N.given net.old) copies.old (N.sent net.new) (N.given net.new) copies.new }
+    ensures written { AreWritten ring pieces.now copies.new }
     ensures whole { OnOk result (AreWhole ring epoch pieces.now copies.new) }
     ensures answered { OnOk result (HaveAnswered ring epoch (news (N.given net.old) (N.given net.new))) }
     ensures alone { ring.copies ≡ 0 → N.sent net.new ≡ N.sent net.old }
@@ -280,15 +277,14 @@ pub fn ship_epoch<N: Net>(
     requires pieces { AreShippable ring pieces.now }
     requires tables { AreBegun ring epoch pieces.now copies.old }
     requires fresh { AreOther epoch (N.sent net.old) }
-    // What was counted at the last round was sent, as every net keeps it.
-    requires counted { N.since net.old ≤ length (N.sent net.old) }
     ensures whole { OnOk result (AreWhole ring epoch pieces.now copies.new) }
     ensures answered { OnOk result (HaveAnswered ring epoch (news (N.given net.old) (N.given net.new))) }
+    // Whatever the answer, the copies have some of the pieces' rows and no others.
+    ensures tables { AreBegun ring epoch pieces.now copies.new }
     ensures gains { GainOnly ring epoch (news (N.given net.old) (N.given net.new)) copies.old copies.new }
     ensures given { N.given net.new ≡ N.given net.old ++ news (N.given net.old) (N.given net.new) }
     ensures sent { N.sent net.new ≡ N.sent net.old ++ news (N.sent net.old) (N.sent net.new) }
     ensures phase { ArePhase epoch (news (N.sent net.old) (N.sent net.new)) }
-    ensures counted { N.since net.new ≤ length (N.sent net.new) }
     // Without copies nothing is sent.
     ensures alone { ring.copies ≡ 0 → N.sent net.new ≡ N.sent net.old }
     ensures silent { IfErr result (OnSilent ring epoch (news (N.given net.old) (N.given net.new)) (N.faults net.old) (N.faults net.new)) }

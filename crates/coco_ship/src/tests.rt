@@ -113,8 +113,7 @@ fn ship<N: Net>(
     count: u8,
     early: bool,
 ) -> Result<(Result<(), ShipFault>, Vec<CopyTable>), NoMemory>
-    requires sent { N.sent net.old ≡ [] }
-    requires since { N.since net.old ≡ 0 }
+    requires { N.sent net.old ≡ [] }
 {
     let pieces = pieces(alloc, count)?;
     let all = pieces.as_slice();
@@ -132,8 +131,7 @@ fn comes<N: Net>(
     expected: Result<(), ShipFault>,
     pends: bool,
 ) -> Result<(), Fail>
-    requires sent { N.sent net.old ≡ [] }
-    requires since { N.since net.old ≡ 0 }
+    requires { N.sent net.old ≡ [] }
 {
     let (answer, tables) = ship(alloc, net, 1, early)?;
     assert_eq!(rt; answer, expected);
@@ -181,14 +179,6 @@ fn nothing_comes_where_all_is_lost(rt: HostRuntime) -> Result<(), Fail> {
     comes(&rt, alloc, &mut net, false, silent, false)
 }
 
-#[test]
-fn floods_and_repeats_change_nothing(rt: HostRuntime) -> Result<(), Fail> {
-    let alloc = rt.alloc();
-    comes(&rt, alloc, &mut FloodNet::new(alloc), false, Ok(()), true)?;
-    let mut net = ScriptNet::new(alloc, Lose::Nothing, true, 200);
-    comes(&rt, alloc, &mut net, false, Ok(()), true)
-}
-
 // What pends of the first nine pieces for a row in the copies of a partition: the last that writes it.
 fn last(partition: u8, row: u8) -> Option<(u64, Option<Value>)> {
     let mut last = None;
@@ -219,6 +209,25 @@ fn are_whole(tables: &[CopyTable]) -> bool {
         copy = copy.saturating_add(1);
     }
     true
+}
+
+// Whether nine pieces that are shipped over a new net make whole copies.
+fn are_shipped<N: Net>(alloc: Global, net: &mut N, early: bool) -> Result<bool, NoMemory>
+    requires { N.sent net.old ≡ [] }
+{
+    let (answer, tables) = ship(alloc, net, 9, early)?;
+    Ok(answer.is_ok() && are_whole(tables.as_slice()))
+}
+
+#[test]
+fn floods_and_repeats_change_nothing(rt: HostRuntime) -> Result<(), Fail> {
+    let alloc = rt.alloc();
+    for early in [false, true] {
+        assert!(rt; are_shipped(alloc, &mut FloodNet::new(alloc), early)?);
+        let mut net = ScriptNet::new(alloc, Lose::Nothing, true, 200);
+        assert!(rt; are_shipped(alloc, &mut net, early)?);
+    }
+    Ok(())
 }
 
 // A phase over a net of this seed: whether it ended Ok, and whether it ended with whole tables, or silent after faults.

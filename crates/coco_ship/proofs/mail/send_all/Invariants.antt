@@ -12,6 +12,6 @@ invariant-loop-posted g l = record {
   inside : AreInside l.letters.items;
   some : (xs : List Posted) × (g.N.Net.sent l.net ≡ g.N.Net.sent l.initial.net ++ xs) × (xs ++ l.letters.items ≡ l.initial.letters.items);
   given : g.N.Net.given l.net ≡ g.N.Net.given l.initial.net;
-  since : g.N.Net.since l.net ≡ g.N.Net.since l.initial.net;
+  fresh : g.N.Net.fresh l.net ++ l.letters.items ≡ g.N.Net.fresh l.initial.net ++ l.initial.letters.items;
   faults : g.N.Net.faults l.net ≡ g.N.Net.faults l.initial.net;
 }

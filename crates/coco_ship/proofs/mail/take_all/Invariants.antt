@@ -9,6 +9,5 @@ invariant-loop-letter g l = record {
   others : (p : ℕ) → p ≢ l.place → g.N.Net.waiting l.net p ≡ g.N.Net.waiting l.initial.net p;
   sent : g.N.Net.sent l.net ≡ g.N.Net.sent l.initial.net;
   given : g.N.Net.given l.net ≡ g.N.Net.given l.initial.net;
-  since : g.N.Net.since l.net ≡ g.N.Net.since l.initial.net;
   faults : g.N.Net.faults l.net ≡ g.N.Net.faults l.initial.net;
 }

@@ -3,7 +3,7 @@ use Rattle.std.specs.List.{All, Contains}
 use Rattle.std.proofs.lemmas.Result.{on_ok_weaker}
 use Rattle.coco_ship.specs.Going.{Answered}
 use Rattle.coco_ship.specs.Shipping.{news}
-use Rattle.coco_ship.proofs.RoundLemmas.{answer_going, answered_after, answers_inside, answers_phase, done_answered, done_by, on_ok_three, on_ok_two, passes_none, unless_then}
+use Rattle.coco_ship.proofs.RoundLemmas.{answer_going, answer_written, answered_after, answers_inside, answers_phase, done_answered, done_by, on_ok_two, passes_none, unless_then}
 use Rattle.coco_ship.proofs.ship.answer_round.Goals as goal
 
 pub carry-requires-clause-inside : goal.carry-requires-clause-inside
@@ -14,7 +14,7 @@ carry-requires-clause-phase g c = answers_phase c.args.ring c.args.epoch c.args.
 
 pub returns-in_err-letters-clause-passes : goal.returns-in_err-letters-clause-passes
 returns-in_err-letters-clause-passes g c =
-    passes_none c.args.ring c.args.epoch (g.N.Net.sent c.args.net.now) (g.N.Net.given c.args.net.now) (g.N.Net.since c.args.net.now) c.args.copies.now c.requires.begun c.requires.counted
+    passes_none c.args.ring c.args.epoch (g.N.Net.sent c.args.net.now) (g.N.Net.given c.args.net.now) c.args.copies.now c.requires.begun
 
 pub returns-clause-going : goal.returns-clause-going
 returns-clause-going g c =
@@ -22,10 +22,10 @@ returns-clause-going g c =
     let posts = news (g.N.Net.given c.args.net.now) (g.N.Net.given c.carry.new.net) in
     let mids : length c.answers.new.lines ≡ ring.partitions * ring.copies = omega arith in
     let after : length c.carry.new.copies ≡ ring.partitions * ring.copies = omega arith in
-    on_ok_three c.carry.result
-    (λ is among heard pieces fit going. answer_going ring c.args.epoch pieces posts (g.N.Net.sent c.args.net.now) c.in_ok-letters.letters.items (g.N.Net.sent c.carry.new.net) c.args.lines.now c.args.copies.now c.answers.new.lines c.carry.new.lines c.carry.new.copies c.requires.ring fit
-    c.requires.lines c.requires.copies mids after c.in_ok-letters.ensures.lines c.in_ok-letters.ensures.letters going is among heard c.carry.ensures.passes.gains)
-    c.carry.ensures.sent c.carry.ensures.were_sent c.carry.ensures.heard
+    on_ok_two c.carry.result
+    (λ is heard pieces fit going. answer_going ring c.args.epoch pieces posts (g.N.Net.sent c.args.net.now) c.in_ok-letters.letters.items (g.N.Net.sent c.carry.new.net) c.args.lines.now c.args.copies.now c.answers.new.lines c.carry.new.lines c.carry.new.copies c.requires.ring fit
+    c.requires.lines c.requires.copies mids after c.in_ok-letters.ensures.lines c.in_ok-letters.ensures.letters going is c.carry.ensures.were_sent heard c.carry.ensures.passes.gains)
+    c.carry.ensures.sent c.carry.ensures.heard
 
 pub returns-clause-done : goal.returns-clause-done
 returns-clause-done g c =
@@ -44,3 +44,11 @@ returns-clause-answered g c =
     (λ heard arrived. unless_then (g.N.Net.faults c.args.net.now) (g.N.Net.faults c.carry.new.net) (All (Contains posts) letters) (Answered ring c.args.lines.now c.args.copies.now c.carry.new.lines)
     (λ came pieces fits told. answered_after ring c.args.epoch pieces posts letters c.args.lines.now c.args.copies.now c.answers.new.lines c.carry.new.lines c.carry.new.copies c.requires.lines c.requires.copies after c.in_ok-letters.ensures.lines c.in_ok-letters.ensures.letters came fits told heard) arrived)
     c.carry.ensures.heard c.carry.ensures.came
+
+pub returns-in_err-letters-clause-written : goal.returns-in_err-letters-clause-written
+returns-in_err-letters-clause-written g c = λ pieces going. going.written
+
+pub returns-clause-written : goal.returns-clause-written
+returns-clause-written g c = λ pieces going.
+    answer_written c.args.ring c.args.epoch pieces (news (g.N.Net.given c.args.net.now) (g.N.Net.given c.carry.new.net)) (g.N.Net.sent c.args.net.now) c.in_ok-letters.letters.items c.args.lines.now c.answers.new.lines c.args.copies.now c.carry.new.copies
+    c.requires.ring c.requires.lines c.requires.copies c.in_ok-letters.ensures.lines c.in_ok-letters.ensures.letters going c.carry.ensures.were_sent c.carry.ensures.passes.gains

@@ -3,7 +3,7 @@ use Rattle.std.specs.List.{All, Contains}
 use Rattle.std.proofs.lemmas.Result.{on_ok_weaker}
 use Rattle.coco_ship.specs.Going.{AreTold}
 use Rattle.coco_ship.specs.Shipping.{news}
-use Rattle.coco_ship.proofs.RoundLemmas.{ask_going, asks_inside, asks_phase, done_by, on_ok_three, on_ok_two, passes_none, told_after, unless_then}
+use Rattle.coco_ship.proofs.RoundLemmas.{ask_going, ask_written, asks_inside, asks_phase, done_by, on_ok_two, passes_none, told_after, unless_then}
 use Rattle.coco_ship.proofs.ship.ask_round.Goals as goal
 
 pub carry-requires-clause-inside : goal.carry-requires-clause-inside
@@ -14,17 +14,17 @@ carry-requires-clause-phase g c = asks_phase c.args.ring c.args.epoch c.args.pie
 
 pub returns-in_err-letters-clause-passes : goal.returns-in_err-letters-clause-passes
 returns-in_err-letters-clause-passes g c =
-    passes_none c.args.ring c.args.epoch (g.N.Net.sent c.args.net.now) (g.N.Net.given c.args.net.now) (g.N.Net.since c.args.net.now) c.args.copies.now c.requires.begun c.requires.counted
+    passes_none c.args.ring c.args.epoch (g.N.Net.sent c.args.net.now) (g.N.Net.given c.args.net.now) c.args.copies.now c.requires.begun
 
 pub returns-clause-going : goal.returns-clause-going
 returns-clause-going g c =
     let ring = c.args.ring in
     let posts = news (g.N.Net.given c.args.net.now) (g.N.Net.given c.carry.new.net) in
     let after : length c.carry.new.copies ≡ ring.partitions * ring.copies = omega arith in
-    on_ok_three c.carry.result
-    (λ is among heard. ask_going ring c.args.epoch c.args.pieces.now posts (g.N.Net.sent c.args.net.now) c.in_ok-letters.letters.items (g.N.Net.sent c.carry.new.net) c.args.lines.now c.args.copies.now c.carry.new.lines c.carry.new.copies c.requires.pieces
-    c.requires.lines c.requires.copies after c.in_ok-letters.ensures c.requires.going is among heard c.carry.ensures.passes.gains)
-    c.carry.ensures.sent c.carry.ensures.were_sent c.carry.ensures.heard
+    on_ok_two c.carry.result
+    (λ is heard. ask_going ring c.args.epoch c.args.pieces.now posts (g.N.Net.sent c.args.net.now) c.in_ok-letters.letters.items (g.N.Net.sent c.carry.new.net) c.args.lines.now c.args.copies.now c.carry.new.lines c.carry.new.copies c.requires.pieces
+    c.requires.lines c.requires.copies after c.in_ok-letters.ensures c.requires.going is c.carry.ensures.were_sent heard c.carry.ensures.passes.gains)
+    c.carry.ensures.sent c.carry.ensures.heard
 
 pub returns-clause-done : goal.returns-clause-done
 returns-clause-done g c =
@@ -41,3 +41,11 @@ returns-clause-told g c =
     (λ heard arrived. unless_then (g.N.Net.faults c.args.net.now) (g.N.Net.faults c.carry.new.net) (All (Contains posts) letters) (AreTold ring c.args.pieces.now c.carry.new.lines)
     (λ came. told_after ring c.args.epoch c.args.pieces.now posts letters c.args.lines.now c.args.copies.now c.carry.new.lines c.carry.new.copies c.requires.lines c.requires.copies after c.in_ok-letters.ensures came c.requires.going.lines_fit heard) arrived)
     c.carry.ensures.heard c.carry.ensures.came
+
+pub returns-in_err-letters-clause-written : goal.returns-in_err-letters-clause-written
+returns-in_err-letters-clause-written g c = c.requires.going.written
+
+pub returns-clause-written : goal.returns-clause-written
+returns-clause-written g c =
+    ask_written c.args.ring c.args.epoch c.args.pieces.now (news (g.N.Net.given c.args.net.now) (g.N.Net.given c.carry.new.net)) (g.N.Net.sent c.args.net.now) c.in_ok-letters.letters.items c.args.lines.now c.args.copies.now c.carry.new.copies
+    c.requires.copies c.in_ok-letters.ensures c.requires.going c.carry.ensures.were_sent c.carry.ensures.passes.gains

@@ -1,4 +1,4 @@
-use Rattle.std.proofs.Common.{◌≡◌, ◌∙◌, ◌++◌, List, ap, drop, inr, subst, sym}
+use Rattle.std.proofs.Common.{◌≡◌, ◌∙◌, ◌++◌, List, ap, subst, sym}
 use Rattle.std.specs.List.{All, Contains}
 use Rattle.std.proofs.lemmas.Result.{on_ok_weaker}
 use Rattle.coco_net.specs.declared.letter.Posted.{Posted}
@@ -39,14 +39,11 @@ returns-clause-were_sent g c =
     let given : g.N.Net.given c.hand_out.new.net ≡ g.N.Net.given c.args.net.now ++ gives.0 = c.hand_out.ensures.given ∙ gives.1 in
     subst (λ (ps : List Posted). All (Contains (g.N.Net.sent c.args.net.now)) ps) (sym (news_is (g.N.Net.given c.args.net.now) (g.N.Net.given c.hand_out.new.net) gives.0 given)) gives.2.were_sent
 
-pub returns-clause-since : goal.returns-clause-since
-returns-clause-since g c = inr (c.hand_out.ensures.since ∙ c.in_ok-round.ensures.since)
-
 pub returns-clause-new_ones : goal.returns-clause-new_ones
 returns-clause-new_ones g c =
     let gives = c.in_ok-round.ensures.ok in
     let given : g.N.Net.given c.hand_out.new.net ≡ g.N.Net.given c.args.net.now ++ gives.0 = c.hand_out.ensures.given ∙ gives.1 in
-    let fresh = drop (g.N.Net.since c.args.net.now) (g.N.Net.sent c.args.net.now) in
+    let fresh = g.N.Net.fresh c.args.net.now in
     let come : g.N.Net.faults c.hand_out.new.net ≡ g.N.Net.faults c.args.net.now → All (Contains (news (g.N.Net.given c.args.net.now) (g.N.Net.given c.hand_out.new.net))) fresh =
     λ same. subst (λ (ps : List Posted). All (Contains ps) fresh) (sym (news_is (g.N.Net.given c.args.net.now) (g.N.Net.given c.hand_out.new.net) gives.0 given)) (gives.2.new_ones (sym c.hand_out.ensures.faults ∙ same)) in
     on_ok_weaker c.hand_out.result (λ _. come) c.hand_out.ensures.ok

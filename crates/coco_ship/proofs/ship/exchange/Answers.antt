@@ -7,15 +7,12 @@ use Rattle.coco_ship.proofs.ship.exchange.Goals as goal
 pub answer_round-requires-clause-begun : goal.answer_round-requires-clause-begun
 answer_round-requires-clause-begun g c = c.ask_round.ensures.passes.begun
 
-pub answer_round-requires-clause-counted : goal.answer_round-requires-clause-counted
-answer_round-requires-clause-counted g c = c.ask_round.ensures.passes.counted
-
 pub returns-clause-passes : goal.returns-clause-passes
 returns-clause-passes g c =
     let ring = c.args.ring in
     let count : length c.ask_round.new.copies ≡ ring.partitions * ring.copies = omega arith in
-    passes_then ring c.args.epoch (g.N.Net.sent c.args.net.now) (g.N.Net.given c.args.net.now) c.args.copies.now (g.N.Net.sent c.ask_round.new.net) (g.N.Net.given c.ask_round.new.net) (g.N.Net.since c.ask_round.new.net) c.ask_round.new.copies
-    (g.N.Net.sent c.answer_round.new.net) (g.N.Net.given c.answer_round.new.net) (g.N.Net.since c.answer_round.new.net) c.answer_round.new.copies count c.ask_round.ensures.passes c.answer_round.ensures.passes
+    passes_then ring c.args.epoch (g.N.Net.sent c.args.net.now) (g.N.Net.given c.args.net.now) c.args.copies.now (g.N.Net.sent c.ask_round.new.net) (g.N.Net.given c.ask_round.new.net) c.ask_round.new.copies
+    (g.N.Net.sent c.answer_round.new.net) (g.N.Net.given c.answer_round.new.net) c.answer_round.new.copies count c.ask_round.ensures.passes c.answer_round.ensures.passes
 
 pub returns-clause-going : goal.returns-clause-going
 returns-clause-going g c = on_ok_weaker c.answer_round.result (λ on. on c.args.pieces.now c.requires.pieces c.in_ok-ask_round.ensures.going) c.answer_round.ensures.going
@@ -34,3 +31,6 @@ returns-clause-faults g c =
     on_ok_weaker c.answer_round.result (λ second. exchange_faults (g.N.Net.faults c.args.net.now) (g.N.Net.faults c.ask_round.new.net) (g.N.Net.faults c.answer_round.new.net) (AreTold ring c.args.pieces.now c.ask_round.new.lines)
     (Answered ring c.ask_round.new.lines c.ask_round.new.copies c.answer_round.new.lines) ((node : ℕ) → HasAnswered ring c.answer_round.new.lines node)
     (λ told all. all c.args.pieces.now c.in_ok-ask_round.ensures.going.lines_fit told) c.in_ok-ask_round.ensures.told second) c.answer_round.ensures.answered
+
+pub returns-clause-written : goal.returns-clause-written
+returns-clause-written g c = c.answer_round.ensures.written c.args.pieces.now c.in_ok-ask_round.ensures.going

@@ -8,7 +8,7 @@ use Rattle.coco_ship.proofs.ship.exchanges.Goals as goal
 pub loop-exchange-init : goal.loop-exchange-init
 loop-exchange-init g c = record {
   going = c.requires.going;
-  passes = passes_none c.args.ring c.args.epoch (g.N.Net.sent c.args.net.now) (g.N.Net.given c.args.net.now) (g.N.Net.since c.args.net.now) c.args.copies.now c.requires.begun c.requires.counted;
+  passes = passes_none c.args.ring c.args.epoch (g.N.Net.sent c.args.net.now) (g.N.Net.given c.args.net.now) c.args.copies.now c.requires.begun;
   done = done_none c.args.ring c.args.epoch (g.N.Net.given c.args.net.now) c.args.lines.now c.args.copies.now;
   faults = inl (omega arith);
   alone = λ none i. g.N.Net.sent c.args.net.now;
@@ -16,9 +16,6 @@ loop-exchange-init g c = record {
 
 pub exchange-requires-clause-begun : goal.exchange-requires-clause-begun
 exchange-requires-clause-begun g c = c.loop-exchange.invariant.passes.begun
-
-pub exchange-requires-clause-counted : goal.exchange-requires-clause-counted
-exchange-requires-clause-counted g c = c.loop-exchange.invariant.passes.counted
 
 pub exchange-requires-clause-going : goal.exchange-requires-clause-going
 exchange-requires-clause-going g c = c.loop-exchange.invariant.going
@@ -41,7 +38,7 @@ loop-exchange-preserved g c =
     let waited = c.in-Some.ensures.0 in
     record {
       going = c.in_ok-exchange-in-Some.ensures.going;
-      passes = passes_then ring c.args.epoch s0 g0 ts (g.N.Net.sent c.loop-exchange.net) (g.N.Net.given c.loop-exchange.net) (g.N.Net.since c.loop-exchange.net) us (g.N.Net.sent c.exchange.new.net) (g.N.Net.given c.exchange.new.net) (g.N.Net.since c.exchange.new.net) c.exchange.new.copies copies before.passes c.exchange.ensures.passes;
+      passes = passes_then ring c.args.epoch s0 g0 ts (g.N.Net.sent c.loop-exchange.net) (g.N.Net.given c.loop-exchange.net) us (g.N.Net.sent c.exchange.new.net) (g.N.Net.given c.exchange.new.net) c.exchange.new.copies copies before.passes c.exchange.ensures.passes;
       done = done_then ring c.args.epoch g0 (g.N.Net.given c.loop-exchange.net) (g.N.Net.given c.exchange.new.net) ls ts ms us c.exchange.new.lines c.exchange.new.copies before.passes.gives c.exchange.ensures.passes.gives lines copies before.done c.in_ok-exchange-in-Some.ensures.done;
       faults = loop_faults (g.N.Net.faults c.args.net.now) c.loop-exchange._exchange (g.N.Net.faults c.loop-exchange.net) (g.N.Net.faults c.exchange.new.net) ((n : ℕ) → HasAnswered ring ms n) ((n : ℕ) → HasAnswered ring c.exchange.new.lines n) (waited_not ring ms c.in-Some._node waited) before.faults c.in_ok-exchange-in-Some.ensures.faults;
       alone = λ none. absurd (no_copy waited.j ring.copies waited.is_copy.copy none);
@@ -59,7 +56,7 @@ returns-in_err-exchange-in-Some-clause-passes g c =
     let us = c.loop-exchange.copies in
     let lines : length ms ≡ ring.partitions * ring.copies = omega (arith, c.loop-exchange.auto.lines, c.requires.lines) in
     let copies : length us ≡ ring.partitions * ring.copies = omega (arith, c.loop-exchange.auto.copies, c.requires.copies) in
-    passes_then ring c.args.epoch s0 g0 ts (g.N.Net.sent c.loop-exchange.net) (g.N.Net.given c.loop-exchange.net) (g.N.Net.since c.loop-exchange.net) us (g.N.Net.sent c.exchange.new.net) (g.N.Net.given c.exchange.new.net) (g.N.Net.since c.exchange.new.net) c.exchange.new.copies copies before.passes c.exchange.ensures.passes
+    passes_then ring c.args.epoch s0 g0 ts (g.N.Net.sent c.loop-exchange.net) (g.N.Net.given c.loop-exchange.net) us (g.N.Net.sent c.exchange.new.net) (g.N.Net.given c.exchange.new.net) c.exchange.new.copies copies before.passes c.exchange.ensures.passes
 
 pub returns-in_err-exchange-in-Some-clause-alone : goal.returns-in_err-exchange-in-Some-clause-alone
 returns-in_err-exchange-in-Some-clause-alone g c = let waited = c.in-Some.ensures.0 in λ none. absurd (no_copy waited.j c.args.ring.copies waited.is_copy.copy none)
@@ -139,3 +136,15 @@ returns-in-Some-silent-clause-silent g c =
       | inr all ↦ absurd (waited_not ring ms c.in-Some-silent.node waited all)
     ] in
     is_silent_then ring c.args.epoch (news g0 (g.N.Net.given c.loop-exchange.net)) ls ts ms us (g.N.Net.faults c.args.net.now) (g.N.Net.faults c.loop-exchange.net) c.in-Some-silent.node c.requires.lines c.requires.copies lines copies c.requires.waiting before.done waited c.in-Some-silent.ensures.1 faults
+
+pub returns-in-None-clause-written : goal.returns-in-None-clause-written
+returns-in-None-clause-written g c = c.loop-exchange.invariant.going.written
+
+pub returns-in-None-silent-clause-written : goal.returns-in-None-silent-clause-written
+returns-in-None-silent-clause-written g c = c.loop-exchange.invariant.going.written
+
+pub returns-in-Some-silent-clause-written : goal.returns-in-Some-silent-clause-written
+returns-in-Some-silent-clause-written g c = c.loop-exchange.invariant.going.written
+
+pub returns-in_err-exchange-in-Some-clause-written : goal.returns-in_err-exchange-in-Some-clause-written
+returns-in_err-exchange-in-Some-clause-written g c = c.exchange.ensures.written

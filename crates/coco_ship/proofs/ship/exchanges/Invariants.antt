@@ -8,7 +8,7 @@ use Rattle.coco_ship.proofs.ship.exchanges.Given as goal
 abbrev pub invariant-loop-exchange : goal.invariant-loop-exchange
 invariant-loop-exchange g l = record {
   going : IsGoing l.ring l.epoch l.pieces (g.N.Net.sent l.net) l.lines l.copies;
-  passes : Passes l.ring l.epoch (g.N.Net.sent l.initial.net) (g.N.Net.given l.initial.net) l.initial.copies (g.N.Net.sent l.net) (g.N.Net.given l.net) (g.N.Net.since l.net) l.copies;
+  passes : Passes l.ring l.epoch (g.N.Net.sent l.initial.net) (g.N.Net.given l.initial.net) l.initial.copies (g.N.Net.sent l.net) (g.N.Net.given l.net) l.copies;
   done : OfBoth l.ring (IsDoneBy l.ring l.epoch (news (g.N.Net.given l.initial.net) (g.N.Net.given l.net))) l.initial.lines l.initial.copies l.lines l.copies;
   faults : (g.N.Net.faults l.initial.net + l._exchange ≤ g.N.Net.faults l.net) ⊎ ((node : ℕ) → HasAnswered l.ring l.lines node);
   alone : l.ring.copies ≡ 0 → g.N.Net.sent l.net ≡ g.N.Net.sent l.initial.net;

@@ -11,7 +11,6 @@ loop-node-init g c = record {
   begun = c.requires.begun;
   waits = λ p h. refl;
   given = refl;
-  since = refl;
   sent = refl;
   faults = refl;
 }
@@ -34,7 +33,6 @@ loop-node-preserved g c =
       begun = c.take_letters.ensures.begun;
       waits = λ p h. c.take_all.ensures.others p (apart p n h) ∙ before.waits p (omega (arith, h));
       given = c.take_all.ensures.given ∙ before.given;
-      since = c.take_all.ensures.since ∙ before.since;
       sent = c.take_all.ensures.sent ∙ before.sent;
       faults = c.take_all.ensures.faults ∙ before.faults;
     }

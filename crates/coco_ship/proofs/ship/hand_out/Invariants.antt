@@ -11,7 +11,6 @@ invariant-loop-node g l = record {
   begun : All (λ t. t.epoch ≡ l.epoch) l.copies;
   waits : (p : ℕ) → l.node ≤ p → g.N.Net.waiting l.net p ≡ g.N.Net.waiting l.initial.net p;
   given : g.N.Net.given l.net ≡ g.N.Net.given l.initial.net;
-  since : g.N.Net.since l.net ≡ g.N.Net.since l.initial.net;
   sent : g.N.Net.sent l.net ≡ g.N.Net.sent l.initial.net;
   faults : g.N.Net.faults l.net ≡ g.N.Net.faults l.initial.net;
 }

@@ -1,8 +1,8 @@
-use Rattle.std.proofs.Common.{List, subst, sym}
+use Rattle.std.proofs.Common.{◌≡◌, ◌*◌, List, arith, length, subst, sym}
 use Rattle.coco_ship.specs.declared.line.Line.{Line}
 use Rattle.coco_ship.specs.Going.{IsGoing}
 use Rattle.coco_ship.specs.Shipping.{news}
-use Rattle.coco_ship.proofs.RoundLemmas.{gain_only, going_first, passes_none}
+use Rattle.coco_ship.proofs.RoundLemmas.{gain_only, going_first, passes_none, tables_begun}
 use Rattle.coco_ship.proofs.TakeLemmas.{brings_none}
 use Rattle.coco_ship.proofs.ship.ship_epoch.Goals as goal
 
@@ -24,19 +24,24 @@ returns-clause-sent g c = c.exchanges.ensures.passes.sends
 pub returns-clause-phase : goal.returns-clause-phase
 returns-clause-phase g c = c.exchanges.ensures.passes.phase
 
-pub returns-clause-counted : goal.returns-clause-counted
-returns-clause-counted g c = c.exchanges.ensures.passes.counted
-
 pub returns-in_err-lines-clause-gains : goal.returns-in_err-lines-clause-gains
 returns-in_err-lines-clause-gains g c =
     let posts = news (g.N.Net.given c.args.net.now) (g.N.Net.given c.args.net.now) in
     gain_only c.args.ring c.args.epoch posts c.args.copies.now c.args.copies.now (brings_none c.args.ring c.args.epoch posts c.args.copies.now)
 
 pub returns-in_err-lines-clause-given : goal.returns-in_err-lines-clause-given
-returns-in_err-lines-clause-given g c = let none = passes_none c.args.ring c.args.epoch (g.N.Net.sent c.args.net.now) (g.N.Net.given c.args.net.now) (g.N.Net.since c.args.net.now) c.args.copies.now c.requires.tables.begun c.requires.counted in none.gives
+returns-in_err-lines-clause-given g c = let none = passes_none c.args.ring c.args.epoch (g.N.Net.sent c.args.net.now) (g.N.Net.given c.args.net.now) c.args.copies.now c.requires.tables.begun in none.gives
 
 pub returns-in_err-lines-clause-sent : goal.returns-in_err-lines-clause-sent
-returns-in_err-lines-clause-sent g c = let none = passes_none c.args.ring c.args.epoch (g.N.Net.sent c.args.net.now) (g.N.Net.given c.args.net.now) (g.N.Net.since c.args.net.now) c.args.copies.now c.requires.tables.begun c.requires.counted in none.sends
+returns-in_err-lines-clause-sent g c = let none = passes_none c.args.ring c.args.epoch (g.N.Net.sent c.args.net.now) (g.N.Net.given c.args.net.now) c.args.copies.now c.requires.tables.begun in none.sends
 
 pub returns-in_err-lines-clause-phase : goal.returns-in_err-lines-clause-phase
-returns-in_err-lines-clause-phase g c = let none = passes_none c.args.ring c.args.epoch (g.N.Net.sent c.args.net.now) (g.N.Net.given c.args.net.now) (g.N.Net.since c.args.net.now) c.args.copies.now c.requires.tables.begun c.requires.counted in none.phase
+returns-in_err-lines-clause-phase g c = let none = passes_none c.args.ring c.args.epoch (g.N.Net.sent c.args.net.now) (g.N.Net.given c.args.net.now) c.args.copies.now c.requires.tables.begun in none.phase
+
+pub returns-clause-tables : goal.returns-clause-tables
+returns-clause-tables g c =
+    let count : length c.exchanges.new.copies ≡ c.args.ring.partitions * c.args.ring.copies = omega (arith, c.requires.tables.count, c.exchanges.auto.copies) in
+    tables_begun c.args.ring c.args.epoch c.args.pieces.now c.exchanges.new.copies count c.exchanges.ensures.passes.begun c.exchanges.ensures.written
+
+pub returns-in_err-lines-clause-tables : goal.returns-in_err-lines-clause-tables
+returns-in_err-lines-clause-tables g c = c.requires.tables

@@ -1,9 +1,5 @@
-use Rattle.std.proofs.Common.{arith}
 use Rattle.coco_ship.proofs.ExampleLemmas.{none_other}
 use Rattle.coco_ship.proofs.tests.ship.Goals as goal
 
 pub ship_epoch-answer-requires-clause-fresh : goal.ship_epoch-answer-requires-clause-fresh
-ship_epoch-answer-requires-clause-fresh g c = none_other 1 (g.N.Net.sent c.args.net.now) c.requires.sent
-
-pub ship_epoch-answer-requires-clause-counted : goal.ship_epoch-answer-requires-clause-counted
-ship_epoch-answer-requires-clause-counted g c = omega (arith, c.requires.since)
+ship_epoch-answer-requires-clause-fresh g c = none_other 1 (g.N.Net.sent c.args.net.now) c.requires
