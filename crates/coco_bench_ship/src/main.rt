@@ -1,0 +1,59 @@
+//! Ships pieces of two rows to two copies over a quiet net and over a seeded one, says how each phase ended, and
+//! times it.
+#![tactic(auto)]
+
+ghost use Rattle.std.specs.Prelude.{◌≡◌, []};
+
+mod pieces;
+
+use crate::pieces::{pieces, tables};
+use coco_net::{Net, QuietNet, SeededNet};
+use coco_ship::{Ring, ship_epoch};
+use std::env;
+use std::io::{self, ErrorKind};
+use std::time::Instant;
+
+/// Each of the two other nodes has a copy of the one partition.
+const RING: Ring = Ring {
+    nodes: 3,
+    partitions: 1,
+    copies: 2,
+};
+
+// A number on the command line says how many pieces there are. Nanoseconds for each are said on the error stream.
+fn main(rt: HostRuntime) -> io::Result<()> {
+    let count = count(rt)?;
+    run(rt, "quiet", &mut QuietNet::new(rt.alloc()), count)?;
+    let mut net = SeededNet::new(rt.alloc());
+    net.disturb(1);
+    run(rt, "seeded", &mut net, count)
+}
+
+// How many pieces there are.
+fn count(rt: HostRuntime) -> io::Result<u16> {
+    match env::args(&rt)?.nth(1) {
+        Some(word) => match word.parse::<u16>() {
+            Ok(count) => Ok(count),
+            Err(_) => Err(io::Error::from(ErrorKind::InvalidInput)),
+        },
+        None => Ok(9),
+    }
+}
+
+// A phase over a new net.
+fn run<N: Net>(rt: HostRuntime, name: &str, net: &mut N, count: u16) -> io::Result<()>
+    requires { N.sent net.old ≡ [] }
+{
+    let Ok(pieces) = pieces(rt.alloc(), count) else {
+        return Err(io::Error::from(ErrorKind::OutOfMemory));
+    };
+    let Ok(mut tables) = tables(rt.alloc()) else {
+        return Err(io::Error::from(ErrorKind::OutOfMemory));
+    };
+    let all = pieces.as_slice();
+    let began = Instant::now(&rt)?;
+    let answer = ship_epoch(rt.alloc(), net, RING, 1, all, &mut tables);
+    let nanoseconds = began.elapsed(&rt)?.as_nanos() / u128::from(count.max(1));
+    eprintln!(rt; "{nanoseconds} {name}")?;
+    println!(rt; "{name}: {answer:?}")
+}
