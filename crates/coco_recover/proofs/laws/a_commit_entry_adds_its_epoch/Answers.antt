@@ -1,5 +1,0 @@
-use Rattle.coco_recover.proofs.Growing.{after_commit, while_committed}
-use Rattle.coco_recover.proofs.laws.a_commit_entry_adds_its_epoch.Goals as goal
-
-pub returns : goal.returns
-returns c = record { after = after_commit; meanwhile = while_committed }

@@ -1,5 +1,0 @@
-use Rattle.coco_recover.proofs.Keeping.{store_kept}
-use Rattle.coco_recover.proofs.laws.a_store_is_its_logs.Goals as goal
-
-pub returns : goal.returns
-returns c = store_kept

@@ -1,5 +1,0 @@
-use Rattle.coco_recover.proofs.Examples.{store_examples}
-use Rattle.coco_recover.proofs.laws.store_examples.Goals as goal
-
-pub returns : goal.returns
-returns c = store_examples

@@ -1,7 +1,0 @@
-pub mod Contents
-pub mod Entries
-pub mod Laws
-pub mod Placement
-pub mod Rules
-pub mod StoreExamples
-pub mod Texts

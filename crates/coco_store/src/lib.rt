@@ -1,0 +1,9 @@
+//! What a store's files hold, and what an entry more makes of it.
+#![tactic(auto)]
+
+pub mod laws;
+
+pub use laws::{
+    a_commit_entry_adds_its_epoch, a_prepared_entry_keeps_the_store, a_refused_store_is_none,
+    a_store_is_its_logs, files_hold_one_store, store_examples,
+};
