@@ -1,0 +1,2 @@
+pub mod LastWrites
+pub mod Stamps
