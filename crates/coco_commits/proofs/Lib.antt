@@ -1,0 +1,3 @@
+mod CommitEntries
+mod DeclaredTables
+mod PreparedEntries

@@ -1,0 +1,12 @@
+use Rattle.coco_prepared.proofs.LastWriteLemmas.{rows_leave_the_map}
+use Rattle.coco_ast.specs.Meaning.{run}
+use Rattle.coco_store.specs.Contents.{map_in}
+use Rattle.coco_commits.proofs.PreparedEntries.{has_ready, may_prepare}
+use Rattle.coco_commits.proofs.a_run_may_be_prepared.Goals as goal
+
+pub returns : goal.returns
+returns c = record {
+  may = may_prepare;
+  ready = λ files k good requests epoch may dones.
+      has_ready files k good requests epoch may dones (rows_leave_the_map k.setting.tree k.setting.entry.layout.partitions requests (map_in k) dones);
+}

@@ -1,0 +1,2 @@
+pub mod EpochEntries
+pub mod Tables
