@@ -19,3 +19,4 @@ mod Times
 mod Tail
 mod Whole
 mod WorkedExecutions
+mod Closed

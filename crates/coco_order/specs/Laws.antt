@@ -1,17 +1,22 @@
 -- What holds of every execution.
-use Rattle.std.specs.Prelude.{◌≡◌, ℕ, ◌<◌, ◌≤◌, List, length, Option}
+use Rattle.std.specs.Prelude.{◌≡◌, ℕ, ◌<◌, ◌≤◌, List, length, Option, Some}
+use Rattle.std.specs.List.{slice_get}
 use Rattle.coco_types.specs.RowKey.{RowKey}
 use Rattle.coco_types.specs.declared.value.Value.{Value}
 use Rattle.coco_types.specs.Limits.{most_time}
 use Rattle.coco_types.specs.declared.call.Done.{Done}
 use Rattle.coco_types.specs.declared.call.Reply.{Reply}
+use Rattle.coco_occ.specs.Exchange.{MayAnswer}
 use Rattle.coco_occ.specs.declared.outcome.Outcome.TheVariants.{Committed, OverTime}
 use Rattle.coco_ast.specs.History.{RepliesAreRuns, AreTimed, rows_after}
 use Rattle.coco_ast.specs.Keyed.{Rows, value_at}
-use Rattle.coco_shard.specs.Law.{Entry}
+use Rattle.coco_shard.specs.Law.{Entry, IsLawful, law_row}
+use Rattle.coco_shard.specs.RowState.{Holds, ShardState, row_at}
+use Rattle.coco_shard.specs.Table.{after_ask, answer_in}
+use Rattle.coco_journaled.specs.Replay.{Replays}
 use Rattle.coco_order.specs.OneKey.{Among, on, Installs, IsMine}
 use Rattle.coco_occ.specs.declared.outcome.Tried.{Tried}
-use Rattle.coco_order.specs.Execution.{Beginning, Execution, IsExecution, InEachExecution, journal_on, concat, journal_of, steps_of}
+use Rattle.coco_order.specs.Execution.{Beginning, Execution, Journal, IsExecution, InEachExecution, journal_on, concat, journal_of, steps_of}
 use Rattle.coco_order.specs.Outcome.{AreCommits, IsOutcome, newest_at_end, tail_requests, tail_rows}
 
 -- of the journal of each key, in every execution
@@ -48,3 +53,12 @@ pub record OutcomeIsSerial (b : Beginning) (dones : List Done) (left : Rows) : T
 
 abbrev pub OutcomesAreSerial : Beginning → Execution → Type 0
 OutcomesAreSerial b x = (epoch : ℕ) (dones : List Done) → (o : IsOutcome b epoch x dones) → OutcomeIsSerial b dones (tail_rows b.procs o.rows (tail_requests b x))
+
+-- a journaled shard closes with a journal that is lawful from what the shard held at its start, and with the rows that the law says
+abbrev pub ClosedIsLawful : Type 0
+ClosedIsLawful = (opening : RowKey → Option Value) (root machine : ShardState) (journal : Journal) → Holds opening root → Replays answer_in after_ask root journal machine
+    → IsLawful opening (steps_of journal) × ((k : RowKey) → row_at machine k ≡ law_row opening k (steps_of journal))
+
+-- each answer of a lawful journal is one that some row gives to its ask
+abbrev pub AnswersFit : Type 0
+AnswersFit = (opening : RowKey → Option Value) (journal : List Entry) → IsLawful opening journal → (place : ℕ) (e : Entry) → slice_get journal place ≡ Some e → MayAnswer e.ask e.answer

@@ -3,7 +3,14 @@
 ghost use Rattle.coco_order.specs.OneKey.{OnEachKey, MarksAreOwn, WriteTimesRise, ValidatedReadsAreLast};
 ghost use Rattle.coco_order.specs.Execution.{InEachExecution};
 ghost use Rattle.coco_order.specs.ExecutionExamples.{ReadIsTriedAgain};
-ghost use Rattle.coco_order.specs.Laws.{OnEachKeyOfEach, StepsAreMine, ApartInTime, TimesAreFew, CommitsAreSerial, OutcomesAreSerial};
+ghost use Rattle.coco_order.specs.Laws.{OnEachKeyOfEach, StepsAreMine, ApartInTime, TimesAreFew, CommitsAreSerial, OutcomesAreSerial, ClosedIsLawful, AnswersFit};
+
+/// A journaled shard closes with a journal that is lawful from what the shard held at its start, and with the rows
+/// that the law says; and each answer of a lawful journal fits its ask.
+pub fn closed_journals_are_lawful()
+    ensures lawful { ClosedIsLawful }
+    ensures fits { AnswersFit }
+{}
 
 /// On each key a mark belongs to the attempt that locked, no install and no release is answered `NotMine`, and no
 /// mark stands at the end.

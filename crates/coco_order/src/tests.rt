@@ -49,3 +49,10 @@ fn epochs_go_before_times(rt: HostRuntime) -> Result<(), Fail> {
     let given = [(2, 1, 1), (1, 5, 2)];
     expect(&rt, rt.alloc(), given.as_slice(), [2, 1].as_slice())
 }
+
+#[test]
+fn a_reader_goes_before_the_writer_that_locked_behind_it(rt: HostRuntime) -> Result<(), Fail> {
+    // get(1) as id 1 read row 1 and extended it to 1; put(1, 7) as id 2 then locked it, read until 1.
+    let given = [(1, 2, 2), (1, 1, 1)];
+    expect(&rt, rt.alloc(), given.as_slice(), [1, 2].as_slice())
+}
