@@ -1,5 +1,5 @@
 -- What one append makes of a good store, and of the logs in hand.
-use Rattle.std.proofs.Common.{◌≡◌, ◌≢◌, ◌⊎◌, inl, inr, ⊎_elim, ℕ, ◌≤◌, List, [], ◌∷◌, ◌++◌, Option, Some, None, IfSome, Result, Ok, Err, refl, sym, subst, ◌∙◌}
+use Rattle.std.proofs.Common.{◌≡◌, ◌≢◌, inl, inr, ⊎_elim, ℕ, ◌≤◌, List, [], ◌∷◌, ◌++◌, Option, Some, None, IfSome, Result, Ok, Err, refl, sym, subst, ◌∙◌}
 use Rattle.std.specs.Prelude.{OnOk, OnErr}
 use Rattle.coco_entry.specs.declared.commit.Commit.{Commit}
 use Rattle.coco_entry.specs.declared.prepared.Prepared.{Prepared}
@@ -24,7 +24,7 @@ pub on_ok : {T E : Type 0} (r : Result T E) (P Q : Type 0) → (P → Q) → OnO
 on_ok (Ok x) P Q f p = f p
 on_ok (Err e) P Q f p = tt
 
-on_both : {T E : Type 0} (r : Result T E) (P Q R : Type 0) → (P → Q → R) → OnOk r P → OnOk r Q → OnOk r R
+pub on_both : {T E : Type 0} (r : Result T E) (P Q R : Type 0) → (P → Q → R) → OnOk r P → OnOk r Q → OnOk r R
 on_both (Ok x) P Q R f p q = f p q
 on_both (Err e) P Q R f p q = tt
 

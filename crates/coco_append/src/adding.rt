@@ -45,6 +45,7 @@ pub fn add_prepared<H: Host>(
     ensures crash { Follows (SameBut log.old.file) (H.may_leave host.old) (H.may_leave host.new) }
     ensures said { H.said host.new ≡ H.said host.old }
     ensures counts { CountsFault result (H.disk_faults host.old) (H.disk_faults host.new) }
+    ensures stream { H.say_faults host.new ≡ H.say_faults host.old }
 {
     body.clear();
     put_prepared(body, epoch, rows)?;
@@ -75,6 +76,7 @@ pub fn add_commit<H: Host>(
     ensures crash { Follows (SameBut log.old.file) (H.may_leave host.old) (H.may_leave host.new) }
     ensures said { H.said host.new ≡ H.said host.old }
     ensures counts { CountsFault result (H.disk_faults host.old) (H.disk_faults host.new) }
+    ensures stream { H.say_faults host.new ≡ H.say_faults host.old }
 {
     body.clear();
     put_commit(body, epoch, dones)?;
@@ -95,6 +97,7 @@ fn add<H: Host>(host: &mut H, log: &mut Log, body: &[u8]) -> Result<(), LogFault
     ensures crash { Follows (SameBut log.old.file) (H.may_leave host.old) (H.may_leave host.new) }
     ensures said { H.said host.new ≡ H.said host.old }
     ensures counts { CountsFault result (H.disk_faults host.old) (H.disk_faults host.new) }
+    ensures stream { H.say_faults host.new ≡ H.say_faults host.old }
 {
     if body.len() > MOST {
         return Err(LogFault::NoMemory);

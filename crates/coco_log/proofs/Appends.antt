@@ -9,6 +9,7 @@ use Rattle.coco_host.specs.Moments.{Observation, IsNew, Elapses, SeesOnly}
 use Rattle.coco_host.proofs.Sees.{started, goes_on, said_still}
 use Rattle.coco_log.specs.Grammar.{header, counted, entry, front, IsShort, IsPiece, IsLog}
 use Rattle.coco_log.specs.LogState.{LogState, without_entries, with_entry, places_from, IsAtRest, IsReady, IsBeforeOrAfter, ChangesOne, IsWritten, IsAppended, IsMade}
+use Rattle.coco_log.specs.Making.{MakesLog, made_count}
 use Rattle.coco_log.proofs.Steps.{Image, image_first, image_behind, image_gate, opened_is, written_is, front-push}
 
 -- one file of those that something was put into
@@ -144,25 +145,26 @@ made log file kind files reads wrote may_leave is are same durable = subst (λ (
   others = λ n other. put_elsewhere file 0 (header kind ++ 0 ∷ []) files n other;
 })
 
--- one file is made anew: the others are as they were
+-- files that a crash might have left, with the first bytes of one torn
+abbrev pub TornFrom : ℕ → (Files → Type 0) → Files → Type 0
+TornFrom file old c = (d : Files) × old d × TornIn file 0 made_count d c
+
+untorn : (file : ℕ) (c : Files) → TornIn file 0 made_count c c
+untorn file c = record { inside = record { before = refl; after = refl; no_shorter = omega arith; no_longer = omega arith }; elsewhere = λ n other. refl }
+
+-- one file is made anew: its first bytes are torn, and the others are as they were
 module _ {H : Type 0} (moment : H → ℕ) (observed : H → ℕ → Observation → Type 0) (said : H → Option (List ℕ)) (may_leave : H → Files → Type 0)
     (only_now : (host : H) (seen : Observation) → observed host (moment host) seen → may_leave host seen.image × (said host ≡ Some seen.said)) (file : ℕ) (first : H) where
-  abbrev pub Others : Files → Type 0
-  Others c = (d : Files) × may_leave first d × ((n : ℕ) → n ≢ file → c n ≡ d n)
-
   abbrev pub Anew : Observation → Type 0
-  Anew = ChangesOne file (λ _. Unit {0}) (may_leave first) (said first)
+  Anew = MakesLog file (may_leave first) (said first)
 
-  anew_by : (seen : Observation) → Others seen.image → said first ≡ Some seen.said → Anew seen
-  anew_by seen others bytes = record { such = tt; before = others.0; was_left = others.1; others = others.2; said = bytes }
+  anew_by : (seen : Observation) → TornFrom file (may_leave first) seen.image → said first ≡ Some seen.said → Anew seen
+  anew_by seen torn bytes = record { before = torn.0; was_left = torn.1; torn = torn.2; said = bytes }
 
   pub anew_first : SeesOnly moment observed first first Anew
-  anew_first = started moment observed first Anew (λ seen since. let now = only_now first seen since in anew_by seen (seen.image, now.0, λ n other. refl) now.1)
+  anew_first = started moment observed first Anew (λ seen since. let now = only_now first seen since in anew_by seen (seen.image, now.0, untorn file seen.image) now.1)
 
   pub anew_on : (mid new : H) → SeesOnly moment observed first mid Anew → said mid ≡ said first → said new ≡ said mid → Elapses (moment mid) (moment new) (observed mid) (observed new) (IsNew (may_leave new) (said mid) (said new))
-      → ((c : Files) → may_leave new c → Others c) → SeesOnly moment observed first new Anew
+      → Follows (TornIn file 0 made_count) (may_leave first) (may_leave new) → SeesOnly moment observed first new Anew
   anew_on mid new so_far same still time images =
       goes_on moment observed first mid new Anew (IsNew (may_leave new) (said mid) (said new)) so_far time (λ seen is_new. anew_by seen (images seen.image is_new.image) (sym (still ∙ same) ∙ said_still (said mid) (said new) seen.said still is_new.said))
-
-  pub anew_write : (at count : ℕ) (wrote : H) → Follows (TornIn file at count) (may_leave first) (may_leave wrote) → (c : Files) → may_leave wrote c → Others c
-  anew_write at count wrote follows c left = let from = follows c left in (from.0, from.1, from.2.elsewhere)

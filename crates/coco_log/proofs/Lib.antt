@@ -1,4 +1,4 @@
-mod Appends
+pub mod Appends
 pub mod OneLog
 pub mod OnlyRead
 mod Others

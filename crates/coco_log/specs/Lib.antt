@@ -2,4 +2,5 @@ pub mod Faults
 pub mod Gates
 pub mod Grammar
 pub mod LogState
+pub mod Making
 pub mod Reading

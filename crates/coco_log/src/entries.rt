@@ -53,6 +53,7 @@ impl Entries {
         ensures refused { (at : ℕ) (files : Files) → result ≡ Err (fault.NotALog at) → H.reads host.old ≡ Some files → IsNoHeader kind (files file) at }
         ensures read { IsOnlyRead H.moment H.observed H.said H.reads H.may_leave host.old host.new }
         ensures counts { CountsOpen result (H.disk_faults host.old) (H.disk_faults host.new) }
+        ensures others { H.say_faults host.new ≡ H.say_faults host.old }
     {
         host.sync(file)?;
         let mut window = Window::new(alloc, file)?;
@@ -82,6 +83,7 @@ impl Entries {
         ensures on { result ≡ Ok true → (self.old.at < self.new.at) × (self.new.at < self.new.end) }
         ensures read { IsOnlyRead H.moment H.observed H.said H.reads H.may_leave host.old host.new }
         ensures counts { CountsOpen result (H.disk_faults host.old) (H.disk_faults host.new) }
+        ensures others { H.say_faults host.new ≡ H.say_faults host.old }
     {
         self.length = 0;
         self.start = 0;

@@ -53,6 +53,7 @@ fn head_at<H: Host>(host: &mut H, window: &mut Window, at: u64) -> Result<Head, 
         → IsHead (drop at (files window.old.file)) head) }
     ensures read { IsOnlyRead H.moment H.observed H.said H.reads H.may_leave host.old host.new }
     ensures counts { CountsFault result (H.disk_faults host.old) (H.disk_faults host.new) }
+    ensures others { H.say_faults host.new ≡ H.say_faults host.old }
 {
     let skip = window.reach(host, at, 5)?;
     Ok(head_of(&window.bytes[skip..window.count]))
@@ -74,6 +75,7 @@ pub fn next_gate<H: Host>(
     ensures on { (next : ℕ) → result ≡ Ok (Some next) → (at + 5 ≤ next) × (next < at + 2 ^ 32) × (next < end) }
     ensures read { IsOnlyRead H.moment H.observed H.said H.reads H.may_leave host.old host.new }
     ensures counts { CountsOpen result (H.disk_faults host.old) (H.disk_faults host.new) }
+    ensures others { H.say_faults host.new ≡ H.say_faults host.old }
 {
     match head_at(host, window, at)? {
         Head::Closed => Ok(None),
@@ -100,6 +102,7 @@ pub fn read_header<H: Host>(host: &mut H, window: &mut Window, kind: u8) -> Resu
         → IsNoHeader kind (files window.old.file) at }
     ensures read { IsOnlyRead H.moment H.observed H.said H.reads H.may_leave host.old host.new }
     ensures counts { CountsOpen result (H.disk_faults host.old) (H.disk_faults host.new) }
+    ensures others { H.say_faults host.new ≡ H.say_faults host.old }
 {
     let header = [b'C', b'O', b'C', b'O', b'L', b'O', b'G', kind];
     let skip = window.reach(host, 0, 8)?;

@@ -5,7 +5,9 @@ ghost use Rattle.coco_host.specs.Moments.{SeesOnly};
 ghost use Rattle.coco_log.specs.declared.fault.LogFault.TheVariants as fault;
 ghost use Rattle.coco_log.specs.Faults.{CountsFault, CountsOpen};
 ghost use Rattle.coco_log.specs.Grammar.{most, counted, FitsNoLog};
+ghost use Rattle.coco_log.specs.Making.{MakesLog};
 ghost use Rattle.coco_log.specs.LogState.{without_entries, with_entry, gates, IsAtRest, IsBeforeOrAfter, ChangesOne, SameBut, IsAppended, IsMade, IsOnlyRead, IsFresh, IsOpened, Holds, HasEntry};
+ghost use Rattle.coco_log.specs.Making.{MakesLog};
 
 use crate::writing::write_entry;
 use crate::{Entries, LogFault};
@@ -42,12 +44,12 @@ impl Log {
     pub fn make<H: Host>(alloc: Global, host: &mut H, file: u32, kind: u8) -> Result<Log, LogFault>
         ensures log { IfOk result (λ log. log ≡ without_entries file kind) }
         ensures ok { IfOk result (λ log. (files : Files) → H.reads host.old ≡ Some files → IsMade log file kind files (H.reads host.new) (H.may_leave host.new)) }
-        ensures moments { (files : Files) → H.reads host.old ≡ Some files
-            → SeesOnly H.moment H.observed host.old host.new (ChangesOne file (λ _. Unit {0}) (H.may_leave host.old) (H.said host.old)) }
+        ensures moments { SeesOnly H.moment H.observed host.old host.new (MakesLog file (H.may_leave host.old) (H.said host.old)) }
         ensures files { Become (SameBut file) (H.reads host.old) (H.reads host.new) }
         ensures crash { Follows (SameBut file) (H.may_leave host.old) (H.may_leave host.new) }
         ensures said { H.said host.new ≡ H.said host.old }
         ensures counts { CountsFault result (H.disk_faults host.old) (H.disk_faults host.new) }
+        ensures others { H.say_faults host.new ≡ H.say_faults host.old }
     {
         host.write_at(
             file,
@@ -78,6 +80,7 @@ impl Log {
         ensures refused { (at : ℕ) (files : Files) → result ≡ Err (fault.NotALog at) → H.reads host.old ≡ Some files → FitsNoLog kind (files file) at }
         ensures read { IsOnlyRead H.moment H.observed H.said H.reads H.may_leave host.old host.new }
         ensures counts { CountsOpen result (H.disk_faults host.old) (H.disk_faults host.new) }
+        ensures others { H.say_faults host.new ≡ H.say_faults host.old }
     {
         let mut entries = Entries::open(alloc, host, file, kind)?;
         while entries.next(host)? {}
@@ -114,6 +117,7 @@ impl Log {
         ensures same { self.new ≡ self.old }
         ensures read { IsOnlyRead H.moment H.observed H.said H.reads H.may_leave host.old host.new }
         ensures counts { CountsOpen result (H.disk_faults host.old) (H.disk_faults host.new) }
+        ensures others { H.say_faults host.new ≡ H.say_faults host.old }
     {
         let number = number as usize;
         let gate = self.gate(number);
@@ -168,6 +172,7 @@ impl Log {
         ensures crash { Follows (SameBut self.old.file) (H.may_leave host.old) (H.may_leave host.new) }
         ensures said { H.said host.new ≡ H.said host.old }
         ensures counts { CountsFault result (H.disk_faults host.old) (H.disk_faults host.new) }
+        ensures others { H.say_faults host.new ≡ H.say_faults host.old }
     {
         self.is_spent = true;
         stage(&mut self.piece, &mut self.places, body)?;

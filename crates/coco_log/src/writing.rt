@@ -27,6 +27,7 @@ pub fn write_entry<H: Host>(
     ensures said { H.said host.new ≡ H.said host.old }
     ensures small { OnOk result (gate + 1 + length piece.now < 2 ^ 62) }
     ensures counts { CountsFault result (H.disk_faults host.old) (H.disk_faults host.new) }
+    ensures others { H.say_faults host.new ≡ H.say_faults host.old }
 {
     host.write_at(file, gate + 1, piece)?;
     host.sync(file)?;

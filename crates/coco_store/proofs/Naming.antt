@@ -33,13 +33,13 @@ unnamed_left xs ys f h = neither_left (is_named xs f) (is_named ys f) (sym (list
 named_one : (xs : List ℕ) (f : ℕ) → is_named (f ∷ xs) f ≡ true
 named_one xs f = or_left _ (is_named xs f) (eq-eqb f f refl)
 
-named_at : (xs : List ℕ) (n : ℕ) → n < length xs → is_named xs (slice_index xs n) ≡ true
+pub named_at : (xs : List ℕ) (n : ℕ) → n < length xs → is_named xs (slice_index xs n) ≡ true
 named_at [] n less = absurd (omega (arith, less))
 named_at (x ∷ xs) zero less = named_one xs x
 named_at (x ∷ xs) (suc n) less = or_right _ _ (named_at xs n (omega (arith, less)))
 
 -- what is named isn't what isn't
-apart : (xs : List ℕ) (f g : ℕ) → is_named xs f ≡ true → is_named xs g ≡ false → f ≢ g
+pub apart : (xs : List ℕ) (f g : ℕ) → is_named xs f ≡ true → is_named xs g ≡ false → f ≢ g
 apart xs f g is lacks e = let h : true ≡ false = sym (subst (λ (k : ℕ). is_named xs k ≡ true) e is) ∙ lacks in cc
 
 new_at : (named files : List ℕ) (n : ℕ) → AreNew named files → n < length files → is_named named (slice_index files n) ≡ false

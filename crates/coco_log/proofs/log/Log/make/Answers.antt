@@ -1,12 +1,12 @@
 use Rattle.std.proofs.Common.{◌≡◌, ℕ, List, [], ◌∷◌, ◌++◌, false, refl, ap}
 use Rattle.coco_log.specs.LogState.{LogState}
-use Rattle.coco_log.proofs.Appends.{anew_first, anew_on, anew_write, told_put, made}
+use Rattle.coco_log.proofs.Appends.{anew_first, anew_on, told_put, made}
 use Rattle.coco_log.proofs.Others.{left_first, left_write, left_sync, told_first, told_write, told_torn, told_sync}
 use Rattle.coco_log.specs.Grammar.{header}
 use Rattle.coco_log.proofs.log.Log.make.Goals as goal
 
 pub returns-in_err-write_at-clause-moments : goal.returns-in_err-write_at-clause-moments
-returns-in_err-write_at-clause-moments g c files told =
+returns-in_err-write_at-clause-moments g c =
     let M = g.H.Host.moment in
     let O = g.H.Host.observed in
     let S = g.H.Host.said in
@@ -14,13 +14,10 @@ returns-in_err-write_at-clause-moments g c files told =
     let N = g.met.H.Host.only_now in
     let f = c.args.file in
     let s0 = c.args.host.now in
-    let s1 = c.write_at.new.self in
-    let o1 = anew_write M O S L N f s0 0 9 s1 c.write_at.ensures.crash in
-    let first = anew_on M O S L N f s0 s0 s1 (anew_first M O S L N f s0) refl c.write_at.ensures.said c.write_at.ensures.time o1 in
-    first
+    anew_on M O S L N f s0 s0 c.write_at.new.self (anew_first M O S L N f s0) refl c.write_at.ensures.said c.write_at.ensures.time c.write_at.ensures.crash
 
 pub returns-in_err-sync-clause-moments : goal.returns-in_err-sync-clause-moments
-returns-in_err-sync-clause-moments g c files told =
+returns-in_err-sync-clause-moments g c =
     let M = g.H.Host.moment in
     let O = g.H.Host.observed in
     let S = g.H.Host.said in
@@ -29,14 +26,11 @@ returns-in_err-sync-clause-moments g c files told =
     let f = c.args.file in
     let s0 = c.args.host.now in
     let s1 = c.write_at.new.self in
-    let o1 = anew_write M O S L N f s0 0 9 s1 c.write_at.ensures.crash in
-    let first = anew_on M O S L N f s0 s0 s1 (anew_first M O S L N f s0) refl c.write_at.ensures.said c.write_at.ensures.time o1 in
-    let s2 = c.sync.new.self in
-    let second = anew_on M O S L N f s0 s1 s2 first c.write_at.ensures.said c.sync.ensures.said c.sync.ensures.time (λ x left. o1 x (c.sync.ensures.crash x left)) in
-    second
+    let first = anew_on M O S L N f s0 s0 s1 (anew_first M O S L N f s0) refl c.write_at.ensures.said c.write_at.ensures.time c.write_at.ensures.crash in
+    anew_on M O S L N f s0 s1 c.sync.new.self first c.write_at.ensures.said c.sync.ensures.said c.sync.ensures.time (λ x left. c.write_at.ensures.crash x (c.sync.ensures.crash x left))
 
 pub returns-clause-moments : goal.returns-clause-moments
-returns-clause-moments g c files told =
+returns-clause-moments g c =
     let M = g.H.Host.moment in
     let O = g.H.Host.observed in
     let S = g.H.Host.said in
@@ -45,11 +39,8 @@ returns-clause-moments g c files told =
     let f = c.args.file in
     let s0 = c.args.host.now in
     let s1 = c.write_at.new.self in
-    let o1 = anew_write M O S L N f s0 0 9 s1 c.write_at.ensures.crash in
-    let first = anew_on M O S L N f s0 s0 s1 (anew_first M O S L N f s0) refl c.write_at.ensures.said c.write_at.ensures.time o1 in
-    let s2 = c.sync.new.self in
-    let second = anew_on M O S L N f s0 s1 s2 first c.write_at.ensures.said c.sync.ensures.said c.sync.ensures.time (λ x left. o1 x (c.sync.ensures.crash x left)) in
-    second
+    let first = anew_on M O S L N f s0 s0 s1 (anew_first M O S L N f s0) refl c.write_at.ensures.said c.write_at.ensures.time c.write_at.ensures.crash in
+    anew_on M O S L N f s0 s1 c.sync.new.self first c.write_at.ensures.said c.sync.ensures.said c.sync.ensures.time (λ x left. c.write_at.ensures.crash x (c.sync.ensures.crash x left))
 
 pub returns-clause-log : goal.returns-clause-log
 returns-clause-log g c =

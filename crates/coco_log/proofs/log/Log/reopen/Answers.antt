@@ -10,6 +10,7 @@ loop-entries-init g c =
       of = begins.of;
       read = read_first _ _ _ _ _ g.met.H.Host.only_now _;
       counts = refl;
+      others = refl;
       told = λ files told.
           let begun = begins.ok files (sym begins.read.same ∙ told) in
           ([], subst (λ (n : ℕ). IsReading c.in_ok-entries.entries [] (files n)) begins.of.in_file begun.reading);
