@@ -1,0 +1,6 @@
+pub mod Adding
+pub mod Following
+pub mod Loading
+pub mod Ring
+pub mod TableLemmas
+pub mod Writes

@@ -1,0 +1,5 @@
+pub mod Epochs
+pub mod Keeping
+pub mod Laws
+pub mod Reading
+pub mod Tables
