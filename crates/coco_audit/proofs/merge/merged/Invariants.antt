@@ -1,0 +1,8 @@
+use Rattle.std.proofs.Common.{◌≡◌, drop, map}
+use Rattle.coco_ast.specs.Keyed.{put_over}
+use Rattle.coco_audit.specs.Maps.{as_write, joined, lent_map, map_with}
+use Rattle.coco_audit.proofs.merge.merged.Given as goal
+
+-- the rows of the other lists come over those that are there
+abbrev pub invariant-loop-list : goal.invariant-loop-list
+invariant-loop-list l = put_over (lent_map l.merged) (map as_write (joined (drop l.list-index l.lists))) ≡ map_with (joined l.lists)

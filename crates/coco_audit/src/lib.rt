@@ -1,0 +1,13 @@
+//! What a store says of itself: its records and rows line by line, and whether its replies are those of a serial run.
+#![tactic(auto)]
+
+pub mod dump;
+mod merge;
+pub mod verify;
+mod writing;
+
+pub use dump::{dump_of, write_dump_done, write_dump_row};
+pub use verify::{NotSerial, verify_of, write_not_serial, write_serial};
+
+#[cfg(test)]
+mod tests;
