@@ -1,0 +1,4 @@
+pub mod LayoutLemmas
+pub mod MakeLemmas
+pub mod StepLemmas
+pub mod StoreLemmas

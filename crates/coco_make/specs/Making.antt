@@ -1,0 +1,51 @@
+-- What is seen of a host while a store is made in its files.
+use Rattle.std.specs.Prelude.{◌≡◌, ℕ, false, List, [], ◌∷◌, Option, Some}
+use Rattle.coco_host.specs.Files.{Files, Become, Follows}
+use Rattle.coco_host.specs.Moments.{Observation, SeesOnly}
+use Rattle.coco_ast.specs.Tree.{Procedures}
+use Rattle.coco_entry.specs.declared.layout.Layout.{Layout}
+use Rattle.coco_entry.specs.Layouts.{is_named}
+use Rattle.coco_log.specs.Grammar.{IsLog}
+use Rattle.coco_store.specs.Contents.{IsGoodStore}
+use Rattle.coco_store.specs.Entries.{layouts_kind}
+use Rattle.coco_make.specs.NewStore.{new_contents, AreOnlyNewLogs}
+
+-- ---- other files
+
+abbrev pub SameBesides : List ℕ → Files → Files → Type 0
+SameBesides named old new = (n : ℕ) → is_named named n ≡ false → new n ≡ old n
+
+-- seen at a moment: of what a crash might have left before, no file changed but those named, and no more is said
+pub record ChangesNamed (named : List ℕ) (may_leave : Files → Type 0) (bytes : Option (List ℕ)) (seen : Observation) : Type 0 where
+  pub before : Files
+  pub was_left : may_leave before
+  pub others : SameBesides named before seen.image
+  pub said : bytes ≡ Some seen.said
+
+-- no file changes but those named, in what is read, in what a crash may leave and, where the files are told, at each moment; and nothing is said
+pub record ChangesOnly {H : Type 0} (moment : H → ℕ) (observed : H → ℕ → Observation → Type 0) (said : H → Option (List ℕ)) (reads : H → Option Files) (may_leave : H → Files → Type 0)
+    (named : List ℕ) (old new : H) : Type 0 where
+  pub moments : (files : Files) → reads old ≡ Some files → SeesOnly moment observed old new (ChangesNamed named (may_leave old) (said old))
+  pub files : Become (SameBesides named) (reads old) (reads new)
+  pub crash : Follows (SameBesides named) (may_leave old) (may_leave new)
+  pub quiet : said new ≡ said old
+
+-- ---- the store
+
+-- a crash leaves no byte in this file
+abbrev pub LeavesEmpty : ℕ → (Files → Type 0) → Type 0
+LeavesEmpty file may_leave = (image : Files) → may_leave image → image file ≡ []
+
+-- where file 0 is a log of layouts with an entry, the new store stands
+abbrev pub IsNewOnceOpen : Layout → Procedures → Files → Type 0
+IsNewOnceOpen layout tree files = (body : List ℕ) (bodies : List (List ℕ)) → IsLog layouts_kind (body ∷ bodies) (files 0) → IsGoodStore files (new_contents layout tree)
+
+-- at each moment, and behind the call where the host tells what it said, that is so in all that a crash may leave
+pub record ShowsNewOnly {H : Type 0} (moment : H → ℕ) (observed : H → ℕ → Observation → Type 0) (said : H → Option (List ℕ)) (may_leave : H → Files → Type 0)
+    (layout : Layout) (tree : Procedures) (old new : H) : Type 0 where
+  pub moments : SeesOnly moment observed old new (λ seen. IsNewOnceOpen layout tree seen.image)
+  pub left : (bytes : List ℕ) → said old ≡ Some bytes → (image : Files) → may_leave new image → IsNewOnceOpen layout tree image
+
+-- where no file had a byte, none has one but the logs
+abbrev pub LeavesOnlyLogs : Layout → Option Files → Option Files → Type 0
+LeavesOnlyLogs layout old new = (before after : Files) → old ≡ Some before → new ≡ Some after → ((n : ℕ) → before n ≡ []) → AreOnlyNewLogs layout after
