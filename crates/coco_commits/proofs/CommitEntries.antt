@@ -1,7 +1,6 @@
 -- The Dones of an epoch that was run on a store's map keep the rules of a commit entry.
-use Rattle.std.proofs.Common.{◌≡◌, ℕ, zero, suc, ◌+◌, ◌-◌, ◌<◌, ◌≤◌, Bool, true, false, cond, not, ◌||◌, nat_eq, nat_lt, List, [], ◌∷◌, ◌++◌, length, map, filter, inl, inr, Option, None, Some, IsPermutation, refl, sym, ap, ◌∙◌, subst, append_assoc, append-nil, length-append, true≢false, arith}
-use Rattle.std.specs.Bool.{⊤}
-use Rattle.std.specs.List.{AllByRecursion, IsDistinct, flat_map}
+use Rattle.std.proofs.Common.{◌≡◌, ℕ, suc, ◌+◌, ◌-◌, ◌<◌, ◌≤◌, Bool, true, false, cond, not, ◌||◌, nat_eq, List, [], ◌∷◌, ◌++◌, length, map, filter, inl, Option, None, Some, refl, sym, ap, ◌∙◌, subst, append_assoc, append-nil, length-append, true≢false, arith}
+use Rattle.std.specs.List.{AllByRecursion, IsDistinct}
 use Rattle.std.specs.Set.{is_member}
 use Rattle.std.specs.Cmp.{nat_eq_equiv}
 use Rattle.std.proofs.lemmas.Bool.{ltb-true}
@@ -14,16 +13,16 @@ use Rattle.coco_types.specs.declared.call.Done.{Done}
 use Rattle.coco_types.specs.declared.call.Request.{Request}
 use Rattle.coco_host.specs.Files.{Files}
 use Rattle.coco_ast.specs.Fitting.{Fits}
-use Rattle.coco_ast.specs.Growth.{AreNew, GrowsBy, IsEpochOf}
+use Rattle.coco_ast.specs.Growth.{GrowsBy, IsEpochOf}
 use Rattle.coco_ast.specs.History.{AreAbove, AreTimed, Epoch, HaveTheirNumbers, History, IsBefore, IsOrdered, IsRising, all_dones, dones_in as dones_of_epochs, epoch_dones, followed_by, ids_of, is_timed, last_epoch, last_number, no_base, request_of}
 use Rattle.coco_ast.specs.Schedule.{IsCommitOrder, Timed, at_start, is_snapshot, numbered, timed_of}
 use Rattle.coco_ast.proofs.GrowthLemmas.{dones_behind, dones_in-push, growth_keeps, stays_serial}
 use Rattle.coco_ast.proofs.Lists.{all_append, all_from_map, all_left, all_right, all_weaker}
 use Rattle.coco_ast.proofs.ScheduleLemmas.{scheduled}
 use Rattle.coco_entry.specs.declared.commit.Commit.{Commit}
-use Rattle.coco_store.specs.Contents.{Contents, HoldsBase, IsGoodStore, epoch_of, history_of, map_in}
+use Rattle.coco_store.specs.Contents.{Contents, HoldsBase, IsGoodStore, epoch_of, history_of}
 use Rattle.coco_store.specs.Entries.{BaseEntry}
-use Rattle.coco_store.specs.Rules.{EachBehind, HasRoom, IsBase, IsCommittedDone, IsKeptDone, IsNextBase, IsNextDone, IsNextEpoch, IsTime, Setting, commit_epochs, dones_in, dones_of, floor_in, kept_dones}
+use Rattle.coco_store.specs.Rules.{EachBehind, HasRoom, IsCommittedDone, IsKeptDone, IsNextBase, IsTime, Setting, commit_epochs, dones_in, dones_of, floor_in, kept_dones}
 use Rattle.coco_commits.specs.EpochEntries.{AreRun, HasRoomFor, IsNextIn, MayRun}
 
 -- ---- lists

@@ -1,7 +1,7 @@
 -- A run of an accepted procedure writes only rows of tables that are declared.
-use Rattle.std.proofs.Common.{◌≡◌, ◌≢◌, ℕ, zero, suc, ◌+◌, ◌*◌, ◌<◌, Bool, true, false, not, ◌||◌, if◌then◌else◌, nat_eq, Ordering, Less, Equal, Greater, inr, List, [], ◌∷◌, ◌++◌, length, map, Option, None, Some, Result, Ok, Err, pos, negsuc, refl, sym, ap, ◌∙◌, subst, true≢false, arith, slice_get}
+use Rattle.std.proofs.Common.{◌≡◌, ℕ, zero, suc, ◌+◌, ◌*◌, ◌<◌, Bool, true, false, not, ◌||◌, if◌then◌else◌, nat_eq, Less, Equal, Greater, inr, List, [], ◌∷◌, ◌++◌, length, Option, None, Some, Ok, Err, pos, negsuc, refl, sym, ap, ◌∙◌, subst, true≢false, arith, slice_get}
 use Rattle.std.specs.Bool.{⊤}
-use Rattle.std.specs.List.{AllByRecursion, list_any}
+use Rattle.std.specs.List.{AllByRecursion}
 use Rattle.std.specs.Ordering.{match_ordering}
 use Rattle.std.specs.Cmp.Lexicographic.{pointwise, bytes_decides}
 use Rattle.coco_types.specs.RowKey.{RowKey, key_cmp}
@@ -9,9 +9,9 @@ use Rattle.coco_types.specs.declared.call.Call.{Call}
 use Rattle.coco_types.specs.declared.call.Write.{Write}
 use Rattle.coco_types.specs.declared.value.Value.TheVariants.{Int, Text}
 use Rattle.coco_ast.specs.Builtins.{add_proc, builtins, get_proc, put_proc}
-use Rattle.coco_ast.specs.Checks.{HasNoError, Placed, and_within, behind_builtins, has_unknown, in_order, is_among, known_at, own_tables, own_variables, statements_in}
+use Rattle.coco_ast.specs.Checks.{HasNoError, Placed, and_within, behind_builtins, has_unknown, in_order, is_among, own_tables, statements_in}
 use Rattle.coco_ast.specs.Keyed.{Rows}
-use Rattle.coco_ast.specs.Meaning.{Datum, Computed, Access, Reads, Writes, State, Flow, Goes, Ends, Refuses, set_variable, read_row, write_row, with, after, turns, statement_flow, statements_flow, value_of, key_of, row_key, place_of, and_then, number_of, is_true, put_write, writes_after, run, run_of, flow_of, procedure_at, opened}
+use Rattle.coco_ast.specs.Meaning.{Datum, Computed, Access, Reads, Writes, State, Flow, Goes, Ends, Refuses, set_variable, with, after, turns, statement_flow, statements_flow, value_of, key_of, row_key, place_of, and_then, number_of, is_true, put_write, writes_after, run, run_of, flow_of, procedure_at, opened}
 use Rattle.coco_ast.specs.Tree.{Statement, Let, Get, Put, Delete, If, IfElse, Repeat, Refuse, Reply, Statements, End, Then, Procedure, Procedures, RowPlace}
 use Rattle.coco_ast.specs.declared.error.CheckKind.TheVariants.{UnknownName}
 use Rattle.coco_ast.proofs.Accepted.{procedure_at-get}

@@ -1,8 +1,8 @@
 -- The last writes of an epoch that was run on a store's map keep the rules of a prepared entry, and leave the map of the Dones.
-use Rattle.std.proofs.Common.{◌≡◌, ℕ, zero, suc, ◌+◌, ◌<◌, ◌≤◌, ◌%◌, Bool, true, false, cond, if◌then◌else◌, nat_eq, List, [], ◌∷◌, ◌++◌, length, map, filter, Option, None, Some, refl, sym, ap, ◌∙◌, subst, append-nil, append_assoc, true≢false, arith}
+use Rattle.std.proofs.Common.{◌≡◌, ℕ, zero, suc, ◌<◌, ◌≤◌, ◌%◌, Bool, true, false, cond, if◌then◌else◌, nat_eq, List, [], ◌∷◌, ◌++◌, length, map, filter, Option, None, Some, refl, sym, ap, ◌∙◌, subst, arith}
 use Rattle.std.specs.List.{AllByRecursion}
 use Rattle.std.specs.Option.{option_map, option_or}
-use Rattle.std.proofs.lemmas.Bool.{eqb-true, eq-eqb}
+use Rattle.std.proofs.lemmas.Bool.{eqb-true}
 use Rattle.coco_types.specs.RowKey.{RowKey}
 use Rattle.coco_types.specs.declared.call.Done.{Done}
 use Rattle.coco_types.specs.declared.call.Piece.{Piece}
@@ -10,8 +10,7 @@ use Rattle.coco_types.specs.declared.call.Request.{Request}
 use Rattle.coco_types.specs.declared.call.Write.{Write}
 use Rattle.coco_types.proofs.Keys.{is_key, key_itself, one_key}
 use Rattle.coco_types.proofs.KeyMaps.{same_keyed}
-use Rattle.coco_ast.specs.Checks.{behind_builtins}
-use Rattle.coco_ast.specs.History.{History, followed_by, map_of, rows_after}
+use Rattle.coco_ast.specs.History.{History, followed_by, map_of}
 use Rattle.coco_ast.specs.Keyed.{Rows, on_partition, put_over, value_at, write_at}
 use Rattle.coco_ast.specs.Meaning.{Datum, run}
 use Rattle.coco_ast.specs.Tree.{Procedures}
@@ -20,19 +19,18 @@ use Rattle.coco_ast.proofs.KeyedLemmas.{value_on_partition}
 use Rattle.coco_ast.proofs.Lists.{all_append, all_from_map}
 use Rattle.coco_ast.proofs.Writing.{value_written}
 use Rattle.coco_entry.specs.declared.commit.Commit.{Commit}
-use Rattle.coco_entry.specs.declared.layout.Layout.{Layout}
-use Rattle.coco_entry.specs.declared.prepared.Prepared.{Prepared}
 use Rattle.coco_entry.specs.declared.prepared.Row.{Row}
 use Rattle.coco_host.specs.Files.{Files}
 use Rattle.coco_store.specs.Contents.{Contents, IsGoodStore, epoch_of, history_of, map_in, on, writes_on as entry_writes}
 use Rattle.coco_store.specs.Entries.{BaseEntry}
 use Rattle.coco_store.specs.Placement.{IsHeldBy, partition_of}
-use Rattle.coco_store.specs.Rules.{IsNodeRow, Setting, base_of, commit_epochs}
+use Rattle.coco_store.specs.Rules.{IsNodeRow, Setting, base_of}
 use Rattle.coco_store.specs.Texts.{IsAcceptedText}
 use Rattle.coco_commits.specs.EpochEntries.{HasRunReady, HeldBy, MayPrepareRun, MayRun, pieces_in}
 use Rattle.coco_prepared.specs.LastWrites.{AreLastWrites, LeaveTheMap, Stamp, held_pieces, holds, last_stamp, last_value, row_stamp, writes_of}
-use Rattle.coco_epoch.specs.Pieces.{piece_of, pieces_from, pieces_of, place_of, request_pieces, writes_on}
-use Rattle.coco_commits.proofs.DeclaredTables.{WriteRows, run_stays_in_tables}
+use Rattle.coco_epoch.specs.Pieces.{pieces_of, place_of}
+use Rattle.coco_pieces.specs.Pieces.{piece_of, pieces_from, request_pieces, writes_on}
+use Rattle.coco_commits.proofs.DeclaredTables.{run_stays_in_tables}
 
 -- ---- whose last write there is
 

@@ -1,5 +1,5 @@
 -- What a run may write: rows of tables that are declared.
-use Rattle.std.specs.Prelude.{◌<◌, ◌++◌, length}
+use Rattle.std.specs.Prelude.{◌<◌, length}
 use Rattle.std.specs.List.{AllByRecursion}
 use Rattle.coco_types.specs.declared.call.Call.{Call}
 use Rattle.coco_types.specs.declared.call.Write.{Write}

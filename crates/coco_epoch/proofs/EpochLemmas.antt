@@ -14,9 +14,10 @@ use Rattle.coco_ast.specs.Schedule.{at_start, is_snapshot, numbered, timed_of}
 use Rattle.coco_ast.specs.Tree.{Procedures}
 use Rattle.coco_ast.proofs.RunsPutWrites.{run_puts_writes}
 use Rattle.coco_order.specs.Outcome.{tail_dones, tail_rows}
-use Rattle.coco_epoch.specs.Pieces.{pieces_of, place_of, request_pieces}
+use Rattle.coco_epoch.specs.Pieces.{pieces_of, place_of}
+use Rattle.coco_pieces.specs.Pieces.{request_pieces}
 use Rattle.coco_epoch.specs.Running.{FitAll, snapshot_done}
-use Rattle.coco_epoch.proofs.PieceLemmas.{nothing_written}
+use Rattle.coco_pieces.proofs.PieceLemmas.{nothing_written}
 use Rattle.coco_epoch.proofs.Snapshots.{snapshot_writes}
 
 abbrev pub AreSnapshots : List Request → Type 0

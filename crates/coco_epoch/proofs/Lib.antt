@@ -1,6 +1,5 @@
 pub mod ShardLemmas
 pub mod RunLemmas
-pub mod PieceLemmas
 pub mod PlaceLemmas
 pub mod Snapshots
 pub mod EpochLemmas

@@ -9,7 +9,8 @@ use Rattle.coco_ast.specs.Meaning.{run}
 use Rattle.coco_ast.specs.Tree.{Procedures}
 use Rattle.coco_order.specs.Outcome.{tail_dones, tail_rows}
 use Rattle.coco_shard.specs.RowState.{ShardState}
-use Rattle.coco_epoch.specs.Pieces.{pieces_of, request_pieces}
+use Rattle.coco_epoch.specs.Pieces.{pieces_of}
+use Rattle.coco_pieces.specs.Pieces.{request_pieces}
 use Rattle.coco_epoch.specs.Running.{AreAtTheirPlaces, requests_of}
 use Rattle.coco_epoch.specs.Shards.{HaveNewest}
 use Rattle.coco_epoch.specs.declared.placed.Placed.{Placed}

@@ -74,6 +74,6 @@ fn run_requests(
     let Progress { dones, pieces, .. } = progress;
     Ok(EpochDone {
         dones: Dones::from_vec(dones),
-        pieces: Pieces::from_vec(pieces),
+        pieces,
     })
 }

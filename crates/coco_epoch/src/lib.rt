@@ -4,7 +4,6 @@
 mod calls;
 mod ends;
 mod epoch;
-mod pieces;
 mod placed;
 mod progress;
 mod shards;

@@ -6,18 +6,19 @@ ghost use Rattle.coco_ast.specs.Fitting.{Fits};
 ghost use Rattle.coco_ast.specs.Keyed.{Rows, put_over};
 ghost use Rattle.coco_ast.specs.Meaning.{Run as Ran, run};
 ghost use Rattle.coco_order.specs.Outcome.{tail_dones, tail_rows};
-ghost use Rattle.coco_epoch.specs.Pieces.{pieces_of, request_pieces};
+ghost use Rattle.coco_epoch.specs.Pieces.{pieces_of};
+ghost use Rattle.coco_pieces.specs.Pieces.{request_pieces};
 ghost use Rattle.coco_epoch.specs.Running.{AreAtTheirPlaces, CameTo, FitAll, IsOver, IsThere, requests_of, snapshot_done};
 ghost use Rattle.coco_epoch.specs.Shards.{AreOfPartitions, AreQuietAfter, HaveNewest, HaveStable, KeepStable};
 
 use crate::calls::{run_newest, run_stable};
-use crate::pieces::add_pieces;
 use crate::placed::Placed;
 use coco_ast::Checked;
 use coco_eval::Run;
+use coco_pieces::add_pieces;
 use coco_shard::Shard;
 use coco_types::limits::{MOST_BATCH_LINES, MOST_PARTITIONS, MOST_TIME};
-use coco_types::{Done, KeptReply, NoMemory, Piece, Request};
+use coco_types::{Done, KeptReply, NoMemory, Pieces, Request};
 use std::alloc::Global;
 
 /// What an epoch has come to so far, and the run of its last call, whose room the next one uses.
@@ -27,7 +28,7 @@ pub struct Progress {
     pub epoch: u64,
     pub running: Option<Run>,
     pub dones: Vec<Done>,
-    pub pieces: Vec<Piece>,
+    pub pieces: Pieces,
 }
 
 impl Progress {
@@ -36,14 +37,14 @@ impl Progress {
         ensures epoch { IfOk result (λ progress. progress.epoch ≡ epoch) }
         ensures over { IfOk result (λ progress. IsOver progress.running) }
         ensures dones { IfOk result (λ progress. progress.dones.items ≡ []) }
-        ensures pieces { IfOk result (λ progress. progress.pieces.items ≡ []) }
+        ensures pieces { IfOk result (λ progress. progress.pieces ≡ []) }
     {
         Ok(Progress {
             alloc,
             epoch,
             running: None,
             dones: Vec::with_capacity(alloc, requests)?,
-            pieces: Vec::with_capacity(alloc, requests)?,
+            pieces: Pieces::from_vec(Vec::with_capacity(alloc, requests)?),
         })
     }
 
@@ -107,7 +108,7 @@ impl Progress {
         ensures dones { OnOk result ((m : Rows) → HaveNewest m shards.old →
             self.new.dones.items ≡ self.old.dones.items ++ tail_dones procs.now self.old.epoch m after (requests_of tail.items)) }
         ensures pieces { OnOk result ((m : Rows) (all : List Asked) → HaveNewest m shards.old → AreAtTheirPlaces all tail.items →
-            self.new.pieces.items ≡ self.old.pieces.items ++ pieces_of procs.now (length shards.old) all m (tail_dones procs.now self.old.epoch m after (requests_of tail.items))) }
+            self.new.pieces ≡ self.old.pieces ++ pieces_of procs.now (length shards.old) all m (tail_dones procs.now self.old.epoch m after (requests_of tail.items))) }
         ensures newest { OnOk result ((m : Rows) → HaveNewest m shards.old → HaveNewest (tail_rows procs.now m (requests_of tail.items)) shards.new) }
         ensures kept { KeepStable shards.old shards.new }
     {
@@ -138,7 +139,7 @@ impl Progress {
             self.new.dones.items ≡ self.old.dones.items
             ++ record { id = placed.request.id; call = placed.request.call; epoch = self.old.epoch; time = time; reply = (run procs.now placed.request.call m).reply } ∷ []) }
         ensures pieces { OnOk result ((m : Rows) → HaveNewest m shards.old →
-            self.new.pieces.items ≡ self.old.pieces.items ++ request_pieces (length shards.old) placed.place time (run procs.now placed.request.call m).writes) }
+            self.new.pieces ≡ self.old.pieces ++ request_pieces (length shards.old) placed.place time (run procs.now placed.request.call m).writes) }
         ensures newest { OnOk result ((m : Rows) → HaveNewest m shards.old → HaveNewest (put_over m (run procs.now placed.request.call m).writes) shards.new) }
         ensures quiet { OnOk result (AreQuietAfter time shards.new) }
         ensures kept { KeepStable shards.old shards.new }
@@ -163,7 +164,7 @@ impl Progress {
         requires some { 0 < count }
         requires most { count ≤ MOST_PARTITIONS }
         ensures pieces { OnOk result ((ran : Ran) → CameTo ran self.old.running →
-            self.new.pieces.items ≡ self.old.pieces.items ++ request_pieces count place time ran.writes) }
+            self.new.pieces ≡ self.old.pieces ++ request_pieces count place time ran.writes) }
         ensures others { self.new ≡ record self.old { pieces = self.new.pieces } }
     {
         let Some(running) = &self.running else {

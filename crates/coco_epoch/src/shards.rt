@@ -4,17 +4,9 @@ ghost use Rattle.std.specs.Prelude.{◌≡◌, ◌<◌, ◌≤◌, ◌%◌, None
 ghost use Rattle.coco_shard.specs.Table.{extended, installed};
 ghost use Rattle.coco_epoch.specs.Shards.{newest_in, row_in, stable_in, with_row_in};
 
+use coco_pieces::partition_of;
 use coco_shard::Shard;
 use coco_types::{Key, NoMemory, Value, Write};
-
-/// The partition of a key, of so many.
-pub fn partition_of(key: Key, count: usize) -> usize
-    requires { 0 < count }
-    ensures is { result ≡ key.row % count }
-    ensures within { result < count }
-{
-    (key.row % count as u64) as usize
-}
 
 /// The newest value of a key, which is valid until the time from then on. Out of memory, nothing has changed.
 pub fn read_key(shards: &mut [Shard], key: Key, time: u64) -> Result<Option<Value>, NoMemory>

@@ -26,7 +26,8 @@ use Rattle.coco_ast.proofs.Writing.{value_written}
 use Rattle.coco_bytes.specs.Lists.{FitInTurn}
 use Rattle.coco_entry.specs.Rows.{RowRises}
 use Rattle.coco_entry.specs.declared.prepared.Row.{Row}
-use Rattle.coco_epoch.specs.Pieces.{piece_of, pieces_from, pieces_of, place_of, request_pieces, writes_on}
+use Rattle.coco_epoch.specs.Pieces.{pieces_of, place_of}
+use Rattle.coco_pieces.specs.Pieces.{piece_of, pieces_from, request_pieces, writes_on}
 use Rattle.coco_prepared.specs.LastWrites.{LeaveTheMap, Stamp, held_pieces, holds, last_stamp, last_value, row_stamp, writes_of}
 use Rattle.coco_prepared.specs.Stamps.{row_of, rows_in, stamp_at}
 use Rattle.coco_prepared.specs.declared.rows.Stamp.{Stamp as Kept}

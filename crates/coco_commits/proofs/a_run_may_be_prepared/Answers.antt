@@ -1,5 +1,4 @@
 use Rattle.coco_prepared.proofs.LastWriteLemmas.{rows_leave_the_map}
-use Rattle.coco_ast.specs.Meaning.{run}
 use Rattle.coco_store.specs.Contents.{map_in}
 use Rattle.coco_commits.proofs.PreparedEntries.{has_ready, may_prepare}
 use Rattle.coco_commits.proofs.a_run_may_be_prepared.Goals as goal

@@ -28,19 +28,19 @@ returns-clause-ok c m stable =
     let others = c.in_ok-snapshots.field-0.others.items in
     let newest : HaveNewest m c.args.shards.now = newest_settled m c.args.shards.now c.requires.settled stable in
     let epoch : c.run_snapshots.new.self.epoch ≡ c.args.epoch = c.in_ok-run_snapshots.ensures.epoch ∙ c.in_ok-progress.ensures.epoch in
-    let none : c.run_snapshots.new.self.pieces.items ≡ [] = ap (λ v. v.items) c.in_ok-run_snapshots.ensures.pieces ∙ c.in_ok-progress.ensures.pieces in
+    let none : c.run_snapshots.new.self.pieces ≡ [] = c.in_ok-run_snapshots.ensures.pieces ∙ c.in_ok-progress.ensures.pieces in
     let front : c.run_snapshots.new.self.dones.items ≡ map (snapshot_done ps c.args.epoch m) snapshots =
     c.in_ok-run_snapshots.ensures.dones m stable
     ∙ ap (λ (ds : List Done). ds ++ map (snapshot_done ps c.in_ok-progress.progress.epoch m) snapshots) c.in_ok-progress.ensures.dones
     ∙ ap (λ (e : ℕ). map (snapshot_done ps e m) snapshots) c.in_ok-progress.ensures.epoch in
-    serial_epoch ps c.args.requests.items c.args.epoch m c.args.shards.now c.run_tail.new.shards snapshots others c.from_vec.result c.from_vec-2.result
+    serial_epoch ps c.args.requests.items c.args.epoch m c.args.shards.now c.run_tail.new.shards snapshots others c.from_vec.result c.run_tail.new.self.pieces
     c.requires.fit c.requires.distinct
     (subst (λ (xs : List Request). IsPermutation xs snapshots) c.in_ok-snapshots.ensures.snapshots c.by_id.ensures.same)
     c.by_id.ensures.rising c.in_ok-snapshots.ensures.others
     (c.from_vec.ensures ∙ c.in_ok-run_tail.ensures.dones m newest
     ∙ ap (λ (e : ℕ). c.run_snapshots.new.self.dones.items ++ tail_dones ps e m 0 (requests_of others)) epoch
     ∙ ap (λ (ds : List Done). ds ++ tail_dones ps c.args.epoch m 0 (requests_of others)) front)
-    (λ asked at. c.from_vec-2.ensures ∙ c.in_ok-run_tail.ensures.pieces m asked newest at
-    ∙ ap (λ (e : ℕ). c.run_snapshots.new.self.pieces.items ++ pieces_of ps (length c.args.shards.now) asked m (tail_dones ps e m 0 (requests_of others))) epoch
+    (λ asked at. c.in_ok-run_tail.ensures.pieces m asked newest at
+    ∙ ap (λ (e : ℕ). c.run_snapshots.new.self.pieces ++ pieces_of ps (length c.args.shards.now) asked m (tail_dones ps e m 0 (requests_of others))) epoch
     ∙ ap (λ (qs : List Piece). qs ++ pieces_of ps (length c.args.shards.now) asked m (tail_dones ps c.args.epoch m 0 (requests_of others))) none)
     (c.in_ok-run_tail.ensures.newest m newest) c.run_tail.ensures.kept stable

@@ -15,6 +15,6 @@ invariant-loop-placed l = record {
   quiet : AreQuietAfter l.time l.shards;
   kept : KeepStable l.initial.shards l.shards;
   left : (m : Rows) → HaveNewest m l.initial.shards →
-      TailLeft l.procs l.initial.self.epoch (length l.initial.shards) m l.after l.fn.tail.items l.initial.self.dones.items l.initial.self.pieces.items
-      l.time l.placed-iterator.rest.items l.self.dones.items l.self.pieces.items l.shards;
+      TailLeft l.procs l.initial.self.epoch (length l.initial.shards) m l.after l.fn.tail.items l.initial.self.dones.items l.initial.self.pieces
+      l.time l.placed-iterator.rest.items l.self.dones.items l.self.pieces l.shards;
 }

@@ -3,7 +3,7 @@ use Rattle.std.proofs.Common.{◌≡◌, ℕ, zero, suc, ◌+◌, ◌-◌, ◌<�
 use Rattle.std.proofs.lemmas.Bool.{eqb-true, eq-eqb}
 use Rattle.coco_types.specs.declared.call.Piece.{Piece}
 use Rattle.coco_types.specs.declared.call.Write.{Write}
-use Rattle.coco_epoch.specs.Pieces.{piece_of, pieces_from, request_pieces, writes_on}
+use Rattle.coco_pieces.specs.Pieces.{piece_of, pieces_from, request_pieces, writes_on}
 
 two_sides : true ≡ false → ⊥
 two_sides h = cc
@@ -66,9 +66,6 @@ piece_first count place time ws p lt there =
     one : (vs : List Write) → (vs ≡ [] → ⊥) → piece_of place time p vs ≡ record { place = place; partition = p; time = time; writes = vs } ∷ []
     one [] there = absurd (there refl)
     one (v ∷ vs) there = refl
-
-pub no_pieces : (count place time : ℕ) (ws : List Write) (p : ℕ) → count ≤ p → pieces_from count place time ws p (count - p) ≡ []
-no_pieces count place time ws p le = ap (pieces_from count place time ws p) (let e : count - p ≡ 0 = omega arith in e)
 
 -- a request without writes has none
 pub nothing_written : (count place time p n : ℕ) → pieces_from count place time [] p n ≡ []

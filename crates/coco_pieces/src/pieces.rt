@@ -1,18 +1,26 @@
 //! The pieces of a request: its writes, partition by partition.
 
-ghost use Rattle.std.specs.Prelude.{◌≡◌, ◌≢◌, ◌<◌, ◌≤◌, ◌++◌, ℕ, [], length, IfOk, OnOk};
-ghost use Rattle.coco_epoch.specs.Pieces.{request_pieces, writes_on};
+ghost use Rattle.std.specs.Prelude.{◌≡◌, ◌≢◌, ◌<◌, ◌≤◌, ◌++◌, ◌%◌, ℕ, [], length, IfOk, OnOk};
+ghost use Rattle.coco_pieces.specs.Pieces.{request_pieces, writes_on};
 
-use crate::shards::partition_of;
 use coco_types::limits::MOST_PARTITIONS;
-use coco_types::{NoMemory, Piece, Write, Writes};
+use coco_types::{Key, NoMemory, Piece, Pieces, Write, Writes};
 use std::alloc::Global;
+
+/// The partition of a key, of so many.
+pub fn partition_of(key: Key, count: usize) -> usize
+    requires { 0 < count }
+    ensures is { result ≡ key.row % count }
+    ensures within { result < count }
+{
+    (key.row % count as u64) as usize
+}
 
 /// Adds the pieces of a request at this place and time, one for each of so many partitions that it writes, rising
 /// by partition.
 pub fn add_pieces(
     alloc: Global,
-    pieces: &mut Vec<Piece>,
+    pieces: &mut Pieces,
     count: usize,
     place: u32,
     time: u64,
@@ -20,7 +28,7 @@ pub fn add_pieces(
 ) -> Result<(), NoMemory>
     requires some { 0 < count }
     requires most { count ≤ MOST_PARTITIONS }
-    ensures { OnOk result (pieces.new.items ≡ pieces.old.items ++ request_pieces count place time writes.now) }
+    ensures { OnOk result (pieces.new ≡ pieces.old ++ request_pieces count place time writes.now) }
 {
     let mut partition = next_partition(writes, count, 0);
     while partition < count {

@@ -1,6 +1,6 @@
 use Rattle.std.proofs.Common.{◌≡◌, ◌≢◌, ℕ, ◌<◌, ◌≤◌, [], drop}
-use Rattle.coco_epoch.specs.Pieces.{writes_on}
-use Rattle.coco_epoch.proofs.pieces.next_partition.Given as goal
+use Rattle.coco_pieces.specs.Pieces.{writes_on}
+use Rattle.coco_pieces.proofs.pieces.next_partition.Given as goal
 
 -- below it only the writes to come may be
 abbrev pub invariant-loop-write : goal.invariant-loop-write
