@@ -1,0 +1,5 @@
+pub mod GainLemmas
+pub mod ScriptLemmas
+pub mod TryLemmas
+pub mod CopyLemmas
+pub mod WorkLemmas

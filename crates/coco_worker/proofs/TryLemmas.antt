@@ -1,0 +1,131 @@
+-- Scripts that a slot gains: from one stretch to the next, and the attempts at one request.
+use Rattle.std.proofs.Common.{◌≡◌, ℕ, suc, ◌+◌, ◌<◌, true, List, [], ◌∷◌, ◌++◌, length, Option, None, Some, refl, sym, ap, ◌∙◌, subst, arith, append_assoc}
+use Rattle.std.specs.List.{AllByRecursion, filter_map}
+use Rattle.std.proofs.lemmas.List.{append-nil, length-append}
+use Rattle.std.proofs.lemmas.List.Elements.{filter_map-append}
+use Rattle.coco_types.specs.declared.call.Request.{Request}
+use Rattle.coco_types.specs.declared.call.Write.{Write}
+use Rattle.coco_ast.proofs.Lists.{all_append, all_weaker}
+use Rattle.coco_ast.specs.Tree.{Procedures}
+use Rattle.coco_occ.specs.Trying.{Trying, has_ended}
+use Rattle.coco_occ.specs.declared.outcome.Ended.{Ended as Unmade}
+use Rattle.coco_occ.specs.declared.outcome.Outcome.{Outcome}
+use Rattle.coco_occ.specs.declared.outcome.Tried.{Tried}
+use Rattle.coco_order.specs.Execution.{all_at_shard, is_conflict}
+use Rattle.coco_worker.specs.Gains.{AreSame, entered}
+use Rattle.coco_worker.specs.Trying.{Adds, AreNumbered, HasEnded, IsAt, IsOver, IsTriedAt, TriesOnce, TriesOut, ends_of, time_of, unmade_of}
+use Rattle.coco_worker.specs.declared.slot.Slot.{Slot}
+use Rattle.coco_worker.proofs.GainLemmas.{gain_as, gain_none, gain_then}
+use Rattle.coco_worker.proofs.ScriptLemmas.{all_at_shard_append}
+
+-- ---- the scripts that a slot gains
+
+numbered_append : (n m : ℕ) (ts us : List Tried) → m ≡ n + length ts → AreNumbered n ts → AreNumbered m us → AreNumbered n (ts ++ us)
+numbered_append n m [] us is here there = subst (λ (k : ℕ). AreNumbered k us) (let e : m ≡ n = omega arith in e) there
+numbered_append n m (t ∷ ts) us is here there = (here.0, numbered_append (suc n) m ts us (omega arith) here.1 there)
+
+module _ (P : Tried → Type 0) where
+  pub adds_none : (s : Slot) → Adds P s s []
+  adds_none s = record {
+    transcript = sym (append-nil s.transcript);
+    made = gain_none entered s.passes.items;
+    whole = tt;
+    numbered = tt;
+  }
+
+  pub adds_then : (a b c : Slot) (ts us : List Tried) → AreSame a.passes.items b.passes.items → Adds P a b ts → Adds P b c us → Adds P a c (ts ++ us)
+  adds_then a b c ts us same first next = record {
+    transcript = next.transcript ∙ ap (λ (xs : List Tried). xs ++ us) first.transcript ∙ append_assoc a.transcript ts us;
+    made = gain_as entered a.passes.items c.passes.items (λ shard. all_at_shard shard ts ++ all_at_shard shard us) (λ shard. all_at_shard shard (ts ++ us))
+        (gain_then entered a.passes.items b.passes.items c.passes.items (λ shard. all_at_shard shard ts) (λ shard. all_at_shard shard us) same first.made next.made)
+        (λ shard _. sym (all_at_shard_append shard ts us));
+    whole = all_append P ts us first.whole next.whole;
+    numbered = numbered_append (length a.transcript) (length b.transcript) ts us (ap length first.transcript ∙ length-append a.transcript ts) first.numbered next.numbered;
+  }
+
+pub adds_weaker : (P Q : Tried → Type 0) (a b : Slot) (ts : List Tried) → ((t : Tried) → P t → Q t) → Adds P a b ts → Adds Q a b ts
+adds_weaker P Q a b ts weaker adds = record {
+  transcript = adds.transcript;
+  made = adds.made;
+  whole = all_weaker P Q weaker ts adds.whole;
+  numbered = adds.numbered;
+}
+
+-- ---- the attempts at a request
+
+-- those so far, which all conflicted, and how many are left
+pub record SoFar (procs : Procedures) (request : Request) (place partitions attempts left : ℕ) (before after : Slot) (ends : List Unmade) : Type 0 where
+  pub tried : List Tried
+  pub adds : Adds (IsTriedAt procs request before.worker place partitions) before after tried
+  pub conflicts : AllByRecursion (λ t. is_conflict t.outcome ≡ true) tried
+  pub ends_are : ends ≡ ends_of tried
+  pub count : length tried + left ≡ attempts
+
+at_place : (procs : Procedures) (request : Request) (worker place partitions : ℕ) (t : Tried) → IsTriedAt procs request worker place partitions t → t.place ≡ place
+at_place procs request worker place partitions t is = is.1.at
+
+-- the end of one that didn't commit, none of a commit
+abbrev pub ends_in : Outcome → List Unmade
+ends_in outcome = filter_map unmade_of (outcome ∷ [])
+
+ends_more : (ts : List Tried) (t : Tried) (outcome : Outcome) → t.outcome ≡ outcome → ends_of (ts ++ t ∷ []) ≡ ends_of ts ++ ends_in outcome
+ends_more ts t outcome is = filter_map-append (λ (u : Tried). unmade_of u.outcome) ts (t ∷ []) ∙ ap (λ (o : Outcome). ends_of ts ++ ends_in o) is
+
+-- one that conflicted more
+pub so_far_more : (procs : Procedures) (request : Request) (place partitions attempts left fewer : ℕ) (a b c : Slot) (ends more : List Unmade) (room : Option Trying) (outcome : Outcome) → AreSame a.passes.items b.passes.items → b.worker ≡ a.worker
+    → SoFar procs request place partitions attempts left a b ends → TriesOnce procs request place partitions b c room outcome → is_conflict outcome ≡ true → more ≡ ends ++ ends_in outcome → left ≡ suc fewer
+    → SoFar procs request place partitions attempts fewer a c more
+so_far_more procs request place partitions attempts left fewer a b c ends more room outcome same worker so once conflicts is less = record {
+  tried = so.tried ++ once.tried ∷ [];
+  adds = adds_then P a b c so.tried (once.tried ∷ []) same so.adds (subst (λ (w : ℕ). Adds (IsTriedAt procs request w place partitions) b c (once.tried ∷ [])) worker once.adds);
+  conflicts = all_append (λ (t : Tried). is_conflict t.outcome ≡ true) so.tried (once.tried ∷ []) so.conflicts (ap is_conflict once.outcome_is ∙ conflicts, tt);
+  ends_are = is ∙ ap (λ (es : List Unmade). es ++ ends_in outcome) so.ends_are ∙ sym (ends_more so.tried once.tried outcome once.outcome_is);
+  count = (let len = length-append so.tried (once.tried ∷ []) in let was = so.count in omega arith);
+}
+  where
+    P : Tried → Type 0
+    P t = IsTriedAt procs request a.worker place partitions t
+
+-- the last one
+pub tries_out : (procs : Procedures) (request : Request) (place partitions attempts left : ℕ) (a b c : Slot) (ends more : List Unmade) (room : Option Trying) (outcome : Outcome) → AreSame a.passes.items b.passes.items → b.worker ≡ a.worker
+    → SoFar procs request place partitions attempts left a b ends → TriesOnce procs request place partitions b c room outcome → more ≡ ends ++ ends_in outcome → 0 < left → (is_conflict outcome ≡ true → left ≡ 1)
+    → TriesOut procs request place partitions attempts a c more room (time_of outcome)
+tries_out procs request place partitions attempts left a b c ends more room outcome same worker so once is some used =
+    let all : List Tried = so.tried ++ once.tried ∷ [] in
+    let len : length all ≡ length so.tried + 1 = length-append so.tried (once.tried ∷ []) in
+    let was = so.count in
+    let adds : Adds P a c all = adds_then P a b c so.tried (once.tried ∷ []) same so.adds (subst (λ (w : ℕ). Adds (IsTriedAt procs request w place partitions) b c (once.tried ∷ [])) worker once.adds) in
+    record {
+      tries = record { place = place; conflicts = so.tried; last = once.tried };
+      writes = once.writes;
+      are = record {
+        placed = all_weaker P (λ (t : Tried). t.place ≡ place) (at_place procs request a.worker place partitions) all adds.whole;
+        conflicts = so.conflicts;
+        allowed = omega arith;
+        used_up = λ conflicts. (let one : left ≡ 1 = used (sym (ap is_conflict once.outcome_is) ∙ conflicts) in omega arith);
+      };
+      at = refl;
+      adds = adds;
+      ends_are = is ∙ ap (λ (es : List Unmade). es ++ ends_in outcome) so.ends_are ∙ sym (ends_more so.tried once.tried outcome once.outcome_is);
+      time_is = ap time_of (sym once.outcome_is);
+      ended = subst (λ (o : Outcome). HasEnded o once.writes room) (sym once.outcome_is) once.ended;
+      last = subst (λ (w : ℕ). IsAt procs request w place partitions once.tried once.writes) worker once.is;
+    }
+  where
+    P : Tried → Type 0
+    P t = IsTriedAt procs request a.worker place partitions t
+
+-- the room of an attempt that has ended may be used again
+pub over_once_ended : (room : Option Trying) (outcome : Outcome) (writes : List Write) → HasEnded outcome writes room → IsOver room
+over_once_ended None outcome writes ended = absurd ended
+over_once_ended (Some a) outcome writes ended = ap has_ended ended
+
+-- before the first one
+pub so_far_none : (procs : Procedures) (request : Request) (place partitions attempts : ℕ) (s : Slot) (ends : List Unmade) → ends ≡ [] → SoFar procs request place partitions attempts attempts s s ends
+so_far_none procs request place partitions attempts s ends empty = record {
+  tried = [];
+  adds = adds_none (IsTriedAt procs request s.worker place partitions) s;
+  conflicts = tt;
+  ends_are = empty;
+  count = omega arith;
+}

@@ -1,0 +1,13 @@
+use Rattle.std.proofs.Common.{◌≡◌}
+use Rattle.coco_occ.specs.Steps.{at_shard}
+use Rattle.coco_occ.specs.Trying.{Ready}
+use Rattle.coco_worker.specs.Gains.{AreSame, Make}
+use Rattle.coco_worker.proofs.steps.run_attempt.Given as goal
+
+-- the attempt is ready, what it asked is written down, and the passes made just that
+abbrev pub invariant-loop : goal.invariant-loop
+invariant-loop g l = record {
+  left : l.attempt ≡ record l.fn.attempt { script = l.script; standing = Ready };
+  same : AreSame l.fn.passes l.passes;
+  made : Make l.fn.passes l.passes (λ shard. at_shard shard l.script);
+}

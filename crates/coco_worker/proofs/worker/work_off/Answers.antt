@@ -1,0 +1,61 @@
+use Rattle.std.proofs.Common.{◌≡◌, ℕ, List, length, None, Some, refl, sym, ap, ◌∙◌, subst}
+use Rattle.std.specs.List.{slice_get}
+use Rattle.std.proofs.lemmas.Option.{slice_get-get_or}
+use Rattle.coco_types.specs.declared.call.Request.{Request}
+use Rattle.coco_occ.specs.declared.outcome.Tailed.{Tailed}
+use Rattle.coco_worker.specs.Copying.{asked, puts_at}
+use Rattle.coco_worker.specs.Gains.{Gain}
+use Rattle.coco_worker.specs.Trying.{TriesOut}
+use Rattle.coco_worker.specs.Working.{Job, commit_at}
+use Rattle.coco_worker.specs.declared.slot.Slot.{Slot}
+use Rattle.coco_worker.proofs.WorkLemmas.{by_both, by_ok, lands_commit, lands_tail, no_commit, the_job, worked_by, works_one}
+use Rattle.coco_worker.proofs.worker.work_off.Goals as goal
+
+pub returns-in-Some-clause-worked : goal.returns-in-Some-clause-worked
+returns-in-Some-clause-worked g c =
+    let a : Slot = c.args.slot.now in
+    let b : Slot = c.try_until.new.slot in
+    let d : Slot = c.keep.new.slot in
+    let j : Job = the_job c.args.procs.now c.args.requests.now (length c.args.shards.now) a.worker c.args.config (g.N.Net.carries c.args.net.now) in
+    let request : Request = c.index-requests-place.result in
+    let place : ℕ = c.args.place in
+    let time : ℕ = c.in-Some.time in
+    let placed : slice_get j.requests place ≡ Some request = slice_get-get_or j.requests place request c.requires.there ∙ ap (λ (r : Request). Some r) (sym c.index-requests-place.is) in
+    let out : TriesOut j.procs request place j.partitions j.config.attempts a b c.try_until.new.ends c.try_until.new.room (Some time) =
+    subst (TriesOut j.procs request place j.partitions j.config.attempts a b c.try_until.new.ends c.try_until.new.room) c.in-Some.is c.in_ok-time.ensures.tried in
+    let worker : b.worker ≡ a.worker = ap (λ (s : Slot). s.worker) c.in_ok-time.ensures.others in
+    by_both c.keep.result c.keep.ensures.pieces c.keep.ensures.copied
+    (λ pieces copied. (
+      worked_by j request place a b d c.try_until.new.ends c.try_until.new.room (Some time) placed refl out,
+      out.at,
+      works_one j request place a b d c.try_until.new.ends c.try_until.new.room (Some time) placed refl out
+          (lands_commit j request place time a b d out.writes c.try_until.new.ends c.in_ok-time.ensures.others c.keep.ensures.others (pieces out.tries.last.outcome out.writes out.ended)
+          (subst (λ (w : ℕ). Gain asked b.copy_passes.items d.copy_passes.items (λ table. puts_at j.carries (record (commit_at j place time) { worker = w }) table out.writes)) worker (copied out.tries.last.outcome out.writes out.ended))),
+      record {
+        began = c.in_ok-time.ensures.began;
+        committed = λ _. subst (λ (w : ℕ). g.G.Gate.passed c.args.gate.now w 2) worker c.pass.ensures;
+      },
+    ))
+
+pub returns-in-None-clause-worked : goal.returns-in-None-clause-worked
+returns-in-None-clause-worked g c =
+    let a : Slot = c.args.slot.now in
+    let b : Slot = c.try_until.new.slot in
+    let d : Slot = record b { tail = c.push.new.self } in
+    let j : Job = the_job c.args.procs.now c.args.requests.now (length c.args.shards.now) a.worker c.args.config (g.N.Net.carries c.args.net.now) in
+    let request : Request = c.index-requests-place.result in
+    let place : ℕ = c.args.place in
+    let placed : slice_get j.requests place ≡ Some request = slice_get-get_or j.requests place request c.requires.there ∙ ap (λ (r : Request). Some r) (sym c.index-requests-place.is) in
+    let out : TriesOut j.procs request place j.partitions j.config.attempts a b c.try_until.new.ends c.try_until.new.room None =
+    subst (TriesOut j.procs request place j.partitions j.config.attempts a b c.try_until.new.ends c.try_until.new.room) c.in-None.is c.in_ok-time.ensures.tried in
+    by_ok c.push.result c.push.ensures.ok
+    (λ pushed. (
+      worked_by j request place a b d c.try_until.new.ends c.try_until.new.room None placed refl out,
+      out.at,
+      works_one j request place a b d c.try_until.new.ends c.try_until.new.room None placed refl out
+          (lands_tail j request place a b d out.writes c.try_until.new.ends c.in_ok-time.ensures.others (ap (λ (ts : List Tailed). record b { tail = ts }) pushed)),
+      record {
+        began = c.in_ok-time.ensures.began;
+        committed = λ is. absurd (no_commit out.tries.last.outcome out.time_is is);
+      },
+    ))

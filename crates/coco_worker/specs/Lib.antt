@@ -1,0 +1,4 @@
+pub mod Copying
+pub mod Gains
+pub mod Trying
+pub mod Working

@@ -1,0 +1,34 @@
+//! What an epoch's workers are told, and what one of them has done.
+
+use coco_claim::ClaimSeat;
+use coco_copy::CopyTable;
+use coco_journaled::Pass;
+use coco_occ::{Tailed, Transcript};
+use coco_shard::Shard;
+use coco_types::{Pieces, Sequence};
+
+/// The number of an epoch, its workers and how often they may try a request, and how many nodes there are and copies
+/// of each partition.
+#[derive(Clone, Copy, Debug, PartialEq, Eq)]
+pub struct EpochConfig {
+    pub epoch: u64,
+    pub workers: u8,
+    pub attempts: u8,
+    pub nodes: u8,
+    pub copies: u8,
+}
+
+/// The requests that no attempt committed.
+pub type Tail = Sequence<Tailed>;
+
+/// One worker: a pass of each shard and of each copy table, the seat that it draws by, and what it did.
+#[derive(Drop)]
+pub struct Slot {
+    pub worker: u32,
+    pub passes: Vec<Pass<Shard>>,
+    pub copy_passes: Vec<Pass<CopyTable>>,
+    pub seat: ClaimSeat,
+    pub transcript: Transcript,
+    pub pieces: Pieces,
+    pub tail: Tail,
+}
