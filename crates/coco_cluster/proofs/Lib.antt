@@ -1,0 +1,4 @@
+pub mod Joining
+pub mod KeepLemmas
+pub mod StoreLemmas
+pub mod TurnLemmas

@@ -1,0 +1,332 @@
+-- What a run of new requests, and its two entries, make of the store that a cluster stands at.
+use Rattle.std.proofs.Common.{◌≡◌, ◌⊎◌, inl, inr, ⊎_elim, ℕ, ◌+◌, ◌<◌, ◌≤◌, ◌^◌, Bool, false, ◌==◌, List, [], ◌∷◌, ◌++◌, length, length-append, map, filter, not, Option, None, Some, Result, Ok, Err, refl, sym, ap, ◌∙◌, subst, arith}
+use Rattle.std.specs.Prelude.{OnOk}
+use Rattle.std.specs.List.{AllByRecursion}
+use Rattle.std.proofs.lemmas.Bool.Decides.{nat_tests}
+use Rattle.std.proofs.lemmas.List.{map-append}
+use Rattle.std.proofs.lemmas.List.Filters.{length-filter_both}
+use Rattle.coco_types.specs.Limits.{epochs_end}
+use Rattle.coco_types.specs.declared.call.Done.{Done}
+use Rattle.coco_types.specs.declared.call.Request.{Request}
+use Rattle.coco_host.specs.Files.{Files}
+use Rattle.coco_host.specs.Moments.{Observation}
+use Rattle.coco_ast.specs.Fitting.{Fits}
+use Rattle.coco_ast.specs.Growth.{GrowsBy}
+use Rattle.coco_ast.specs.History.{AreAbove, Epoch, History, RepliesAreRuns, done_of, floor, floor_of, followed_by, is_held, kept, kept_of, map_of, rows_after}
+use Rattle.coco_ast.specs.Keyed.{Rows}
+use Rattle.coco_ast.proofs.KeptLemmas.{follows}
+use Rattle.coco_ast.proofs.Lists.{all_append, all_map, all_weaker}
+use Rattle.coco_append.specs.Gaining.{RestsOn}
+use Rattle.coco_append.proofs.GainLemmas.{sees_weaker}
+use Rattle.coco_commits.specs.EpochEntries.{AreRun, HasRunReady, IsNextIn, MayPrepareRun, MayRun, pieces_in}
+use Rattle.coco_bytes.specs.Lists.{FitInTurn}
+use Rattle.coco_entry.specs.Commits.{IsCommit}
+use Rattle.coco_entry.specs.Rows.{IsPrepared}
+use Rattle.coco_entry.specs.declared.commit.Commit.{Commit}
+use Rattle.coco_entry.specs.declared.prepared.Prepared.{Prepared}
+use Rattle.coco_entry.specs.declared.prepared.Row.{Row}
+use Rattle.coco_epoch.specs.Pieces.{pieces_of}
+use Rattle.coco_epoch.specs.Shards.{AreOfPartitions, HaveNewest, HaveStable, HoldMap}
+use Rattle.coco_kept.specs.Holding.{NeverFall}
+use Rattle.coco_kept.specs.Keeping.{HoldsKept, Keeping}
+use Rattle.coco_load.specs.Keeping.{MayFollow}
+use Rattle.coco_log.specs.LogState.{LogState}
+use Rattle.coco_log.specs.declared.fault.LogFault.{LogFault}
+use Rattle.coco_prepared.specs.LastWrites.{AreLastWrites}
+use Rattle.coco_shard.specs.RowState.{ShardState}
+use Rattle.coco_store.specs.Contents.{Contents, IsGoodStore, epoch_of, history_of, map_in}
+use Rattle.coco_store.specs.Laws.{HasReady, MayCommit, MayPrepare, with_commit}
+use Rattle.coco_cluster.specs.Standing.{ClusterState, IsSound, KeepsBelow, StandsAt}
+use Rattle.coco_cluster.specs.Storing.{AreEntries, IsOneOf, MayStore, ShowsOneOf, Stores, commit_of, prepared_of, with_epoch, with_rows}
+use Rattle.coco_cluster.specs.Turning.{Grown, HasRoom, IsStoreOf, MayTurn, RanOn, ShowsStore, Turns}
+use Rattle.coco_cluster.specs.declared.fault.TurnFault.{TurnFault}
+use Rattle.coco_cluster.proofs.KeepLemmas.{as_many, floor_now, keeps_on, kept_now, may_follow, same_kept}
+use Rattle.coco_cluster.proofs.StoreLemmas.{at_ok, no_ok}
+
+-- the history of contents with a commit entry more
+history_grows : (c : Contents) (commit : Commit) → history_of (with_commit commit c) ≡ followed_by (history_of c) (epoch_of commit)
+history_grows c commit = ap (λ es. record (history_of c) { epochs = es }) (map-append epoch_of c.commits (commit ∷ []))
+
+-- ---- the laws of runs, as they are called
+
+abbrev RunsAreCommits : Type 0
+RunsAreCommits = (files : Files) (c : Contents) → IsGoodStore files c → (requests : List Request) (epoch : ℕ) → MayRun c requests epoch
+    → (dones : List Done) → AreRun c requests epoch dones → IsNextIn c requests (commit_of epoch dones)
+
+pub record RunsArePrepared : Type 0 where
+  pub may : (files : Files) (c : Contents) → IsGoodStore files c → (requests : List Request) (epoch : ℕ) → MayRun c requests epoch → (dones : List Done) → MayPrepareRun c requests epoch dones
+  pub ready : (files : Files) (c : Contents) → IsGoodStore files c → (requests : List Request) (epoch : ℕ) → MayRun c requests epoch → (dones : List Done) → HasRunReady c requests epoch dones
+
+-- no more pass a test than there are
+few_pass : {X : Type 0} (p : X → Bool) (xs : List X) → length (filter p xs) ≤ length xs
+few_pass p xs = (let both = length-filter_both p (λ x. not (p x)) (λ x. refl) xs in omega (arith, both))
+
+zero_alone : (n : ℕ) → n < 1 → n ≡ 0
+zero_alone n less = omega (arith, less)
+
+-- ---- a run on a cluster's shards
+
+-- a cluster ran new requests: its shards, kept Dones, and what is to be written
+pub record HasRun (k : ClusterState) (requests : List Request) (shards : List ShardState) (now : Keeping) (dones : List Done) (rows : List Row) : Type 0 where
+  pub sound : IsSound k.kept k.shards k.chief k.node k.next_epoch k.spent
+  pub unspent : k.spent ≡ false
+  pub may : MayTurn k requests
+  pub below : k.next_epoch < epochs_end
+  pub some : 0 < length requests
+  pub count : length shards ≡ length k.shards
+  pub ran : (m : Rows) → HaveStable m k.shards → RanOn k.procs requests k.next_epoch k.held m shards dones rows
+  pub few : length rows < 2 ^ 32
+  pub same : now ≡ record k.kept { room = now.room }
+
+some_of : (n : ℕ) → (n == 0) ≡ false → 0 < n
+some_of n not_none = grind (arith, nat_tests)
+
+pub has_run : (k seen : ClusterState) (requests : List Request) (shards old : List ShardState) (held : List Bool) (now : Keeping) (dones : List Done) (rows : List Row) → k ≡ seen → seen.spent ≡ false
+    → IsSound k.kept k.shards k.chief k.node k.next_epoch k.spent → MayTurn seen requests → k.next_epoch < epochs_end → (n : ℕ) → (n == 0) ≡ false → n ≡ length requests → old ≡ k.shards → length shards ≡ length old → held ≡ k.held
+    → ((m : Rows) → HaveStable m old → RanOn k.procs requests k.next_epoch held m shards dones rows) → length rows < 2 ^ 32 → now ≡ record k.kept { room = now.room } → HasRun k requests shards now dones rows
+has_run k seen requests shards old held now dones rows is unspent sound may below n not_none len same count same_held ran few kept = record {
+  sound = sound;
+  unspent = ap (λ (s : ClusterState). s.spent) is ∙ unspent;
+  may = subst (λ (s : ClusterState). MayTurn s requests) (sym is) may;
+  below = below;
+  some = (let s = some_of n not_none in omega (arith, s, len));
+  count = count ∙ ap length same;
+  ran = λ m stable. subst (λ hs. RanOn k.procs requests k.next_epoch hs m shards dones rows) same_held (ran m (subst (HaveStable m) (sym same) stable));
+  few = few;
+  same = kept;
+}
+
+-- and its epoch was ended
+pub record HasEnded (shards : List ShardState) (now : Keeping) (dones : List Done) (last : List ShardState) (end : Keeping) : Type 0 where
+  pub count : length last ≡ length shards
+  pub ends : (n : Rows) → AreOfPartitions shards → HaveNewest n shards → HoldMap n last
+  pub keep : end.keep ≡ now.keep
+  pub more : (before : Option ℕ) (added : List Done) → HoldsKept now before added → NeverFall (added ++ dones) → HoldsKept end before (added ++ dones)
+
+pub has_ended : (shards mid : List ShardState) (now : Keeping) (dones : List Done) (last : List ShardState) (end : Keeping) → mid ≡ shards → length last ≡ length mid
+    → ((n : Rows) → AreOfPartitions mid → HaveNewest n mid → HoldMap n last) → end.keep ≡ now.keep
+    → ((before : Option ℕ) (added : List Done) → HoldsKept now before added → NeverFall (added ++ dones) → HoldsKept end before (added ++ dones)) → HasEnded shards now dones last end
+has_ended shards mid now dones last end same count ends keep more = record {
+  count = count ∙ ap length same;
+  ends = λ n partitions newest. ends n (subst AreOfPartitions (sym same) partitions) (subst (HaveNewest n) (sym same) newest);
+  keep = keep;
+  more = more;
+}
+
+fit_all : (epoch : ℕ) (before : Option Done) (ds : List Done) → AllByRecursion (λ (d : Done). d.epoch ≡ epoch) ds → FitInTurn (λ _ (d : Done). d.epoch ≡ epoch) before ds
+fit_all epoch before [] all = tt
+fit_all epoch before (d ∷ ds) all = (all.0, fit_all epoch (Some d) ds all.1)
+
+module _ (k : ClusterState) (requests : List Request) (shards : List ShardState) (now : Keeping) (dones : List Done) (rows : List Row) (run : HasRun k requests shards now dones rows) where
+  abbrev m : Rows
+  m = (run.sound.holds run.unspent).0
+
+  ran : RanOn k.procs requests k.next_epoch k.held m shards dones rows
+  ran = run.ran m (run.sound.holds run.unspent).1.values
+
+  keeps : KeepsBelow now k.next_epoch
+  keeps = same_kept k.kept now k.next_epoch (ap (λ (n : Keeping). n.dones) run.same) (ap (λ (n : Keeping). n.floor) run.same) (ap (λ (n : Keeping). n.keep) run.same) run.sound.keeps
+
+  unkept : AllByRecursion (λ (r : Request). done_of r.id now.dones ≡ None) requests
+  unkept = subst (λ ds. AllByRecursion (λ (r : Request). done_of r.id ds ≡ None) requests) (sym (ap (λ (n : Keeping). n.dones) run.same)) run.may.unkept
+
+  pub follow : MayFollow now dones
+  follow = may_follow requests k.next_epoch dones run.sound.first ran.serial.order ran.serial.numbered run.may.distinct now keeps unkept
+
+  pub entries : AreEntries k.next_epoch rows dones
+  entries = record {
+    few_rows = run.few;
+    few_dones = (let same = as_many requests k.next_epoch dones run.sound.first ran.serial.order ran.serial.numbered run.may.distinct in let few = run.may.few in omega (arith, same, few));
+    rise = ran.last.rising;
+    numbered = fit_all k.next_epoch None dones ran.serial.numbered;
+  }
+
+  -- the epoch is over
+  module _ (last : List ShardState) (end : Keeping) (over : HasEnded shards now dones last end) where
+    pub sound_then : (tables : List ShardState) → tables ≡ last → (chief node : LogState) → chief.file ≡ k.chief.file → node.file ≡ k.node.file → (node.spent ≡ false) × (chief.spent ≡ false)
+        → IsSound end tables chief node (k.next_epoch + 1) false
+    sound_then tables same chief node chief_file node_file unspent = subst (λ ts. IsSound end ts chief node (k.next_epoch + 1) false) (sym same) (record {
+      some = (let s = run.sound.some in omega (arith, s, over.count, run.count));
+      most = (let s = run.sound.most in omega (arith, s, over.count, run.count));
+      keeps = keeps_on requests k.next_epoch dones run.sound.first ran.serial.order ran.serial.numbered run.may.distinct now keeps end over.keep over.more unkept;
+      first = omega arith;
+      end = (let b = run.below in omega (arith, b));
+      holds = λ _. (rows_after k.procs m dones, over.ends (rows_after k.procs m dones) ran.serial.partitions ran.serial.newest);
+      unspent = λ _. (unspent.1, unspent.0);
+      apart = λ one. run.sound.apart (sym chief_file ∙ one ∙ node_file);
+    })
+
+    kept_then : end.dones ≡ kept_of k.kept.keep (k.kept.dones ++ dones)
+    kept_then = kept_now requests k.next_epoch dones run.sound.first ran.serial.order ran.serial.numbered run.may.distinct now keeps end over.keep over.more
+        ∙ ap (λ (n : Keeping). kept_of n.keep (n.dones ++ dones)) run.same
+
+    -- no more are kept than were, and those of the epoch
+    pub few_then : length end.dones ≤ length k.kept.dones + length requests
+    few_then =
+        let same = as_many requests k.next_epoch dones run.sound.first ran.serial.order ran.serial.numbered run.may.distinct in
+        let passed = few_pass (is_held k.kept.keep (k.kept.dones ++ dones)) (k.kept.dones ++ dones) in
+        omega (arith, same, passed, ap (length {A = Done}) kept_then, length-append k.kept.dones dones)
+
+    floor_then : end.floor ≡ floor_of k.kept.keep k.kept.floor (k.kept.dones ++ dones)
+    floor_then = floor_now requests k.next_epoch dones run.sound.first ran.serial.order ran.serial.numbered run.may.distinct now keeps end over.keep over.more
+        ∙ ap (λ (n : Keeping). floor_of n.keep n.floor (n.dones ++ dones)) run.same
+
+-- ---- on a host that rests on the store
+
+module _ {H : Type 0} (moment : H → ℕ) (observed : H → ℕ → Observation → Type 0) (said : H → Option (List ℕ)) (reads : H → Option Files) (may_leave : H → Files → Type 0) (old : H)
+    (commits : RunsAreCommits) (prepares : RunsArePrepared)
+    (k : ClusterState) (requests : List Request) (shards : List ShardState) (now : Keeping) (dones : List Done) (rows : List Row) (run : HasRun k requests shards now dones rows)
+    (seen_as : ClusterState) (view_is : k ≡ seen_as) (c : Contents) (rests : RestsOn c (reads old) (may_leave old)) (stands_so : StandsAt c seen_as) (room : HasRoom c requests) where
+  stands : StandsAt c k
+  stands = subst (StandsAt c) (sym view_is) stands_so
+
+  abbrev epoch : ℕ
+  epoch = k.next_epoch
+
+  abbrev h : History
+  h = history_of c
+
+  abbrev e : Epoch
+  e = record { number = epoch; dones = dones }
+
+  abbrev d : Contents
+  d = with_epoch epoch rows dones c
+
+  ran_here : RanOn k.procs requests epoch k.held (map_in c) shards dones rows
+  ran_here = run.ran (map_in c) stands.map.values
+
+  may_run : MayRun c requests epoch
+  may_run = record {
+    new = record {
+      distinct = run.may.distinct;
+      unkept = subst (λ ds. AllByRecursion (λ (r : Request). done_of r.id ds ≡ None) requests) stands.dones run.may.unkept;
+      above = subst (λ f. AreAbove f (map (λ (r : Request). r.id) requests)) stands.floor run.may.above;
+    };
+    fit = subst (λ ps. AllByRecursion (λ (r : Request). Fits ps r.call) requests) stands.procs run.may.fit;
+    some = run.some;
+    few = run.may.few;
+    room = room;
+    next = record {
+      above_base = stands.next.base;
+      rises = all_map (λ (x : Commit). x.epoch) (λ n. n < epoch) c.commits stands.next.commits;
+      below_end = run.below;
+    };
+  }
+
+  is_next : IsNextIn c requests (commit_of epoch dones)
+  is_next = commits rests.files c rests.good requests epoch may_run dones (record {
+    order = ran_here.serial.order;
+    numbered = ran_here.serial.numbered;
+    replies = subst (λ ps. RepliesAreRuns ps (map_in c) dones) stands.procs ran_here.serial.replies;
+    times = ran_here.serial.times;
+  })
+
+  pieces_are : ran_here.pieces ≡ pieces_in c requests dones
+  pieces_are =
+      ran_here.serial.pieces ∙ ap (λ n. pieces_of k.procs n requests (map_in c) dones) (run.count ∙ stands.partitions)
+      ∙ ap (λ ps. pieces_of ps c.setting.entry.layout.partitions requests (map_in c) dones) stands.procs
+
+  last_writes : AreLastWrites k.held (pieces_in c requests dones) rows
+  last_writes = subst (λ ps. AreLastWrites k.held ps rows) pieces_are ran_here.last
+
+  prepare : IsPrepared (prepared_of epoch rows) → MayPrepare c 0 (prepared_of epoch rows)
+  prepare is = prepares.may rests.files c rests.good requests epoch may_run dones 0 (omega (arith, stands.one)) (record {
+    above_base = stands.next.base;
+    rises = all_map (λ (x : Prepared). x.epoch) (λ n. n < epoch) (c.prepared 0) stands.next.prepared;
+    below_end = run.below;
+  }) k.held stands.held rows last_writes is
+
+  ready : HasReady (with_rows epoch rows c) (commit_of epoch dones) 0
+  ready = prepares.ready rests.files c rests.good requests epoch may_run dones 0 (omega (arith, stands.one)) k.held stands.held rows last_writes (with_rows epoch rows c) refl refl refl (c.prepared 0) [] refl
+
+  commit : IsCommit (commit_of epoch dones) → MayCommit (with_rows epoch rows c) (commit_of epoch dones)
+  commit is = record {
+    is = is;
+    next = is_next.next;
+    ordered = is_next.ordered;
+    serial = is_next.serial;
+    ready = λ n less. subst (HasReady (with_rows epoch rows c) (commit_of epoch dones)) (sym (zero_alone n (omega (arith, less, stands.one)))) ready;
+  }
+
+  may_store : MayStore c epoch rows dones k.node k.chief (reads old) (may_leave old)
+  may_store = record { rests = rests; node = stands.node; chief = stands.chief; prepare = prepare; commit = commit }
+
+  history_is : history_of d ≡ followed_by h e
+  history_is = history_grows (with_rows epoch rows c) (commit_of epoch dones)
+
+  grown : Grown requests epoch c d
+  grown = record {
+    setting = refl;
+    base = refl;
+    e = e;
+    number = refl;
+    order = ran_here.serial.order;
+    history = history_is;
+    grows = subst (GrowsBy h requests) (sym history_is) is_next.grown;
+  }
+
+  -- ---- what is seen
+
+  store_of : (image : Files) → IsOneOf epoch rows dones c image → IsStoreOf c.setting h image ⊎ IsStoreOf c.setting (history_of d) image
+  store_of image one = ⊎_elim (λ was. inl (record { contents = c; setting = refl; good = was; history = refl }))
+      (λ more. ⊎_elim (λ prepared. inl (record { contents = with_rows epoch rows c; setting = refl; good = prepared; history = refl })) (λ both. inr (record { contents = d; setting = refl; good = both; history = refl })) more) one
+
+  shows_store : (bytes : Option (List ℕ)) (seen : Observation) → ShowsOneOf epoch rows dones c bytes seen → ShowsStore c.setting h (history_of d) bytes seen
+  shows_store bytes seen shows = record { store = store_of seen.image shows.store; said = shows.said }
+
+  -- ---- the turn, where its entries were to be appended
+
+  module _ (stored : Result (Unit {0}) LogFault) (new : H) (given_rows : List Row) (given_dones : List Done) (same_rows : given_rows ≡ rows) (same_dones : given_dones ≡ dones)
+      (stores : MayStore c epoch given_rows given_dones k.node k.chief (reads old) (may_leave old) → Stores moment observed said reads may_leave stored epoch given_rows given_dones c old new) where
+    abbrev Storing : List Row → List Done → Type 0
+    Storing rs ds = MayStore c epoch rs ds k.node k.chief (reads old) (may_leave old) → Stores moment observed said reads may_leave stored epoch rs ds c old new
+
+    are_stored : Stores moment observed said reads may_leave stored epoch rows dones c old new
+    are_stored = subst (λ rs. Storing rs dones) same_rows (subst (λ ds. Storing given_rows ds) same_dones stores) may_store
+
+    turned : (result : Result (Unit {0}) TurnFault) (after : ClusterState) → OnOk result (RestsOn d (reads new) (may_leave new) × StandsAt d after)
+        → Turns moment observed said reads may_leave result requests c seen_as after old new
+    turned result after ok = subst (λ (s : ClusterState). Turns moment observed said reads may_leave result requests c s after old new) view_is (record {
+      d = d;
+      grown = grown;
+      ok = ok;
+      moments = sees_weaker moment observed old new (ShowsOneOf epoch rows dones c (said old)) (ShowsStore c.setting h (history_of d) (said old)) (shows_store (said old)) are_stored.moments;
+      left = λ bytes spoke image leaves. store_of image (are_stored.left bytes spoke image leaves);
+    })
+
+    pub failed : (result : Result (Unit {0}) TurnFault) (fault : TurnFault) (after : ClusterState) → result ≡ Err fault → Turns moment observed said reads may_leave result requests c seen_as after old new
+    failed result fault after is = turned result after (no_ok result fault _ is)
+
+    module _ (last : List ShardState) (end : Keeping) (over : HasEnded shards now dones last end) where
+      module _ (chief node : LogState) (chief_same : (chief.file ≡ k.chief.file) × (chief.kind ≡ k.chief.kind)) (node_same : (node.file ≡ k.node.file) × (node.kind ≡ k.node.kind)) where
+        abbrev after : List ShardState → ClusterState
+        after tables = record { procs = k.procs; kept = end; shards = tables; chief = chief; node = node; held = k.held; next_epoch = epoch + 1; spent = false }
+
+        stands_then : StandsAt d (after last)
+        stands_then = record {
+          one = stands.one;
+          procs = stands.procs;
+          dones = kept_then k requests shards now dones rows run last end over ∙ ap (λ n. kept_of n (k.kept.dones ++ dones)) stands.keep ∙ ap (λ ds. kept_of h.keep (ds ++ dones)) stands.dones
+              ∙ sym (follows c.setting.tree h e).held ∙ ap kept (sym history_is);
+          floor = floor_then k requests shards now dones rows run last end over ∙ ap (λ n. floor_of n k.kept.floor (k.kept.dones ++ dones)) stands.keep
+              ∙ ap (λ f. floor_of h.keep f (k.kept.dones ++ dones)) stands.floor
+              ∙ ap (λ ds. floor_of h.keep (floor h) (ds ++ dones)) stands.dones ∙ sym (follows c.setting.tree h e).forgotten ∙ ap floor (sym history_is);
+          keep = over.keep ∙ ap (λ (n : Keeping). n.keep) run.same ∙ stands.keep;
+          map = subst (λ n. HoldMap n last)
+              (ap (λ ps. rows_after ps (map_in c) dones) stands.procs ∙ sym (follows c.setting.tree h e).rows ∙ ap (map_of c.setting.tree) (sym history_is))
+              (over.ends (rows_after k.procs (map_in c) dones) ran_here.serial.partitions ran_here.serial.newest);
+          partitions = over.count ∙ run.count ∙ stands.partitions;
+          chief = record { file = chief_same.0 ∙ stands.chief.file; kind = chief_same.1 ∙ stands.chief.kind };
+          node = record { file = node_same.0 ∙ stands.node.file; kind = node_same.1 ∙ stands.node.kind };
+          held = stands.held;
+          next = record {
+            base = (let b = stands.next.base in omega (arith, b));
+            commits = all_append (λ (x : Commit). x.epoch < epoch + 1) c.commits (commit_of epoch dones ∷ [])
+                (all_weaker (λ (x : Commit). x.epoch < epoch) (λ (x : Commit). x.epoch < epoch + 1) (λ x less. omega (arith, less)) c.commits stands.next.commits) (omega arith, tt);
+            prepared = all_append (λ (x : Prepared). x.epoch < epoch + 1) (c.prepared 0) (prepared_of epoch rows ∷ [])
+                (all_weaker (λ (x : Prepared). x.epoch < epoch) (λ (x : Prepared). x.epoch < epoch + 1) (λ x less. omega (arith, less)) (c.prepared 0) stands.next.prepared) (omega arith, tt);
+          };
+        }
+
+        pub succeeded : (tables : List ShardState) → tables ≡ last → stored ≡ Ok tt → Turns moment observed said reads may_leave (Ok tt) requests c seen_as (after tables) old new
+        succeeded tables same is = turned (Ok tt) (after tables) (at_ok stored tt (RestsOn d (reads new) (may_leave new)) is are_stored.ok, subst (λ ts. StandsAt d (after ts)) (sym same) stands_then)

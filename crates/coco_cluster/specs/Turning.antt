@@ -1,0 +1,79 @@
+-- What a turn makes of the store, and what is seen of it meanwhile.
+use Rattle.std.specs.Prelude.{◌≡◌, ◌⊎◌, ℕ, ◌+◌, ◌≤◌, Bool, List, [], map, length, Option, None, Some, Result, OnOk, nat_eq}
+use Rattle.std.specs.List.{AllByRecursion, IsDistinct}
+use Rattle.coco_types.specs.Limits.{most_batch_lines}
+use Rattle.coco_types.specs.declared.call.Done.{Done}
+use Rattle.coco_types.specs.declared.call.Piece.{Piece}
+use Rattle.coco_types.specs.declared.call.Request.{Request}
+use Rattle.coco_host.specs.Files.{Files}
+use Rattle.coco_host.specs.Moments.{Observation, SeesOnly}
+use Rattle.coco_append.specs.Gaining.{RestsOn}
+use Rattle.coco_ast.specs.Fitting.{Fits}
+use Rattle.coco_ast.specs.Growth.{GrowsBy}
+use Rattle.coco_ast.specs.History.{AreAbove, Epoch, History, all_dones, done_of, followed_by}
+use Rattle.coco_ast.specs.Keyed.{Rows}
+use Rattle.coco_ast.specs.Schedule.{IsCommitOrder, timed_of}
+use Rattle.coco_ast.specs.Tree.{Procedures}
+use Rattle.coco_commits.specs.EpochEntries.{HasRoomFor}
+use Rattle.coco_entry.specs.declared.prepared.Row.{Row}
+use Rattle.coco_epoch.specs.SerialEpoch.{IsSerialEpoch}
+use Rattle.coco_prepared.specs.LastWrites.{AreLastWrites}
+use Rattle.coco_shard.specs.RowState.{ShardState}
+use Rattle.coco_store.specs.Contents.{Contents, IsGoodStore, history_of}
+use Rattle.coco_store.specs.Rules.{Setting}
+use Rattle.coco_cluster.specs.Standing.{ClusterState, StandsAt}
+use Rattle.coco_cluster.specs.declared.fault.TurnFault.{TurnFault}
+
+-- requests that a cluster may run: they fit, and each has an id of its own that is neither kept nor forgotten
+pub record MayTurn (k : ClusterState) (requests : List Request) : Type 0 where
+  pub fit : AllByRecursion (λ (r : Request). Fits k.procs r.call) requests
+  pub distinct : IsDistinct nat_eq (map (λ (r : Request). r.id) requests)
+  pub unkept : AllByRecursion (λ (r : Request). done_of r.id k.kept.dones ≡ None) requests
+  pub above : AreAbove k.kept.floor (map (λ (r : Request). r.id) requests)
+  pub few : length requests ≤ most_batch_lines
+
+-- there is room for their Dones in a store without a keep number
+abbrev pub HasRoom : Contents → List Request → Type 0
+HasRoom c requests = HasRoomFor c.setting.entry.keep (length (all_dones (history_of c)) + length requests)
+
+-- the pieces, Dones and rows of an epoch that was run on shards
+pub record RanOn (ps : Procedures) (requests : List Request) (epoch : ℕ) (held : List Bool) (m : Rows) (shards : List ShardState) (dones : List Done) (rows : List Row) : Type 0 where
+  pub pieces : List Piece
+  pub serial : IsSerialEpoch ps requests epoch m shards dones pieces
+  pub last : AreLastWrites held pieces rows
+
+-- the contents have grown by an epoch of this number: one Done for each request, in the order of commit
+pub record Grown (requests : List Request) (epoch : ℕ) (c d : Contents) : Type 0 where
+  pub setting : d.setting ≡ c.setting
+  pub base : d.base ≡ c.base
+  pub e : Epoch
+  pub number : e.number ≡ epoch
+  pub order : IsCommitOrder requests (map timed_of e.dones)
+  pub history : history_of d ≡ followed_by (history_of c) e
+  pub grows : GrowsBy (history_of c) requests (history_of d)
+
+-- a good store with this history, under this layout and its procedures
+pub record IsStoreOf (s : Setting) (h : History) (files : Files) : Type 0 where
+  pub contents : Contents
+  pub setting : contents.setting ≡ s
+  pub good : IsGoodStore files contents
+  pub history : history_of contents ≡ h
+
+-- seen at a moment: a good store with one history or the other, and no more said
+pub record ShowsStore (s : Setting) (before after : History) (bytes : Option (List ℕ)) (seen : Observation) : Type 0 where
+  pub store : IsStoreOf s before seen.image ⊎ IsStoreOf s after seen.image
+  pub said : bytes ≡ Some seen.said
+
+-- the store has grown by an epoch, where the turn succeeded. At each moment of it, and behind it whatever it answered, all that a crash may leave is a
+-- good store with the history of before or the grown one
+pub record Turns {H : Type 0} (moment : H → ℕ) (observed : H → ℕ → Observation → Type 0) (said : H → Option (List ℕ)) (reads : H → Option Files) (may_leave : H → Files → Type 0)
+    (result : Result (Unit {0}) TurnFault) (requests : List Request) (c : Contents) (before after : ClusterState) (old new : H) : Type 0 where
+  pub d : Contents
+  pub grown : Grown requests before.next_epoch c d
+  pub ok : OnOk result (RestsOn d (reads new) (may_leave new) × StandsAt d after)
+  pub moments : SeesOnly moment observed old new (ShowsStore c.setting (history_of c) (history_of d) (said old))
+  pub left : (bytes : List ℕ) → said old ≡ Some bytes → (image : Files) → may_leave new image → IsStoreOf c.setting (history_of c) image ⊎ IsStoreOf c.setting (history_of d) image
+
+-- nothing was written, since there was nothing to do or before anything was
+abbrev pub IsUntouched : {H : Type 0} → Result (Unit {0}) TurnFault → List Request → ClusterState → ClusterState → H → H → Type 0
+IsUntouched result requests before after old new = (new ≡ old) × OnOk result ((requests ≡ []) × (after ≡ before))

@@ -1,0 +1,167 @@
+//! The store in hand, and its turns.
+ghost use Rattle.std.specs.Prelude.{◌≡◌, ◌⊎◌, ◌+◌, ◌<◌, ◌≤◌, ◌^◌, [], false, true, length, IsOk, OnOk, OnErr};
+ghost use Rattle.coco_append.specs.Gaining.{RestsOn, Stands};
+ghost use Rattle.coco_store.specs.Contents.{Contents};
+ghost use Rattle.coco_cluster.specs.Faults.{CountsTurn};
+ghost use Rattle.coco_cluster.specs.Standing.{IsSound, StandsAt};
+ghost use Rattle.coco_cluster.specs.Turning.{HasRoom, IsUntouched, MayTurn, Turns};
+ghost use Rattle.coco_cluster.specs.declared.fault.TurnFault.TheVariants as fault;
+
+use crate::TurnFault;
+use crate::running::{Ran, end_epoch, run_epoch};
+use crate::storing::store_epoch;
+use coco_ast::Checked;
+use coco_commits::{a_run_is_the_next_commit, a_run_may_be_prepared};
+use coco_host::Host;
+use coco_kept::Kept;
+use coco_log::Log;
+use coco_shard::Shard;
+use coco_types::Request;
+use coco_types::limits::EPOCHS_END;
+use std::alloc::Global;
+use std::marker::Model;
+
+/// What an opened store of one node has in memory: its procedures, kept replies and rows, the logs that it is written
+/// to, the partitions that the node holds, and the number of the next epoch.
+#[derive(Drop)]
+pub struct Opened {
+    pub procs: Checked,
+    pub kept: Kept,
+    pub shards: Vec<Shard>,
+    pub chief: Log,
+    pub node: Log,
+    pub held: Vec<bool>,
+    pub next_epoch: u64,
+}
+
+/// A store of one node in hand, which takes turns.
+#[derive(Drop)]
+pub struct Cluster {
+    procs: Checked,
+    kept: Kept,
+    shards: Vec<Shard>,
+    chief: Log,
+    node: Log,
+    held: Vec<bool>,
+    next_epoch: u64,
+    body: Vec<u8>,
+    is_spent: bool,
+}
+
+impl Model for Cluster {
+    ghost use Rattle.coco_cluster.specs.Standing.{ClusterState, IsSound};
+    ghost use Rattle.coco_cluster.specs.StateCode.{cluster_code};
+
+    ghost Value = { ClusterState };
+
+    ghost coded = { cluster_code };
+
+    ghost view = { λ k. record { procs = k.procs; kept = k.kept; shards = k.shards.items; chief = k.chief; node = k.node; held = k.held.items; next_epoch = k.next_epoch; spent = k.is_spent } };
+
+    ghost invariant = { λ k. IsSound k.kept k.shards.items k.chief k.node k.next_epoch k.is_spent };
+}
+
+impl Cluster {
+    /// The cluster of an opened store. It takes no memory.
+    pub fn of(alloc: Global, store: Opened) -> Cluster
+        requires { IsSound store.kept store.shards.items store.chief store.node store.next_epoch false }
+        ensures { result ≡ record { procs = store.procs; kept = store.kept; shards = store.shards.items; chief = store.chief; node = store.node; held = store.held.items; next_epoch = store.next_epoch; spent = false } }
+    {
+        Cluster {
+            procs: store.procs,
+            kept: store.kept,
+            shards: store.shards,
+            chief: store.chief,
+            node: store.node,
+            held: store.held,
+            next_epoch: store.next_epoch,
+            body: Vec::new(alloc),
+            is_spent: false,
+        }
+    }
+
+    /// Runs new requests as one epoch, and commits it: its prepared entry, then its commit entry, and then the shards
+    /// are promoted and its Dones are kept. Whatever it answers, at each moment what a crash may leave is a good store,
+    /// without the epoch or with it. Without requests there is nothing to do. After a fault the cluster is spent, and
+    /// the store has to be opened again.
+    pub fn turn<H: Host>(
+        &mut self,
+        alloc: Global,
+        host: &mut H,
+        requests: Vec<Request>,
+    ) -> Result<(), TurnFault>
+        requires unspent { self.old.spent ≡ false }
+        requires may { MayTurn self.old requests.items }
+        requires stand { Stands self.old.node (H.reads host.old) (H.may_leave host.old) × Stands self.old.chief (H.reads host.old) (H.may_leave host.old) }
+        ensures turns { (c : Contents) → RestsOn c (H.reads host.old) (H.may_leave host.old) → StandsAt c self.old → HasRoom c requests.items
+            → IsUntouched result requests.items self.old self.new host.old host.new
+            ⊎ Turns H.moment H.observed H.said H.reads H.may_leave result requests.items c self.old self.new host.old host.new }
+        ensures nothing { requests.items ≡ [] → IsOk result × (host.new ≡ host.old) × (self.new ≡ self.old) }
+        ensures stand { OnOk result (Stands self.new.node (H.reads host.new) (H.may_leave host.new) × Stands self.new.chief (H.reads host.new) (H.may_leave host.new)) }
+        ensures unspent { OnOk result (self.new.spent ≡ false) }
+        ensures spent { OnErr result (self.new.spent ≡ true) }
+        ensures next { OnOk result (0 < length requests.items → self.new.next_epoch ≡ self.old.next_epoch + 1) }
+        ensures used_up { 0 < length requests.items → 2 ^ 40 ≤ self.old.next_epoch → result ≡ Err fault.EpochsUsedUp }
+        ensures procs { self.new.procs ≡ self.old.procs }
+        ensures said { H.said host.new ≡ H.said host.old }
+        ensures counts { CountsTurn result self.old.next_epoch (H.disk_faults host.old) (H.disk_faults host.new) }
+        ensures stream { H.say_faults host.new ≡ H.say_faults host.old }
+        ensures unused { result ≡ Err fault.EpochsUsedUp → host.new ≡ host.old }
+        ensures kept { OnOk result (length self.new.kept.dones ≤ length self.old.kept.dones + length requests.items) }
+    {
+        if requests.is_empty() {
+            return Ok(());
+        }
+        self.is_spent = true;
+        if self.next_epoch >= EPOCHS_END {
+            return Err(TurnFault::EpochsUsedUp);
+        }
+        let epoch = self.next_epoch;
+        let Ran { dones, rows } = run_epoch(
+            alloc,
+            &mut self.shards,
+            &mut self.kept,
+            &self.procs,
+            self.held.as_slice(),
+            requests,
+            epoch,
+        )?;
+        // The laws by which its entries may be appended; the calls do nothing.
+        a_run_is_the_next_commit();
+        a_run_may_be_prepared();
+        store_epoch(
+            host,
+            &mut self.node,
+            &mut self.chief,
+            &mut self.body,
+            epoch,
+            rows.as_slice(),
+            dones.as_slice(),
+        )?;
+        end_epoch(&mut self.shards, &mut self.kept, dones);
+        self.next_epoch += 1;
+        self.is_spent = false;
+        Ok(())
+    }
+
+    /// The kept replies.
+    pub fn kept(&self) -> &Kept
+        ensures { result.now ≡ self.now.kept }
+    {
+        &self.kept
+    }
+
+    /// The procedures of the store.
+    pub fn procs(&self) -> &Checked
+        ensures { result.now ≡ self.now.procs }
+    {
+        &self.procs
+    }
+
+    /// The number of the next epoch.
+    pub fn next_epoch(&self) -> u64
+        ensures { result ≡ self.now.next_epoch }
+    {
+        self.next_epoch
+    }
+}

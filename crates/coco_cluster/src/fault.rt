@@ -1,0 +1,51 @@
+//! Why a turn failed.
+ghost use Rattle.std.specs.Prelude.{◌≡◌};
+ghost use Rattle.coco_cluster.specs.Faults.{turn_fault_of};
+ghost use Rattle.coco_cluster.specs.declared.fault.TurnFault.TheVariants as fault;
+
+use coco_log::LogFault;
+use coco_types::NoMemory;
+use std::error::Error;
+use std::fmt;
+
+/// Why a turn failed. The cluster is spent then, and the store has to be opened again.
+#[derive(Clone, Copy, Debug, PartialEq, Eq)]
+pub enum TurnFault {
+    /// The host failed.
+    Disk,
+    /// There is no number for the next epoch.
+    EpochsUsedUp,
+    NoMemory,
+}
+
+impl From<LogFault> for TurnFault {
+    ghost from_gives = { λ f e. e ≡ turn_fault_of f };
+
+    fn from(fault: LogFault) -> TurnFault {
+        match fault {
+            LogFault::Disk => TurnFault::Disk,
+            LogFault::NoMemory => TurnFault::NoMemory,
+            LogFault::NotALog { at: _ } => TurnFault::Disk,
+        }
+    }
+}
+
+impl From<NoMemory> for TurnFault {
+    ghost from_gives = { λ _ e. e ≡ fault.NoMemory };
+
+    fn from(_: NoMemory) -> TurnFault {
+        TurnFault::NoMemory
+    }
+}
+
+impl fmt::Display for TurnFault {
+    fn fmt<W: fmt::Write>(&self, f: &mut fmt::Formatter<W>) -> fmt::Result {
+        match self {
+            TurnFault::Disk => f.write_str("disk fault"),
+            TurnFault::EpochsUsedUp => f.write_str("epochs used up"),
+            TurnFault::NoMemory => f.write_str("out of memory"),
+        }
+    }
+}
+
+impl Error for TurnFault {}

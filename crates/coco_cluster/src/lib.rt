@@ -1,0 +1,13 @@
+//! A cluster of one node: the store in hand, and its turns, each of which commits an epoch.
+#![tactic(auto)]
+
+mod cluster;
+mod fault;
+mod running;
+mod storing;
+
+pub use cluster::{Cluster, Opened};
+pub use fault::TurnFault;
+
+#[cfg(test)]
+mod tests;

@@ -1,0 +1,105 @@
+//! A turn of one request on a store without epochs, and what the host holds then, byte by byte.
+
+ghost use Rattle.std.specs.Prelude.{◌≡◌, false, [], None, IfOk};
+ghost use Rattle.coco_append.specs.Gaining.{Stands};
+ghost use Rattle.coco_ast.specs.Builtins.{builtins};
+ghost use Rattle.coco_log.specs.LogState.{without_entries};
+ghost use Rattle.coco_cluster.specs.Standing.{ClusterState};
+ghost use Rattle.coco_cluster.specs.Turning.{MayTurn};
+
+use crate::{Cluster, Opened};
+use coco_ast::Checked;
+use coco_host::{Host, MemoryHost};
+use coco_kept::Kept;
+use coco_log::{Log, LogFault};
+use coco_shard::Shard;
+use coco_types::{Args, Call, NoMemory, Request, Value};
+use std::alloc::Global;
+use std::test::Fail;
+
+const COMMITS: [u8; 75] = [
+    b'C', b'O', b'C', b'O', b'L', b'O', b'G', 1, 1, 0, 0, 0, 61, 2, 0, 0, 0, 0, 0, 0, 0, 1, 0, 0,
+    0, 1, 0, 0, 0, 0, 0, 0, 0, 1, 0, 1, 0, 2, 1, 0, 0, 0, 0, 0, 0, 0, 5, 1, 0, 0, 0, 0, 0, 0, 0,
+    70, 0, 0, 0, 0, 0, 0, 0, 1, 0, 1, 0, 0, 0, 0, 0, 0, 0, 70, 0,
+];
+
+const PREPARED: [u8; 54] = [
+    b'C', b'O', b'C', b'O', b'L', b'O', b'G', 2, 1, 0, 0, 0, 40, 3, 0, 0, 0, 0, 0, 0, 0, 1, 0, 0,
+    0, 1, 0, 0, 0, 0, 0, 0, 0, 0, 0, 5, 0, 0, 0, 0, 0, 0, 0, 1, 1, 0, 0, 0, 0, 0, 0, 0, 70, 0,
+];
+
+// The logs of a new store, the coordinator's and the node's.
+fn new_logs<H: Host>(alloc: Global, host: &mut H) -> Result<(Log, Log), LogFault>
+    ensures empty { IfOk result (λ logs. (logs.0 ≡ without_entries 1 1) × (logs.1 ≡ without_entries 2 2)) }
+    ensures stand { IfOk result (λ logs. Stands logs.1 (H.reads host.new) (H.may_leave host.new) × Stands logs.0 (H.reads host.new) (H.may_leave host.new)) }
+{
+    let chief = Log::make(alloc, host, 1, 1)?;
+    let node = Log::make(alloc, host, 2, 2)?;
+    Ok((chief, node))
+}
+
+// A store of one partition with the built-in procedures, and nothing in it.
+fn new_cluster(alloc: Global, chief: Log, node: Log) -> Result<Cluster, NoMemory>
+    requires { (chief ≡ without_entries 1 1) × (node ≡ without_entries 2 2) }
+    ensures logs { IfOk result (λ k. (k.chief ≡ chief) × (k.node ≡ node)) }
+    ensures empty { IfOk result (λ k. (k.procs ≡ builtins) × (k.kept.dones ≡ []) × (k.kept.floor ≡ None)) }
+    ensures unspent { IfOk result (λ k. k.spent ≡ false) }
+{
+    let procs = Checked::built_in(alloc)?;
+    let mut shards = Vec::with_capacity(alloc, 1)?;
+    shards.push(Shard::new(alloc))?;
+    let mut held = Vec::with_capacity(alloc, 1)?;
+    held.push(true)?;
+    Ok(Cluster::of(
+        alloc,
+        Opened {
+            procs,
+            kept: Kept::new(alloc, None, None),
+            shards,
+            chief,
+            node,
+            held,
+            next_epoch: 1,
+        },
+    ))
+}
+
+// `put(5, 70)` as id 1.
+fn put_of_seventy(alloc: Global) -> Result<Vec<Request>, NoMemory>
+    ensures { IfOk result (λ requests. (k : ClusterState) → k.procs ≡ builtins → k.kept.dones ≡ [] → k.kept.floor ≡ None → MayTurn k requests.items) }
+{
+    let mut args = Args::new(alloc);
+    args.push(Some(Value::Int(5)))?;
+    args.push(Some(Value::Int(70)))?;
+    let call = Call {
+        proc_no: 1,
+        snapshot: false,
+        args,
+    };
+    let mut requests = Vec::with_capacity(alloc, 1)?;
+    requests.push(Request { id: 1, call })?;
+    Ok(requests)
+}
+
+fn put_once<H: Host>(alloc: Global, host: &mut H) -> Result<Cluster, Fail> {
+    let (chief, node) = new_logs(alloc, host)?;
+    let mut cluster = new_cluster(alloc, chief, node)?;
+    let requests = put_of_seventy(alloc)?;
+    cluster.turn(alloc, host, requests)?;
+    Ok(cluster)
+}
+
+#[test]
+fn a_put_of_seventy_is_committed(rt: HostRuntime) -> Result<(), Fail> {
+    let alloc = rt.alloc();
+    let mut host = MemoryHost::new(alloc, Vec::new(alloc));
+    let cluster = put_once(alloc, &mut host)?;
+    assert_eq!(rt; cluster.next_epoch(), 2);
+    assert_eq!(rt; cluster.kept().nth(0).map(|done| done.id), Some(1));
+    let mut bytes = [0; 80];
+    assert_eq!(rt; host.read_at(1, 0, &mut bytes), Ok(75));
+    assert_eq!(rt; &bytes[..75], COMMITS.as_slice());
+    assert_eq!(rt; host.read_at(2, 0, &mut bytes), Ok(54));
+    assert_eq!(rt; &bytes[..54], PREPARED.as_slice());
+    Ok(())
+}
