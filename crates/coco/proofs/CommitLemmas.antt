@@ -17,7 +17,8 @@ use Rattle.coco_ast.specs.Tree.{Procedures}
 use Rattle.coco_ast.proofs.GrowthLemmas.{dones_behind, growth_keeps, last_push, rows_behind, stays_serial}
 use Rattle.coco_ast.proofs.KeptLemmas.{keeps_all}
 use Rattle.coco_ast.proofs.ScheduleLemmas.{scheduled}
-use Rattle.coco.specs.Asking.{MayCommit}
+use Rattle.coco_kept.specs.Keeping.{Keeping}
+use Rattle.coco_batches.specs.Asking.{MayCommit}
 use Rattle.coco.specs.Saying.{Commits}
 use Rattle.coco.specs.Standing.{Stands}
 use Rattle.coco.specs.declared.held_history.HeldHistory.{HeldHistory}
@@ -120,16 +121,16 @@ abbrev from_last : ℕ → History
 from_last last = record { base = record { epoch = last; rows = empty; kept = []; floor = None }; epochs = []; keep = None }
 
 -- the ids of the records are those of the requests, each once, and none of them is kept
-pub ids_are_new : (procs : Procedures) (held : List Done) (last : ℕ) (requests : List Request) (ds : List Done) → IsCommitOrder requests (map timed_of ds)
-    → AllByRecursion (λ (d : Done). d.epoch ≡ last + 1) ds → MayCommit procs held requests
-    → IsDistinct nat_eq (ids_of ds) × AllByRecursion (λ (d : Done). done_of d.id held ≡ None) ds
-ids_are_new procs held last requests ds order numbers new =
+pub ids_are_new : (procs : Procedures) (k : Keeping) (last : ℕ) (requests : List Request) (ds : List Done) → IsCommitOrder requests (map timed_of ds)
+    → AllByRecursion (λ (d : Done). d.epoch ≡ last + 1) ds → MayCommit procs k requests
+    → IsDistinct nat_eq (ids_of ds) × AllByRecursion (λ (d : Done). done_of d.id k.dones ≡ None) ds
+ids_are_new procs k last requests ds order numbers new =
     let is = (grown_at last requests ds order numbers new.distinct (from_last last) refl).1 in
     let moved = IsPermutation-map (λ (r : Request). r.id) _ _ is.epoch.each in
-    let absent : AllByRecursion (λ (id : ℕ). done_of id held ≡ None) (map (λ (r : Request). r.id) (map request_of ds)) =
-    recursion_from_All _ _ (All-permutation (λ (id : ℕ). done_of id held ≡ None) _ _ moved (All-from_recursion _ _ (all_ids (λ id. done_of id held ≡ None) requests new.absent))) in (
+    let absent : AllByRecursion (λ (id : ℕ). done_of id k.dones ≡ None) (map (λ (r : Request). r.id) (map request_of ds)) =
+    recursion_from_All _ _ (All-permutation (λ (id : ℕ). done_of id k.dones ≡ None) _ _ moved (All-from_recursion _ _ (all_ids (λ id. done_of id k.dones ≡ None) requests new.absent))) in (
       subst (IsDistinct nat_eq) (ids_of_requests ds) (IsDistinct-IsPermutation nat_eq nat_eq_equiv.symm _ _ moved new.distinct),
-      all_dones_by (λ id. done_of id held ≡ None) ds (subst (AllByRecursion (λ (id : ℕ). done_of id held ≡ None)) (ids_of_requests ds) absent),
+      all_dones_by (λ id. done_of id k.dones ≡ None) ds (subst (AllByRecursion (λ (id : ℕ). done_of id k.dones ≡ None)) (ids_of_requests ds) absent),
     )
 
 -- ---- an epoch more
@@ -139,7 +140,7 @@ pub committed_none : (procs : Procedures) (held : HeldHistory) (requests : List 
 committed_none procs held [] none = λ h stands. (h, (refl, tt), stands)
 committed_none procs held (r ∷ rs) none = absurd (omega arith)
 
-may_grow : (procs : Procedures) (held : HeldHistory) (requests : List Request) (h : History) → Stands procs held h → MayCommit procs held.kept.dones requests → AreNew h requests
+may_grow : (procs : Procedures) (held : HeldHistory) (requests : List Request) (h : History) → Stands procs held h → MayCommit procs held.kept requests → AreNew h requests
 may_grow procs held requests h s new =
     let all = keeps_all h s.keep in
     record {
@@ -166,7 +167,7 @@ stands_more procs old new requests ds h s is replies rows dones forgotten last o
 
 pub committed : (procs : Procedures) (old new : HeldHistory) (requests : List Request) (ds : List Done) → 0 < length requests → IsCommitOrder requests (map timed_of ds)
     → AllByRecursion (λ (d : Done). d.epoch ≡ old.last_epoch + 1) ds → RepliesAreRuns procs old.executor.rows ds → new.executor.rows ≡ rows_after procs old.executor.rows ds
-    → new.kept.dones ≡ old.kept.dones ++ ds → new.kept.floor ≡ None → new.last_epoch ≡ old.last_epoch + 1 → MayCommit procs old.kept.dones requests → Commits procs requests old new
+    → new.kept.dones ≡ old.kept.dones ++ ds → new.kept.floor ≡ None → new.last_epoch ≡ old.last_epoch + 1 → MayCommit procs old.kept requests → Commits procs requests old new
 committed procs old new [] ds some order numbers replies rows dones forgotten last may = absurd (omega arith)
 committed procs old new (r ∷ rs) ds some order numbers replies rows dones forgotten last may = λ h s.
     let e = epoch_at old.last_epoch ds in

@@ -16,10 +16,6 @@ pub replies_more : (ps : Procedures) (m : Rows) (ds : List Done) (d : Done) → 
 replies_more ps m [] d all one = (one, tt)
 replies_more ps m (x ∷ ds) d all one = (all.0, replies_more ps (run ps x.call m).rows ds d all.1 one)
 
-pub all_more : {X : Type 0} (P : X → Type 0) (xs : List X) (x : X) → AllByRecursion P xs → P x → AllByRecursion P (xs ++ x ∷ [])
-all_more P [] x all one = (one, tt)
-all_more P (y ∷ xs) x all one = (all.0, all_more P xs x all.1 one)
-
 -- what a list's first element meets, where all do
 pub all_first : {X : Type 0} (P : X → Type 0) (xs rest : List X) (x : X) → AllByRecursion P xs → xs ≡ x ∷ rest → P x
 all_first P xs rest x all is = (subst (AllByRecursion P) is all).0

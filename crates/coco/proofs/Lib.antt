@@ -1,10 +1,5 @@
-pub mod AnswerLemmas
-pub mod BatchLemmas
-pub mod ClassLemmas
 pub mod CommitLemmas
 pub mod EndingLemmas
 pub mod ExecutionLemmas
-pub mod JoinLemmas
 pub mod KeepingLemmas
-pub mod NewRequestLemmas
 pub mod RunLemmas

@@ -23,15 +23,16 @@ use Rattle.coco_lines.specs.declared.error.LineFault.{LineFault}
 use Rattle.coco_lines.specs.declared.error.LineFault.TheVariants as fault
 use Rattle.coco_lines.proofs.LinesLemmas.{ended-first, lines_of-first, lines_of-nil}
 use Rattle.coco_lines.proofs.ReplyLemmas.{answers_still}
-use Rattle.coco.specs.declared.answer.Answer.{Answer}
-use Rattle.coco.specs.declared.batch.Batch.{Batch}
+use Rattle.coco_batches.specs.declared.answer.Answer.{Answer}
+use Rattle.coco_batches.specs.declared.batch.Batch.{Batch}
 use Rattle.coco.specs.declared.held_history.HeldHistory.{HeldHistory}
-use Rattle.coco.specs.Answering.{answer_of, answer_text, answers_from, answers_text}
-use Rattle.coco.specs.BatchReading.{BreaksOff, IsCutOff, ReadsBatch, TakesLines}
+use Rattle.coco_batches.specs.Answering.{answer_of, answer_text, answers_from, answers_text}
+use Rattle.coco_batches.specs.BatchReading.{BreaksOff, IsCutOff, ReadsBatch, TakesLines}
 use Rattle.coco.specs.RunOfLines.{AnswersAll, AnswersFront, AnswersWhole, Grown, HaveSize}
 use Rattle.coco.specs.Saying.{Commits, GrowsOnSchedule, SaysPart}
-use Rattle.coco.specs.Standing.{Stands, known_of}
-use Rattle.coco.proofs.BatchLemmas.{takes_both, takes_none}
+use Rattle.coco.specs.Standing.{Stands}
+use Rattle.coco_batches.specs.Asking.{known_of}
+use Rattle.coco_batches.proofs.BatchLemmas.{takes_both, takes_none}
 
 abbrev pub new_reader : ReaderState
 new_reader = record { pending = []; ended = false; taken = 0; given = 0 }

@@ -1,7 +1,4 @@
-pub mod Answering
 pub mod Arguments
-pub mod Asking
-pub mod BatchReading
 pub mod Commands
 pub mod Endings
 pub mod Ordering

@@ -6,9 +6,9 @@ use Rattle.coco_ast.specs.Growth.{GrowsBy}
 use Rattle.coco_ast.specs.History.{History}
 use Rattle.coco_ast.specs.Schedule.{KeepsSchedule}
 use Rattle.coco_ast.specs.Tree.{Procedures}
-use Rattle.coco.specs.Answering.{answers_text}
+use Rattle.coco_batches.specs.Answering.{answers_text}
 use Rattle.coco.specs.Standing.{Stands}
-use Rattle.coco.specs.declared.batch.Batch.{Batch}
+use Rattle.coco_batches.specs.declared.batch.Batch.{Batch}
 use Rattle.coco.specs.declared.held_history.HeldHistory.{HeldHistory}
 
 -- grown by these requests, on the schedule of one worker

@@ -1,10 +1,7 @@
--- Which history is held, and what of it is known before a line.
-use Rattle.std.specs.Prelude.{◌≡◌, List, ◌++◌, map, None}
-use Rattle.coco_types.specs.declared.call.Request.{Request}
-use Rattle.coco_ast.specs.History.{History, IsOrdered, IsSerial, all_dones, last_epoch, map_of, request_of}
+-- Which history is held.
+use Rattle.std.specs.Prelude.{◌≡◌, None}
+use Rattle.coco_ast.specs.History.{History, IsOrdered, IsSerial, all_dones, last_epoch, map_of}
 use Rattle.coco_ast.specs.Tree.{Procedures}
-use Rattle.coco_kept.specs.Keeping.{Keeping}
-use Rattle.coco_lines.specs.Classes.{Known}
 use Rattle.coco.specs.declared.held_history.HeldHistory.{HeldHistory}
 
 -- its map, its Dones, and its last epoch's number; it is ordered and serial, has no keep number, and has forgotten nothing
@@ -17,7 +14,3 @@ pub record Stands (procs : Procedures) (held : HeldHistory) (h : History) : Type
   pub last : held.last_epoch ≡ last_epoch h
   pub ordered : IsOrdered h
   pub serial : IsSerial procs h
-
--- the requests of the kept Dones are known, and these new ones behind them
-abbrev pub known_of : Keeping → List Request → Known
-known_of k before = record { requests = map request_of k.dones ++ before; floor = k.floor }

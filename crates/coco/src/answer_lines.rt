@@ -5,11 +5,11 @@ ghost use Rattle.coco_ast.specs.Builtins.{builtins};
 ghost use Rattle.coco_ast.specs.History.{no_history};
 ghost use Rattle.coco.specs.Commands.{Runs};
 
-use crate::batch::read_batch;
 use crate::commit_and_say::commit_and_say;
 use crate::ending::Ending;
 use crate::held_history::HeldHistory;
 use coco_ast::Checked;
+use coco_batches::read_batch;
 use coco_host::Host;
 use coco_io::Source;
 use coco_lines::{LineFault, Reader, Scratch};

@@ -3,14 +3,13 @@
 ghost use Rattle.std.specs.Prelude.{◌≡◌, ◌⊎◌, ◌+◌, ◌≤◌, ◌<◌, ℕ, length, take, Err, OnOk, OnErr};
 ghost use Rattle.std.specs.Io.KnownBytes.{append_known};
 ghost use Rattle.coco_io.specs.Counts.{CountsWrite};
-ghost use Rattle.coco.specs.Answering.{answers_text};
-ghost use Rattle.coco.specs.Asking.{MayCommit};
+ghost use Rattle.coco_batches.specs.Answering.{answers_text};
+ghost use Rattle.coco_batches.specs.Asking.{MayCommit};
 ghost use Rattle.coco.specs.Saying.{Commits, SaysPart};
 
-use crate::answer::write_answers;
-use crate::batch::Batch;
 use crate::held_history::HeldHistory;
 use coco_ast::Checked;
+use coco_batches::{Batch, write_answers};
 use coco_host::{Host, say_all};
 use coco_types::OutFault;
 use std::alloc::Global;
@@ -24,7 +23,7 @@ pub fn commit_and_say<H: Host>(
     held: &mut HeldHistory,
     batch: Batch,
 ) -> Result<(), OutFault>
-    requires new { MayCommit procs.now held.old.kept.dones batch.fresh }
+    requires new { MayCommit procs.now held.old.kept batch.fresh }
     ensures commits { OnOk result (Commits procs.now batch.fresh held.old held.new) }
     ensures says { OnOk result (H.said host.new
         ≡ append_known (H.said host.old) (answers_text held.new.kept.dones batch.answers.items)) }

@@ -3,13 +3,37 @@
 ghost use Rattle.std.specs.Prelude.{◌≡◌, ◌+◌, ◌<◌, ◌^◌, [], ◌++◌, length, IfOk, OnOk};
 ghost use Rattle.std.specs.List.Sorted.{IsPermutation, IsNonDecreasingBy};
 ghost use Rattle.coco_types.specs.declared.call.Request.{Request as Asked};
-ghost use Rattle.coco_ast.specs.Schedule.{at_start, numbered};
+ghost use Rattle.coco_ast.specs.Schedule.{IsCommitOrder, at_start, numbered};
 
+use coco_batches::NewRequests;
 use coco_types::{NoMemory, Request};
 use std::alloc::Global;
 
+/// The new requests with their times, in the order in which they commit.
+pub fn commit_order(alloc: Global, fresh: NewRequests) -> Result<Vec<(u64, Request)>, NoMemory>
+    ensures { IfOk result (λ order. IsCommitOrder fresh order.items) }
+{
+    let requests = fresh.into_requests(alloc)?;
+    in_commit_order(alloc, requests)
+}
+
+fn in_commit_order(alloc: Global, requests: Vec<Request>) -> Result<Vec<(u64, Request)>, NoMemory>
+    ensures { IfOk result (λ order. IsCommitOrder requests.items order.items) }
+{
+    let mut snapshots = Vec::new(alloc);
+    let mut others = Vec::with_capacity(alloc, requests.len())?;
+    for request in requests {
+        if request.call.snapshot {
+            snapshots.push(request)?;
+        } else {
+            others.push(request)?;
+        }
+    }
+    timed(alloc, by_id(snapshots)?, others)
+}
+
 /// The requests rising by id.
-pub fn by_id(mut requests: Vec<Request>) -> Result<Vec<Request>, NoMemory>
+fn by_id(mut requests: Vec<Request>) -> Result<Vec<Request>, NoMemory>
     ensures same { IfOk result (λ sorted. IsPermutation requests.items sorted.items) }
     ensures rising { IfOk result (λ sorted. IsNonDecreasingBy (λ (r : Asked). r.id) sorted.items) }
 {
@@ -18,7 +42,7 @@ pub fn by_id(mut requests: Vec<Request>) -> Result<Vec<Request>, NoMemory>
 }
 
 /// The snapshot calls at time 0, and then the others at times from 1 on.
-pub fn timed(
+fn timed(
     alloc: Global,
     snapshots: Vec<Request>,
     others: Vec<Request>,

@@ -7,9 +7,10 @@ ghost use Rattle.coco_ast.specs.History.{done_of, ids_of};
 ghost use Rattle.coco_ast.specs.Tree.{Procedures};
 ghost use Rattle.coco_kept.specs.Keeping.{newest_epoch};
 
+use crate::commit_order::commit_order;
 use crate::execution::run_in_order;
-use crate::new_requests::NewRequests;
 use coco_ast::Checked;
+use coco_batches::NewRequests;
 use coco_kept::Kept;
 use coco_serial::Executor;
 use coco_types::{Done, NoMemory};
@@ -31,7 +32,7 @@ pub struct HeldHistory {
 impl HeldHistory {
     ghost use Rattle.coco_ast.specs.History.{no_history};
     ghost use Rattle.coco.specs.Standing.{Stands};
-    ghost use Rattle.coco.specs.Asking.{MayCommit};
+    ghost use Rattle.coco_batches.specs.Asking.{MayCommit};
     ghost use Rattle.coco.specs.Saying.{Commits};
 
     /// The history of a new store.
@@ -53,14 +54,14 @@ impl HeldHistory {
         procs: &Checked,
         fresh: NewRequests,
     ) -> Result<(), NoMemory>
-        requires new { MayCommit procs.now self.old.kept.dones fresh }
+        requires new { MayCommit procs.now self.old.kept fresh }
         ensures { OnOk result (Commits procs.now fresh self.old self.new) }
     {
         if fresh.len() == 0 {
             return Ok(());
         }
         let epoch = self.last_epoch + 1;
-        let order = fresh.into_commit_order(alloc)?;
+        let order = commit_order(alloc, fresh)?;
         let dones = run_in_order(alloc, procs, &mut self.executor, epoch, order)?;
         keep_all(alloc, &mut self.kept, epoch, dones)?;
         self.last_epoch = epoch;

@@ -1,17 +1,13 @@
 //! The program: request lines in, the replies of a serial run out.
 #![tactic(auto)]
 
-pub mod answer;
 pub mod answer_lines;
 pub mod arguments;
-pub mod batch;
-pub mod classify;
 pub mod commit_and_say;
 pub mod commit_order;
 pub mod ending;
 pub mod execution;
 pub mod held_history;
-pub mod new_requests;
 #[cfg(test)]
 mod tests;
 pub mod top;

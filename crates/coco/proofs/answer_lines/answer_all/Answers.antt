@@ -2,9 +2,9 @@ use Rattle.std.proofs.Common.{◌≤◌, ◌<◌, [], Err, length, refl, ap, sym
 use Rattle.coco_io.specs.Counts.{Rose}
 use Rattle.coco_lines.specs.ReaderState.{ReaderState}
 use Rattle.coco_lines.specs.Reads.{SourceMoment}
-use Rattle.coco.specs.Asking.{MayCommit}
-use Rattle.coco.specs.BatchReading.{ReadsBatch}
-use Rattle.coco.specs.Standing.{known_of}
+use Rattle.coco_batches.specs.Asking.{MayCommit}
+use Rattle.coco_batches.specs.BatchReading.{ReadsBatch}
+use Rattle.coco_batches.specs.Asking.{known_of}
 use Rattle.coco.proofs.RunLemmas.{answered_more, answered_new, broken_failed, broken_front, broken_much, cut_front, finished}
 use Rattle.coco.proofs.answer_lines.answer_all.Goals as goal
 

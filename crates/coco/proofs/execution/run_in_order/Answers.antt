@@ -4,7 +4,8 @@ use Rattle.coco_types.specs.declared.call.Done.{Done}
 use Rattle.coco_ast.specs.Keyed.{Rows}
 use Rattle.coco_ast.specs.Meaning.{run}
 use Rattle.coco_ast.specs.History.{RepliesAreRuns, rows_after}
-use Rattle.coco.proofs.ExecutionLemmas.{rows_after-more, replies_more, all_more, all_rest, timed_more}
+use Rattle.coco_batches.proofs.JoinLemmas.{all_more}
+use Rattle.coco.proofs.ExecutionLemmas.{rows_after-more, replies_more, all_rest, timed_more}
 use Rattle.coco.proofs.execution.run_in_order.Goals as goal
 
 pub loop-timed-preserved : goal.loop-timed-preserved

@@ -13,12 +13,12 @@ run_in_order-requires c = record { fit = all_in_order (λ (r : Request). Fits c.
 
 pub keep_all-requires-clause-distinct : goal.keep_all-requires-clause-distinct
 keep_all-requires-clause-distinct c =
-    (ids_are_new c.args.procs.now c.args.self.now.kept.dones c.args.self.now.last_epoch c.args.fresh c.in_ok-dones.dones.items
+    (ids_are_new c.args.procs.now c.args.self.now.kept c.args.self.now.last_epoch c.args.fresh c.in_ok-dones.dones.items
     (in_order c.args.fresh c.in_ok-order.order.items c.in_ok-dones.dones.items c.in_ok-dones.ensures.order c.in_ok-order.ensures) c.in_ok-dones.ensures.epoch c.requires.new).0
 
 pub keep_all-requires-clause-absent : goal.keep_all-requires-clause-absent
 keep_all-requires-clause-absent c =
-    (ids_are_new c.args.procs.now c.args.self.now.kept.dones c.args.self.now.last_epoch c.args.fresh c.in_ok-dones.dones.items
+    (ids_are_new c.args.procs.now c.args.self.now.kept c.args.self.now.last_epoch c.args.fresh c.in_ok-dones.dones.items
     (in_order c.args.fresh c.in_ok-order.order.items c.in_ok-dones.dones.items c.in_ok-dones.ensures.order c.in_ok-order.ensures) c.in_ok-dones.ensures.epoch c.requires.new).1
 
 pub keep_all-requires-clause-few : goal.keep_all-requires-clause-few

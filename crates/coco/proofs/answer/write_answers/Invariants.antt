@@ -1,6 +1,0 @@
-use Rattle.std.proofs.Common.{◌≡◌, ◌++◌, take}
-use Rattle.coco.specs.Answering.{answers_text}
-use Rattle.coco.proofs.answer.write_answers.Given as goal
-
-abbrev pub invariant-loop-answer : goal.invariant-loop-answer
-invariant-loop-answer l = l.out.items ≡ l.fn.out.items ++ answers_text l.kept.dones (take l.answer-index l.answers)

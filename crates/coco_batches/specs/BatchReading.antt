@@ -1,0 +1,49 @@
+-- What reading a batch of lines gives, by the bytes that were pending and those that the source gave.
+use Rattle.std.specs.Prelude.{◌≡◌, ⊤, ℕ, ◌+◌, ◌<◌, ◌≤◌, List, [], ◌++◌, length, Bool, true, false}
+use Rattle.coco_ast.specs.Tree.{Procedures}
+use Rattle.coco_lines.specs.Classes.{AreClasses, Known, new_of}
+use Rattle.coco_lines.specs.Lines.{Line}
+use Rattle.coco_lines.specs.ReaderState.{ReaderState}
+use Rattle.coco_lines.specs.Reads.{AreFirstLines, Gives, HasNoFeed, SourceMoment}
+use Rattle.coco_lines.specs.declared.class.Class.{Class}
+use Rattle.coco_lines.specs.declared.error.LineFault.{LineFault}
+use Rattle.coco_lines.specs.declared.error.LineFault.TheVariants as fault
+use Rattle.coco_batches.specs.declared.batch.Batch.{Batch}
+use Rattle.coco_batches.specs.Answering.{answers_from}
+
+-- a reader took bytes that its source gave; these lines are the first of what was pending and they
+pub record TakesLines (old new : ReaderState) (before after : SourceMoment) (lines : List Line) (behind : List ℕ) : Type 0 where
+  pub bytes : List ℕ
+  pub gives : Gives before after bytes
+  pub taken : new.taken ≡ old.taken + length bytes
+  pub none_behind : old.ended ≡ true → (bytes ≡ []) × (new.ended ≡ true)
+  pub text : AreFirstLines lines (old.pending ++ bytes) behind new.ended
+
+-- the lines so far are taken in by their classes
+pub record Taking (procs : Procedures) (known : Known) (old new : ReaderState) (before after : SourceMoment) (batch : Batch) : Type 0 where
+  pub lines : List Line
+  pub classes : List Class
+  pub takes : TakesLines old new before after lines new.pending
+  pub as_many : length lines ≡ length batch.answers.items
+  pub are : AreClasses procs known lines classes
+  pub answers : batch.answers.items ≡ answers_from (old.given + 1) classes
+  pub fresh : batch.fresh ≡ new_of classes
+
+-- at most so many lines; fewer only where the input ends
+pub record ReadsBatch (procs : Procedures) (known : Known) (old new : ReaderState) (before after : SourceMoment) (size : ℕ) (batch : Batch) : Type 0 where
+  pub taking : Taking procs known old new before after batch
+  pub few : length batch.answers.items ≤ size
+  pub ends : length batch.answers.items < size → (new.ended ≡ true) × (new.pending ≡ [])
+
+-- at a fault of reading no whole line is left, and there are too few for a batch
+abbrev pub IsCutOff : LineFault → ℕ → List Line → List ℕ → Bool → Type 0
+IsCutOff fault.Failed size lines rest ended = (length lines < size) × HasNoFeed rest × (ended ≡ false)
+IsCutOff fault.TooMuch size lines rest ended = (length lines < size) × HasNoFeed rest × (ended ≡ false)
+IsCutOff fault.NoMemory size lines rest ended = ⊤
+
+-- the lines of a batch that breaks off, and what is behind them
+pub record BreaksOff (old new : ReaderState) (before after : SourceMoment) (size : ℕ) (e : LineFault) : Type 0 where
+  pub lines : List Line
+  pub rest : List ℕ
+  pub takes : TakesLines old new before after lines rest
+  pub cut_off : IsCutOff e size lines rest new.ended

@@ -1,0 +1,11 @@
+//! A batch of request lines: read, each line taken in by its class, and answered once the new requests are committed.
+#![tactic(auto)]
+
+pub mod answer;
+pub mod batch;
+pub mod classify;
+pub mod new_requests;
+
+pub use answer::{Answer, write_answers};
+pub use batch::{Batch, read_batch};
+pub use new_requests::NewRequests;
