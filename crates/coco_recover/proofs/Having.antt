@@ -1,0 +1,146 @@
+-- What is had of a store whose files were read.
+use Rattle.std.proofs.Common.{◌≡◌, ℕ, zero, suc, ◌+◌, ◌%◌, ◌<◌, List, [], ◌∷◌, ◌++◌, length, get_or, Option, refl, sym, ap, subst, ◌∙◌, arith}
+use Rattle.std.specs.Prelude.{IfOk, Result, Ok, Err}
+use Rattle.std.specs.List.{flat_map, range_with_len}
+use Rattle.coco_host.specs.Files.{Files}
+use Rattle.coco_ast.specs.History.{History, floor, kept, with_keep}
+use Rattle.coco_copy.specs.CopyState.{CopyState}
+use Rattle.coco_entry.specs.declared.commit.Commit.{Commit}
+use Rattle.coco_entry.specs.declared.layout.LayoutEntry.{LayoutEntry}
+use Rattle.coco_entry.specs.declared.prepared.Prepared.{Prepared}
+use Rattle.coco_load.specs.Epochs.{IsNextTo, epochs_in}
+use Rattle.coco_load.specs.Laws.{AllIsRead, KeptAreTheHistory, TablesHoldTheMap}
+use Rattle.coco_load.specs.Reading.{maps_of}
+use Rattle.coco_load.specs.Tables.{HoldMaps}
+use Rattle.coco_load.proofs.TableLemmas.{same_maps}
+use Rattle.coco_shard.specs.RowState.{ShardState}
+use Rattle.coco_store.specs.Contents.{Contents, Holds, rows_of}
+use Rattle.coco_store.specs.Laws.{AreSame, OneContents}
+use Rattle.coco_store.specs.Rules.{Setting, base_values, commit_epochs, prepared_epochs}
+use Rattle.coco_recover.specs.Bases.{IsBased, entries_of}
+use Rattle.coco_recover.specs.Commits.{AreCommitted}
+use Rattle.coco_recover.specs.Layouts.{setting_of}
+use Rattle.coco_recover.specs.Nodes.{IsLoaded, nodes_of}
+use Rattle.coco_recover.specs.Opening.{Has, IsOpening, entry_in, its_keep}
+use Rattle.coco_recover.specs.declared.base.Based.{Based}
+use Rattle.coco_recover.specs.declared.commits.Committed.{Committed}
+use Rattle.coco_recover.specs.declared.layouts.LastLayout.{LastLayout}
+use Rattle.coco_recover.specs.declared.nodes.Loaded.{Loaded}
+use Rattle.coco_recover.specs.declared.opening.Logs.{Logs}
+use Rattle.coco_recover.specs.declared.opening.Opened.{Opened}
+use Rattle.coco_recover.proofs.Held.{contents_of}
+
+-- ---- epochs, node by node
+
+flat_from : (of : ℕ → List Prepared) (from : ℕ) (nodes : List (List Prepared)) → ((i : ℕ) → i < length nodes → get_or nodes i [] ≡ of (from + i))
+    → flat_map prepared_epochs nodes ≡ flat_map (λ n. prepared_epochs (of n)) (range_with_len from (length nodes))
+flat_from of from [] are = refl
+flat_from of from (entries ∷ nodes) are =
+    let first : entries ≡ of from = are 0 (omega arith) ∙ ap of (omega arith) in
+    let others : flat_map prepared_epochs nodes ≡ flat_map (λ n. prepared_epochs (of n)) (range_with_len (from + 1) (length nodes)) =
+    flat_from of (from + 1) nodes (λ i less. are (suc i) (omega arith) ∙ ap of (omega arith)) in
+    ap (λ (l : List ℕ). prepared_epochs entries ++ l) others
+    ∙ ap (λ (es : List Prepared). prepared_epochs es ++ flat_map (λ n. prepared_epochs (of n)) (range_with_len (from + 1) (length nodes))) first
+
+flat_same : (f g : ℕ → List ℕ) (from count : ℕ) → ((n : ℕ) → n < from + count → f n ≡ g n) → flat_map f (range_with_len from count) ≡ flat_map g (range_with_len from count)
+flat_same f g from zero same = refl
+flat_same f g from (suc count) same =
+    ap (λ (l : List ℕ). f from ++ l) (flat_same f g (from + 1) count (λ n less. same n (omega arith)))
+    ∙ ap (λ (l : List ℕ). l ++ flat_map g (range_with_len (from + 1) count)) (same from (omega arith))
+
+-- ---- two contents of the same files
+
+same_epochs : (c d : Contents) → AreSame c d → epochs_in c ≡ epochs_in d
+same_epochs c d same =
+    let nodes = c.setting.entry.layout.nodes in
+    let behind : flat_map (λ n. prepared_epochs (c.prepared n)) (range_with_len 0 nodes) ≡ flat_map (λ n. prepared_epochs (d.prepared n)) (range_with_len 0 nodes) =
+    flat_same (λ n. prepared_epochs (c.prepared n)) (λ n. prepared_epochs (d.prepared n)) 0 nodes (λ n less. ap prepared_epochs (same.prepared n (omega (arith, less)))) in
+    ap (λ (l : List ℕ). c.setting.entry.layout.base_epoch ∷ commit_epochs c.commits ++ l) behind
+    ∙ ap (λ (commits : List Commit). c.setting.entry.layout.base_epoch ∷ commit_epochs commits ++ flat_map (λ n. prepared_epochs (d.prepared n)) (range_with_len 0 nodes)) same.commits
+    ∙ ap (λ (s : Setting). s.entry.layout.base_epoch ∷ commit_epochs d.commits ++ flat_map (λ n. prepared_epochs (d.prepared n)) (range_with_len 0 s.entry.layout.nodes)) same.setting
+
+left_within : (x count least : ℕ) → least < count → x % count < count
+left_within x count least some = omega arith
+
+same_tables : (c d : Contents) (shards : List ShardState) (copies : List CopyState) → AreSame c d → HoldMaps c.setting.entry.layout (maps_of c) shards copies
+    → HoldMaps d.setting.entry.layout (maps_of d) shards copies
+same_tables c d shards copies same held =
+    subst (λ (s : Setting). HoldMaps s.entry.layout (λ p j. rows_of d ((p + j) % s.entry.layout.nodes) p) shards copies) same.setting
+    (same_maps c.setting.entry.layout (maps_of c) (λ p j. rows_of d ((p + j) % c.setting.entry.layout.nodes) p) shards copies
+    (λ p j below to. same.rows ((p + j) % c.setting.entry.layout.nodes) p (left_within (p + j) c.setting.entry.layout.nodes c.setting.entry.layout.copies held.tables.ring.around)) held)
+
+same_had : TablesHoldTheMap → (keep : Option ℕ) (c d : Contents) (store : Opened) → AreSame c d → Has keep c store → Has keep d store
+same_had law keep c d store same has =
+    let tables = same_tables c d store.shards.items store.copies.items same has.tables in
+    record {
+      layout = has.layout ∙ ap (λ (s : Setting). s.entry) same.setting;
+      procs = has.procs ∙ ap (λ (s : Setting). s.tree) same.setting;
+      dones = has.dones ∙ ap (λ (h : History). kept (with_keep keep h)) same.history;
+      floor = has.floor ∙ ap (λ (h : History). floor (with_keep keep h)) same.history;
+      tables = tables;
+      map = λ rows. law d store.shards.items store.copies.items rows tables;
+      next = subst (λ (l : List ℕ). IsNextTo l store.next_epoch) (same_epochs c d same) has.next;
+      base = has.base ∙ ap base_values same.base;
+    }
+
+-- ---- what was read
+
+abbrev pub opened_of : LastLayout → Committed → Loaded → Based → Logs → Opened
+opened_of last committed loaded based logs = record {
+  layout = last.entry.layout;
+  procs = last.procs;
+  kept = committed.kept;
+  shards = loaded.tables.shards;
+  copies = loaded.tables.copies;
+  logs = logs;
+  next_epoch = loaded.next;
+  keep = last.entry.keep;
+  base = based.rows;
+  base_file = last.entry.base_file;
+}
+
+module _ (read : AllIsRead) (tables : TablesHoldTheMap) (history : KeptAreTheHistory) (last : LastLayout) (committed : Committed) (loaded : Loaded) (based : Based) (logs : Logs) (keep : Option ℕ)
+    (are : AreCommitted (setting_of last) committed) (keeps : committed.kept.keep ≡ keep) (holds : IsLoaded (setting_of last) committed loaded) (all : length (nodes_of loaded) ≡ last.entry.layout.nodes)
+    (rows : IsBased (setting_of last) based) (one_base : entries_of committed.base.items ≡ entries_of based.history.entries.items) where
+  has_contents : (earlier : List LayoutEntry) → Has keep (contents_of earlier last committed (nodes_of loaded)) (opened_of last committed loaded based logs)
+  has_contents earlier =
+      let c = contents_of earlier last committed (nodes_of loaded) in
+      let kept_ones = history c committed.kept keep keeps are.remembered.kept in
+      let held = read c loaded.tables.shards.items loaded.tables.copies.items holds.tables in
+      let behind = last.entry.layout.base_epoch ∷ commit_epochs committed.commits.items in
+      let each = flat_from c.prepared 0 (nodes_of loaded) (λ i less. ap c.prepared (omega arith)) in
+      record {
+        layout = refl;
+        procs = refl;
+        dones = kept_ones.0;
+        floor = kept_ones.1;
+        tables = held;
+        map = λ have. tables c loaded.tables.shards.items loaded.tables.copies.items have held;
+        next = subst (λ (l : List ℕ). IsNextTo (behind ++ l) loaded.next)
+            (each ∙ ap (λ (n : ℕ). flat_map (λ m. prepared_epochs (c.prepared m)) (range_with_len 0 n)) all) holds.next;
+        base = rows.values ∙ ap base_values (sym one_base);
+      }
+
+  pub is_opening : OneContents → (earlier : List LayoutEntry) (files : Files) → Holds files (contents_of earlier last committed (nodes_of loaded))
+      → IsOpening (λ c. keep) files (opened_of last committed loaded based logs)
+  is_opening one earlier files held =
+      let c = contents_of earlier last committed (nodes_of loaded) in
+      record {
+        contents = c;
+        holds = held;
+        has = λ d holds_d. same_had tables keep c d (opened_of last committed loaded based logs) (one files c d held holds_d) (has_contents earlier);
+      }
+
+-- by the layout's keep number, where that was asked for
+pub by_its_keep : (entry : LayoutEntry) (files : Files) (store : Opened) → entry_in store ≡ entry → IsOpening (λ c. entry.keep) files store → IsOpening its_keep files store
+by_its_keep entry files store are opening = record {
+  contents = opening.contents;
+  holds = opening.holds;
+  has = λ c held.
+      let has = opening.has c held in
+      subst (λ (k : Option ℕ). Has k c store) (ap (λ (e : LayoutEntry). e.keep) (sym are ∙ has.layout)) has;
+}
+
+pub if_ok_both : {T E : Type 0} (r : Result T E) (P Q R : T → Type 0) → ((x : T) → P x → Q x → R x) → IfOk r P → IfOk r Q → IfOk r R
+if_ok_both (Ok x) P Q R both p q = both x p q
+if_ok_both (Err e) P Q R both p q = tt

@@ -1,0 +1,14 @@
+pub mod Basing
+pub mod Committing
+pub mod Few
+pub mod Having
+pub mod Held
+pub mod Judged
+pub mod Keeping
+pub mod Loading
+pub mod OneMap
+pub mod Places
+pub mod Reading
+pub mod Resting
+pub mod Sounding
+pub mod Within

@@ -1,0 +1,106 @@
+-- What holds of an opened store on every host.
+use Rattle.std.proofs.Common.{◌≡◌, ℕ, suc, ◌<◌, ◌≤◌, Bool, true, false, ◌||◌, nat_eq, List, [], ◌∷◌, ◌++◌, length, refl, sym, subst, ◌∙◌, arith}
+use Rattle.std.specs.List.{AllByRecursion, flat_map}
+use Rattle.std.specs.Set.{is_member}
+use Rattle.std.proofs.lemmas.Bool.{eqb-true}
+use Rattle.coco_types.specs.Limits.{epochs_end}
+use Rattle.coco_ast.proofs.Lists.{all_append, all_left, all_map}
+use Rattle.coco_entry.specs.declared.commit.Commit.{Commit}
+use Rattle.coco_entry.specs.declared.prepared.Prepared.{Prepared}
+use Rattle.coco_load.specs.Epochs.{IsNextTo}
+use Rattle.coco_load.specs.Laws.{BaseDonesFollow, CommittedDonesFollow}
+use Rattle.coco_load.specs.Reading.{maps_read}
+use Rattle.coco_load.specs.Tables.{IsShardOf, shard_at}
+use Rattle.coco_log.specs.LogState.{IsFresh}
+use Rattle.coco_store.specs.Rules.{EachBehind, IsNextCommit, IsNextPrepared, base_of, commit_epochs, prepared_epochs}
+use Rattle.coco_store.proofs.Naming.{names_apart}
+use Rattle.coco_recover.specs.Bases.{entries_of}
+use Rattle.coco_recover.specs.Commits.{AreCommitted}
+use Rattle.coco_recover.specs.Layouts.{IsGoodLast, setting_of}
+use Rattle.coco_recover.specs.Nodes.{entries_at, nodes_of}
+use Rattle.coco_recover.specs.Opening.{AreLogs, IsSoundStore}
+use Rattle.coco_recover.specs.Steps.{AreRead}
+use Rattle.coco_recover.specs.declared.base.Based.{Based}
+use Rattle.coco_recover.specs.declared.commits.Committed.{Committed}
+use Rattle.coco_recover.specs.declared.layouts.LastLayout.{LastLayout}
+use Rattle.coco_recover.specs.declared.nodes.Loaded.{Loaded}
+use Rattle.coco_recover.specs.declared.opening.Logs.{Logs}
+use Rattle.coco_recover.proofs.Having.{opened_of}
+use Rattle.coco_recover.proofs.Keeping.{each_all, keeps_below}
+use Rattle.coco_recover.proofs.OneMap.{one_map, one_map-on}
+
+-- ---- the next epoch's number
+
+or_either : (a b : Bool) (P : Type 0) → (a ≡ true → P) → (b ≡ true → P) → a || b ≡ true → P
+or_either true b P here there is = here refl
+or_either false b P here there is = there is
+
+member_of : (P : ℕ → Type 0) (xs : List ℕ) (x : ℕ) → AllByRecursion P xs → is_member nat_eq xs x ≡ true → P x
+member_of P [] x all is = let two : false ≡ true = is in cc
+member_of P (y ∷ xs) x all is = or_either (nat_eq x y) (is_member nat_eq xs x) (P x) (λ t. subst P (sym (eqb-true x y t)) all.0) (member_of P xs x all.1) is
+
+module _ (P : ℕ → Type 0) where
+  nodes_all : (nodes : List (List Prepared)) → ((n : ℕ) → n < length nodes → AllByRecursion P (prepared_epochs (entries_at nodes n))) → AllByRecursion P (flat_map prepared_epochs nodes)
+  nodes_all [] each = tt
+  nodes_all (entries ∷ nodes) each =
+      all_append P (prepared_epochs entries) (flat_map prepared_epochs nodes) (each 0 (omega arith)) (nodes_all nodes (λ n less. each (suc n) (omega arith)))
+
+abbrev IsBelowEnd : ℕ → Type 0
+IsBelowEnd e = e < epochs_end
+
+epochs_below : (last : LastLayout) (committed : Committed) (loaded : Loaded) (count : ℕ) → IsGoodLast last → AreCommitted (setting_of last) committed → length (nodes_of loaded) ≡ count
+    → ((n : ℕ) → n < count → EachBehind (IsNextPrepared (setting_of last) n) [] (entries_at (nodes_of loaded) n))
+    → AllByRecursion IsBelowEnd (last.entry.layout.base_epoch ∷ commit_epochs committed.commits.items ++ flat_map prepared_epochs (nodes_of loaded))
+epochs_below last committed loaded count good are all each =
+    let s = setting_of last in
+    let commits = committed.commits.items in
+    all_append IsBelowEnd (last.entry.layout.base_epoch ∷ commit_epochs commits) (flat_map prepared_epochs (nodes_of loaded)) (
+      good.limits.base_epoch,
+      all_map (λ (c : Commit). c.epoch) IsBelowEnd commits (each_all (IsNextCommit s (entries_of committed.base.items)) (λ (c : Commit). IsBelowEnd c.epoch)
+          (λ before c next. next.epoch.below_end) [] commits are.remembered.each),
+    )
+    (nodes_all IsBelowEnd (nodes_of loaded) (λ n less.
+    all_map (λ (e : Prepared). e.epoch) IsBelowEnd (entries_at (nodes_of loaded) n) (each_all (IsNextPrepared s n) (λ (e : Prepared). IsBelowEnd e.epoch)
+    (λ before e next. next.epoch.below_end) [] (entries_at (nodes_of loaded) n) (each n (omega (arith, less, all))))))
+
+next_below : (epochs : List ℕ) (next : ℕ) → IsNextTo epochs next → AllByRecursion IsBelowEnd epochs → next ≤ epochs_end
+next_below epochs next is all = let below : is.greatest < epochs_end = member_of IsBelowEnd epochs is.greatest all is.one in omega (arith, is.next, below)
+
+-- ---- the store
+
+module _ (of_base : BaseDonesFollow) (of_commits : CommittedDonesFollow) (last : LastLayout) (committed : Committed) (loaded : Loaded) (based : Based) (logs : Logs)
+    (good : IsGoodLast last) (are : AreCommitted (setting_of last) committed) (read : AreRead last committed loaded logs.nodes.items last.entry.layout.nodes)
+    (root : IsFresh logs.root 0 0) (chief : IsFresh logs.chief last.entry.layout.chief_file 1) where
+  are_logs : AreLogs last.entry.layout logs
+  are_logs = record {
+    root = root;
+    chief = chief;
+    count = read.as_many;
+    nodes = read.fresh logs.root;
+    apart = λ n less same. (names_apart last.entry good.is).node-chief n less (sym chief.in_file ∙ same ∙ (read.fresh logs.root n less).in_file);
+  }
+
+  pub is_sound : IsSoundStore (opened_of last committed loaded based logs)
+  is_sound =
+      let s = setting_of last in
+      let base = (base_of s (entries_of committed.base.items)).rows in
+      let epochs = commit_epochs committed.commits.items in
+      let entries = entries_at (nodes_of loaded) in
+      let next = read.are.next in
+      let above = all_left (λ (e : ℕ). e < loaded.next) (last.entry.layout.base_epoch ∷ epochs) (flat_map prepared_epochs (nodes_of loaded)) next.above in
+      record {
+        is = good.is;
+        limits = good.limits;
+        procs = good.tree;
+        maps = maps_read s base epochs entries;
+        tables = read.are.tables;
+        primaries = record {
+          map = one_map s base epochs entries;
+          each = λ p below. subst (λ m. IsShardOf last.entry.layout.partitions p m (shard_at loaded.tables.shards.items p)) (sym (one_map-on s base epochs entries p below)) (read.are.tables.primaries p below);
+        };
+        keeps = keeps_below of_base of_commits s committed are.remembered loaded.next above.0 above.1;
+        first = omega (arith, next.next);
+        end = next_below (last.entry.layout.base_epoch ∷ epochs ++ flat_map prepared_epochs (nodes_of loaded)) loaded.next next
+            (epochs_below last committed loaded last.entry.layout.nodes good are read.nodes read.each);
+        logs = are_logs;
+      }

@@ -1,0 +1,27 @@
+use Rattle.coco_recover.specs.Layouts.{layout_rules}
+use Rattle.coco_recover.proofs.Judged.{broken, unread}
+use Rattle.coco_recover.proofs.Places.{layout_keeps, layout_place}
+use Rattle.coco_recover.proofs.Within.{layout_fault}
+use Rattle.coco_recover.proofs.layouts.LayoutReadingRules.take.Goals as goal
+
+pub returns-in-Err-clause-takes : goal.returns-in-Err-clause-takes
+returns-in-Err-clause-takes c =
+    rw c.refused.ensures
+    (unread layout_rules c.args.self.now c.args.body.now c.args.self.now c.in-Err.fault c.in-Err.ensures.read (layout_fault c.args.body.now))
+
+pub returns-in-Ok-2-clause-takes : goal.returns-in-Ok-2-clause-takes
+returns-in-Ok-2-clause-takes c =
+    let good = rw c.in-Ok-2.is at c.in_ok-procs.ensures in
+    record {
+      entry = c.in-Ok.entry;
+      is = c.in-Ok.ensures.found.0;
+      bytes = c.in-Ok.ensures.found.1;
+      keeps = layout_keeps c.in-Ok.entry c.in-Ok-2.procs good.0 good.1;
+      last = cc (c.add.ensures, c.from_ref.ensures.value, c.self.view_is);
+    }
+
+pub returns-in-Err-2-clause-takes : goal.returns-in-Err-2-clause-takes
+returns-in-Err-2-clause-takes c =
+    let first = rw c.in-Err-2.is at c.in_ok-procs.ensures in
+    broken layout_rules c.args.self.now c.args.body.now c.args.self.now c.in-Ok.entry c.in-Err-2.at c.in-Ok.ensures.found.0 c.in-Ok.ensures.found.1 first
+    (layout_place c.in-Ok.entry c.in-Err-2.at c.in-Ok.ensures.found.0 first.refused)

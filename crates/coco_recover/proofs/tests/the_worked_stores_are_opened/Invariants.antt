@@ -1,0 +1,4 @@
+use Rattle.coco_recover.proofs.tests.the_worked_stores_are_opened.Given as goal
+
+abbrev pub invariant-loop-commits : goal.invariant-loop-commits
+invariant-loop-commits g l = Unit {0}

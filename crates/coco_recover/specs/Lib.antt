@@ -1,0 +1,9 @@
+pub mod Bases
+pub mod Commits
+pub mod Layouts
+pub mod Nodes
+pub mod Opening
+pub mod Readings
+pub mod Refusal
+pub mod Steps
+pub mod Taking

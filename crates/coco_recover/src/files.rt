@@ -1,0 +1,188 @@
+//! A store's files, read one after another.
+
+ghost use Rattle.std.specs.Prelude.{◌≡◌, ℕ, ◌<◌, ◌∷◌, ◌++◌, [], Some, Err, IfOk, IfSome, List, OnOk};
+ghost use Rattle.coco_host.specs.Files.{Files};
+ghost use Rattle.coco_entry.specs.declared.prepared.Prepared.{Prepared as PreparedEntry};
+ghost use Rattle.coco_load.specs.Tables.{HoldMap};
+ghost use Rattle.coco_log.specs.LogState.{IsFresh, IsOnlyRead, IsOpened};
+ghost use Rattle.coco_read.specs.declared.fault.OpenFault.TheVariants as fault;
+ghost use Rattle.coco_read.specs.Faults.{Counts};
+ghost use Rattle.coco_store.specs.Contents.{file_of};
+ghost use Rattle.coco_store.specs.Refusals.{IsFirst, IsFirstRefusal, IsNodeRefused};
+ghost use Rattle.coco_store.specs.Rules.{base_of};
+ghost use Rattle.coco_recover.specs.Bases.{IsBased, IsHistoryOfBase, basis_of, entries_of};
+ghost use Rattle.coco_recover.specs.Commits.{AreCommitted, basis_of_committed};
+ghost use Rattle.coco_recover.specs.Layouts.{IsGoodLast, setting_of};
+ghost use Rattle.coco_recover.specs.Nodes.{IsLoaded, IsNode, node_basis_of, nodes_of};
+ghost use Rattle.coco_recover.specs.Steps.{AreHeld, AreRead, HoldsCommitted, HoldsEntries, HoldsLast, HoldsParts, IsLeft, IsRead};
+
+use crate::{
+    BaseHistory, BaseReading, Based, CommitReading, Committed, LastLayout, LayoutReading, Loaded,
+    NodeReading,
+};
+use coco_host::Host;
+use coco_load::Tables;
+use coco_log::Log;
+use coco_read::{OpenFault, read_file};
+use coco_types::NoMemory;
+use std::alloc::Global;
+
+// The file of layouts.
+const LAYOUTS_FILE: u32 = 0;
+
+// Where the last gate stands in a log without entries.
+const FIRST_GATE: u64 = 8;
+
+// The kinds of logs.
+const LAYOUTS: u8 = 0;
+
+const COMMITS: u8 = 1;
+
+const PREPARED: u8 = 2;
+
+const BASE: u8 = 3;
+
+/// The last layout, with the log of layouts.
+pub(crate) fn read_layouts<H: Host>(
+    alloc: Global,
+    host: &mut H,
+) -> Result<(LastLayout, Log), OpenFault>
+    ensures good { IfOk result (λ read. IsGoodLast read.0) }
+    ensures log { IfOk result (λ read. IsFresh read.1 0 0) }
+    ensures ok { IfOk result (λ read. (files : Files) → H.reads host.old ≡ Some files → HoldsLast files read.0 × IsOpened read.1 files (H.may_leave host.new)) }
+    ensures refused { (file at : ℕ) (files : Files) → result ≡ Err (fault.NotAStore file at) → H.reads host.old ≡ Some files → IsFirstRefusal files file at }
+    ensures read { IsOnlyRead H.moment H.observed H.said H.reads H.may_leave host.old host.new }
+    ensures counts { Counts result (H.disk_faults host.old) (H.disk_faults host.new) }
+    ensures stream { H.say_faults host.new ≡ H.say_faults host.old }
+{
+    let mut reading = LayoutReading::new();
+    let log = read_file(alloc, host, LAYOUTS_FILE, LAYOUTS, &mut reading)?;
+    match reading.into_last() {
+        Some(last) => Ok((last, log)),
+        // A log without a layout is refused there.
+        None => Err(OpenFault::NotAStore {
+            file: LAYOUTS_FILE,
+            at: FIRST_GATE,
+        }),
+    }
+}
+
+/// The base, of which the replies are kept by a keep number, at least 1.
+pub(crate) fn read_base<H: Host>(
+    alloc: Global,
+    host: &mut H,
+    last: &LastLayout,
+    keep: Option<u16>,
+) -> Result<Based, OpenFault>
+    requires good { IsGoodLast last.now }
+    requires keep { IfSome keep (λ n. 0 < n) }
+    ensures based { IfOk result (IsBased (setting_of last.now)) }
+    ensures keep { IfOk result (λ based. based.history.kept.keep ≡ keep) }
+    ensures ok { IfOk result (λ based. (files : Files) → H.reads host.old ≡ Some files
+        → HoldsParts files last.now based.history.entries.items × IsLeft last.now.entry.base_file files (H.may_leave host.new)) }
+    ensures refused { (file at : ℕ) (files : Files) → result ≡ Err (fault.NotAStore file at) → H.reads host.old ≡ Some files → HoldsLast files last.now → IsFirstRefusal files file at }
+    ensures read { IsOnlyRead H.moment H.observed H.said H.reads H.may_leave host.old host.new }
+    ensures counts { Counts result (H.disk_faults host.old) (H.disk_faults host.new) }
+    ensures stream { H.say_faults host.new ≡ H.say_faults host.old }
+{
+    let Some(file) = last.entry.base_file else {
+        return Ok(Based::without_file(alloc, last, keep)?);
+    };
+    let mut reading = BaseReading::new(alloc, last, keep)?;
+    let _log = read_file(alloc, host, file, BASE, &mut reading)?;
+    Ok(reading.into_based()?)
+}
+
+/// The epochs that were committed over a base, with the coordinator's log.
+pub(crate) fn read_commits<H: Host>(
+    alloc: Global,
+    host: &mut H,
+    last: &LastLayout,
+    base: BaseHistory,
+) -> Result<(Committed, Log), OpenFault>
+    requires good { IsGoodLast last.now }
+    requires base { IsHistoryOfBase (setting_of last.now) base }
+    ensures committed { IfOk result (λ read. AreCommitted (setting_of last.now) read.0) }
+    ensures basis { IfOk result (λ read. basis_of_committed (setting_of last.now) read.0 ≡ basis_of (setting_of last.now) base) }
+    ensures log { IfOk result (λ read. IsFresh read.1 last.now.entry.layout.chief_file 1) }
+    ensures ok { IfOk result (λ read. (files : Files) → H.reads host.old ≡ Some files → HoldsCommitted files last.now read.0 × IsOpened read.1 files (H.may_leave host.new)) }
+    ensures refused { (file at : ℕ) (files : Files) → result ≡ Err (fault.NotAStore file at) → H.reads host.old ≡ Some files → HoldsLast files last.now
+        → HoldsParts files last.now base.entries.items → IsFirstRefusal files file at }
+    ensures read { IsOnlyRead H.moment H.observed H.said H.reads H.may_leave host.old host.new }
+    ensures counts { Counts result (H.disk_faults host.old) (H.disk_faults host.new) }
+    ensures stream { H.say_faults host.new ≡ H.say_faults host.old }
+{
+    let mut reading = CommitReading::new(alloc, last, base);
+    let log = read_file(
+        alloc,
+        host,
+        last.entry.layout.chief_file,
+        COMMITS,
+        &mut reading,
+    )?;
+    Ok((reading.into_committed()?, log))
+}
+
+// What is loaded with the next node, and the node's log.
+fn read_node<H: Host>(
+    alloc: Global,
+    host: &mut H,
+    last: &LastLayout,
+    committed: &Committed,
+    node: u8,
+    loaded: Loaded,
+) -> Result<(Loaded, Log), OpenFault>
+    requires good { IsGoodLast last.now }
+    requires node { IsNode (node_basis_of last.now committed.now loaded node) committed.now }
+    requires loaded { IsLoaded (setting_of last.now) committed.now loaded }
+    ensures ok { IfOk result (λ read. (entries : List PreparedEntry) × IsRead last.now committed.now node loaded read.0 entries
+        × ((files : Files) → H.reads host.old ≡ Some files → HoldsEntries files last.now committed.now node entries × IsOpened read.1 files (H.may_leave host.new))) }
+    ensures log { IfOk result (λ read. IsFresh read.1 (file_of (setting_of last.now) node) 2) }
+    ensures refused { (file at : ℕ) (files : Files) → result ≡ Err (fault.NotAStore file at) → H.reads host.old ≡ Some files
+        → (file ≡ file_of (setting_of last.now) node) × IsFirst (IsNodeRefused (setting_of last.now) committed.now.commits.items node (files file)) at }
+    ensures read { IsOnlyRead H.moment H.observed H.said H.reads H.may_leave host.old host.new }
+    ensures counts { Counts result (H.disk_faults host.old) (H.disk_faults host.new) }
+    ensures stream { H.say_faults host.new ≡ H.say_faults host.old }
+{
+    let file = last.entry.layout.node_files.as_slice()[usize::from(node)];
+    let mut reading = NodeReading::new(last, committed, node, loaded);
+    let log = read_file(alloc, host, file, PREPARED, &mut reading)?;
+    Ok((reading.into_loaded()?, log))
+}
+
+fn add_log(logs: &mut Vec<Log>, log: Log) -> Result<(), NoMemory>
+    ensures { OnOk result (logs.new.items ≡ logs.old.items ++ log ∷ []) }
+{
+    logs.push(log)?;
+    Ok(())
+}
+
+/// What is loaded with all nodes, each in turn, and their logs.
+pub(crate) fn read_nodes<H: Host>(
+    alloc: Global,
+    host: &mut H,
+    last: &LastLayout,
+    committed: &Committed,
+    tables: Tables,
+) -> Result<(Loaded, Vec<Log>), OpenFault>
+    requires good { IsGoodLast last.now }
+    requires committed { AreCommitted (setting_of last.now) committed.now }
+    requires base { HoldMap last.now.entry.layout (base_of (setting_of last.now) (entries_of committed.now.base.items)).rows tables.shards.items tables.copies.items }
+    ensures read { IfOk result (λ read. AreRead last.now committed.now read.0 read.1.items last.now.entry.layout.nodes) }
+    ensures ok { IfOk result (λ read. (files : Files) → H.reads host.old ≡ Some files
+        → AreHeld files (H.may_leave host.new) last.now committed.now (nodes_of read.0) read.1.items last.now.entry.layout.nodes) }
+    ensures refused { (file at : ℕ) (files : Files) → result ≡ Err (fault.NotAStore file at) → H.reads host.old ≡ Some files → HoldsLast files last.now
+        → HoldsParts files last.now committed.now.base.items → HoldsCommitted files last.now committed.now → IsFirstRefusal files file at }
+    ensures only { IsOnlyRead H.moment H.observed H.said H.reads H.may_leave host.old host.new }
+    ensures counts { Counts result (H.disk_faults host.old) (H.disk_faults host.new) }
+    ensures stream { H.say_faults host.new ≡ H.say_faults host.old }
+{
+    let mut loaded = Loaded::new(committed, tables);
+    let mut logs = Vec::new(alloc);
+    for node in 0..last.entry.layout.nodes {
+        let (more, log) = read_node(alloc, host, last, committed, node, loaded)?;
+        loaded = more;
+        add_log(&mut logs, log)?;
+    }
+    Ok((loaded, logs))
+}

@@ -1,0 +1,151 @@
+//! A store opened: what is had of it in memory, and the logs that it is written to.
+
+ghost use Rattle.std.specs.Prelude.{◌≡◌, ◌≢◌, ℕ, ◌<◌, ◌≤◌, length, None, Some, Err, IfOk, IfSome, OnOk};
+ghost use Rattle.coco_types.specs.Limits.{most_kept};
+ghost use Rattle.coco_host.specs.Files.{Files};
+ghost use Rattle.coco_append.specs.Gaining.{RestsOn, Stands};
+ghost use Rattle.coco_log.specs.LogState.{IsFresh, IsOnlyRead};
+ghost use Rattle.coco_read.specs.declared.fault.OpenFault.TheVariants as fault;
+ghost use Rattle.coco_read.specs.Faults.{Counts};
+ghost use Rattle.coco_store.specs.Contents.{Contents, Holds, IsGoodStore};
+ghost use Rattle.coco_store.specs.Refusals.{IsFirstRefusal};
+ghost use Rattle.coco_recover.specs.Layouts.{IsGoodLast};
+ghost use Rattle.coco_recover.specs.Opening.{AllStand, IsOpening, IsSoundStore, entry_in, its_keep, no_keep};
+ghost use Rattle.coco_recover.specs.Steps.{HoldsLast};
+
+use crate::LastLayout;
+use crate::base::Based;
+use crate::files::{read_base, read_commits, read_layouts, read_nodes};
+use coco_ast::Checked;
+use coco_copy::CopyTable;
+use coco_entry::{Layout, LayoutEntry};
+use coco_host::Host;
+use coco_kept::Kept;
+use coco_load::{Tables, kept_dones_follow_the_files, tables_follow_the_files};
+use coco_log::Log;
+use coco_read::OpenFault;
+use coco_shard::Shard;
+use coco_store::{a_refused_store_is_none, a_store_is_its_logs, files_hold_one_store};
+use coco_types::MapRows;
+use std::alloc::Global;
+
+/// The logs that a store is written to: that of its layouts, the coordinator's, and that of each node.
+#[derive(Drop)]
+pub struct Logs {
+    pub root: Log,
+    pub chief: Log,
+    pub nodes: Vec<Log>,
+}
+
+/// What is had of an opened store in memory.
+#[derive(Drop)]
+pub struct Opened {
+    pub layout: Layout,
+    pub procs: Checked,
+    pub kept: Kept,
+    pub shards: Vec<Shard>,
+    pub copies: Vec<CopyTable>,
+    pub logs: Logs,
+    /// The number of the epoch that comes next.
+    pub next_epoch: u64,
+    pub keep: Option<u16>,
+    /// The rows of the base, entry by entry.
+    pub base: Vec<MapRows>,
+    pub base_file: Option<u32>,
+}
+
+/// Opens a store: reads each of its files once, from its front, and writes none. Of the replies those are kept that
+/// the layout's keep number says. Files that are no store are refused at the first place.
+pub fn recover<H: Host>(alloc: Global, host: &mut H) -> Result<Opened, OpenFault>
+    ensures ok { IfOk result (λ store. (files : Files) → H.reads host.old ≡ Some files → IsOpening its_keep files store) }
+    ensures keep { IfOk result (λ store. store.kept.keep ≡ store.keep) }
+    ensures few { IfOk result (λ store. length store.kept.dones ≤ most_kept) }
+    ensures sound { IfOk result IsSoundStore }
+    ensures stand { IfOk result (λ store. AllStand store.logs (H.reads host.new) (H.may_leave host.new)) }
+    ensures rests { OnOk result ((files : Files) (c : Contents) → H.reads host.old ≡ Some files → IsGoodStore files c → RestsOn c (H.reads host.new) (H.may_leave host.new)) }
+    ensures refused { (file at : ℕ) (files : Files) → result ≡ Err (fault.NotAStore file at) → H.reads host.old ≡ Some files → IsFirstRefusal files file at }
+    ensures kept { (file at : ℕ) (files : Files) (c : Contents) → H.reads host.old ≡ Some files → Holds files c → result ≢ Err (fault.NotAStore file at) }
+    ensures read { IsOnlyRead H.moment H.observed H.said H.reads H.may_leave host.old host.new }
+    ensures counts { Counts result (H.disk_faults host.old) (H.disk_faults host.new) }
+    ensures stream { H.say_faults host.new ≡ H.say_faults host.old }
+{
+    a_refused_store_is_none();
+    let (last, root) = read_layouts(alloc, host)?;
+    let keep = last.entry.keep;
+    open_behind(alloc, host, last, root, keep)
+}
+
+/// The same, but all replies are kept.
+pub fn recover_whole<H: Host>(alloc: Global, host: &mut H) -> Result<Opened, OpenFault>
+    ensures ok { IfOk result (λ store. (files : Files) → H.reads host.old ≡ Some files → IsOpening no_keep files store) }
+    ensures keep { IfOk result (λ store. store.kept.keep ≡ None) }
+    ensures sound { IfOk result IsSoundStore }
+    ensures stand { IfOk result (λ store. AllStand store.logs (H.reads host.new) (H.may_leave host.new)) }
+    ensures rests { OnOk result ((files : Files) (c : Contents) → H.reads host.old ≡ Some files → IsGoodStore files c → RestsOn c (H.reads host.new) (H.may_leave host.new)) }
+    ensures refused { (file at : ℕ) (files : Files) → result ≡ Err (fault.NotAStore file at) → H.reads host.old ≡ Some files → IsFirstRefusal files file at }
+    ensures kept { (file at : ℕ) (files : Files) (c : Contents) → H.reads host.old ≡ Some files → Holds files c → result ≢ Err (fault.NotAStore file at) }
+    ensures read { IsOnlyRead H.moment H.observed H.said H.reads H.may_leave host.old host.new }
+    ensures counts { Counts result (H.disk_faults host.old) (H.disk_faults host.new) }
+    ensures stream { H.say_faults host.new ≡ H.say_faults host.old }
+{
+    a_refused_store_is_none();
+    let (last, root) = read_layouts(alloc, host)?;
+    open_behind(alloc, host, last, root, None)
+}
+
+// Reads the files that the last layout names.
+fn open_behind<H: Host>(
+    alloc: Global,
+    host: &mut H,
+    last: LastLayout,
+    root: Log,
+    keep: Option<u16>,
+) -> Result<Opened, OpenFault>
+    requires good { IsGoodLast last }
+    requires root { IsFresh root 0 0 }
+    requires keep { IfSome keep (λ n. 0 < n) }
+    ensures ok { IfOk result (λ store. (files : Files) → H.reads host.old ≡ Some files → HoldsLast files last → IsOpening (λ c. keep) files store) }
+    ensures entry { IfOk result (λ store. entry_in store ≡ last.entry) }
+    ensures keep { IfOk result (λ store. store.kept.keep ≡ keep) }
+    ensures few { IfOk result (λ store. keep ≡ last.entry.keep → length store.kept.dones ≤ most_kept) }
+    ensures sound { IfOk result IsSoundStore }
+    ensures stand { IfOk result (λ store. Stands root (H.reads host.old) (H.may_leave host.old) → AllStand store.logs (H.reads host.new) (H.may_leave host.new)) }
+    ensures rests { OnOk result ((files : Files) (c : Contents) → H.reads host.old ≡ Some files → HoldsLast files last → Stands root (H.reads host.old) (H.may_leave host.old)
+        → IsGoodStore files c → RestsOn c (H.reads host.new) (H.may_leave host.new)) }
+    ensures refused { (file at : ℕ) (files : Files) → result ≡ Err (fault.NotAStore file at) → H.reads host.old ≡ Some files → HoldsLast files last → IsFirstRefusal files file at }
+    ensures read { IsOnlyRead H.moment H.observed H.said H.reads H.may_leave host.old host.new }
+    ensures counts { Counts result (H.disk_faults host.old) (H.disk_faults host.new) }
+    ensures stream { H.say_faults host.new ≡ H.say_faults host.old }
+{
+    // The laws by which this is what the files hold; the calls do nothing.
+    tables_follow_the_files();
+    kept_dones_follow_the_files();
+    files_hold_one_store();
+    a_store_is_its_logs();
+    let Based {
+        history,
+        tables,
+        rows,
+    } = read_base(alloc, host, &last, keep)?;
+    let (committed, chief) = read_commits(alloc, host, &last, history)?;
+    let (loaded, nodes) = read_nodes(alloc, host, &last, &committed, tables)?;
+    let LastLayout { entry, procs } = last;
+    let LayoutEntry {
+        layout,
+        keep,
+        base_file,
+    } = entry;
+    let Tables { shards, copies } = loaded.tables;
+    Ok(Opened {
+        layout,
+        procs,
+        kept: committed.kept,
+        shards,
+        copies,
+        logs: Logs { root, chief, nodes },
+        next_epoch: loaded.next,
+        keep,
+        base: rows,
+        base_file,
+    })
+}

@@ -1,0 +1,101 @@
+//! The worked stores of one node, opened from their bytes.
+
+use crate::{Opened, recover, recover_whole};
+use coco_host::{Host, MemoryHost};
+use coco_read::OpenFault;
+use coco_types::{Key, Value};
+use std::alloc::Global;
+use std::test::Fail;
+
+// One node, one partition, no copies, and an empty text.
+const LAYOUTS: [u8; 39] = [
+    b'C', b'O', b'C', b'O', b'L', b'O', b'G', 0, 1, 0, 0, 0, 25, 1, 1, 1, 1, 0, 0, 0, 0, 1, 0, 0,
+    0, 2, 0, 0, 0, 0, 0, 0, 0, 0, 0, 0, 0, 0, 0,
+];
+
+// put(5, 70) as id 1 in epoch 1.
+const COMMITS: [u8; 75] = [
+    b'C', b'O', b'C', b'O', b'L', b'O', b'G', 1, 1, 0, 0, 0, 61, 2, 0, 0, 0, 0, 0, 0, 0, 1, 0, 0,
+    0, 1, 0, 0, 0, 0, 0, 0, 0, 1, 0, 1, 0, 2, 1, 0, 0, 0, 0, 0, 0, 0, 5, 1, 0, 0, 0, 0, 0, 0, 0,
+    70, 0, 0, 0, 0, 0, 0, 0, 1, 0, 1, 0, 0, 0, 0, 0, 0, 0, 70, 0,
+];
+
+const PREPARED: [u8; 54] = [
+    b'C', b'O', b'C', b'O', b'L', b'O', b'G', 2, 1, 0, 0, 0, 40, 3, 0, 0, 0, 0, 0, 0, 0, 1, 0, 0,
+    0, 1, 0, 0, 0, 0, 0, 0, 0, 0, 0, 5, 0, 0, 0, 0, 0, 0, 0, 1, 1, 0, 0, 0, 0, 0, 0, 0, 70, 0,
+];
+
+const NO_COMMITS: [u8; 9] = *b"COCOLOG\x01\x00";
+
+const NONE_PREPARED: [u8; 9] = *b"COCOLOG\x02\x00";
+
+// What is seen of an opened store: the number of its next epoch, how many replies it keeps, and its row 5.
+type Seen = (u64, u64, Option<i64>);
+
+fn number(value: Option<Value>) -> Option<i64> {
+    match value {
+        Some(Value::Int(number)) => Some(number),
+        _ => None,
+    }
+}
+
+fn seen(store: &Opened) -> Seen {
+    let five = Key { table: 0, row: 5 };
+    let value = match store.shards.first() {
+        Some(shard) => number(shard.stable(five)),
+        None => None,
+    };
+    (store.next_epoch, store.kept.len(), value)
+}
+
+fn host_of(alloc: Global, commits: &[u8], prepared: &[u8]) -> Result<MemoryHost, Fail> {
+    let mut host = MemoryHost::new(alloc, Vec::new(alloc));
+    host.write_at(0, 0, &LAYOUTS)?;
+    host.write_at(1, 0, commits)?;
+    host.write_at(2, 0, prepared)?;
+    Ok(host)
+}
+
+// What is seen once a store is opened, with all replies or by its keep number.
+fn opened(
+    alloc: Global,
+    commits: &[u8],
+    prepared: &[u8],
+    is_whole: bool,
+) -> Result<Result<Seen, OpenFault>, Fail> {
+    let mut host = host_of(alloc, commits, prepared)?;
+    let store = if is_whole {
+        recover_whole(alloc, &mut host)
+    } else {
+        recover(alloc, &mut host)
+    };
+    Ok(match store {
+        Ok(store) => Ok(seen(&store)),
+        Err(fault) => Err(fault),
+    })
+}
+
+#[test]
+fn the_worked_stores_are_opened(rt: HostRuntime) -> Result<(), Fail> {
+    for (commits, prepared, wanted) in [
+        (
+            NO_COMMITS.as_slice(),
+            NONE_PREPARED.as_slice(),
+            (1, 0, None),
+        ),
+        (NO_COMMITS.as_slice(), PREPARED.as_slice(), (2, 0, None)),
+        (COMMITS.as_slice(), PREPARED.as_slice(), (2, 1, Some(70))),
+    ] {
+        assert_eq!(rt; opened(rt.alloc(), commits, prepared, false)?, Ok(wanted));
+        assert_eq!(rt; opened(rt.alloc(), commits, prepared, true)?, Ok(wanted));
+    }
+    Ok(())
+}
+
+// The node lacks the entry of the committed epoch, which is found at its last gate.
+#[test]
+fn a_store_that_lacks_an_entry_is_refused(rt: HostRuntime) -> Result<(), Fail> {
+    let refused = opened(rt.alloc(), &COMMITS, &NONE_PREPARED, false)?;
+    assert_eq!(rt; refused, Err(OpenFault::NotAStore { file: 2, at: 8 }));
+    Ok(())
+}
