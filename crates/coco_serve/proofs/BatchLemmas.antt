@@ -1,0 +1,231 @@
+-- One batch: what its turn and the saying of its answers make of the store.
+use Rattle.std.proofs.Common.{◌≡◌, ℕ, ◌+◌, ◌≤◌, inl, inr, ◌⊎◌, ⊎_elim, List, [], ◌∷◌, ◌++◌, length, take, drop, Option, Some, None, Result, Ok, Err, refl, sym, ap, subst, ◌∙◌, arith, append_assoc, take-append-drop}
+use Rattle.std.specs.Prelude.{OnOk, OnErr}
+use Rattle.std.proofs.Math.Seq.{take-append_seam, take-length}
+use Rattle.std.proofs.lemmas.List.{append_cancel_left}
+use Rattle.std.specs.Io.KnownBytes.{append_known}
+use Rattle.coco_types.specs.Limits.{most_kept}
+use Rattle.coco_types.specs.declared.call.Done.{Done}
+use Rattle.coco_types.specs.declared.call.Request.{Request}
+use Rattle.coco_types.specs.declared.error.OutFault.{OutFault}
+use Rattle.coco_types.specs.declared.error.OutFault.TheVariants as out
+use Rattle.coco_append.specs.Gaining.{RestsOn}
+use Rattle.coco_append.proofs.GainLemmas.{sees_weaker}
+use Rattle.coco_ast.specs.History.{History, all_dones, kept}
+use Rattle.coco_ast.proofs.KeptLemmas.{keeps_all}
+use Rattle.coco_batches.specs.declared.answer.Answer.{Answer}
+use Rattle.coco_batches.specs.declared.batch.Batch.{Batch}
+use Rattle.coco_cluster.specs.Standing.{ClusterState, StandsAt}
+use Rattle.coco_cluster.specs.Turning.{Grown, HasRoom, IsUntouched, ShowsStore, Turns}
+use Rattle.coco_cluster.specs.declared.fault.TurnFault.{TurnFault}
+use Rattle.coco_cluster.specs.declared.fault.TurnFault.TheVariants as turn
+use Rattle.coco_cluster.proofs.StoreLemmas.{sees_then}
+use Rattle.coco_commits.specs.EpochEntries.{HasRoomFor}
+use Rattle.coco_host.specs.Files.{Files, NoMore}
+use Rattle.coco_host.specs.Moments.{IsNew, IsSaidBetween, Observation, SeesOnly}
+use Rattle.coco_host.specs.Record.{known}
+use Rattle.coco_host.proofs.Sees.{started}
+use Rattle.coco_io.proofs.KnownLemmas.{append_known-nil}
+use Rattle.coco_store.specs.Contents.{Contents, history_of}
+use Rattle.coco_store.specs.Rules.{Setting}
+use Rattle.coco_serve.specs.Faults.{fault_of_saying, fault_of_turn}
+use Rattle.coco_serve.specs.Growth.{GrowsInOrder, HasPlaces}
+use Rattle.coco_serve.specs.OneBatch.{Answers, BatchEnds, IsRefused, SaysPart, texts_of}
+use Rattle.coco_serve.specs.Seen.{ShowsBatch}
+use Rattle.coco_serve.specs.Texts.{texts_over}
+use Rattle.coco_serve.specs.declared.fault.BatchFault.{BatchFault}
+use Rattle.coco_serve.specs.declared.fault.BatchFault.TheVariants as fault
+
+-- ---- room
+
+room_by : (keep : Option ℕ) (h : History) (ds : List Done) (n : ℕ) → h.keep ≡ keep → ds ≡ kept h → length ds + n ≤ most_kept → HasRoomFor keep (length (all_dones h) + n)
+room_by None h ds n none is few = let same : length ds ≡ length (all_dones h) = ap (length {A = Done}) (is ∙ (keeps_all h none).held) in omega (arith, few, same)
+room_by (Some k) h ds n some is few = tt
+
+-- without a keep number all Dones are kept
+pub has_room : (c : Contents) (k : ClusterState) (requests : List Request) → StandsAt c k → length k.kept.dones + length requests ≤ most_kept → HasRoom c requests
+has_room c k requests stands few = room_by c.setting.entry.keep (history_of c) k.kept.dones (length requests) refl stands.dones few
+
+-- ---- what is said
+
+-- bytes that lie between what was said before a front of a piece and behind it are a front of the piece
+pub said_between : (before now : Option (List ℕ)) (piece said : List ℕ) (n : ℕ) → now ≡ append_known before (take n piece) → IsSaidBetween before now said
+    → (k : ℕ) × (Some said ≡ append_known before (take k piece))
+said_between before now piece said n grown b =
+    let whole : b.to ≡ b.from ++ take n piece = ap (known []) (sym b.is ∙ grown ∙ ap (λ o. append_known o (take n piece)) b.was) in
+    let rest : b.begun.0 ++ b.ended.0 ≡ take n piece =
+    append_cancel_left b.from (b.begun.0 ++ b.ended.0) (take n piece) (sym (append_assoc b.from b.begun.0 b.ended.0) ∙ ap (λ l. l ++ b.ended.0) (sym b.begun.1) ∙ sym b.ended.1 ∙ whole) in
+    let front : piece ≡ b.begun.0 ++ (b.ended.0 ++ drop n piece) =
+    sym (take-append-drop n piece) ∙ ap (λ l. l ++ drop n piece) (sym rest) ∙ append_assoc b.begun.0 b.ended.0 (drop n piece) in
+    let first : take (length b.begun.0) piece ≡ b.begun.0 = ap (take (length b.begun.0)) front ∙ take-append_seam b.begun.0 (b.ended.0 ++ drop n piece) in
+    (length b.begun.0, ap Some (b.begun.1 ∙ ap (λ l. b.from ++ l) (sym first)) ∙ ap (λ o. append_known o (take (length b.begun.0) piece)) (sym b.was))
+
+nothing_said : (before : Option (List ℕ)) (said : List ℕ) (piece : List ℕ) → before ≡ Some said → SaysPart piece before (Some said)
+nothing_said before said piece is = (0, sym (append_known-nil before ∙ is))
+
+-- a piece that was said, or the front of it
+pub says_part : {E : Type 0} (r : Result (Unit {0}) E) (piece : List ℕ) (before now : Option (List ℕ)) → OnOk r (now ≡ append_known before piece)
+    → OnErr r ((k : ℕ) × (k ≤ length piece) × (now ≡ append_known before (take k piece))) → SaysPart piece before now
+says_part (Ok x) piece before now ok err = (length piece, ok ∙ ap (append_known before) (sym (take-length piece)))
+says_part (Err e) piece before now ok err = (err.0, err.2)
+
+-- ---- growth
+
+places_of : (requests : List Request) (epoch : ℕ) (c d : Contents) → Grown requests epoch c d → HasPlaces (history_of c) requests (history_of d)
+places_of [] epoch c d g = tt
+places_of (r ∷ rs) epoch c d g = (g.e, g.order, g.history)
+
+grows_in_order : (requests : List Request) (epoch : ℕ) (c d : Contents) → Grown requests epoch c d → GrowsInOrder (history_of c) requests (history_of d)
+grows_in_order requests epoch c d g = (g.grows, places_of requests epoch c d g)
+
+no_growth : (requests : List Request) (h : History) → requests ≡ [] → GrowsInOrder h requests h
+no_growth requests h none = subst (λ rs. GrowsInOrder h rs h) (sym none) (refl, tt)
+
+-- ---- moments
+
+module _ {H : Type 0} (moment : H → ℕ) (observed : H → ℕ → Observation → Type 0) (said : H → Option (List ℕ)) (reads : H → Option Files) (may_leave : H → Files → Type 0) where
+  -- what a turn made of the store, where it succeeded
+  pub record Committed (c : Contents) (requests : List Request) (after : ClusterState) (old mid : H) : Type 0 where
+    pub d : Contents
+    pub setting : d.setting ≡ c.setting
+    pub grows : GrowsInOrder (history_of c) requests (history_of d)
+    pub rests : RestsOn d (reads mid) (may_leave mid)
+    pub stands : StandsAt d after
+    pub moments : SeesOnly moment observed old mid (ShowsStore c.setting (history_of c) (history_of d) (said old))
+
+  abbrev pub OnlyNow : Type 0
+  OnlyNow = (host : H) (seen : Observation) → observed host (moment host) seen → may_leave host seen.image × (said host ≡ Some seen.said)
+
+  unmoved : OnlyNow → (c : Contents) (host : H) → RestsOn c (reads host) (may_leave host) → SeesOnly moment observed host host (ShowsStore c.setting (history_of c) (history_of c) (said host))
+  unmoved only_now c host rests = started moment observed host (ShowsStore c.setting (history_of c) (history_of c) (said host)) (λ seen since.
+      let now = only_now host seen since in
+      record { store = inl (record { contents = c; setting = refl; good = rests.left seen.image now.0; history = refl }); said = now.1 })
+
+  pub committed : OnlyNow → (result : Result (Unit {0}) TurnFault) (x : Unit {0}) (requests : List Request) (c : Contents) (before after : ClusterState) (old mid : H) → result ≡ Ok x
+      → RestsOn c (reads old) (may_leave old) → StandsAt c before
+      → IsUntouched result requests before after old mid ⊎ Turns moment observed said reads may_leave result requests c before after old mid → Committed c requests after old mid
+  committed only_now result x requests c before after old mid ok rests stands (inl none) =
+      let nothing : (requests ≡ []) × (after ≡ before) = subst (λ (r : Result _ _). OnOk r ((requests ≡ []) × (after ≡ before))) ok none.1 in
+      record {
+        d = c;
+        setting = refl;
+        grows = no_growth requests (history_of c) nothing.0;
+        rests = subst (λ h. RestsOn c (reads h) (may_leave h)) (sym none.0) rests;
+        stands = subst (StandsAt c) (sym nothing.1) stands;
+        moments = subst (λ h. SeesOnly moment observed old h (ShowsStore c.setting (history_of c) (history_of c) (said old))) (sym none.0) (unmoved only_now c old rests);
+      }
+  committed only_now result x requests c before after old mid ok rests stands (inr t) =
+      let done : RestsOn t.d (reads mid) (may_leave mid) × StandsAt t.d after = subst (λ (r : Result _ _). OnOk r (RestsOn t.d (reads mid) (may_leave mid) × StandsAt t.d after)) ok t.ok in
+      record { d = t.d; setting = t.grown.setting; grows = grows_in_order requests before.next_epoch c t.d t.grown; rests = done.0; stands = done.1; moments = t.moments }
+
+  -- ---- a turn that failed
+
+  refused : (f : TurnFault) (old new : H) → new ≡ old → IsRefused (Err (fault_of_turn f)) old new
+  refused turn.Disk old new same = same
+  refused turn.EpochsUsedUp old new same = same
+  refused turn.NoMemory old new same = same
+
+  turn_shows : (s : Setting) (before after : History) (bytes : Option (List ℕ)) (texts : List ℕ) (seen : Observation) → ShowsStore s before after bytes seen → ShowsBatch s before after bytes texts seen
+  turn_shows s before after bytes texts seen shows =
+      ⊎_elim (λ was. inl (was, shows.said)) (λ grown. inr (grown, nothing_said bytes seen.said texts shows.said)) shows.store
+
+  turn_ends : (f : TurnFault) (result : Result (Unit {0}) TurnFault) (batch : Batch) (requests : List Request) (c : Contents) (before after : ClusterState) (old new : H) → requests ≡ batch.fresh → said new ≡ said old
+      → (f ≡ turn.EpochsUsedUp → new ≡ old) → Turns moment observed said reads may_leave result requests c before after old new
+      → IsRefused (Err (fault_of_turn f)) old new ⊎ Answers moment observed said reads may_leave (Err (fault_of_turn f)) batch c after old new
+  turn_ends f result batch requests c before after old new same quiet unused t = by f unused
+    where
+      grows : GrowsInOrder (history_of c) batch.fresh (history_of t.d)
+      grows = subst (λ rs. GrowsInOrder (history_of c) rs (history_of t.d)) same (grows_in_order requests before.next_epoch c t.d t.grown)
+
+      moments : SeesOnly moment observed old new (ShowsBatch c.setting (history_of c) (history_of t.d) (said old) (texts_of c t.d batch))
+      moments = sees_weaker moment observed old new (ShowsStore c.setting (history_of c) (history_of t.d) (said old)) (ShowsBatch c.setting (history_of c) (history_of t.d) (said old) (texts_of c t.d batch))
+          (turn_shows c.setting (history_of c) (history_of t.d) (said old) (texts_of c t.d batch)) t.moments
+
+      by : (f : TurnFault) → (f ≡ turn.EpochsUsedUp → new ≡ old) → IsRefused (Err (fault_of_turn f)) old new ⊎ Answers moment observed said reads may_leave (Err (fault_of_turn f)) batch c after old new
+      by turn.Disk unused = inr (record { d = t.d; setting = t.grown.setting; grows = grows; moments = moments; ends = (t.left, quiet) })
+      by turn.EpochsUsedUp unused = inl (unused refl)
+      by turn.NoMemory unused = inr (record { d = t.d; setting = t.grown.setting; grows = grows; moments = moments; ends = inl (t.left, quiet) })
+
+  pub turn_failed : (f : TurnFault) (turned : Result (Unit {0}) TurnFault) (result : Result (Unit {0}) BatchFault) (batch : Batch) (requests : List Request) (c : Contents) (before after : ClusterState) (old new : H)
+      → turned ≡ Err f → result ≡ Err (fault_of_turn f) → requests ≡ batch.fresh → said new ≡ said old → (turned ≡ Err turn.EpochsUsedUp → new ≡ old)
+      → IsUntouched turned requests before after old new ⊎ Turns moment observed said reads may_leave turned requests c before after old new
+      → IsRefused result old new ⊎ Answers moment observed said reads may_leave result batch c after old new
+  turn_failed f turned result batch requests c before after old new was is same quiet unused turns =
+      subst (λ r. IsRefused r old new ⊎ Answers moment observed said reads may_leave r batch c after old new) (sym is)
+      (⊎_elim (λ none. inl (refused f old new none.0)) (turn_ends f turned batch requests c before after old new same quiet (λ used. unused (was ∙ ap Err used))) turns)
+
+  -- ---- a turn that committed, and what is said behind it
+
+  module _ (batch : Batch) (requests : List Request) (c : Contents) (after : ClusterState) (old mid : H) (same : requests ≡ batch.fresh) (quiet : said mid ≡ said old) (done : Committed c requests after old mid) where
+    abbrev texts : List ℕ
+    texts = texts_of c done.d batch
+
+    abbrev Shows : Observation → Type 0
+    Shows = ShowsBatch c.setting (history_of c) (history_of done.d) (said old) texts
+
+    grows_so : GrowsInOrder (history_of c) batch.fresh (history_of done.d)
+    grows_so = subst (λ rs. GrowsInOrder (history_of c) rs (history_of done.d)) same done.grows
+
+    shown : SeesOnly moment observed old mid Shows
+    shown = sees_weaker moment observed old mid (ShowsStore c.setting (history_of c) (history_of done.d) (said old)) Shows (turn_shows c.setting (history_of c) (history_of done.d) (said old) texts) done.moments
+
+    -- out of memory before anything is said
+    pub unsaid : (result : Result (Unit {0}) BatchFault) → result ≡ Err fault.NoMemory → Answers moment observed said reads may_leave result batch c after old mid
+    unsaid result is = subst (λ r. Answers moment observed said reads may_leave r batch c after old mid) (sym is) (record {
+      d = done.d;
+      setting = done.setting;
+      grows = grows_so;
+      moments = shown;
+      ends = inr (done.rests, (0, quiet ∙ sym (append_known-nil (said old))));
+    })
+
+    module _ (new : H) (piece : List ℕ) (are : piece ≡ texts) (unread : reads new ≡ reads mid) (crash : NoMore (may_leave mid) (may_leave new))
+        (sees : SeesOnly moment observed mid new (IsNew (may_leave mid) (said mid) (said new))) (part : SaysPart piece (said mid) (said new)) where
+      said_part : SaysPart texts (said old) (said new)
+      said_part = (part.0, part.1 ∙ ap (λ o. append_known o (take part.0 piece)) quiet ∙ ap (λ l. append_known (said old) (take part.0 l)) are)
+
+      saying_shows : (seen : Observation) → IsNew (may_leave mid) (said mid) (said new) seen → Shows seen
+      saying_shows seen is_new =
+          let between : IsSaidBetween (said old) (said new) seen.said = subst (λ o. IsSaidBetween o (said new) seen.said) quiet is_new.said in
+          inr (
+            record { contents = done.d; setting = done.setting; good = done.rests.left seen.image is_new.image; history = refl },
+            said_between (said old) (said new) texts seen.said said_part.0 said_part.1 between,
+          )
+
+      pub rests_still : RestsOn done.d (reads new) (may_leave new)
+      rests_still = record {
+        files = done.rests.files;
+        are = unread ∙ done.rests.are;
+        good = done.rests.good;
+        left = λ image leaves. done.rests.left image (crash image leaves);
+      }
+
+      answered : (result : Result (Unit {0}) BatchFault) → BatchEnds c done.d after texts (said old) (said new) (reads new) (may_leave new) result
+          → Answers moment observed said reads may_leave result batch c after old new
+      answered result ends = record {
+        d = done.d;
+        setting = done.setting;
+        grows = grows_so;
+        moments = sees_then moment observed old mid new Shows (IsNew (may_leave mid) (said mid) (said new)) shown sees saying_shows;
+        ends = ends;
+      }
+
+      -- the piece is said whole
+      pub all_said : said new ≡ append_known (said mid) piece → Answers moment observed said reads may_leave (Ok tt) batch c after old new
+      all_said whole = answered (Ok tt) (rests_still, done.stands, whole ∙ ap (λ o. append_known o piece) quiet ∙ ap (append_known (said old)) are)
+
+      by_fault : (f : OutFault) → Answers moment observed said reads may_leave (Err (fault_of_saying f)) batch c after old new
+      by_fault out.Failed = answered (Err fault.Say) (rests_still, said_part)
+      by_fault out.NoMemory = answered (Err fault.NoMemory) (inr (rests_still, said_part))
+
+      -- the saying broke off
+      pub partly_said : (f : OutFault) (result : Result (Unit {0}) BatchFault) → result ≡ Err (fault_of_saying f) → Answers moment observed said reads may_leave result batch c after old new
+      partly_said f result is = subst (λ r. Answers moment observed said reads may_leave r batch c after old new) (sym is) (by_fault f)
+
+-- ---- texts
+
+-- the early texts, and those of after, are those of the two stores
+pub texts_are : (c d : Contents) (k after : ClusterState) (batch : Batch) (was now : List Done) (answers : List Answer) (piece : List ℕ) → StandsAt c k → StandsAt d after
+    → was ≡ k.kept.dones → now ≡ after.kept.dones → answers ≡ batch.answers.items → piece ≡ texts_over was now answers → piece ≡ texts_of c d batch
+texts_are c d k after batch was now answers piece stands then_stands before behind same is =
+    is ∙ ap (λ ds. texts_over ds now answers) (before ∙ stands.dones) ∙ ap (λ ds. texts_over (kept (history_of c)) ds answers) (behind ∙ then_stands.dones) ∙ ap (texts_over (kept (history_of c)) (kept (history_of d))) same

@@ -1,0 +1,6 @@
+pub mod BatchLemmas
+pub mod EndLemmas
+pub mod NextLemmas
+pub mod ReplyLemmas
+pub mod RunLemmas
+pub mod TextLemmas

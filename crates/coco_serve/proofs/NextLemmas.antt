@@ -1,0 +1,294 @@
+-- One batch more: what it makes of a run, and how the run ends with it.
+use Rattle.std.proofs.Common.{◌≡◌, true, ℕ, ◌+◌, ◌-◌, ◌<◌, ◌≤◌, inl, inr, ◌⊎◌, ⊎_elim, Err, List, [], ◌∷◌, ◌++◌, length, map, take, Option, Some, refl, sym, ap, subst, ◌∙◌, arith, append_assoc, append-nil, length-append}
+use Rattle.std.specs.Prelude.{Result}
+use Rattle.std.proofs.lemmas.Bool.{cases_lt}
+use Rattle.std.proofs.Math.Seq.{take-append-add, take-append_seam, take-length, take_all}
+use Rattle.std.specs.Io.KnownBytes.{append_known}
+use Rattle.coco_append.specs.Gaining.{RestsOn}
+use Rattle.coco_append.proofs.GainLemmas.{sees_weaker}
+use Rattle.coco_ast.specs.Growth.{GrowsInTurn}
+use Rattle.coco_ast.specs.GrowthLaws.{Keeps}
+use Rattle.coco_ast.specs.History.{History, all_dones, kept}
+use Rattle.coco_ast.specs.Tree.{Procedures}
+use Rattle.coco_ast.proofs.GrowthLemmas.{growth_keeps}
+use Rattle.coco_batches.specs.Asking.{known_of}
+use Rattle.coco_batches.specs.BatchReading.{ReadsBatch}
+use Rattle.coco_batches.specs.declared.batch.Batch.{Batch}
+use Rattle.coco_cluster.specs.Standing.{ClusterState, StandsAt}
+use Rattle.coco_host.specs.Files.{Files}
+use Rattle.coco_host.specs.Moments.{Observation, SeesOnly}
+use Rattle.coco_io.proofs.KnownLemmas.{append_known-append}
+use Rattle.coco_lines.specs.Answers.{answers_by}
+use Rattle.coco_lines.specs.Batches.{AreBatches, Batch as Lines, joined}
+use Rattle.coco_lines.specs.Classes.{AreClasses, known_in, new_of}
+use Rattle.coco_lines.specs.Growing.{GrowsByBatch}
+use Rattle.coco_lines.specs.Lines.{Line, lines_of}
+use Rattle.coco_lines.specs.ReaderState.{ReaderState}
+use Rattle.coco_lines.specs.Reads.{SourceMoment}
+use Rattle.coco_lines.specs.declared.class.Class.{Class}
+use Rattle.coco_lines.proofs.LinesLemmas.{lines_of-nil}
+use Rattle.coco_lines.proofs.ReplyLemmas.{answers_still, are_new}
+use Rattle.coco_store.specs.Contents.{Contents, history_of}
+use Rattle.coco_store.specs.Rules.{Setting}
+use Rattle.coco_serve.specs.Growth.{GrowsInOrder, HaveSize, IsGrown, answers_of, epochs_of}
+use Rattle.coco_serve.specs.OneBatch.{Answers, BatchEnds, SaysPart, texts_of}
+use Rattle.coco_serve.specs.Texts.{texts_over}
+use Rattle.coco_serve.specs.Seen.{IsServed, LeavesEither, ShowsBatch}
+use Rattle.coco_serve.specs.Serving.{LeavesLast, Progress, RestsAt, RunEnds, SaysAll, SaysUpTo, Serves}
+use Rattle.coco_serve.specs.declared.ending.Ending.{Ending}
+use Rattle.coco_serve.specs.declared.ending.Ending.TheVariants as ending
+use Rattle.coco_serve.specs.declared.fault.BatchFault.{BatchFault}
+use Rattle.coco_serve.specs.declared.fault.BatchFault.TheVariants as fault
+use Rattle.coco_serve.specs.Endings.{ending_of}
+use Rattle.coco_cluster.proofs.StoreLemmas.{sees_then}
+use Rattle.coco_serve.proofs.ReplyLemmas.{keeps_some, no_later_done, texts_are_answers}
+use Rattle.coco_serve.proofs.RunLemmas.{AreServed, SeenNow, added_by, all_served, answers-append, batches_more, classes_length, cut_more, joined-more, known_at, left_by, map-more, more_served, paired, size_more, turns_more, moved}
+
+module _ {H : Type 0} (moment : H → ℕ) (observed : H → ℕ → Observation → Type 0) (said : H → Option (List ℕ)) (reads : H → Option Files) (may_leave : H → Files → Type 0) where
+  module _ (c : Contents) (next size : ℕ) (lines : List Line) (k k' : ClusterState) (first mid host : H) (reader reader' : ReaderState) (m n : SourceMoment) (batch : Batch) (result : Result (Unit {0}) BatchFault)
+      (a : AreServed moment observed said reads may_leave c next size lines k first mid) (given : reader.given ≡ length lines) (r : ReadsBatch k.procs (known_of k.kept []) reader reader' m n size batch)
+      (x : Answers moment observed said reads may_leave result batch a.d k' mid host) where
+    abbrev tree : Procedures
+    tree = c.setting.tree
+
+    abbrev opening : History
+    opening = history_of c
+
+    abbrev h : History
+    h = history_of a.d
+
+    abbrev g : History
+    g = history_of x.d
+
+    abbrev more : List Line
+    more = r.taking.lines
+
+    abbrev cs : List Class
+    cs = r.taking.classes
+
+    abbrev batches' : List Lines
+    batches' = a.batches ++ more ∷ []
+
+    abbrev classes' : List (List Class)
+    classes' = a.classes ++ cs ∷ []
+
+    abbrev texts : List ℕ
+    texts = texts_of a.d x.d batch
+
+    are : AreClasses tree (known_in h) more cs
+    are =
+        let procs_are : k.procs ≡ tree = a.stands.procs ∙ ap (λ (s : Setting). s.tree) a.setting in
+        subst (λ kn. AreClasses tree kn more cs) (known_at a.d k a.stands) (subst (λ p. AreClasses p (known_of k.kept []) more cs) procs_are r.taking.are)
+
+    grows : GrowsInOrder h (new_of cs) g
+    grows = subst (λ rs. GrowsInOrder h rs g) r.taking.fresh x.grows
+
+    one_batch : GrowsByBatch tree h more cs g
+    one_batch = record { are = are; grows = grows.0 }
+
+    grown' : IsGrown tree opening batches' classes' g
+    grown' = record {
+      grown = batches_more tree opening a.batches a.classes h more cs g a.grown.grown one_batch;
+      in_order = subst (λ l. GrowsInTurn GrowsInOrder opening l g) (sym (map-more a.classes cs)) (turns_more opening (map new_of a.classes) h (new_of cs) g a.grown.in_order grows);
+    }
+
+    as_many : length a.classes ≡ length a.batches
+    as_many = paired tree opening a.batches a.classes h a.grown.grown
+
+    keeps : Keeps h (new_of cs) g
+    keeps = growth_keeps h (new_of cs) g grows.0
+
+    texts_are : texts ≡ answers_by (all_dones g) (reader.given + 1) cs
+    texts_are =
+        ap (texts_over (kept h) (kept g)) r.taking.answers
+        ∙ texts_are_answers tree h g more cs (reader.given + 1) are grows.0 a.rests.good.ordered (keeps.ordered a.rests.good.ordered (are_new tree h more cs are))
+        (no_later_done a.rests.files a.d a.rests.good) (keeps_some a.rests.files a.d a.rests.good)
+
+    answers_stay : answers_of g a.classes ≡ answers_of h a.classes
+    answers_stay = answers_still tree opening a.batches (more ∷ []) a.classes (cs ∷ []) h g 1 a.grown.grown (g, one_batch, (refl, refl))
+
+    -- the answers so far, and behind them the batch's
+    all_answers : answers_of g classes' ≡ answers_of h a.classes ++ texts
+    all_answers =
+        let number : 1 + length (joined a.classes) ≡ reader.given + 1 = omega (arith, given, a.many) in
+        ap (answers_by (all_dones g) 1) (joined-more a.classes cs) ∙ answers-append (all_dones g) 1 (joined a.classes) cs
+        ∙ ap (λ t. t ++ answers_by (all_dones g) (1 + length (joined a.classes)) cs) answers_stay
+        ∙ ap (λ i. answers_of h a.classes ++ answers_by (all_dones g) i cs) number ∙ ap (λ t. answers_of h a.classes ++ t) (sym texts_are)
+
+    -- a front of the batch's texts, behind what was said before
+    front_said : (now : Option (List ℕ)) (i : ℕ) → now ≡ append_known (said mid) (take i texts) → now ≡ append_known (said first) (take (length (answers_of h a.classes) + i) (answers_of g classes'))
+    front_said now i is =
+        is ∙ ap (λ o. append_known o (take i texts)) a.says ∙ append_known-append (said first) (answers_of h a.classes) (take i texts)
+        ∙ ap (append_known (said first)) (sym (ap (take (length (answers_of h a.classes) + i)) all_answers ∙ take-append-add (answers_of h a.classes) texts i))
+
+    batch_shows : (seen : Observation) → ShowsBatch a.d.setting h g (said mid) texts seen → IsServed c.setting opening batches' classes' g (said first) seen
+    batch_shows seen shows = ⊎_elim
+        (λ was. more_served c.setting opening a.batches a.classes h (said first) as_many more cs g keeps.prefix seen
+        (all_served c.setting opening a.batches a.classes h (said first) a.grown seen (moved a.d.setting c.setting h seen.image a.setting was.0) (length (answers_of h a.classes))
+        (sym was.1 ∙ a.says ∙ ap (append_known (said first)) (sym (take-length (answers_of h a.classes))))))
+        (λ grew. all_served c.setting opening batches' classes' g (said first) grown' seen (moved a.d.setting c.setting g seen.image a.setting grew.0) (length (answers_of h a.classes) + grew.1.0) (front_said (Some seen.said) grew.1.0 grew.1.1)) shows
+
+    moments' : SeesOnly moment observed first host (IsServed c.setting opening batches' classes' g (said first))
+    moments' = sees_then moment observed first mid host (IsServed c.setting opening batches' classes' g (said first)) (ShowsBatch a.d.setting h g (said mid) texts)
+        (sees_weaker moment observed first mid (IsServed c.setting opening a.batches a.classes h (said first)) (IsServed c.setting opening batches' classes' g (said first))
+        (more_served c.setting opening a.batches a.classes h (said first) as_many more cs g keeps.prefix) a.moments) x.moments batch_shows
+
+    abbrev IsWhole : Type 0
+    IsWhole = RestsOn x.d (reads host) (may_leave host) × StandsAt x.d k' × (said host ≡ append_known (said mid) texts)
+
+    says_whole : IsWhole → said host ≡ append_known (said first) (answers_of g classes')
+    says_whole done = done.2 ∙ ap (λ o. append_known o texts) a.says ∙ append_known-append (said first) (answers_of h a.classes) texts ∙ ap (append_known (said first)) (sym all_answers)
+
+    -- the batch was whole, committed and said
+    pub served_more : IsWhole → size ≤ length batch.answers.items → k'.next_epoch ≡ k.next_epoch + epochs_of batch.fresh → AreServed moment observed said reads may_leave c next size (lines ++ more) k' first host
+    served_more done full numbers =
+        let gained = added_by h (new_of cs) g grows.0 in
+        record {
+          batches = batches';
+          classes = classes';
+          d = x.d;
+          setting = x.setting ∙ a.setting;
+          lines_are = ap (λ ls. ls ++ more) a.lines_are ∙ sym (joined-more a.batches more);
+          grown = grown';
+          whole = size_more size a.batches more a.whole (omega (arith, r.taking.as_many, r.few, full));
+          many = (
+              let counted = classes_length tree (known_in h) more cs are in
+              omega (arith, counted, a.many, ap (length {A = Class}) (joined-more a.classes cs), length-append (joined a.classes) cs, length-append lines more));
+          rests = done.0;
+          stands = done.1;
+          says = says_whole done;
+          moments = moments';
+          added = a.added ++ gained.0;
+          epochs = gained.1 ∙ ap (λ es. es ++ gained.0) a.epochs ∙ append_assoc opening.epochs a.added gained.0;
+          numbers = (
+              let same : epochs_of batch.fresh ≡ epochs_of (new_of cs) = ap epochs_of r.taking.fresh in
+              omega (arith, numbers, same, a.numbers, gained.2, length-append a.added gained.0));
+        }
+
+    -- ---- where a run ends with the batch
+
+    module _ (seen_now : SeenNow moment observed said reads may_leave) (bytes : List ℕ) (all : lines_of bytes ≡ (lines ++ more) ++ lines_of reader'.pending) (some : 0 < length batch.answers.items) where
+      all_lines : lines_of bytes ≡ joined batches' ++ lines_of reader'.pending
+      all_lines = all ∙ ap (λ ls. ls ++ lines_of reader'.pending) (ap (λ ls. ls ++ more) a.lines_are ∙ sym (joined-more a.batches more))
+
+      some_lines : 0 < length more
+      some_lines = omega (arith, r.taking.as_many, some)
+
+      cut_short : (reader'.ended ≡ true) × (reader'.pending ≡ []) → (lines_of reader'.pending ≡ []) × AreBatches size batches'
+      cut_short end = (ap lines_of end.1 ∙ lines_of-nil, cut_more size a.batches more a.whole some_lines (omega (arith, r.few, r.taking.as_many)))
+
+      cut : HaveSize size batches' ⊎ ((lines_of reader'.pending ≡ []) × AreBatches size batches')
+      cut = ⊎_elim (λ short. inr (cut_short (r.ends short))) (λ full. inl (size_more size a.batches more a.whole (omega (arith, r.few, r.taking.as_many, full)))) (cases_lt (length batch.answers.items) size)
+
+      abbrev progress' : Progress tree opening size bytes
+      progress' = record { batches = batches'; classes = classes'; history = g; grown = grown'; first = record { others = lines_of reader'.pending; lines = all_lines; cut = cut } }
+
+      ends_so : (e : Ending) → RunEnds c next size bytes progress' (said first) (said host) (reads host) (may_leave host) e → Serves moment observed said reads may_leave c next size bytes e first host
+      ends_so e ends = record {
+        progress = progress';
+        moments = moments';
+        left = left_by moment observed said reads may_leave seen_now first host (IsServed c.setting opening batches' classes' g (said first)) moments';
+        ends = ends;
+      }
+
+      pub finished_short : IsWhole → length batch.answers.items < size → Serves moment observed said reads may_leave c next size bytes ending.Finished first host
+      finished_short done short =
+          let end = cut_short (r.ends short) in
+          ends_so ending.Finished (
+            (all_lines ∙ ap (λ ls. joined batches' ++ ls) end.0 ∙ append-nil (joined batches'), end.1),
+            (x.d, x.setting ∙ a.setting, refl, done.0),
+            says_whole done,
+          )
+
+      abbrev last : ℕ
+      last = length a.batches
+
+      one_more : length batches' ≡ last + 1
+      one_more = length-append a.batches (more ∷ [])
+
+      take_batches : take last batches' ≡ a.batches
+      take_batches = take-append_seam a.batches (more ∷ [])
+
+      take_classes : take last classes' ≡ a.classes
+      take_classes = ap (λ i. take i classes') (sym as_many) ∙ take-append_seam a.classes (cs ∷ [])
+
+      grown_before : IsGrown tree opening (take last batches') (take last classes') h
+      grown_before = subst (λ bs. IsGrown tree opening bs (take last classes') h) (sym take_batches) (subst (λ l. IsGrown tree opening a.batches l h) (sym take_classes) a.grown)
+
+      -- the batch is committed, and its answers are said in part
+      says_part : SaysPart texts (said mid) (said host) → SaysUpTo (said first) (said host) g classes'
+      says_part part =
+          let but_last : take (length classes' - 1) classes' ≡ a.classes =
+          ap (λ i. take i classes') (let e = length-append a.classes (cs ∷ []) in let l : length classes' - 1 ≡ length a.classes = omega (arith, e) in l) ∙ take-append_seam a.classes (cs ∷ []) in
+          let shorter : length (answers_of g (take (length classes' - 1) classes')) ≡ length (answers_of h a.classes) = ap (length {A = ℕ}) (ap (answers_of g) but_last ∙ answers_stay) in
+          record {
+            part = length (answers_of h a.classes) + part.0;
+            says = front_said (said host) part.0 part.1;
+            most = omega (arith, shorter);
+          }
+
+      rests_then : RestsOn x.d (reads host) (may_leave host) → RestsAt c.setting g (reads host) (may_leave host)
+      rests_then rests = (x.d, x.setting ∙ a.setting, refl, rests)
+
+      say_ends : RestsOn x.d (reads host) (may_leave host) × SaysPart texts (said mid) (said host) → Serves moment observed said reads may_leave c next size bytes ending.SayFault first host
+      say_ends ends = ends_so ending.SayFault (rests_then ends.0, says_part ends.1)
+
+      abbrev Leaves : (History → List (List Class) → Type 0) → Type 0
+      Leaves Says = LeavesLast c.setting opening batches' classes' g Says (said host) (may_leave host)
+
+      -- the batch's turn failed
+      leaves_before : (Says : History → List (List Class) → Type 0) → LeavesEither a.d.setting h g (said mid) (may_leave host) → said host ≡ said mid → Says h a.classes → Leaves Says
+      leaves_before Says left same says = record {
+        count = last;
+        last = inr one_more;
+        history = h;
+        grown = grown_before;
+        says = subst (Says h) (sym take_classes) says;
+        left = λ bytes spoke image leaves. ⊎_elim (λ was. inl (moved a.d.setting c.setting h image a.setting was)) (λ grew. inr (moved a.d.setting c.setting g image a.setting grew)) (left bytes (sym same ∙ spoke) image leaves);
+      }
+
+      says_before : said host ≡ said mid → said host ≡ append_known (said first) (answers_of h a.classes)
+      says_before same = same ∙ a.says
+
+      says_before_whole : said host ≡ said mid → SaysUpTo (said first) (said host) h a.classes
+      says_before_whole same =
+          let whole = answers_of h a.classes in
+          let front = answers_of h (take (length a.classes - 1) a.classes) in
+          record {
+            part = length whole + length front;
+            says = says_before same ∙ ap (append_known (said first)) (sym (take_all (length whole + length front) whole (omega arith)));
+            most = omega arith;
+          }
+
+      disk_ends : LeavesEither a.d.setting h g (said mid) (may_leave host) × (said host ≡ said mid) → Serves moment observed said reads may_leave c next size bytes ending.DiskFault first host
+      disk_ends ends = ends_so ending.DiskFault (leaves_before (SaysAll (said first) (said host)) ends.0 ends.1 (says_before ends.1))
+
+      -- the batch is committed
+      leaves_after : (Says : History → List (List Class) → Type 0) → RestsOn x.d (reads host) (may_leave host) → Says g classes' → Leaves Says
+      leaves_after Says rests says = record {
+        count = length batches';
+        last = inl refl;
+        history = g;
+        grown = subst (λ bs. IsGrown tree opening bs (take (length batches') classes') g) (sym (take-length batches'))
+            (subst (λ l. IsGrown tree opening batches' l g) (sym all_classes) grown');
+        says = subst (Says g) (sym all_classes) says;
+        left = λ bytes spoke image leaves. inl (record { contents = x.d; setting = x.setting ∙ a.setting; good = rests.left image leaves; history = refl });
+      }
+        where
+          all_classes : take (length batches') classes' ≡ classes'
+          all_classes = ap (λ i. take i classes') (sym (paired tree opening batches' classes' g grown'.grown)) ∙ take-length classes'
+
+      memory_ends : LeavesEither a.d.setting h g (said mid) (may_leave host) × (said host ≡ said mid) ⊎ RestsOn x.d (reads host) (may_leave host) × SaysPart texts (said mid) (said host)
+          → Serves moment observed said reads may_leave c next size bytes ending.NoMemory first host
+      memory_ends ends = ends_so ending.NoMemory (⊎_elim
+          (λ before. leaves_before (SaysUpTo (said first) (said host)) before.0 before.1 (says_before_whole before.1))
+          (λ after. leaves_after (SaysUpTo (said first) (said host)) after.0 (says_part after.1)) ends)
+
+      batch_fails : (f : BatchFault) → BatchEnds a.d x.d k' texts (said mid) (said host) (reads host) (may_leave host) (Err f) → Serves moment observed said reads may_leave c next size bytes (ending_of f) first host
+      batch_fails fault.Say ends = say_ends ends
+      batch_fails fault.Disk ends = disk_ends ends
+      batch_fails fault.EpochsUsedUp ends = absurd ends
+      batch_fails fault.NoMemory ends = memory_ends ends
+
+      pub answers_failed : (f : BatchFault) → result ≡ Err f → Serves moment observed said reads may_leave c next size bytes (ending_of f) first host
+      answers_failed f is = batch_fails f (subst (BatchEnds a.d x.d k' texts (said mid) (said host) (reads host) (may_leave host)) is x.ends)

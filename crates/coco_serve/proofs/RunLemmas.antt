@@ -1,0 +1,317 @@
+-- A run over request lines, batch by batch. What stands in coco's lemmas too, for a history without files, is to be merged with them.
+use Rattle.std.proofs.Common.{◌≡◌, false, ℕ, suc, ◌+◌, ◌-◌, ◌<◌, ◌≤◌, inl, List, [], ◌∷◌, ◌++◌, length, map, take, Option, Some, refl, sym, ap, subst, ◌∙◌, arith, append_assoc, append-nil, length-append}
+use Rattle.std.proofs.Math.Seq.{take-length, take_all}
+use Rattle.std.proofs.lemmas.List.{take-append-le}
+use Rattle.std.specs.Io.KnownBytes.{append_known}
+use Rattle.coco_types.specs.Limits.{epochs_end}
+use Rattle.coco_types.specs.declared.call.Done.{Done}
+use Rattle.coco_types.specs.declared.call.Request.{Request}
+use Rattle.coco_append.specs.Gaining.{RestsOn}
+use Rattle.coco_ast.specs.Growth.{GrowsBy, GrowsInTurn}
+use Rattle.coco_ast.specs.History.{Epoch, History, IsPrefixOf, floor, kept, request_of}
+use Rattle.coco_ast.specs.Tree.{Procedures}
+use Rattle.coco_ast.proofs.Growths.{prefix_trans}
+use Rattle.coco_ast.proofs.Lists.{all_append}
+use Rattle.coco_batches.specs.Asking.{known_of}
+use Rattle.coco_batches.specs.BatchReading.{TakesLines}
+use Rattle.coco_cluster.specs.Standing.{ClusterState, StandsAt}
+use Rattle.coco_cluster.specs.Turning.{IsStoreOf}
+use Rattle.coco_host.specs.Files.{Files}
+use Rattle.coco_store.specs.Rules.{Setting}
+use Rattle.coco_host.specs.Moments.{Observation, SeesOnly}
+use Rattle.coco_host.proofs.Sees.{started}
+use Rattle.coco_io.proofs.KnownLemmas.{append_known-nil}
+use Rattle.coco_lines.specs.Answers.{answers_by, answer_by}
+use Rattle.coco_lines.specs.Batches.{AreBatches, Batch as Lines, joined}
+use Rattle.coco_lines.specs.Classes.{AreClasses, Known, and_known, known_in, new_in, new_of}
+use Rattle.coco_lines.specs.Growing.{GrowsByBatch, GrowsByBatches}
+use Rattle.coco_lines.specs.Lines.{Line, ended_lines_of, lines_of}
+use Rattle.coco_lines.specs.ReaderState.{ReaderState}
+use Rattle.coco_lines.specs.Reads.{SourceMoment}
+use Rattle.coco_lines.specs.declared.class.Class.{Class}
+use Rattle.coco_store.specs.Contents.{Contents, history_of}
+use Rattle.coco_serve.specs.Growth.{GrowsInOrder, HaveSize, IsGrown, answers_of, epochs_of}
+use Rattle.coco_serve.specs.Seen.{IsServed, LeavesEither}
+use Rattle.coco_serve.specs.Serving.{LeavesLast, Progress, RestsAt, RunEnds, SaysAll, SaysUpTo, Serves}
+use Rattle.coco_serve.specs.declared.ending.Ending.{Ending}
+use Rattle.coco_serve.specs.declared.ending.Ending.TheVariants as ending
+
+-- ---- lists of batches
+
+pub joined-more : {A : Type 0} (xs : List (List A)) (ys : List A) → joined (xs ++ ys ∷ []) ≡ joined xs ++ ys
+joined-more [] ys = append-nil ys
+joined-more (x ∷ xs) ys = ap (λ l. x ++ l) (joined-more xs ys) ∙ sym (append_assoc x (joined xs) ys)
+
+pub map-more : (xs : List (List Class)) (ys : List Class) → map new_of (xs ++ ys ∷ []) ≡ map new_of xs ++ new_of ys ∷ []
+map-more [] ys = refl
+map-more (x ∷ xs) ys = ap (λ l. new_of x ∷ l) (map-more xs ys)
+
+pub batches_more : (procs : Procedures) (h : History) (bs : List Lines) (cs : List (List Class)) (g : History) (b : Lines) (c : List Class) (k : History) → GrowsByBatches procs h bs cs g
+    → GrowsByBatch procs g b c k → GrowsByBatches procs h (bs ++ b ∷ []) (cs ++ c ∷ []) k
+batches_more procs h [] cs g b c k all one =
+    subst (λ l. GrowsByBatches procs h (b ∷ []) (l ++ c ∷ []) k) (sym all.0) (k, subst (λ x. GrowsByBatch procs x b c k) all.1 one, (refl, refl))
+batches_more procs h (x ∷ bs) [] g b c k all one = absurd all
+batches_more procs h (x ∷ bs) (y ∷ cs) g b c k all one = (all.0, all.1, batches_more procs all.0 bs cs g b c k all.2 one)
+
+pub turns_more : (h : History) (xs : List (List Request)) (g : History) (ys : List Request) (k : History) → GrowsInTurn GrowsInOrder h xs g → GrowsInOrder g ys k → GrowsInTurn GrowsInOrder h (xs ++ ys ∷ []) k
+turns_more h [] g ys k all one = (k, subst (λ x. GrowsInOrder x ys k) all one, refl)
+turns_more h (x ∷ xs) g ys k all one = (all.0, all.1, turns_more all.0 xs g ys k all.2 one)
+
+pub paired : (procs : Procedures) (h : History) (bs : List Lines) (cs : List (List Class)) (g : History) → GrowsByBatches procs h bs cs g → length cs ≡ length bs
+paired procs h [] cs g all = ap (length {A = List Class}) all.0
+paired procs h (b ∷ bs) [] g all = absurd all
+paired procs h (b ∷ bs) (c ∷ cs) g all = ap suc (paired procs all.0 bs cs g all.2)
+
+pub size_more : (size : ℕ) (bs : List Lines) (b : Lines) → HaveSize size bs → length b ≡ size → HaveSize size (bs ++ b ∷ [])
+size_more size bs b all one = all_append (λ (x : Lines). length x ≡ size) bs (b ∷ []) all (one, tt)
+
+pub cut_more : (size : ℕ) (bs : List Lines) (b : Lines) → HaveSize size bs → 0 < length b → length b ≤ size → AreBatches size (bs ++ b ∷ [])
+cut_more size [] b full some fits = (some, fits)
+cut_more size (x ∷ []) b full some fits = (full.0, (some, fits))
+cut_more size (x ∷ y ∷ bs) b full some fits = (full.0, cut_more size (y ∷ bs) b full.1 some fits)
+
+cut_full : (size : ℕ) (bs : List Lines) → HaveSize size bs → 0 < size → AreBatches size bs
+cut_full size [] full some = tt
+cut_full size (x ∷ []) full some = let e : length x ≡ size = full.0 in (omega arith, omega arith)
+cut_full size (x ∷ y ∷ bs) full some = (full.0, cut_full size (y ∷ bs) full.1 some)
+
+-- ---- answers
+
+shifted : (dones : List Done) (n k : ℕ) (cs : List Class) → answers_by dones ((n + 1) + k) cs ≡ answers_by dones (n + suc k) cs
+shifted dones n k cs = let e : (n + 1) + k ≡ n + suc k = omega arith in ap (λ m. answers_by dones m cs) e
+
+pub answers-append : (dones : List Done) (n : ℕ) (xs ys : List Class) → answers_by dones n (xs ++ ys) ≡ answers_by dones n xs ++ answers_by dones (n + length xs) ys
+answers-append dones n [] ys = let e : n ≡ n + 0 = omega arith in ap (λ m. answers_by dones m ys) e
+answers-append dones n (x ∷ xs) ys =
+    ap (λ t. answer_by dones n x ++ t) (answers-append dones (n + 1) xs ys ∙ ap (λ t. answers_by dones (n + 1) xs ++ t) (shifted dones n (length xs) ys))
+    ∙ sym (append_assoc (answer_by dones n x) (answers_by dones (n + 1) xs) (answers_by dones (n + suc (length xs)) ys))
+
+pub classes_length : (procs : Procedures) (k : Known) (lines : List Line) (cs : List Class) → AreClasses procs k lines cs → length cs ≡ length lines
+classes_length procs k [] cs are = ap length are
+classes_length procs k (l ∷ lines) [] are = absurd are
+classes_length procs k (l ∷ lines) (c ∷ cs) are = ap suc (classes_length procs (and_known k (new_in c)) lines cs are.1)
+
+one_line : (c : Class) → length (new_in c) ≤ 1
+one_line (Class.Refused e) = omega arith
+one_line (Class.Same id) = omega arith
+one_line (Class.New r) = omega arith
+
+pub few_new : (cs : List Class) → length (new_of cs) ≤ length cs
+few_new [] = omega arith
+few_new (c ∷ cs) = (let one = one_line c in let rest = few_new cs in let both = length-append (new_in c) (new_of cs) in omega (arith, one, rest, both))
+
+pub few_epochs : (rs : List Request) → epochs_of rs ≤ 1
+few_epochs [] = omega arith
+few_epochs (r ∷ rs) = omega arith
+
+-- how many epochs a history gained
+pub added_by : (h : History) (rs : List Request) (g : History) → GrowsBy h rs g → (added : List Epoch) × (g.epochs ≡ h.epochs ++ added) × (length added ≡ epochs_of rs)
+added_by h [] g same = ([], ap (λ (x : History). x.epochs) same ∙ sym (append-nil h.epochs), refl)
+added_by h (r ∷ rs) g grows = (grows.0 ∷ [], ap (λ (x : History). x.epochs) grows.3, refl)
+
+-- ---- what is known
+
+pub known_at : (c : Contents) (k : ClusterState) → StandsAt c k → known_of k.kept [] ≡ known_in (history_of c)
+known_at c k s =
+    let requests : map request_of k.kept.dones ++ [] ≡ map request_of (kept (history_of c)) = append-nil (map request_of k.kept.dones) ∙ ap (map request_of) s.dones in
+    let low : k.kept.floor ≡ floor (history_of c) = s.floor in
+    λ i. record { requests = requests i; floor = low i }
+
+-- ---- what is seen
+
+begins_itself : (h : History) → IsPrefixOf h h
+begins_itself h = (refl, refl, ([], sym (append-nil h.epochs)))
+
+-- the same store, its setting told otherwise
+pub moved : (s t : Setting) (h : History) (files : Files) → s ≡ t → IsStoreOf s h files → IsStoreOf t h files
+moved s t h files same store = record { contents = store.contents; setting = store.setting ∙ same; good = store.good; history = store.history }
+
+module _ (in_setting : Setting) (opening : History) (batches : List Lines) (classes : List (List Class)) (whole : History) (said : Option (List ℕ)) where
+  -- the whole history, and a front of all answers
+  pub all_served : IsGrown in_setting.tree opening batches classes whole → (seen : Observation) → IsStoreOf in_setting whole seen.image → (part : ℕ) → Some seen.said ≡ append_known said (take part (answers_of whole classes))
+      → IsServed in_setting opening batches classes whole said seen
+  all_served grown seen store part says =
+      let all_batches : batches ≡ take (length batches) batches = sym (take-length batches) in
+      let as_many : length classes ≡ length batches = paired in_setting.tree opening batches classes whole grown.grown in
+      let all_classes : classes ≡ take (length batches) classes = sym (ap (λ n. take n classes) (sym as_many) ∙ take-length classes) in
+      record {
+        count = length batches;
+        within = omega arith;
+        history = whole;
+        store = store;
+        grown = subst (λ bs. IsGrown in_setting.tree opening bs (take (length batches) classes) whole) all_batches (subst (λ cs. IsGrown in_setting.tree opening batches cs whole) all_classes grown);
+        begins = begins_itself whole;
+        part = part;
+        says = says ∙ ap (λ cs. append_known said (take part (answers_of whole cs))) all_classes;
+      }
+
+  -- with a batch more
+  pub more_served : length classes ≡ length batches → (b : Lines) (c : List Class) (g : History) → IsPrefixOf whole g → (seen : Observation) → IsServed in_setting opening batches classes whole said seen
+      → IsServed in_setting opening (batches ++ b ∷ []) (classes ++ c ∷ []) g said seen
+  more_served as_many b c g begins seen s =
+      let same_batches : take s.count batches ≡ take s.count (batches ++ b ∷ []) = sym (take-append-le s.count batches (b ∷ []) s.within) in
+      let same_classes : take s.count classes ≡ take s.count (classes ++ c ∷ []) = (let w = s.within in sym (take-append-le s.count classes (c ∷ []) (omega (arith, w, as_many)))) in
+      record {
+        count = s.count;
+        within = (let w = s.within in let l = length-append batches (b ∷ []) in omega (arith, w, l));
+        history = s.history;
+        store = s.store;
+        grown = subst (λ bs. IsGrown in_setting.tree opening bs (take s.count (classes ++ c ∷ [])) s.history) same_batches
+            (subst (λ cs. IsGrown in_setting.tree opening (take s.count batches) cs s.history) same_classes s.grown);
+        begins = prefix_trans s.history whole g s.begins begins;
+        part = s.part;
+        says = s.says ∙ ap (λ cs. append_known said (take s.part (answers_of s.history cs))) same_classes;
+      }
+
+-- ---- between two batches
+
+abbrev pub new_reader : ReaderState
+new_reader = record { pending = []; ended = false; taken = 0; given = 0 }
+
+-- the lines so far, and the numbers of epochs that they took at most
+pub record AreTaken (next : ℕ) (reader : ReaderState) (before now : SourceMoment) (k : ClusterState) : Type 0 where
+  pub lines : List Line
+  pub takes : TakesLines new_reader reader before now lines reader.pending
+  pub given : reader.given ≡ length lines
+  pub low : k.next_epoch ≤ next + length lines
+
+module _ {H : Type 0} (moment : H → ℕ) (observed : H → ℕ → Observation → Type 0) (said : H → Option (List ℕ)) (reads : H → Option Files) (may_leave : H → Files → Type 0) where
+  -- the lines so far are whole batches, a host rests on the store that they make, and all their answers are said
+  pub record AreServed (c : Contents) (next size : ℕ) (lines : List Line) (k : ClusterState) (first host : H) : Type 0 where
+    pub batches : List Lines
+    pub classes : List (List Class)
+    pub d : Contents
+    pub setting : d.setting ≡ c.setting
+    pub lines_are : lines ≡ joined batches
+    pub grown : IsGrown c.setting.tree (history_of c) batches classes (history_of d)
+    pub whole : HaveSize size batches
+    pub many : length (joined classes) ≡ length lines
+    pub rests : RestsOn d (reads host) (may_leave host)
+    pub stands : StandsAt d k
+    pub says : said host ≡ append_known (said first) (answers_of (history_of d) classes)
+    pub moments : SeesOnly moment observed first host (IsServed c.setting (history_of c) batches classes (history_of d) (said first))
+    pub added : List Epoch
+    pub epochs : (history_of d).epochs ≡ (history_of c).epochs ++ added
+    pub numbers : k.next_epoch ≡ next + length added
+
+  abbrev pub OnlyNow : Type 0
+  OnlyNow = (host : H) (seen : Observation) → observed host (moment host) seen → may_leave host seen.image × (said host ≡ Some seen.said)
+
+  abbrev pub SeenNow : Type 0
+  SeenNow = (host : H) (t : ℕ) (seen : Observation) → t ≤ moment host → may_leave host seen.image → said host ≡ Some seen.said → observed host t seen
+
+  pub served_new : OnlyNow → (c : Contents) (next size : ℕ) (k : ClusterState) (host : H) → k.next_epoch ≡ next → RestsOn c (reads host) (may_leave host) → StandsAt c k → AreServed c next size [] k host host
+  served_new only_now c next size k host same rests stands = record {
+    batches = [];
+    classes = [];
+    d = c;
+    setting = refl;
+    lines_are = refl;
+    grown = record { grown = (refl, refl); in_order = refl };
+    whole = tt;
+    many = refl;
+    rests = rests;
+    stands = stands;
+    says = sym (append_known-nil (said host));
+    moments = started moment observed host (IsServed c.setting (history_of c) [] [] (history_of c) (said host)) (λ seen since.
+        let now = only_now host seen since in
+        all_served c.setting (history_of c) [] [] (history_of c) (said host) (record { grown = (refl, refl); in_order = refl }) seen
+        (record { contents = c; setting = refl; good = rests.left seen.image now.0; history = refl }) 0 (sym now.1 ∙ sym (append_known-nil (said host))));
+    added = [];
+    epochs = sym (append-nil (history_of c).epochs);
+    numbers = omega (arith, same);
+  }
+
+  abbrev Left : (c : Contents) (batches : List Lines) (classes : List (List Class)) (whole : History) → H → H → Type 0
+  Left c batches classes whole first host =
+      (seen : Observation) → said host ≡ Some seen.said → may_leave host seen.image → IsServed c.setting (history_of c) batches classes whole (said first) seen
+
+  -- what is left at exit was seen
+  pub left_by : SeenNow → (first host : H) (P : Observation → Type 0) → SeesOnly moment observed first host P → (seen : Observation) → said host ≡ Some seen.said → may_leave host seen.image → P seen
+  left_by seen_now first host P sees seen spoke leaves = sees.each seen (seen_now host (moment first) seen sees.later leaves spoke)
+
+  -- ---- where a run ends between two batches
+
+  module _ (seen_now : SeenNow) (c : Contents) (next size : ℕ) (lines : List Line) (k : ClusterState) (first host : H) (a : AreServed c next size lines k first host) (bytes : List ℕ) (others : List Line)
+      (all : lines_of bytes ≡ lines ++ others) where
+    abbrev tree : Procedures
+    tree = c.setting.tree
+
+    abbrev h : History
+    h = history_of a.d
+
+    abbrev still : Progress tree (history_of c) size bytes
+    still = record {
+      batches = a.batches;
+      classes = a.classes;
+      history = h;
+      grown = a.grown;
+      first = record { others = others; lines = all ∙ ap (λ ls. ls ++ others) a.lines_are; cut = inl a.whole };
+    }
+
+    ended_so : (e : Ending) → RunEnds c next size bytes still (said first) (said host) (reads host) (may_leave host) e → Serves moment observed said reads may_leave c next size bytes e first host
+    ended_so e ends = record {
+      progress = still;
+      moments = a.moments;
+      left = left_by seen_now first host (IsServed c.setting (history_of c) a.batches a.classes h (said first)) a.moments;
+      ends = ends;
+    }
+
+    rests_at : RestsAt c.setting h (reads host) (may_leave host)
+    rests_at = (a.d, a.setting, refl, a.rests)
+
+    leaves_one : LeavesEither c.setting h h (said host) (may_leave host)
+    leaves_one bytes spoke image leaves = inl (record { contents = a.d; setting = a.setting; good = a.rests.left image leaves; history = refl })
+
+    all_batches : IsGrown tree (history_of c) (take (length a.batches) a.batches) (take (length a.batches) a.classes) h
+    all_batches =
+        let as_many : length a.classes ≡ length a.batches = paired tree (history_of c) a.batches a.classes h a.grown.grown in
+        subst (λ bs. IsGrown tree (history_of c) bs (take (length a.batches) a.classes) h) (sym (take-length a.batches))
+        (subst (λ cs. IsGrown tree (history_of c) a.batches cs h) (sym (ap (λ n. take n a.classes) (sym as_many) ∙ take-length a.classes)) a.grown)
+
+    all_classes : take (length a.batches) a.classes ≡ a.classes
+    all_classes = ap (λ n. take n a.classes) (sym (paired tree (history_of c) a.batches a.classes h a.grown.grown)) ∙ take-length a.classes
+
+    leaves_by : (Says : History → List (List Class) → Type 0) → Says h a.classes → LeavesLast c.setting (history_of c) a.batches a.classes h Says (said host) (may_leave host)
+    leaves_by Says says = record {
+      count = length a.batches;
+      last = inl refl;
+      history = h;
+      grown = all_batches;
+      says = subst (Says h) (sym all_classes) says;
+      left = leaves_one;
+    }
+
+    -- all that is said may be said to be a part
+    says_whole : SaysUpTo (said first) (said host) h a.classes
+    says_whole =
+        let whole = answers_of h a.classes in
+        let front = answers_of h (take (length a.classes - 1) a.classes) in
+        record {
+          part = length whole + length front;
+          says = a.says ∙ ap (append_known (said first)) (sym (take_all (length whole + length front) whole (omega arith)));
+          most = omega arith;
+        }
+
+    pub memory_ran_out : Serves moment observed said reads may_leave c next size bytes ending.NoMemory first host
+    memory_ran_out = ended_so ending.NoMemory (leaves_by (SaysUpTo (said first) (said host)) says_whole)
+
+    pub disk_failed : Serves moment observed said reads may_leave c next size bytes ending.DiskFault first host
+    disk_failed = ended_so ending.DiskFault (leaves_by (SaysAll (said first) (said host)) a.says)
+
+    pub epochs_used_up : epochs_end ≤ k.next_epoch → Serves moment observed said reads may_leave c next size bytes ending.EpochsUsedUp first host
+    epochs_used_up end = ended_so ending.EpochsUsedUp (rests_at, a.says, record { added = a.added; epochs = a.epochs; end = (let n = a.numbers in omega (arith, n, end)) })
+
+    pub read_failed : (rest : List Line) → ended_lines_of bytes ≡ lines ++ rest → length rest < size → Serves moment observed said reads may_leave c next size bytes ending.ReadFault first host
+    read_failed rest ended few = ended_so ending.ReadFault (
+      record { whole = a.whole; others = rest; lines = ended ∙ ap (λ ls. ls ++ rest) a.lines_are; few = few },
+      rests_at,
+      a.says,
+    )
+
+    pub finished : others ≡ [] → 0 < size → Serves moment observed said reads may_leave c next size bytes ending.Finished first host
+    finished none some = ended_so ending.Finished (
+      (all ∙ ap (λ ls. lines ++ ls) none ∙ append-nil lines ∙ a.lines_are, cut_full size a.batches a.whole some),
+      rests_at,
+      a.says,
+    )

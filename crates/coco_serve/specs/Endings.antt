@@ -1,0 +1,11 @@
+-- What a fault of a batch is to the run.
+use Rattle.coco_serve.specs.declared.ending.Ending.{Ending}
+use Rattle.coco_serve.specs.declared.ending.Ending.TheVariants.{SayFault, DiskFault, EpochsUsedUp, NoMemory}
+use Rattle.coco_serve.specs.declared.fault.BatchFault.{BatchFault}
+use Rattle.coco_serve.specs.declared.fault.BatchFault.TheVariants as fault
+
+abbrev pub ending_of : BatchFault → Ending
+ending_of fault.Say = SayFault
+ending_of fault.Disk = DiskFault
+ending_of fault.EpochsUsedUp = EpochsUsedUp
+ending_of fault.NoMemory = NoMemory

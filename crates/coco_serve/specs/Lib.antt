@@ -1,0 +1,7 @@
+pub mod Endings
+pub mod Faults
+pub mod Growth
+pub mod OneBatch
+pub mod Seen
+pub mod Serving
+pub mod Texts

@@ -1,0 +1,124 @@
+-- What a run makes of the store in hand and of the bytes that its source gives.
+use Rattle.std.specs.Prelude.{◌≡◌, ◌⊎◌, ⊤, ℕ, ◌+◌, ◌-◌, ◌^◌, ◌<◌, ◌≤◌, List, ◌++◌, length, take, Option, Some}
+use Rattle.std.specs.Io.KnownBytes.{append_known}
+use Rattle.coco_types.specs.Limits.{epochs_end}
+use Rattle.coco_append.specs.Gaining.{RestsOn}
+use Rattle.coco_ast.specs.History.{Epoch, History}
+use Rattle.coco_ast.specs.Tree.{Procedures}
+use Rattle.coco_cluster.specs.Standing.{ClusterState, StandsAt}
+use Rattle.coco_host.specs.Files.{Files}
+use Rattle.coco_host.specs.Moments.{Observation, SeesOnly}
+use Rattle.coco_io.specs.Counts.{Rose}
+use Rattle.coco_lines.specs.Batches.{AreBatches, Batch, joined}
+use Rattle.coco_lines.specs.Lines.{Line, ended_lines_of, lines_of}
+use Rattle.coco_lines.specs.Reads.{Gives, IsSpent, SourceMoment}
+use Rattle.coco_lines.specs.declared.class.Class.{Class}
+use Rattle.coco_store.specs.Contents.{Contents, history_of}
+use Rattle.coco_store.specs.Rules.{Setting}
+use Rattle.coco_serve.specs.Growth.{AreFirstBatches, HaveSize, IsGrown, answers_of}
+use Rattle.coco_serve.specs.Seen.{IsServed, LeavesEither}
+use Rattle.coco_serve.specs.declared.ending.Ending.{Ending}
+use Rattle.coco_serve.specs.declared.ending.Ending.TheVariants.{Finished, ReadFault, SayFault, DiskFault, EpochsUsedUp, NoMemory}
+
+-- ---- causes
+
+-- what a run sees and changes beside its store, at one moment: its source, and the counts of faults
+pub record Outside : Type 0 where
+  pub source : SourceMoment
+  pub source_faults : ℕ
+  pub say_faults : ℕ
+  pub disk_faults : ℕ
+
+-- why a run ended so, by the bytes that the source gave; epochs are used up where the number of the next one and the lines reach the end. Want of memory
+-- needs no cause
+abbrev pub HasCause : ℕ → List ℕ → Outside → Outside → Ending → Type 0
+HasCause next bytes before after Finished = IsSpent after.source
+HasCause next bytes before after ReadFault = Rose before.source_faults after.source_faults ⊎ (length bytes ≡ 2 ^ 62)
+HasCause next bytes before after SayFault = Rose before.say_faults after.say_faults
+HasCause next bytes before after DiskFault = Rose before.disk_faults after.disk_faults
+HasCause next bytes before after EpochsUsedUp = epochs_end ≤ next + length (lines_of bytes)
+HasCause next bytes before after NoMemory = ⊤
+
+-- ---- batches and answers
+
+-- a history grown by the first batches of these bytes
+pub record Progress (procs : Procedures) (opening : History) (size : ℕ) (bytes : List ℕ) : Type 0 where
+  pub batches : List Batch
+  pub classes : List (List Class)
+  pub history : History
+  pub grown : IsGrown procs opening batches classes history
+  pub first : AreFirstBatches size bytes batches
+
+-- they are all batches of the lines
+abbrev pub AreAll : ℕ → List ℕ → List Batch → Type 0
+AreAll size bytes batches = (lines_of bytes ≡ joined batches) × AreBatches size batches
+
+-- they are all whole batches of the lines that each end in a byte 10
+pub record AreAllWhole (size : ℕ) (bytes : List ℕ) (batches : List Batch) : Type 0 where
+  pub whole : HaveSize size batches
+  pub others : List Line
+  pub lines : ended_lines_of bytes ≡ joined batches ++ others
+  pub few : length others < size
+
+-- the answers of all these batches are said
+abbrev pub SaysAll : Option (List ℕ) → Option (List ℕ) → History → List (List Class) → Type 0
+SaysAll before now h classes = now ≡ append_known before (answers_of h classes)
+
+-- those of all but the last one, and a front of the last one's
+pub record SaysUpTo (before now : Option (List ℕ)) (h : History) (classes : List (List Class)) : Type 0 where
+  pub part : ℕ
+  pub says : now ≡ append_known before (take part (answers_of h classes))
+  pub most : length (answers_of h (take (length classes - 1) classes)) ≤ part
+
+-- ---- what is left
+
+-- the files read as a store of this history in this setting, and so does all that a crash may leave
+abbrev pub RestsAt : Setting → History → Option Files → (Files → Type 0) → Type 0
+RestsAt s h reads may_leave = (d : Contents) × (d.setting ≡ s) × (history_of d ≡ h) × RestsOn d reads may_leave
+
+-- some first batches are said, all of them or all but one; what a crash may leave is a store of their history or of the whole one
+pub record LeavesLast (s : Setting) (opening : History) (batches : List Batch) (classes : List (List Class)) (whole : History) (Says : History → List (List Class) → Type 0)
+    (now : Option (List ℕ)) (may_leave : Files → Type 0) : Type 0 where
+  pub count : ℕ
+  pub last : (length batches ≡ count) ⊎ (length batches ≡ count + 1)
+  pub history : History
+  pub grown : IsGrown s.tree opening (take count batches) (take count classes) history
+  pub says : Says history (take count classes)
+  pub left : LeavesEither s history whole now may_leave
+
+-- as many epochs were added as there were numbers for
+pub record AreUsedUp (next : ℕ) (opening history : History) : Type 0 where
+  pub added : List Epoch
+  pub epochs : history.epochs ≡ opening.epochs ++ added
+  pub end : epochs_end ≤ next + length added
+
+-- ---- how a run ends
+
+-- by its ending: an input that was read to its end is committed and answered whole; after a fault of reading so are all whole batches; a fault of saying
+-- leaves all batches committed, the last one said in part; and after a fault of the disk, or out of memory, one batch more may be committed than is said
+abbrev pub RunEnds : (c : Contents) → ℕ → (size : ℕ) → (bytes : List ℕ) → Progress c.setting.tree (history_of c) size bytes → Option (List ℕ) → Option (List ℕ) → Option Files → (Files → Type 0) → Ending → Type 0
+RunEnds c next size bytes p before now reads may_leave Finished = AreAll size bytes p.batches × RestsAt c.setting p.history reads may_leave × SaysAll before now p.history p.classes
+RunEnds c next size bytes p before now reads may_leave ReadFault = AreAllWhole size bytes p.batches × RestsAt c.setting p.history reads may_leave × SaysAll before now p.history p.classes
+RunEnds c next size bytes p before now reads may_leave SayFault = RestsAt c.setting p.history reads may_leave × SaysUpTo before now p.history p.classes
+RunEnds c next size bytes p before now reads may_leave DiskFault =
+    LeavesLast c.setting (history_of c) p.batches p.classes p.history (SaysAll before now) now may_leave
+RunEnds c next size bytes p before now reads may_leave EpochsUsedUp =
+    RestsAt c.setting p.history reads may_leave × SaysAll before now p.history p.classes × AreUsedUp next (history_of c) p.history
+RunEnds c next size bytes p before now reads may_leave NoMemory =
+    LeavesLast c.setting (history_of c) p.batches p.classes p.history (SaysUpTo before now) now may_leave
+
+-- of a host that rested on these contents: what was seen in the run and is left behind it, and how it ended
+pub record Serves {H : Type 0} (moment : H → ℕ) (observed : H → ℕ → Observation → Type 0) (said : H → Option (List ℕ)) (reads : H → Option Files) (may_leave : H → Files → Type 0)
+    (c : Contents) (next size : ℕ) (bytes : List ℕ) (ending : Ending) (old new : H) : Type 0 where
+  pub progress : Progress c.setting.tree (history_of c) size bytes
+  pub moments : SeesOnly moment observed old new (IsServed c.setting (history_of c) progress.batches progress.classes progress.history (said old))
+  pub left : (seen : Observation) → said new ≡ Some seen.said → may_leave new seen.image → IsServed c.setting (history_of c) progress.batches progress.classes progress.history (said old) seen
+  pub ends : RunEnds c next size bytes progress (said old) (said new) (reads new) (may_leave new) ending
+
+-- the bytes that the source gave, why the run ended so, and what it made of each store that the cluster stood at
+pub record Runs {H : Type 0} (moment : H → ℕ) (observed : H → ℕ → Observation → Type 0) (said : H → Option (List ℕ)) (reads : H → Option Files) (may_leave : H → Files → Type 0)
+    (cluster : ClusterState) (size : ℕ) (before after : Outside) (ending : Ending) (old new : H) : Type 0 where
+  pub bytes : List ℕ
+  pub gives : Gives before.source after.source bytes
+  pub cause : HasCause cluster.next_epoch bytes before after ending
+  pub serves : (c : Contents) → RestsOn c (reads old) (may_leave old) → StandsAt c cluster → Serves moment observed said reads may_leave c cluster.next_epoch size bytes ending old new

@@ -1,0 +1,34 @@
+//! How a run ends.
+ghost use Rattle.std.specs.Prelude.{◌≡◌};
+ghost use Rattle.coco_serve.specs.Endings.{ending_of};
+
+use crate::fault::BatchFault;
+
+/// How a run over request lines ends.
+#[derive(Clone, Copy, Debug, PartialEq, Eq)]
+pub enum Ending {
+    /// The input was read to its end, and all lines are answered.
+    Finished,
+    /// The input failed, or is longer than may be read.
+    ReadFault,
+    /// The reply stream failed.
+    SayFault,
+    /// The host's files failed.
+    DiskFault,
+    /// There is no number for the next epoch.
+    EpochsUsedUp,
+    NoMemory,
+}
+
+impl From<BatchFault> for Ending {
+    ghost from_gives = { λ f e. e ≡ ending_of f };
+
+    fn from(fault: BatchFault) -> Ending {
+        match fault {
+            BatchFault::Say => Ending::SayFault,
+            BatchFault::Disk => Ending::DiskFault,
+            BatchFault::EpochsUsedUp => Ending::EpochsUsedUp,
+            BatchFault::NoMemory => Ending::NoMemory,
+        }
+    }
+}

@@ -1,0 +1,14 @@
+//! Request lines answered on a store in hand, batch by batch: each batch is committed to the files before it is answered.
+#![tactic(auto)]
+
+mod ending;
+mod fault;
+mod one_batch;
+mod serving;
+#[cfg(test)]
+mod tests;
+mod texts;
+
+pub use ending::Ending;
+pub use fault::BatchFault;
+pub use serving::answer_lines;

@@ -1,0 +1,48 @@
+//! One batch: its turn, and then its answers.
+ghost use Rattle.std.specs.Prelude.{◌≡◌, ◌⊎◌, ◌+◌, ◌≤◌, ◌<◌, false, length, OnOk};
+ghost use Rattle.coco_types.specs.Limits.{most_batch_lines, most_kept};
+ghost use Rattle.coco_append.specs.Gaining.{RestsOn, Stands};
+ghost use Rattle.coco_batches.specs.Asking.{MayCommit};
+ghost use Rattle.coco_cluster.specs.Standing.{StandsAt};
+ghost use Rattle.coco_store.specs.Contents.{Contents};
+ghost use Rattle.coco_serve.specs.Faults.{CountsBatch};
+ghost use Rattle.coco_serve.specs.Growth.{epochs_of};
+ghost use Rattle.coco_serve.specs.OneBatch.{Answers, IsRefused};
+
+use crate::fault::BatchFault;
+use crate::texts::{early_texts, late_texts};
+use coco_batches::Batch;
+use coco_cluster::Cluster;
+use coco_host::{Host, say_all};
+use std::alloc::Global;
+
+/// Commits the new requests of a batch, and then says its answers. After a fault the cluster is of no further use.
+pub fn turn_and_say<H: Host>(
+    alloc: Global,
+    host: &mut H,
+    cluster: &mut Cluster,
+    batch: Batch,
+) -> Result<(), BatchFault>
+    requires unspent { cluster.old.spent ≡ false }
+    requires may { MayCommit cluster.old.procs cluster.old.kept batch.fresh }
+    requires few { length batch.fresh ≤ most_batch_lines }
+    requires stand { Stands cluster.old.node (H.reads host.old) (H.may_leave host.old) × Stands cluster.old.chief (H.reads host.old) (H.may_leave host.old) }
+    ensures answers { (c : Contents) → RestsOn c (H.reads host.old) (H.may_leave host.old) → StandsAt c cluster.old
+        → IsRefused result host.old host.new ⊎ Answers H.moment H.observed H.said H.reads H.may_leave result batch c cluster.new host.old host.new }
+    ensures stand { OnOk result (Stands cluster.new.node (H.reads host.new) (H.may_leave host.new) × Stands cluster.new.chief (H.reads host.new) (H.may_leave host.new)) }
+    ensures unspent { OnOk result (cluster.new.spent ≡ false) }
+    ensures few { OnOk result (length cluster.new.kept.dones ≤ most_kept) }
+    ensures next { OnOk result (cluster.new.next_epoch ≡ cluster.old.next_epoch + epochs_of batch.fresh) }
+    ensures procs { cluster.new.procs ≡ cluster.old.procs }
+    ensures counts { CountsBatch result cluster.old.next_epoch (length batch.fresh)
+        (record { say = H.say_faults host.old; disk = H.disk_faults host.old })
+        (record { say = H.say_faults host.new; disk = H.disk_faults host.new }) }
+{
+    let Batch { answers, fresh } = batch;
+    let early = early_texts(alloc, cluster.kept(), answers.as_slice())?;
+    let requests = fresh.into_requests(alloc)?;
+    cluster.turn(alloc, host, requests)?;
+    let texts = late_texts(alloc, cluster.kept(), answers.as_slice(), early)?;
+    say_all(host, texts.as_slice())?;
+    Ok(())
+}

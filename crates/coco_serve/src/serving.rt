@@ -1,0 +1,64 @@
+//! Request lines answered batch by batch, to the end of the input.
+ghost use Rattle.std.specs.Prelude.{◌≡◌, ◌<◌, ◌≤◌, false, length};
+ghost use Rattle.coco_types.specs.Limits.{most_batch_lines, most_kept};
+ghost use Rattle.coco_append.specs.Gaining.{Stands};
+ghost use Rattle.coco_serve.specs.Serving.{Runs};
+
+use crate::ending::Ending;
+use crate::one_batch::turn_and_say;
+use coco_batches::read_batch;
+use coco_cluster::Cluster;
+use coco_host::Host;
+use coco_io::Source;
+use coco_lines::{LineFault, Reader, Scratch};
+use std::alloc::Global;
+
+/// Reads request lines to the end of the input, so many in a batch. The new requests of a batch are committed to the
+/// files before its answers are said.
+pub fn answer_lines<H: Host, S: Source>(
+    alloc: Global,
+    host: &mut H,
+    cluster: &mut Cluster,
+    input: &mut S,
+    size: u32,
+) -> Ending
+    requires some { 0 < size }
+    requires few { size ≤ most_batch_lines }
+    requires unspent { cluster.old.spent ≡ false }
+    requires room { length cluster.old.kept.dones ≤ most_kept }
+    requires stand { Stands cluster.old.node (H.reads host.old) (H.may_leave host.old) × Stands cluster.old.chief (H.reads host.old) (H.may_leave host.old) }
+    ensures { Runs H.moment H.observed H.said H.reads H.may_leave cluster.old size
+        (record { source = record { given = S.given input.old; left = S.remaining input.old; at_end = S.at_end input.old }; source_faults = S.faults input.old; say_faults = H.say_faults host.old; disk_faults = H.disk_faults host.old })
+        (record { source = record { given = S.given input.new; left = S.remaining input.new; at_end = S.at_end input.new }; source_faults = S.faults input.new; say_faults = H.say_faults host.new; disk_faults = H.disk_faults host.new })
+        result host.old host.new }
+{
+    let mut reader = Reader::new(alloc);
+    let mut scratch = Scratch::new(alloc);
+    'batches: loop {
+        let batch = match read_batch(
+            alloc,
+            &mut scratch,
+            cluster.procs(),
+            &mut reader,
+            input,
+            cluster.kept(),
+            size,
+        ) {
+            Ok(batch) => batch,
+            Err(LineFault::NoMemory) => return Ending::NoMemory,
+            Err(LineFault::Failed) => return Ending::ReadFault,
+            Err(LineFault::TooMuch) => return Ending::ReadFault,
+        };
+        let count = batch.answers.len();
+        if count == 0 {
+            return Ending::Finished;
+        }
+        match turn_and_say(alloc, host, cluster, batch) {
+            Ok(()) => {}
+            Err(fault) => return Ending::from(fault),
+        }
+        if count < size as usize {
+            return Ending::Finished;
+        }
+    }
+}

@@ -1,0 +1,140 @@
+//! Lines answered on a new store in memory: worked rows, and one call of the host failing after another.
+
+ghost use Rattle.std.specs.Prelude.{◌≡◌, ◌<◌, ◌≤◌, false, [], IfOk, IfSome};
+ghost use Rattle.coco_append.specs.Gaining.{Stands};
+ghost use Rattle.coco_log.specs.LogState.{without_entries};
+ghost use Rattle.coco_types.specs.Limits.{most_batch_lines};
+
+use crate::{Ending, answer_lines};
+use coco_ast::Checked;
+use coco_cluster::{Cluster, Opened};
+use coco_host::{Host, MemoryHost};
+use coco_io::MemorySource;
+use coco_kept::Kept;
+use coco_log::{Log, LogFault};
+use coco_shard::Shard;
+use coco_types::NoMemory;
+use std::alloc::Global;
+use std::test::Fail;
+
+// The logs of a new store, the coordinator's and the node's.
+fn new_logs<H: Host>(alloc: Global, host: &mut H) -> Result<(Log, Log), LogFault>
+    ensures empty { IfOk result (λ logs. (logs.0 ≡ without_entries 1 1) × (logs.1 ≡ without_entries 2 2)) }
+    ensures stand { IfOk result (λ logs. Stands logs.1 (H.reads host.new) (H.may_leave host.new) × Stands logs.0 (H.reads host.new) (H.may_leave host.new)) }
+{
+    let chief = Log::make(alloc, host, 1, 1)?;
+    let node = Log::make(alloc, host, 2, 2)?;
+    Ok((chief, node))
+}
+
+// A store of one partition with the built-in procedures, and nothing in it.
+fn new_cluster(alloc: Global, chief: Log, node: Log, keep: Option<u16>) -> Result<Cluster, NoMemory>
+    requires logs { (chief ≡ without_entries 1 1) × (node ≡ without_entries 2 2) }
+    requires keep { IfSome keep (λ n. 0 < n) }
+    ensures logs { IfOk result (λ k. (k.chief ≡ chief) × (k.node ≡ node)) }
+    ensures empty { IfOk result (λ k. k.kept.dones ≡ []) }
+    ensures unspent { IfOk result (λ k. k.spent ≡ false) }
+{
+    let procs = Checked::built_in(alloc)?;
+    let mut shards = Vec::with_capacity(alloc, 1)?;
+    shards.push(Shard::new(alloc))?;
+    let mut held = Vec::with_capacity(alloc, 1)?;
+    held.push(true)?;
+    Ok(Cluster::of(
+        alloc,
+        Opened {
+            procs,
+            kept: Kept::new(alloc, keep, None),
+            shards,
+            chief,
+            node,
+            held,
+            next_epoch: 1,
+        },
+    ))
+}
+
+// Answers these lines, so many in a batch, on a new store that keeps the replies of so many epochs.
+fn answer<H: Host>(
+    alloc: Global,
+    host: &mut H,
+    keep: Option<u16>,
+    size: u32,
+    text: &str,
+) -> Result<Ending, Fail>
+    requires keep { IfSome keep (λ n. 0 < n) }
+    requires some { 0 < size }
+    requires few { size ≤ most_batch_lines }
+{
+    let (chief, node) = new_logs(alloc, host)?;
+    let mut cluster = new_cluster(alloc, chief, node, keep)?;
+    let bytes = Vec::from_slice(alloc, text.as_bytes())?;
+    let mut input = MemorySource::new(bytes, Vec::new(alloc));
+    Ok(answer_lines(alloc, host, &mut cluster, &mut input, size))
+}
+
+const LINES: &str = r#"{"args":[5,70],"call":"put","id":1}
+{"args":[5],"call":"get","id":2}
+{"args":[5],"call":"get","id":3}
+{"args":[5],"call":"get","id":2}
+"#;
+
+const FOUR: &str = r#"{"epoch":1,"id":1,"ok":70,"time":1}
+{"epoch":2,"id":2,"ok":70,"time":1}
+{"epoch":3,"id":3,"ok":70,"time":1}
+{"epoch":2,"id":2,"ok":70,"time":1}
+"#;
+
+const FORGOTTEN: &str = r#"{"epoch":1,"id":1,"ok":70,"time":1}
+{"epoch":2,"id":2,"ok":70,"time":1}
+{"epoch":3,"id":3,"ok":70,"time":1}
+{"error":"old","line":4}
+"#;
+
+// The last line's reply is that of the first epoch, which the second one makes forgotten.
+const IN_PAIRS: &str = r#"{"epoch":1,"id":1,"ok":70,"time":1}
+{"epoch":1,"id":2,"ok":70,"time":2}
+{"epoch":2,"id":3,"ok":70,"time":1}
+{"epoch":1,"id":2,"ok":70,"time":2}
+"#;
+
+#[test]
+fn lines_are_answered(rt: HostRuntime) -> Result<(), Fail> {
+    for (keep, size, said) in [
+        (None, 1u32, FOUR),
+        (Some(1), 1, FORGOTTEN),
+        (Some(1), 2, IN_PAIRS),
+    ] {
+        let mut host = MemoryHost::new(rt.alloc(), Vec::new(rt.alloc()));
+        let ending = answer(rt.alloc(), &mut host, keep, size, LINES)?;
+        assert_eq!(rt; ending, Ending::Finished);
+        assert_eq!(rt; host.said(), said.as_bytes());
+    }
+    Ok(())
+}
+
+// Two calls make each of the two logs, eight write each epoch, and one says each answer of 36 bytes.
+#[test]
+fn a_failing_call_leaves_the_answers_before_it(rt: HostRuntime) -> Result<(), Fail> {
+    for call in 4..33u64 {
+        let mut fails = Vec::new(rt.alloc());
+        fails.push(call)?;
+        let mut host = MemoryHost::new(rt.alloc(), fails);
+        let ending = answer(rt.alloc(), &mut host, None, 1, LINES)?;
+        let expected = match call {
+            12 | 21 | 30 | 31 => Ending::SayFault,
+            32.. => Ending::Finished,
+            _ => Ending::DiskFault,
+        };
+        assert_eq!(rt; ending, expected);
+        let said = match call {
+            0..=12 => 0,
+            13..=21 => 36,
+            22..=30 => 72,
+            31 => 108,
+            32.. => 144,
+        };
+        assert_eq!(rt; host.said().len(), said);
+    }
+    Ok(())
+}
