@@ -1,0 +1,35 @@
+-- How a call ends: the program's status, and its line on the error stream.
+use Rattle.std.specs.Prelude.{ℕ, List, [], ◌∷◌, ◌++◌, codes, decimal}
+use Rattle.coco_ending.specs.Messages.{error_text}
+use Rattle.coco_ending.specs.declared.ending.Ending.{Ending}
+use Rattle.coco_ending.specs.declared.ending.Ending.TheVariants.{Finished, BadCommandLine, ReadFault, SayFault, DiskFault, NoMemory, NotAStore, EpochsUsedUp, Refused, AlreadyThere, NotSerial}
+
+abbrev pub status_of : Ending → ℕ
+status_of Finished = 0
+status_of BadCommandLine = 1
+status_of ReadFault = 2
+status_of SayFault = 3
+status_of DiskFault = 4
+status_of NoMemory = 6
+status_of (NotAStore file at) = 7
+status_of EpochsUsedUp = 8
+status_of (Refused e) = 9
+status_of (AlreadyThere bytes) = 10
+status_of (NotSerial place) = 11
+
+-- what ends a line
+abbrev feed : List ℕ
+feed = 10 ∷ []
+
+abbrev pub line_of : Ending → List ℕ
+line_of Finished = []
+line_of BadCommandLine = codes "coco: bad command line" ++ feed
+line_of ReadFault = codes "coco: read fault" ++ feed
+line_of SayFault = codes "coco: reply stream fault" ++ feed
+line_of DiskFault = codes "coco: disk fault" ++ feed
+line_of NoMemory = codes "coco: out of memory" ++ feed
+line_of (NotAStore file at) = codes "coco: not a store: file " ++ (decimal file ++ (codes " at byte " ++ (decimal at ++ feed)))
+line_of EpochsUsedUp = codes "coco: epochs used up" ++ feed
+line_of (Refused e) = codes "coco: procedures refused: " ++ (error_text e ++ feed)
+line_of (AlreadyThere bytes) = codes "coco: already there: file 0 has " ++ (decimal bytes ++ (codes " bytes" ++ feed))
+line_of (NotSerial place) = codes "coco: not serial at " ++ (decimal place ++ feed)

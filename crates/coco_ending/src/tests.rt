@@ -1,0 +1,92 @@
+//! Each ending's status and line, and an error stream that fails.
+
+use super::*;
+use coco_ast::{CheckError, CheckKind};
+use coco_io::MemorySink;
+use coco_lex::{LexError, LexKind};
+use coco_parse::{ParseError, ParseKind};
+use coco_types::OutFault;
+use std::test::Fail;
+
+const LEX: LexError = LexError {
+    at: 17,
+    kind: LexKind::WideNumber,
+};
+
+const PARSE: ParseError = ParseError {
+    at: 20,
+    kind: ParseKind::Unexpected,
+};
+
+const CHECK: CheckError = CheckError {
+    item: 1,
+    statement: 0,
+    kind: CheckKind::NoReply,
+};
+
+const ROWS: [(Ending, u8, &str); 14] = [
+    (Ending::Finished, 0, ""),
+    (Ending::BadCommandLine, 1, "coco: bad command line\n"),
+    (Ending::ReadFault, 2, "coco: read fault\n"),
+    (Ending::SayFault, 3, "coco: reply stream fault\n"),
+    (Ending::DiskFault, 4, "coco: disk fault\n"),
+    (Ending::NoMemory, 6, "coco: out of memory\n"),
+    (
+        Ending::NotAStore { file: 1, at: 8 },
+        7,
+        "coco: not a store: file 1 at byte 8\n",
+    ),
+    (Ending::EpochsUsedUp, 8, "coco: epochs used up\n"),
+    (
+        Ending::Refused(TextError::Long),
+        9,
+        "coco: procedures refused: long at byte 262144\n",
+    ),
+    (
+        Ending::Refused(TextError::Lex(LEX)),
+        9,
+        "coco: procedures refused: wide number at byte 17\n",
+    ),
+    (
+        Ending::Refused(TextError::Parse(PARSE)),
+        9,
+        "coco: procedures refused: unexpected at byte 20\n",
+    ),
+    (
+        Ending::Refused(TextError::Check(CHECK)),
+        9,
+        "coco: procedures refused: no reply at item 1 statement 0\n",
+    ),
+    (
+        Ending::AlreadyThere { bytes: 39 },
+        10,
+        "coco: already there: file 0 has 39 bytes\n",
+    ),
+    (
+        Ending::NotSerial { place: 2 },
+        11,
+        "coco: not serial at 2\n",
+    ),
+];
+
+#[test]
+fn each_ending_has_its_status_and_its_line(rt: HostRuntime) -> Result<(), Fail> {
+    let alloc = rt.alloc();
+    for (ending, status, line) in ROWS {
+        let mut errs = MemorySink::new(alloc, Vec::new(alloc));
+        assert_eq!(rt; ending.complain(alloc, &mut errs), Ok(()));
+        assert_eq!(rt; errs.bytes(), line.as_bytes());
+        assert_eq!(rt; ending.status(), status, "{line}");
+    }
+    Ok(())
+}
+
+#[test]
+fn a_fault_of_the_error_stream_is_told(rt: HostRuntime) -> Result<(), Fail> {
+    let alloc = rt.alloc();
+    let mut errs = MemorySink::new(alloc, vec![in alloc; 0]?);
+    let complained = Ending::ReadFault.complain(alloc, &mut errs);
+    assert_eq!(rt; complained, Err(OutFault::Failed));
+    assert!(rt; errs.bytes().is_empty());
+    Ok(())
+}

@@ -1,0 +1,4 @@
+pub mod Counts
+pub mod Initiating
+pub mod Reading
+pub mod Texts
