@@ -1,0 +1,19 @@
+-- What is carried from the opening of a store to the end of its run.
+use Rattle.std.proofs.Common.{◌≡◌, ℕ, List, Option, None, Some, refl, subst}
+use Rattle.std.specs.Option.{IfSome}
+use Rattle.coco_lines.specs.Reads.{SourceMoment}
+use Rattle.coco_serve.specs.Serving.{HasCause, Outside}
+use Rattle.coco_serve.specs.declared.ending.Ending.{Ending as Served}
+
+-- what holds of each value that there is
+pub if_some : {A : Type 0} (P : A → Type 0) (x : Option A) → ((y : A) → x ≡ Some y → P y) → IfSome x P
+if_some P None each = tt
+if_some P (Some y) each = each y refl
+
+-- a cause since the opening is one since entry, where no count of the host's moved before
+pub cause_from : (next : ℕ) (bytes : List ℕ) (source : SourceMoment) (faults say disk later_say later_disk : ℕ) (after : Outside) (served : Served) → later_say ≡ say → later_disk ≡ disk
+    → HasCause next bytes (record { source = source; source_faults = faults; say_faults = later_say; disk_faults = later_disk }) after served
+    → HasCause next bytes (record { source = source; source_faults = faults; say_faults = say; disk_faults = disk }) after served
+cause_from next bytes source faults say disk later_say later_disk after served same_say same_disk cause =
+    subst (λ (n : ℕ). HasCause next bytes (record { source = source; source_faults = faults; say_faults = n; disk_faults = disk }) after served) same_say
+    (subst (λ (n : ℕ). HasCause next bytes (record { source = source; source_faults = faults; say_faults = later_say; disk_faults = n }) after served) same_disk cause)

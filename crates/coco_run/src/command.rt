@@ -1,0 +1,41 @@
+//! The command `run`.
+
+ghost use Rattle.std.specs.Prelude.{◌≡◌, ◌<◌, ◌≤◌};
+ghost use Rattle.coco_types.specs.Limits.{most_batch_lines};
+ghost use Rattle.coco_run.specs.Running.{RunsOn, ending_of_run};
+
+use crate::opening::open_cluster;
+use coco_ending::Ending;
+use coco_host::Host;
+use coco_io::Source;
+use coco_serve::{Ending as Served, answer_lines};
+use std::alloc::Global;
+
+/// Opens the store, and answers request lines on it to the end of the input, so many in a batch.
+pub fn run<H: Host, S: Source>(alloc: Global, host: &mut H, input: &mut S, size: u32) -> Ending
+    requires some { 0 < size }
+    requires few { size ≤ most_batch_lines }
+    ensures { RunsOn H.moment H.observed H.said H.reads H.may_leave size result
+        (record { source = record { given = S.given input.old; left = S.remaining input.old; at_end = S.at_end input.old }; source_faults = S.faults input.old; say_faults = H.say_faults host.old; disk_faults = H.disk_faults host.old })
+        (record { source = record { given = S.given input.new; left = S.remaining input.new; at_end = S.at_end input.new }; source_faults = S.faults input.new; say_faults = H.say_faults host.new; disk_faults = H.disk_faults host.new })
+        host.old host.new }
+{
+    match open_cluster(alloc, host) {
+        Ok(mut cluster) => ending_of_run(answer_lines(alloc, host, &mut cluster, input, size)),
+        Err(ending) => ending,
+    }
+}
+
+// How a call ends whose lines were answered up to this ending.
+fn ending_of_run(served: Served) -> Ending
+    ensures { result ≡ ending_of_run served }
+{
+    match served {
+        Served::Finished => Ending::Finished,
+        Served::ReadFault => Ending::ReadFault,
+        Served::SayFault => Ending::SayFault,
+        Served::DiskFault => Ending::DiskFault,
+        Served::EpochsUsedUp => Ending::EpochsUsedUp,
+        Served::NoMemory => Ending::NoMemory,
+    }
+}

@@ -1,0 +1,8 @@
+//! The command `run`: the store in a host's files is opened, and request lines are answered on it.
+#![tactic(auto)]
+
+mod command;
+mod opening;
+
+pub use command::run;
+pub use opening::{ending_of_opening, open_cluster};
