@@ -1,60 +1,28 @@
 -- What an opened store of one node has in memory, as a cluster sees it.
-use Rattle.std.proofs.Common.{◌≡◌, ⊎_elim, ℕ, ◌+◌, ◌%◌, ◌<◌, Bool, true, false, cond, List, [], length, get_or, Option, None, Some, refl, sym, ap, ◌∙◌, subst, arith}
+use Rattle.std.proofs.Common.{◌≡◌, ℕ, ◌+◌, ◌%◌, ◌<◌, Bool, true, false, List, [], get_or, sym, ap, ◌∙◌, subst, arith}
 use Rattle.std.specs.Prelude.{replicate}
-use Rattle.std.specs.FinMap.{empty}
 use Rattle.std.specs.List.{AllByRecursion, flat_map, range_with_len}
-use Rattle.std.specs.Option.{option_map, unwrap_or}
-use Rattle.std.proofs.lemmas.Bool.{cases_lt, eq-eqb}
-use Rattle.std.proofs.lemmas.List.{get_or-replicate, get_or_past}
-use Rattle.std.proofs.lemmas.Option.{unwrap_or-slice_get}
+use Rattle.std.proofs.lemmas.List.{get_or-replicate}
 use Rattle.std.proofs.Math.Nat.{mod-lt}
-use Rattle.coco_types.specs.RowKey.{RowKey}
-use Rattle.coco_types.specs.declared.value.Value.{Value}
-use Rattle.coco_ast.specs.Keyed.{Rows, on_partition, value_at}
-use Rattle.coco_ast.proofs.KeyedLemmas.{value_on_partition}
+use Rattle.coco_ast.specs.Keyed.{Rows}
 use Rattle.coco_ast.proofs.Lists.{all_from_map, all_left, all_right}
 use Rattle.coco_commits.specs.EpochEntries.{HeldBy}
 use Rattle.coco_entry.specs.declared.commit.Commit.{Commit}
 use Rattle.coco_entry.specs.declared.layout.Layout.{Layout}
 use Rattle.coco_entry.specs.declared.prepared.Prepared.{Prepared}
-use Rattle.coco_epoch.specs.Shards.{HoldMap, shard_at}
+use Rattle.coco_epoch.specs.Shards.{HoldMap}
 use Rattle.coco_load.specs.Epochs.{IsNextOf}
-use Rattle.coco_load.specs.Tables.{IsShardOf}
-use Rattle.coco_shard.specs.RowState.{IsOfPartition, IsSettled, RowState, ShardState, resting, stable_at}
-use Rattle.coco_shard.proofs.Partitions.{none_of}
+use Rattle.coco_recover.specs.Opening.{ShardsHold}
+use Rattle.coco_shard.specs.RowState.{ShardState}
 use Rattle.coco_store.specs.Contents.{Contents}
 use Rattle.coco_store.specs.Rules.{commit_epochs, prepared_epochs}
 use Rattle.coco_cluster.specs.Standing.{IsBehindAll}
 
 -- ---- the map
 
--- a stable value that is loaded
-stable_of : (o : Option RowState) (v : Option Value) → o ≡ option_map (λ value. resting (Some value)) v → (unwrap_or o (resting None)).stable ≡ v
-stable_of o None is = ap (λ (x : Option RowState). (unwrap_or x (resting None)).stable) is
-stable_of o (Some v) is = ap (λ (x : Option RowState). (unwrap_or x (resting None)).stable) is
-
--- shards that each hold their partition of one map hold the map together
-module _ (count : ℕ) (m : Rows) (shards : List ShardState) (some : 0 < count) (lengths : length shards ≡ count)
-    (settled : (p : ℕ) → IsSettled (get_or shards p empty)) (each : (p : ℕ) → p < count → IsShardOf count p (on_partition count p m) (get_or shards p empty)) where
-  same : (p : ℕ) → shard_at shards p ≡ get_or shards p empty
-  same p = unwrap_or-slice_get shards p empty
-
-  within : (p : ℕ) → IsOfPartition count p (get_or shards p empty)
-  within p = ⊎_elim (λ less. (each p less).partition)
-      (λ past. subst (IsOfPartition count p) (sym (get_or_past shards p empty (omega (arith, past, lengths)))) (none_of count p)) (cases_lt p count)
-
-  value_in : (k : RowKey) → stable_at (get_or shards (k.row % count) empty) k ≡ value_at m k
-  value_in k =
-      stable_of _ _ ((each (k.row % count) (mod-lt k.row some)).holds k)
-      ∙ value_on_partition count (k.row % count) m k ∙ ap (λ (b : Bool). cond b (value_at m k) None) (eq-eqb (k.row % count) (k.row % count) refl)
-
-  pub held_map : HoldMap m shards
-  held_map = record {
-    partitions = λ p. subst (λ (n : ℕ). IsOfPartition n p (shard_at shards p)) (sym lengths) (subst (IsOfPartition count p) (sym (same p)) (within p));
-    settled = λ p. subst IsSettled (sym (same p)) (settled p);
-    values = λ k. subst (λ (n : ℕ). stable_at (shard_at shards (k.row % n)) k ≡ value_at m k) (sym lengths)
-        (ap (λ (s : ShardState). stable_at s k) (same (k.row % count)) ∙ value_in k);
-  }
+-- shards that hold a map as the opening has it hold it as an epoch does
+pub one_map : (m : Rows) (shards : List ShardState) → ShardsHold m shards → HoldMap m shards
+one_map m shards held = record { partitions = held.partitions; settled = held.settled; values = held.values }
 
 -- ---- the partitions
 

@@ -11,17 +11,17 @@ use Rattle.coco_entry.specs.declared.prepared.Prepared.{Prepared}
 use Rattle.coco_load.specs.Epochs.{IsNextTo, epochs_in}
 use Rattle.coco_load.specs.Laws.{AllIsRead, KeptAreTheHistory, TablesHoldTheMap}
 use Rattle.coco_load.specs.Reading.{maps_of}
-use Rattle.coco_load.specs.Tables.{HoldMaps}
+use Rattle.coco_load.specs.Tables.{HoldMap, HoldMaps}
 use Rattle.coco_load.proofs.TableLemmas.{same_maps}
 use Rattle.coco_shard.specs.RowState.{ShardState}
-use Rattle.coco_store.specs.Contents.{Contents, Holds, rows_of}
+use Rattle.coco_store.specs.Contents.{Contents, Holds, map_in, on, rows_of}
 use Rattle.coco_store.specs.Laws.{AreSame, OneContents}
 use Rattle.coco_store.specs.Rules.{Setting, base_values, commit_epochs, prepared_epochs}
 use Rattle.coco_recover.specs.Bases.{IsBased, entries_of}
 use Rattle.coco_recover.specs.Commits.{AreCommitted}
 use Rattle.coco_recover.specs.Layouts.{setting_of}
 use Rattle.coco_recover.specs.Nodes.{IsLoaded, nodes_of}
-use Rattle.coco_recover.specs.Opening.{Has, IsOpening, entry_in, its_keep}
+use Rattle.coco_recover.specs.Opening.{Has, IsOpening, ShardsHold, entry_in, its_keep}
 use Rattle.coco_recover.specs.declared.base.Based.{Based}
 use Rattle.coco_recover.specs.declared.commits.Committed.{Committed}
 use Rattle.coco_recover.specs.declared.layouts.LastLayout.{LastLayout}
@@ -29,6 +29,7 @@ use Rattle.coco_recover.specs.declared.nodes.Loaded.{Loaded}
 use Rattle.coco_recover.specs.declared.opening.Logs.{Logs}
 use Rattle.coco_recover.specs.declared.opening.Opened.{Opened}
 use Rattle.coco_recover.proofs.Held.{contents_of}
+use Rattle.coco_recover.proofs.Shards.{shards_hold}
 
 -- ---- epochs, node by node
 
@@ -69,6 +70,9 @@ same_tables c d shards copies same held =
     (same_maps c.setting.entry.layout (maps_of c) (λ p j. rows_of d ((p + j) % c.setting.entry.layout.nodes) p) shards copies
     (λ p j below to. same.rows ((p + j) % c.setting.entry.layout.nodes) p (left_within (p + j) c.setting.entry.layout.nodes c.setting.entry.layout.copies held.tables.ring.around)) held)
 
+one_map_held : (c : Contents) (shards : List ShardState) (copies : List CopyState) → HoldMap c.setting.entry.layout (map_in c) shards copies → ShardsHold (map_in c) shards
+one_map_held c shards copies held = shards_hold c.setting.entry.layout (λ p j. on c.setting p (map_in c)) shards copies held (map_in c) (λ p below. refl)
+
 same_had : TablesHoldTheMap → (keep : Option ℕ) (c d : Contents) (store : Opened) → AreSame c d → Has keep c store → Has keep d store
 same_had law keep c d store same has =
     let tables = same_tables c d store.shards.items store.copies.items same has.tables in
@@ -79,6 +83,7 @@ same_had law keep c d store same has =
       floor = has.floor ∙ ap (λ (h : History). floor (with_keep keep h)) same.history;
       tables = tables;
       map = λ rows. law d store.shards.items store.copies.items rows tables;
+      primaries = λ rows. one_map_held d store.shards.items store.copies.items (law d store.shards.items store.copies.items rows tables);
       next = subst (λ (l : List ℕ). IsNextTo l store.next_epoch) (same_epochs c d same) has.next;
       base = has.base ∙ ap base_values same.base;
     }
@@ -116,6 +121,7 @@ module _ (read : AllIsRead) (tables : TablesHoldTheMap) (history : KeptAreTheHis
         floor = kept_ones.1;
         tables = held;
         map = λ have. tables c loaded.tables.shards.items loaded.tables.copies.items have held;
+        primaries = λ have. one_map_held c loaded.tables.shards.items loaded.tables.copies.items (tables c loaded.tables.shards.items loaded.tables.copies.items have held);
         next = subst (λ (l : List ℕ). IsNextTo (behind ++ l) loaded.next)
             (each ∙ ap (λ (n : ℕ). flat_map (λ m. prepared_epochs (c.prepared m)) (range_with_len 0 n)) all) holds.next;
         base = rows.values ∙ ap base_values (sym one_base);

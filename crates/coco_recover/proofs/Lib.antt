@@ -10,5 +10,6 @@ pub mod OneMap
 pub mod Places
 pub mod Reading
 pub mod Resting
+pub mod Shards
 pub mod Sounding
 pub mod Within

@@ -10,7 +10,6 @@ use Rattle.coco_entry.specs.declared.prepared.Prepared.{Prepared}
 use Rattle.coco_load.specs.Epochs.{IsNextTo}
 use Rattle.coco_load.specs.Laws.{BaseDonesFollow, CommittedDonesFollow}
 use Rattle.coco_load.specs.Reading.{maps_read}
-use Rattle.coco_load.specs.Tables.{IsShardOf, shard_at}
 use Rattle.coco_log.specs.LogState.{IsFresh}
 use Rattle.coco_store.specs.Rules.{EachBehind, IsNextCommit, IsNextPrepared, base_of, commit_epochs, prepared_epochs}
 use Rattle.coco_store.proofs.Naming.{names_apart}
@@ -28,6 +27,7 @@ use Rattle.coco_recover.specs.declared.opening.Logs.{Logs}
 use Rattle.coco_recover.proofs.Having.{opened_of}
 use Rattle.coco_recover.proofs.Keeping.{each_all, keeps_below}
 use Rattle.coco_recover.proofs.OneMap.{one_map, one_map-on}
+use Rattle.coco_recover.proofs.Shards.{shards_hold}
 
 -- ---- the next epoch's number
 
@@ -94,10 +94,9 @@ module _ (of_base : BaseDonesFollow) (of_commits : CommittedDonesFollow) (last :
         procs = good.tree;
         maps = maps_read s base epochs entries;
         tables = read.are.tables;
-        primaries = record {
-          map = one_map s base epochs entries;
-          each = λ p below. subst (λ m. IsShardOf last.entry.layout.partitions p m (shard_at loaded.tables.shards.items p)) (sym (one_map-on s base epochs entries p below)) (read.are.tables.primaries p below);
-        };
+        map = one_map s base epochs entries;
+        primaries = shards_hold last.entry.layout (maps_read s base epochs entries) loaded.tables.shards.items loaded.tables.copies.items read.are.tables (one_map s base epochs entries)
+            (λ p below. sym (one_map-on s base epochs entries p below));
         keeps = keeps_below of_base of_commits s committed are.remembered loaded.next above.0 above.1;
         first = omega (arith, next.next);
         end = next_below (last.entry.layout.base_epoch ∷ epochs ++ flat_map prepared_epochs (nodes_of loaded)) loaded.next next

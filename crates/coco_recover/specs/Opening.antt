@@ -1,13 +1,16 @@
 -- What is had of an opened store: what its files hold, by logs that stand in them.
-use Rattle.std.specs.Prelude.{◌≡◌, ◌≢◌, ℕ, ◌<◌, ◌≤◌, nat_eq, List, length, Option, None, slice_index, slice_index_or}
-use Rattle.std.specs.List.{AllByRecursion, filter, flat_map}
+use Rattle.std.specs.Prelude.{◌≡◌, ◌≢◌, ℕ, ◌%◌, ◌<◌, ◌≤◌, nat_eq, List, length, Option, None, slice_index, slice_index_or}
+use Rattle.std.specs.List.{AllByRecursion, filter, flat_map, slice_get}
+use Rattle.std.specs.FinMap.{empty}
+use Rattle.std.specs.Option.{unwrap_or}
+use Rattle.coco_types.specs.RowKey.{RowKey}
 use Rattle.coco_types.specs.Limits.{epochs_end, most_batch_lines}
 use Rattle.coco_types.specs.declared.call.Done.{Done}
 use Rattle.coco_host.specs.Files.{Files}
 use Rattle.coco_append.specs.Gaining.{Stands}
 use Rattle.coco_ast.specs.Fitting.{Fits}
 use Rattle.coco_ast.specs.History.{floor, kept, with_keep}
-use Rattle.coco_ast.specs.Keyed.{Rows, on_partition}
+use Rattle.coco_ast.specs.Keyed.{Rows, value_at}
 use Rattle.coco_ast.specs.Tree.{Procedures}
 use Rattle.coco_entry.specs.declared.layout.Layout.{Layout}
 use Rattle.coco_entry.specs.declared.layout.LayoutEntry.{LayoutEntry}
@@ -16,8 +19,9 @@ use Rattle.coco_kept.specs.Holding.{NeverFall}
 use Rattle.coco_kept.specs.Keeping.{HasDistinctIds, HoldsKept, Keeping}
 use Rattle.coco_load.specs.Epochs.{IsNextOf}
 use Rattle.coco_load.specs.Reading.{maps_of}
-use Rattle.coco_load.specs.Tables.{HoldMap, HoldMaps, IsShardOf, Maps, shard_at}
+use Rattle.coco_load.specs.Tables.{HoldMap, HoldMaps, Maps}
 use Rattle.coco_log.specs.LogState.{IsFresh, LogState}
+use Rattle.coco_shard.specs.RowState.{IsOfPartition, IsSettled, ShardState, stable_at}
 use Rattle.coco_store.specs.Contents.{Contents, Holds, history_of, map_in, on, rows_of}
 use Rattle.coco_store.specs.Entries.{commits_kind, layouts_kind, prepared_kind}
 use Rattle.coco_store.specs.Placement.{IsHeldBy}
@@ -34,6 +38,17 @@ entry_in store = record { layout = store.layout; keep = store.keep; base_file = 
 abbrev pub node_log : Logs → ℕ → LogState
 node_log logs n = slice_index_or logs.nodes.items n logs.root
 
+-- ---- shards
+
+abbrev pub shard_in : List ShardState → ℕ → ShardState
+shard_in shards p = unwrap_or (slice_get shards p) empty
+
+-- so many shards hold one map: the one at place p has the rows of partition p, no row is touched, and the stable values are the map's
+pub record ShardsHold (m : Rows) (shards : List ShardState) : Type 0 where
+  pub partitions : (p : ℕ) → IsOfPartition (length shards) p (shard_in shards p)
+  pub settled : (p : ℕ) → IsSettled (shard_in shards p)
+  pub values : (k : RowKey) → stable_at (shard_in shards (k.row % length shards)) k ≡ value_at m k
+
 -- ---- what the files hold
 
 -- each node has the history's rows in each partition that it holds
@@ -48,6 +63,7 @@ pub record Has (keep : Option ℕ) (c : Contents) (store : Opened) : Type 0 wher
   pub floor : store.kept.floor ≡ floor (with_keep keep (history_of c))
   pub tables : HoldMaps c.setting.entry.layout (maps_of c) store.shards.items store.copies.items
   pub map : HaveRows c → HoldMap c.setting.entry.layout (map_in c) store.shards.items store.copies.items
+  pub primaries : HaveRows c → ShardsHold (map_in c) store.shards.items
   pub next : IsNextOf c store.next_epoch
   pub base : flat_map (λ rows. rows) store.base.items ≡ base_values c.base
 
@@ -91,19 +107,15 @@ pub record AreKeptBelow (procs : Procedures) (kept : Keeping) (epoch : ℕ) : Ty
   pub once : HasDistinctIds kept.dones
   pub fit : AllByRecursion (λ d. Fits procs d.call) kept.dones
 
--- the primaries hold their partitions of one map
-pub record HoldOne (layout : Layout) (store : Opened) : Type 0 where
-  pub map : Rows
-  pub each : (p : ℕ) → p < layout.partitions → IsShardOf layout.partitions p (on_partition layout.partitions p map) (shard_at store.shards.items p)
-
--- the layout is good, each table holds a map of its partition, and the next epoch's number is above those of the kept Dones
+-- the layout is good, each table holds a map of its partition, the shards hold one map together, and the next epoch's number is above those of the kept Dones
 pub record IsSoundStore (store : Opened) : Type 0 where
   pub is : IsLayout (entry_in store)
   pub limits : IsWithinLimits (entry_in store)
   pub procs : IsAcceptedText store.layout.text store.procs
   pub maps : Maps
   pub tables : HoldMaps store.layout maps store.shards.items store.copies.items
-  pub primaries : HoldOne store.layout store
+  pub map : Rows
+  pub primaries : ShardsHold map store.shards.items
   pub keeps : AreKeptBelow store.procs store.kept store.next_epoch
   pub first : 0 < store.next_epoch
   pub end : store.next_epoch ≤ epochs_end

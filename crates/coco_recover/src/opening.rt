@@ -13,9 +13,8 @@ ghost use Rattle.coco_recover.specs.Layouts.{IsGoodLast};
 ghost use Rattle.coco_recover.specs.Opening.{AllStand, IsOpening, IsSoundStore, entry_in, its_keep, no_keep};
 ghost use Rattle.coco_recover.specs.Steps.{HoldsLast};
 
-use crate::LastLayout;
-use crate::base::Based;
 use crate::files::{read_base, read_commits, read_layouts, read_nodes};
+use crate::{Based, LastLayout};
 use coco_ast::Checked;
 use coco_copy::CopyTable;
 use coco_entry::{Layout, LayoutEntry};
@@ -69,6 +68,7 @@ pub fn recover<H: Host>(alloc: Global, host: &mut H) -> Result<Opened, OpenFault
     ensures counts { Counts result (H.disk_faults host.old) (H.disk_faults host.new) }
     ensures stream { H.say_faults host.new ≡ H.say_faults host.old }
 {
+    // The law by which no store is refused; the call does nothing.
     a_refused_store_is_none();
     let (last, root) = read_layouts(alloc, host)?;
     let keep = last.entry.keep;
@@ -88,6 +88,7 @@ pub fn recover_whole<H: Host>(alloc: Global, host: &mut H) -> Result<Opened, Ope
     ensures counts { Counts result (H.disk_faults host.old) (H.disk_faults host.new) }
     ensures stream { H.say_faults host.new ≡ H.say_faults host.old }
 {
+    // The law by which no store is refused; the call does nothing.
     a_refused_store_is_none();
     let (last, root) = read_layouts(alloc, host)?;
     open_behind(alloc, host, last, root, None)

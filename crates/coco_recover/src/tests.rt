@@ -29,6 +29,24 @@ const NO_COMMITS: [u8; 9] = *b"COCOLOG\x01\x00";
 
 const NONE_PREPARED: [u8; 9] = *b"COCOLOG\x02\x00";
 
+// The same layout, and behind it one from epoch 2 on with a base in file 3.
+const TWO_LAYOUTS: [u8; 75] = [
+    b'C', b'O', b'C', b'O', b'L', b'O', b'G', 0, 1, 0, 0, 0, 25, 1, 1, 1, 1, 0, 0, 0, 0, 1, 0, 0,
+    0, 2, 0, 0, 0, 0, 0, 0, 0, 0, 0, 0, 0, 0, 1, 0, 0, 0, 31, 1, 3, 1, 1, 0, 0, 0, 0, 4, 0, 0, 0,
+    5, 0, 0, 0, 0, 0, 0, 0, 2, 0, 0, 0, 0, 0, 0, 0, 0, 0, 3, 0,
+];
+
+// The base: put(5, 70) as id 1, get(5) as id 2, and the row.
+const BASE: [u8; 190] = [
+    b'C', b'O', b'C', b'O', b'L', b'O', b'G', 3, 1, 0, 0, 0, 34, 4, 0, 0, 0, 0, 0, 0, 0, 2, 0, 0,
+    0, 0, 0, 0, 0, 0, 0, 0, 0, 0, 0, 0, 0, 0, 2, 0, 0, 0, 0, 0, 0, 0, 1, 1, 0, 0, 0, 108, 5, 0, 0,
+    0, 2, 0, 0, 0, 0, 0, 0, 0, 1, 0, 0, 0, 0, 0, 0, 0, 1, 0, 1, 0, 2, 1, 0, 0, 0, 0, 0, 0, 0, 5, 1,
+    0, 0, 0, 0, 0, 0, 0, 70, 0, 0, 0, 0, 0, 0, 0, 1, 0, 1, 0, 0, 0, 0, 0, 0, 0, 70, 0, 0, 0, 0, 0,
+    0, 0, 2, 0, 0, 0, 0, 0, 0, 0, 2, 0, 0, 0, 1, 1, 0, 0, 0, 0, 0, 0, 0, 5, 0, 0, 0, 0, 0, 0, 0, 1,
+    0, 1, 0, 0, 0, 0, 0, 0, 0, 70, 1, 0, 0, 0, 24, 6, 0, 0, 0, 1, 0, 0, 0, 0, 0, 0, 0, 0, 0, 5, 1,
+    0, 0, 0, 0, 0, 0, 0, 70, 0,
+];
+
 // What is seen of an opened store: the number of its next epoch, how many replies it keeps, and its row 5.
 type Seen = (u64, u64, Option<i64>);
 
@@ -56,38 +74,45 @@ fn host_of(alloc: Global, commits: &[u8], prepared: &[u8]) -> Result<MemoryHost,
     Ok(host)
 }
 
+fn host_with_base(alloc: Global) -> Result<MemoryHost, Fail> {
+    let mut host = host_of(alloc, &COMMITS, &PREPARED)?;
+    host.write_at(0, 0, &TWO_LAYOUTS)?;
+    host.write_at(3, 0, &BASE)?;
+    host.write_at(4, 0, &NO_COMMITS)?;
+    host.write_at(5, 0, &NONE_PREPARED)?;
+    Ok(host)
+}
+
 // What is seen once a store is opened, with all replies or by its keep number.
-fn opened(
-    alloc: Global,
-    commits: &[u8],
-    prepared: &[u8],
-    is_whole: bool,
-) -> Result<Result<Seen, OpenFault>, Fail> {
-    let mut host = host_of(alloc, commits, prepared)?;
+fn opened(alloc: Global, mut host: MemoryHost, is_whole: bool) -> Result<Seen, OpenFault> {
     let store = if is_whole {
         recover_whole(alloc, &mut host)
     } else {
         recover(alloc, &mut host)
     };
-    Ok(match store {
+    match store {
         Ok(store) => Ok(seen(&store)),
         Err(fault) => Err(fault),
-    })
+    }
 }
 
 #[test]
 fn the_worked_stores_are_opened(rt: HostRuntime) -> Result<(), Fail> {
-    for (commits, prepared, wanted) in [
-        (
-            NO_COMMITS.as_slice(),
-            NONE_PREPARED.as_slice(),
-            (1, 0, None),
-        ),
-        (NO_COMMITS.as_slice(), PREPARED.as_slice(), (2, 0, None)),
-        (COMMITS.as_slice(), PREPARED.as_slice(), (2, 1, Some(70))),
-    ] {
-        assert_eq!(rt; opened(rt.alloc(), commits, prepared, false)?, Ok(wanted));
-        assert_eq!(rt; opened(rt.alloc(), commits, prepared, true)?, Ok(wanted));
+    for is_whole in [false, true] {
+        for (commits, prepared, wanted) in [
+            (
+                NO_COMMITS.as_slice(),
+                NONE_PREPARED.as_slice(),
+                (1, 0, None),
+            ),
+            (NO_COMMITS.as_slice(), PREPARED.as_slice(), (2, 0, None)),
+            (COMMITS.as_slice(), PREPARED.as_slice(), (2, 1, Some(70))),
+        ] {
+            let host = host_of(rt.alloc(), commits, prepared)?;
+            assert_eq!(rt; opened(rt.alloc(), host, is_whole), Ok(wanted));
+        }
+        let host = host_with_base(rt.alloc())?;
+        assert_eq!(rt; opened(rt.alloc(), host, is_whole), Ok((3, 2, Some(70))));
     }
     Ok(())
 }
@@ -95,7 +120,8 @@ fn the_worked_stores_are_opened(rt: HostRuntime) -> Result<(), Fail> {
 // The node lacks the entry of the committed epoch, which is found at its last gate.
 #[test]
 fn a_store_that_lacks_an_entry_is_refused(rt: HostRuntime) -> Result<(), Fail> {
-    let refused = opened(rt.alloc(), &COMMITS, &NONE_PREPARED, false)?;
-    assert_eq!(rt; refused, Err(OpenFault::NotAStore { file: 2, at: 8 }));
+    let host = host_of(rt.alloc(), &COMMITS, &NONE_PREPARED)?;
+    let refused = OpenFault::NotAStore { file: 2, at: 8 };
+    assert_eq!(rt; opened(rt.alloc(), host, false), Err(refused));
     Ok(())
 }

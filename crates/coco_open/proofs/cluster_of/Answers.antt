@@ -5,7 +5,7 @@ use Rattle.coco_entry.specs.declared.layout.LayoutEntry.{LayoutEntry}
 use Rattle.coco_store.specs.Contents.{map_in}
 use Rattle.coco_cluster.specs.Standing.{IsSound, StandsAt}
 use Rattle.coco_recover.specs.Opening.{node_log}
-use Rattle.coco_open.proofs.Holding.{all_held, behind_all, held_map}
+use Rattle.coco_open.proofs.Holding.{all_held, behind_all, one_map}
 use Rattle.coco_open.proofs.cluster_of.Goals as goal
 
 pub of-requires : goal.of-requires
@@ -19,10 +19,7 @@ of-requires c =
       keeps = record { before = sound.keeps.before; added = sound.keeps.added; holds = sound.keeps.holds; rising = sound.keeps.rising; below = sound.keeps.below; once = sound.keeps.once };
       first = sound.first;
       end = sound.end;
-      holds = λ _. (
-        sound.primaries.map,
-        held_map c.args.store.layout.partitions sound.primaries.map c.args.store.shards.items tables.ring.some tables.shard_count tables.settled sound.primaries.each,
-      );
+      holds = λ _. (sound.map, one_map sound.map c.args.store.shards.items sound.primaries);
       unspent = λ _. (sound.logs.chief.unspent, (sound.logs.nodes 0 none).unspent);
       apart = sound.logs.apart 0 none;
     })
@@ -43,8 +40,7 @@ returns-clause-stands c files d opening good =
       dones = has.dones;
       floor = has.floor;
       keep = c.requires.keep ∙ ap (λ (e : LayoutEntry). e.keep) has.layout;
-      map = held_map d.setting.entry.layout.partitions (map_in d) c.args.store.shards.items (has.map good.rows).tables.ring.some (has.map good.rows).tables.shard_count
-          (has.map good.rows).tables.settled (has.map good.rows).primaries;
+      map = one_map (map_in d) c.args.store.shards.items (has.primaries good.rows);
       partitions = (has.map good.rows).tables.shard_count;
       chief = record { file = ap (λ (l : LogState). l.file) is_chief ∙ sound.logs.chief.in_file ∙ ap (λ (e : LayoutEntry). e.layout.chief_file) has.layout; kind = ap (λ (l : LogState). l.kind) is_chief ∙ sound.logs.chief.of_kind };
       node = record { file = ap (λ (l : LogState). l.file) is_node ∙ (sound.logs.nodes 0 none).in_file ∙ ap (λ (e : LayoutEntry). slice_index e.layout.node_files 0) has.layout; kind = ap (λ (l : LogState). l.kind) is_node ∙ (sound.logs.nodes 0 none).of_kind };
