@@ -1,3 +1,4 @@
 pub mod ClapOptions
 pub mod ClapReads
-pub mod RunWords
+pub mod CommandWords
+pub mod NumberLemmas

@@ -1,22 +1,48 @@
 -- The commands of the program.
-use Rattle.std.specs.Prelude.{◌≡◌, List, [], ◌∷◌, codes}
-use Rattle.coco_words.specs.Options.{Text, GivesOptions, IsNumberOf, value_of}
-use Rattle.coco_words.specs.declared.RunOptions.{RunOptions}
+use Rattle.std.specs.Prelude.{◌≡◌, ℕ, List, [], ◌∷◌, Some, codes}
+use Rattle.coco_words.specs.Options.{Text, NumberOption, GivesNumbers}
 use Rattle.coco_words.specs.declared.Command.{Command}
-use Rattle.coco_words.specs.declared.Command.TheVariants.{Run}
+use Rattle.coco_words.specs.declared.Command.TheVariants.{Init, Run, Dump, Verify}
+use Rattle.coco_words.specs.declared.Kind.{Kind}
+use Rattle.coco_words.specs.declared.Kind.TheVariants as kind
 
--- the names of the options of `run`
-abbrev pub run_names : List Text
-run_names = codes "epoch" ∷ []
+abbrev pub kind_of : Command → Kind
+kind_of (Init nodes partitions copies) = kind.Init
+kind_of (Run run) = kind.Run
+kind_of Dump = kind.Dump
+kind_of Verify = kind.Verify
 
--- the words give these options of `run`
-abbrev pub GivesRun : List Text → RunOptions → Type 0
-GivesRun words run =
-    (options : List (Text × Text)) × GivesOptions run_names words options × IsNumberOf (value_of (codes "epoch") options) 100 1 1024 run.epoch
+-- the word that a command begins with
+abbrev pub name_of : Kind → Text
+name_of kind.Init = codes "init"
+name_of kind.Run = codes "run"
+name_of kind.Dump = codes "dump"
+name_of kind.Verify = codes "verify"
+
+-- an option that needn't be given
+abbrev pub optional : Text → ℕ → ℕ → ℕ → NumberOption
+optional name default least most = record { name = name; default = Some default; least = least; most = most }
+
+-- the options of a command. A store has one node and no copies until there can be several
+abbrev pub options_for : Kind → List NumberOption
+options_for kind.Init = optional (codes "nodes") 1 1 1 ∷ optional (codes "partitions") 1 1 64 ∷ optional (codes "copies") 0 0 0 ∷ []
+options_for kind.Run = optional (codes "epoch") 100 1 1024 ∷ []
+options_for kind.Dump = []
+options_for kind.Verify = []
+
+abbrev pub options_of : Command → List NumberOption
+options_of command = options_for (kind_of command)
+
+-- the numbers of its options
+abbrev pub numbers_of : Command → List ℕ
+numbers_of (Init nodes partitions copies) = nodes ∷ partitions ∷ copies ∷ []
+numbers_of (Run run) = run.epoch ∷ []
+numbers_of Dump = []
+numbers_of Verify = []
 
 -- the words are the command: its name first, and then its options
 abbrev pub IsCommand : List Text → Command → Type 0
-IsCommand words (Run run) = (others : List Text) × (words ≡ codes "run" ∷ others) × GivesRun others run
+IsCommand words command = (others : List Text) × (words ≡ name_of (kind_of command) ∷ others) × GivesNumbers (options_of command) others (numbers_of command)
 
 -- the words are this command and no other
 pub record IsOnlyCommand (words : List Text) (command : Command) : Type 0 where

@@ -1,5 +1,5 @@
 -- Options among the words of a command line.
-use Rattle.std.specs.Prelude.{◌≡◌, ◌≤◌, ◌<◌, ◌⊎◌, ℕ, true, List, [], ◌∷◌, ◌++◌, length, codes, Option, MatchOption, Contains}
+use Rattle.std.specs.Prelude.{◌≡◌, ⊤, ◌≤◌, ◌<◌, ◌⊎◌, ℕ, true, List, [], ◌∷◌, ◌++◌, length, codes, Option, Some, None, Contains}
 use Rattle.std.specs.List.{list_all, IsDistinct}
 use Rattle.std.specs.Map.{keys_of, lookup}
 use Rattle.std.specs.Char.{is_ascii_digit}
@@ -28,6 +28,8 @@ pub record GivesOptions (names : List Text) (words : List Text) (options : List 
 abbrev pub value_of : Text → List (Text × Text) → Option Text
 value_of name options = lookup (bytes_eq name) options
 
+-- ---- numbers
+
 -- the text is 1 to 19 ASCII digits, which write the number, and the number is in the range
 pub record WritesNumber (least most : ℕ) (text : Text) (number : ℕ) : Type 0 where
   pub digits : list_all is_ascii_digit text ≡ true
@@ -37,6 +39,36 @@ pub record WritesNumber (least most : ℕ) (text : Text) (number : ℕ) : Type 0
   pub above : least ≤ number
   pub below : number ≤ most
 
--- the number of an option with this value, or the default where it isn't given
-abbrev pub IsNumberOf : Option Text → ℕ → ℕ → ℕ → ℕ → Type 0
-IsNumberOf value default least most number = MatchOption value (number ≡ default) (λ text. WritesNumber least most text number)
+-- an option whose value is a number: its name, the number where it isn't given (none where it has to be), and its range
+pub record NumberOption : Type 0 where
+  pub name : Text
+  pub default : Option ℕ
+  pub least : ℕ
+  pub most : ℕ
+
+-- the number of an option with this value, or with none
+abbrev pub IsNumberOf : NumberOption → Option Text → ℕ → Type 0
+IsNumberOf o None number = o.default ≡ Some number
+IsNumberOf o (Some text) number = WritesNumber o.least o.most text number
+
+-- each option has its number, where its value is that of its name
+abbrev pub AreNumbersOf : (Text → Option Text) → List NumberOption → List ℕ → Type 0
+AreNumbersOf values [] [] = ⊤
+AreNumbersOf values [] (n ∷ ns) = ⊥
+AreNumbersOf values (o ∷ os) [] = ⊥
+AreNumbersOf values (o ∷ os) (n ∷ ns) = IsNumberOf o (values o.name) n × AreNumbersOf values os ns
+
+-- each number is in its option's range
+abbrev pub AreInRange : List NumberOption → List ℕ → Type 0
+AreInRange [] [] = ⊤
+AreInRange [] (n ∷ ns) = ⊥
+AreInRange (o ∷ os) [] = ⊥
+AreInRange (o ∷ os) (n ∷ ns) = (o.least ≤ n) × (n ≤ o.most) × AreInRange os ns
+
+abbrev pub names_in : List NumberOption → List Text
+names_in [] = []
+names_in (o ∷ os) = o.name ∷ names_in os
+
+-- the words give these numbers of these options
+abbrev pub GivesNumbers : List NumberOption → List Text → List ℕ → Type 0
+GivesNumbers os words numbers = (options : List (Text × Text)) × GivesOptions (names_in os) words options × AreNumbersOf (λ name. value_of name options) os numbers

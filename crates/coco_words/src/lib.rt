@@ -1,32 +1,40 @@
 //! The words of the command line, and the command that they are.
 #![tactic(auto)]
 
-ghost use Rattle.std.specs.Prelude.{◌≡◌, ◌<◌, ◌≤◌, ℕ, List, map, codes, Some, MatchOption, IfOk};
-ghost use Rattle.std.specs.Char.{is_ascii_digit};
-ghost use Rattle.std.specs.List.{list_all, list_any};
-ghost use Rattle.std.specs.Str.{bytes_eq};
-ghost use Rattle.std.specs.String.{string_bytes};
-ghost use Rattle.clap.specs.Words.{first_value, found_of, kind_of};
-ghost use Rattle.coco_words.specs.Commands.{GivesRun, IsCommand, IsOnlyCommand, run_names};
-ghost use Rattle.coco_words.specs.Matches.{HasValuesOf};
-ghost use Rattle.coco_words.specs.Options.{Text, GivesOptions, IsNumberOf, WritesNumber};
-ghost use Rattle.coco_words.specs.declared.Command.{Command as Asked};
-ghost use Rattle.coco_words.specs.declared.RunOptions.{RunOptions as Chosen};
+mod numbers;
+mod reading;
+#[cfg(test)]
+mod tests;
 
-use clap::error::ErrorKind;
-use clap::{Arg, ArgMatches};
+ghost use Rattle.std.specs.Prelude.{◌≡◌, ℕ, List, map, MatchOption, IfOk};
+ghost use Rattle.std.specs.String.{string_bytes};
+ghost use Rattle.clap.specs.Words.{first_value, found_of};
+ghost use Rattle.coco_words.specs.Commands.{IsCommand, IsOnlyCommand, kind_of, name_of, numbers_of, options_for, options_of};
+ghost use Rattle.coco_words.specs.Options.{AreInRange, AreNumbersOf};
+ghost use Rattle.coco_words.specs.declared.Command.{Command as Asked};
+
+use clap::ArgMatches;
+use numbers::number_of;
+use reading::options_in;
 use std::alloc::{AllocError, Global};
 use std::error::Error;
 use std::fmt;
 
-#[cfg(test)]
-mod tests;
-
 /// What the program is asked to do.
 #[derive(Clone, Copy, Debug, PartialEq, Eq)]
 pub enum Command {
+    /// Make a store: of so many nodes and partitions, each with so many copies.
+    Init {
+        nodes: u8,
+        partitions: u8,
+        copies: u8,
+    },
     /// Run request lines.
     Run(RunOptions),
+    /// Say the records and the rows.
+    Dump,
+    /// Say whether the replies are those of a serial run.
+    Verify,
 }
 
 /// The options of `run`.
@@ -45,98 +53,80 @@ pub enum WordsFault {
     NoMemory,
 }
 
+/// Which command, whatever its options.
+#[derive(Clone, Copy, Debug, PartialEq, Eq)]
+pub enum Kind {
+    Init,
+    Run,
+    Dump,
+    Verify,
+}
+
 /// The command that the words are: its name, and then its options.
 pub fn words(alloc: Global, words: &[String]) -> Result<Command, WordsFault>
     ensures ok { IfOk result (IsOnlyCommand (map string_bytes words.now)) }
+    ensures range { IfOk result (λ command. AreInRange (options_of command) (numbers_of command)) }
     ensures usage { result ≡ Err WordsFault.Usage → (command : Asked) → IsCommand (map string_bytes words.now) command → ⊥ }
 {
-    match words.split_first() {
-        Some((name, options)) if name.as_str() == "run" => {
-            let options = run_options(alloc, options)?;
-            Ok(Command::Run(options))
-        }
-        _ => Err(WordsFault::Usage),
-    }
-}
-
-// The options of `run` that the words give.
-fn run_options(alloc: Global, words: &[String]) -> Result<RunOptions, WordsFault>
-    ensures ok { IfOk result (GivesRun (map string_bytes words.now)) }
-    ensures only { IfOk result (λ run. (other : Chosen) → GivesRun (map string_bytes words.now) other → other ≡ run) }
-    ensures usage { result ≡ Err WordsFault.Usage → (run : Chosen) → GivesRun (map string_bytes words.now) run → ⊥ }
-{
-    let matches = run_matches(alloc, words)?;
-    match number_of(&matches, "epoch", 100, 1, 1_024) {
-        Some(epoch) => Ok(RunOptions { epoch }),
+    let Some((name, options)) = words.split_first() else {
+        return Err(WordsFault::Usage);
+    };
+    let Some(kind) = kind_named(name.as_str()) else {
+        return Err(WordsFault::Usage);
+    };
+    let matches = options_in(alloc, kind, options)?;
+    match command_with(kind, &matches) {
+        Some(command) => Ok(command),
         None => Err(WordsFault::Usage),
     }
 }
 
-// What the words give for the options of `run`. To `clap` a `--` is none of them and no fault, so it is refused first.
-fn run_matches<'a>(alloc: Global, words: &'a [String]) -> Result<ArgMatches<'a>, WordsFault>
-    ensures reads { IfOk result (λ matches. (options : List (Text × Text)) × GivesOptions run_names (map string_bytes words.now) options × HasValuesOf matches options) }
-    ensures only { IfOk result (λ matches. (run : Chosen) (gives : GivesRun (map string_bytes words.now) run) → HasValuesOf matches gives.0) }
-    ensures usage { result ≡ Err WordsFault.Usage → (run : Chosen) → GivesRun (map string_bytes words.now) run → ⊥ }
+// The command that begins with this word.
+fn kind_named(name: &str) -> Option<Kind>
+    ensures { MatchOption result ((command : Asked) → name.now ≡ name_of (kind_of command) → ⊥) (λ kind. name.now ≡ name_of kind) }
 {
-    if has_dashes(words) {
-        return Err(WordsFault::Usage);
-    }
-    let epoch = Arg::new(alloc, "epoch").long("epoch");
-    let command = clap::Command::new(alloc, "run")
-        .no_binary_name(true)
-        .disable_help_flag(true)
-        .arg(epoch)?;
-    match command.try_get_matches_from(words) {
-        Ok(matches) => Ok(matches),
-        Err(error) => Err(WordsFault::from(error)),
+    match name {
+        "init" => Some(Kind::Init),
+        "run" => Some(Kind::Run),
+        "dump" => Some(Kind::Dump),
+        "verify" => Some(Kind::Verify),
+        _ => None,
     }
 }
 
-// Whether a word is `--` alone.
-fn has_dashes(words: &[String]) -> bool
-    ensures { result ≡ list_any (λ word. bytes_eq (string_bytes word) (codes "--")) words.now }
+// The command of a kind whose options have these values.
+fn command_with(kind: Kind, matches: &ArgMatches<'_>) -> Option<Command>
+    ensures { MatchOption result
+        ((numbers : List ℕ) → AreNumbersOf (first_value (found_of matches.now)) (options_for kind) numbers → ⊥)
+        (λ command. (kind_of command ≡ kind) × AreNumbersOf (first_value (found_of matches.now)) (options_for kind) (numbers_of command)
+        × AreInRange (options_for kind) (numbers_of command)) }
 {
-    words.iter().any(|word| word.as_str() == "--")
-}
-
-// The number of an option, or the default where it isn't given.
-fn number_of(
-    matches: &ArgMatches<'_>,
-    name: &str,
-    default: u32,
-    least: u32,
-    most: u32,
-) -> Option<u32>
-    ensures { let value = first_value (found_of matches.now) name.now in
-        MatchOption result ((n : ℕ) → IsNumberOf value default least most n → ⊥) (IsNumberOf value default least most) }
-{
-    match matches.get_str(name) {
-        None => Some(default),
-        Some(text) => number_in(text, least, most),
+    match kind {
+        Kind::Init => store_to_make(matches),
+        Kind::Run => {
+            let epoch = number_of(matches, "epoch", Some(100), 1, 1_024)?;
+            Some(Command::Run(RunOptions { epoch }))
+        }
+        Kind::Dump => Some(Command::Dump),
+        Kind::Verify => Some(Command::Verify),
     }
 }
 
-// The number that 1 to 19 ASCII digits write, where it is in the range.
-fn number_in(text: &str, least: u32, most: u32) -> Option<u32>
-    ensures { MatchOption result ((n : ℕ) → WritesNumber least most text.now n → ⊥) (WritesNumber least most text.now) }
+// The command `init` whose options have these values. A store has one node and no copies until there can be several.
+fn store_to_make(matches: &ArgMatches<'_>) -> Option<Command>
+    ensures { MatchOption result
+        ((numbers : List ℕ) → AreNumbersOf (first_value (found_of matches.now)) (options_for Kind.Init) numbers → ⊥)
+        (λ command. (kind_of command ≡ Kind.Init) × AreNumbersOf (first_value (found_of matches.now)) (options_for Kind.Init) (numbers_of command)
+        × AreInRange (options_for Kind.Init) (numbers_of command)) }
 {
-    if text.len() > 19 {
-        return None;
-    }
-    if !is_digits(text) {
-        return None;
-    }
-    match text.parse::<u64>() {
-        Ok(number) if least as u64 <= number && number <= most as u64 => Some(number as u32),
-        Ok(_) => None,
-        Err(_) => None,
-    }
-}
-
-fn is_digits(text: &str) -> bool
-    ensures { result ≡ list_all is_ascii_digit text.now }
-{
-    text.bytes().all(|byte| byte.is_ascii_digit())
+    let nodes = number_of(matches, "nodes", Some(1), 1, 1)?;
+    let partitions = number_of(matches, "partitions", Some(1), 1, 64)?;
+    let copies = number_of(matches, "copies", Some(0), 0, 0)?;
+    Some(Command::Init {
+        nodes: nodes as u8,
+        partitions: partitions as u8,
+        copies: copies as u8,
+    })
 }
 
 impl From<AllocError> for WordsFault {
@@ -146,20 +136,6 @@ impl From<AllocError> for WordsFault {
 
     fn from(_error: AllocError) -> WordsFault {
         WordsFault::NoMemory
-    }
-}
-
-impl From<clap::Error> for WordsFault {
-    ghost use Rattle.clap.specs.declared.error.kind.ErrorKind.TheVariants.{OutOfMemory};
-    ghost use Rattle.coco_words.specs.declared.WordsFault.TheVariants.{Usage};
-
-    ghost from_gives = { λ error fault. fault ≡ Usage → kind_of error ≡ OutOfMemory → ⊥ };
-
-    fn from(error: clap::Error) -> WordsFault {
-        match error.kind() {
-            ErrorKind::OutOfMemory => WordsFault::NoMemory,
-            _ => WordsFault::Usage,
-        }
     }
 }
 

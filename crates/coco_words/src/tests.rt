@@ -31,6 +31,26 @@ fn run_has_the_epoch_that_is_given_or_100(rt: HostRuntime) -> Result<(), Fail> {
 }
 
 #[test]
+fn each_command_has_its_options(rt: HostRuntime) -> Result<(), Fail> {
+    let store = |partitions| Command::Init {
+        nodes: 1,
+        partitions,
+        copies: 0,
+    };
+    let cases = [
+        ("init", store(1)),
+        ("init --partitions 64", store(64)),
+        ("init --copies=0 --partitions=03 --nodes 1", store(3)),
+        ("dump", Command::Dump),
+        ("verify", Command::Verify),
+    ];
+    for (line, command) in cases {
+        assert_eq!(rt; asked(rt.alloc(), line), Ok(command), "{line}");
+    }
+    Ok(())
+}
+
+#[test]
 fn other_words_are_no_command(rt: HostRuntime) -> Result<(), Fail> {
     let cases = [
         "",
@@ -54,6 +74,17 @@ fn other_words_are_no_command(rt: HostRuntime) -> Result<(), Fail> {
         "run --epoch +5",
         "run --epoch 5 5",
         "run --epo 5",
+        "run --partitions 5",
+        "init --epoch 5",
+        "init --nodes 2",
+        "init --nodes 0",
+        "init --partitions 0",
+        "init --partitions 65",
+        "init --copies 1",
+        "init --partitions 2 --partitions 2",
+        "dump 1",
+        "dump --epoch 1",
+        "verify --",
     ];
     for line in cases {
         assert_eq!(rt; asked(rt.alloc(), line), Err(WordsFault::Usage), "{line}");
