@@ -32,6 +32,20 @@ pub record HasSeveral (files : Files) (file at : ℕ) : Type 0 where
 abbrev pub IsRefusedInRun : Files → ℕ → ℕ → Type 0
 IsRefusedInRun files file at = IsFirstRefusal files file at ⊎ HasSeveral files file at
 
+-- files are a store of one node, which can be run
+pub record HasOneNode (files : Files) : Type 0 where
+  pub contents : Contents
+  pub holds : Holds files contents
+  pub one : contents.setting.entry.layout.nodes ≡ 1
+
+-- files that are refused in a run are no such store
+abbrev pub RefusedIsNotRun : Type 0
+RefusedIsNotRun = (files : Files) (file at : ℕ) → IsRefusedInRun files file at → ¬ (HasOneNode files)
+
+-- and they are refused at one place
+abbrev pub OneRefusalInRun : Type 0
+OneRefusalInRun = (files : Files) (f g a b : ℕ) → IsRefusedInRun files f a → IsRefusedInRun files g b → (f ≡ g) × (a ≡ b)
+
 -- by the ending: the disk's count rose; the files are refused there; or memory ran out
 abbrev pub FailsToOpen : (Files → ℕ → ℕ → Type 0) → Ending → Option Files → ℕ → ℕ → Type 0
 FailsToOpen Refused ending.DiskFault reads old new = Rose old new

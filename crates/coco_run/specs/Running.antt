@@ -11,7 +11,7 @@ use Rattle.coco_serve.specs.Serving.{HasCause, Outside, Serves}
 use Rattle.coco_serve.specs.declared.ending.Ending.{Ending as Served}
 use Rattle.coco_serve.specs.declared.ending.Ending.TheVariants as served
 use Rattle.coco_store.specs.Contents.{Contents, Holds, IsGoodStore}
-use Rattle.coco_run.specs.Opening.{IsRefusedInRun, IsUnopened}
+use Rattle.coco_run.specs.Opening.{HasOneNode, IsRefusedInRun, IsUnopened}
 
 -- how a call ends whose lines were answered up to this ending
 abbrev pub ending_of_run : Served → Ending
@@ -23,12 +23,15 @@ ending_of_run served.EpochsUsedUp = ending.EpochsUsedUp
 ending_of_run served.NoMemory = ending.NoMemory
 
 -- the store is opened, and then lines are answered on it. Until the opening has ended nothing is said, and all that a crash may leave it might have left
--- at entry. After it, where the files read at entry as a good store, each moment shows a good store whose history is that of entry grown by first batches
--- of the bytes that the source gave, with a front of their answers said
+-- at entry. Only files that are a store of one node are opened, and such files are never refused (`a_refused_store_is_not_run`): so `NotAStore` comes exactly
+-- where the files are refused, at that place, and neither a fault of the disk nor want of memory ended the opening. After it, where the files read at entry
+-- as a good store, each moment shows a good store whose history is that of entry grown by first batches of the bytes that the source gave, its new epochs
+-- numbered from `next` on, with a front of their answers said
 pub record Opens {H : Type 0} (moment : H → ℕ) (observed : H → ℕ → Observation → Type 0) (said : H → Option (List ℕ)) (reads : H → Option Files) (may_leave : H → Files → Type 0)
     (size : ℕ) (ending : Ending) (before after : Outside) (old new : H) : Type 0 where
   pub opened : H
   pub opening : IsOnlyRead moment observed said reads may_leave old opened
+  pub sound : (files : Files) → reads old ≡ Some files → HasOneNode files
   pub bytes : List ℕ
   pub gives : Gives before.source after.source bytes
   pub next : ℕ

@@ -2,7 +2,9 @@
 #![tactic(auto)]
 
 mod command;
+mod laws;
 mod opening;
 
 pub use command::run;
+pub use laws::a_refused_store_is_not_run;
 pub use opening::{ending_of_opening, open_cluster};

@@ -8,7 +8,7 @@ ghost use Rattle.coco_cluster.specs.Standing.{StandsAt};
 ghost use Rattle.coco_load.specs.Epochs.{IsNextOf};
 ghost use Rattle.coco_log.specs.LogState.{IsOnlyRead};
 ghost use Rattle.coco_store.specs.Contents.{Contents, Holds, IsGoodStore};
-ghost use Rattle.coco_run.specs.Opening.{FailsToOpen, IsRefusedInRun, ending_of_opening, nodes_field};
+ghost use Rattle.coco_run.specs.Opening.{FailsToOpen, HasOneNode, IsRefusedInRun, ending_of_opening, nodes_field};
 
 use coco_cluster::Cluster;
 use coco_ending::Ending;
@@ -39,6 +39,7 @@ pub fn ending_of_opening(fault: OpenFault) -> Ending
 pub fn open_cluster<H: Host>(alloc: Global, host: &mut H) -> Result<Cluster, Ending>
     ensures read { IsOnlyRead H.moment H.observed H.said H.reads H.may_leave host.old host.new }
     ensures stream { H.say_faults host.new ≡ H.say_faults host.old }
+    ensures sound { IfOk result (λ _. (files : Files) → H.reads host.old ≡ Some files → HasOneNode files) }
     ensures stands { IfOk result (λ cluster. (files : Files) (c : Contents) → H.reads host.old ≡ Some files → IsGoodStore files c
         → RestsOn c (H.reads host.new) (H.may_leave host.new) × StandsAt c cluster) }
     ensures next { IfOk result (λ cluster. (files : Files) (c : Contents) → H.reads host.old ≡ Some files → Holds files c → IsNextOf c cluster.next_epoch) }

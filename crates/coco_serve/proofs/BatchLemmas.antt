@@ -29,12 +29,13 @@ use Rattle.coco_io.proofs.KnownLemmas.{append_known-nil}
 use Rattle.coco_store.specs.Contents.{Contents, history_of}
 use Rattle.coco_store.specs.Rules.{Setting}
 use Rattle.coco_serve.specs.Faults.{fault_of_saying, fault_of_turn}
-use Rattle.coco_serve.specs.Growth.{GrowsInOrder, HasPlaces}
+use Rattle.coco_serve.specs.Growth.{AddsFrom, GrowsInOrder, HasPlaces}
 use Rattle.coco_serve.specs.OneBatch.{Answers, BatchEnds, IsRefused, SaysPart, texts_of}
 use Rattle.coco_serve.specs.Seen.{ShowsBatch}
 use Rattle.coco_serve.specs.Texts.{texts_over}
 use Rattle.coco_serve.specs.declared.fault.BatchFault.{BatchFault}
 use Rattle.coco_serve.specs.declared.fault.BatchFault.TheVariants as fault
+use Rattle.coco_serve.proofs.NumberLemmas.{adds_none}
 
 -- ---- room
 
@@ -78,6 +79,9 @@ places_of (r ∷ rs) epoch c d g = (g.e, g.order, g.history)
 grows_in_order : (requests : List Request) (epoch : ℕ) (c d : Contents) → Grown requests epoch c d → GrowsInOrder (history_of c) requests (history_of d)
 grows_in_order requests epoch c d g = (g.grows, places_of requests epoch c d g)
 
+adds_one : (requests : List Request) (epoch : ℕ) (c d : Contents) → Grown requests epoch c d → AddsFrom epoch (history_of c) (history_of d)
+adds_one requests epoch c d g = record { added = g.e ∷ []; epochs = ap (λ (h : History). h.epochs) g.history; numbered = ap (λ n. n ∷ []) g.number }
+
 no_growth : (requests : List Request) (h : History) → requests ≡ [] → GrowsInOrder h requests h
 no_growth requests h none = subst (λ rs. GrowsInOrder h rs h) (sym none) (refl, tt)
 
@@ -85,10 +89,11 @@ no_growth requests h none = subst (λ rs. GrowsInOrder h rs h) (sym none) (refl,
 
 module _ {H : Type 0} (moment : H → ℕ) (observed : H → ℕ → Observation → Type 0) (said : H → Option (List ℕ)) (reads : H → Option Files) (may_leave : H → Files → Type 0) where
   -- what a turn made of the store, where it succeeded
-  pub record Committed (c : Contents) (requests : List Request) (after : ClusterState) (old mid : H) : Type 0 where
+  pub record Committed (c : Contents) (requests : List Request) (next : ℕ) (after : ClusterState) (old mid : H) : Type 0 where
     pub d : Contents
     pub setting : d.setting ≡ c.setting
     pub grows : GrowsInOrder (history_of c) requests (history_of d)
+    pub numbers : AddsFrom next (history_of c) (history_of d)
     pub rests : RestsOn d (reads mid) (may_leave mid)
     pub stands : StandsAt d after
     pub moments : SeesOnly moment observed old mid (ShowsStore c.setting (history_of c) (history_of d) (said old))
@@ -103,20 +108,21 @@ module _ {H : Type 0} (moment : H → ℕ) (observed : H → ℕ → Observation
 
   pub committed : OnlyNow → (result : Result (Unit {0}) TurnFault) (x : Unit {0}) (requests : List Request) (c : Contents) (before after : ClusterState) (old mid : H) → result ≡ Ok x
       → RestsOn c (reads old) (may_leave old) → StandsAt c before
-      → IsUntouched result requests before after old mid ⊎ Turns moment observed said reads may_leave result requests c before after old mid → Committed c requests after old mid
+      → IsUntouched result requests before after old mid ⊎ Turns moment observed said reads may_leave result requests c before after old mid → Committed c requests before.next_epoch after old mid
   committed only_now result x requests c before after old mid ok rests stands (inl none) =
       let nothing : (requests ≡ []) × (after ≡ before) = subst (λ (r : Result _ _). OnOk r ((requests ≡ []) × (after ≡ before))) ok none.1 in
       record {
         d = c;
         setting = refl;
         grows = no_growth requests (history_of c) nothing.0;
+        numbers = adds_none before.next_epoch (history_of c);
         rests = subst (λ h. RestsOn c (reads h) (may_leave h)) (sym none.0) rests;
         stands = subst (StandsAt c) (sym nothing.1) stands;
         moments = subst (λ h. SeesOnly moment observed old h (ShowsStore c.setting (history_of c) (history_of c) (said old))) (sym none.0) (unmoved only_now c old rests);
       }
   committed only_now result x requests c before after old mid ok rests stands (inr t) =
       let done : RestsOn t.d (reads mid) (may_leave mid) × StandsAt t.d after = subst (λ (r : Result _ _). OnOk r (RestsOn t.d (reads mid) (may_leave mid) × StandsAt t.d after)) ok t.ok in
-      record { d = t.d; setting = t.grown.setting; grows = grows_in_order requests before.next_epoch c t.d t.grown; rests = done.0; stands = done.1; moments = t.moments }
+      record { d = t.d; setting = t.grown.setting; grows = grows_in_order requests before.next_epoch c t.d t.grown; numbers = adds_one requests before.next_epoch c t.d t.grown; rests = done.0; stands = done.1; moments = t.moments }
 
   -- ---- a turn that failed
 
@@ -131,7 +137,7 @@ module _ {H : Type 0} (moment : H → ℕ) (observed : H → ℕ → Observation
 
   turn_ends : (f : TurnFault) (result : Result (Unit {0}) TurnFault) (batch : Batch) (requests : List Request) (c : Contents) (before after : ClusterState) (old new : H) → requests ≡ batch.fresh → said new ≡ said old
       → (f ≡ turn.EpochsUsedUp → new ≡ old) → Turns moment observed said reads may_leave result requests c before after old new
-      → IsRefused (Err (fault_of_turn f)) old new ⊎ Answers moment observed said reads may_leave (Err (fault_of_turn f)) batch c after old new
+      → IsRefused (Err (fault_of_turn f)) old new ⊎ Answers moment observed said reads may_leave (Err (fault_of_turn f)) batch c before.next_epoch after old new
   turn_ends f result batch requests c before after old new same quiet unused t = by f unused
     where
       grows : GrowsInOrder (history_of c) batch.fresh (history_of t.d)
@@ -141,22 +147,22 @@ module _ {H : Type 0} (moment : H → ℕ) (observed : H → ℕ → Observation
       moments = sees_weaker moment observed old new (ShowsStore c.setting (history_of c) (history_of t.d) (said old)) (ShowsBatch c.setting (history_of c) (history_of t.d) (said old) (texts_of c t.d batch))
           (turn_shows c.setting (history_of c) (history_of t.d) (said old) (texts_of c t.d batch)) t.moments
 
-      by : (f : TurnFault) → (f ≡ turn.EpochsUsedUp → new ≡ old) → IsRefused (Err (fault_of_turn f)) old new ⊎ Answers moment observed said reads may_leave (Err (fault_of_turn f)) batch c after old new
-      by turn.Disk unused = inr (record { d = t.d; setting = t.grown.setting; grows = grows; moments = moments; ends = (t.left, quiet) })
+      by : (f : TurnFault) → (f ≡ turn.EpochsUsedUp → new ≡ old) → IsRefused (Err (fault_of_turn f)) old new ⊎ Answers moment observed said reads may_leave (Err (fault_of_turn f)) batch c before.next_epoch after old new
+      by turn.Disk unused = inr (record { d = t.d; setting = t.grown.setting; grows = grows; numbers = adds_one requests before.next_epoch c t.d t.grown; moments = moments; ends = (t.left, quiet) })
       by turn.EpochsUsedUp unused = inl (unused refl)
-      by turn.NoMemory unused = inr (record { d = t.d; setting = t.grown.setting; grows = grows; moments = moments; ends = inl (t.left, quiet) })
+      by turn.NoMemory unused = inr (record { d = t.d; setting = t.grown.setting; grows = grows; numbers = adds_one requests before.next_epoch c t.d t.grown; moments = moments; ends = inl (t.left, quiet) })
 
   pub turn_failed : (f : TurnFault) (turned : Result (Unit {0}) TurnFault) (result : Result (Unit {0}) BatchFault) (batch : Batch) (requests : List Request) (c : Contents) (before after : ClusterState) (old new : H)
       → turned ≡ Err f → result ≡ Err (fault_of_turn f) → requests ≡ batch.fresh → said new ≡ said old → (turned ≡ Err turn.EpochsUsedUp → new ≡ old)
       → IsUntouched turned requests before after old new ⊎ Turns moment observed said reads may_leave turned requests c before after old new
-      → IsRefused result old new ⊎ Answers moment observed said reads may_leave result batch c after old new
+      → IsRefused result old new ⊎ Answers moment observed said reads may_leave result batch c before.next_epoch after old new
   turn_failed f turned result batch requests c before after old new was is same quiet unused turns =
-      subst (λ r. IsRefused r old new ⊎ Answers moment observed said reads may_leave r batch c after old new) (sym is)
+      subst (λ r. IsRefused r old new ⊎ Answers moment observed said reads may_leave r batch c before.next_epoch after old new) (sym is)
       (⊎_elim (λ none. inl (refused f old new none.0)) (turn_ends f turned batch requests c before after old new same quiet (λ used. unused (was ∙ ap Err used))) turns)
 
   -- ---- a turn that committed, and what is said behind it
 
-  module _ (batch : Batch) (requests : List Request) (c : Contents) (after : ClusterState) (old mid : H) (same : requests ≡ batch.fresh) (quiet : said mid ≡ said old) (done : Committed c requests after old mid) where
+  module _ (batch : Batch) (requests : List Request) (c : Contents) (next : ℕ) (after : ClusterState) (old mid : H) (same : requests ≡ batch.fresh) (quiet : said mid ≡ said old) (done : Committed c requests next after old mid) where
     abbrev texts : List ℕ
     texts = texts_of c done.d batch
 
@@ -170,11 +176,12 @@ module _ {H : Type 0} (moment : H → ℕ) (observed : H → ℕ → Observation
     shown = sees_weaker moment observed old mid (ShowsStore c.setting (history_of c) (history_of done.d) (said old)) Shows (turn_shows c.setting (history_of c) (history_of done.d) (said old) texts) done.moments
 
     -- out of memory before anything is said
-    pub unsaid : (result : Result (Unit {0}) BatchFault) → result ≡ Err fault.NoMemory → Answers moment observed said reads may_leave result batch c after old mid
-    unsaid result is = subst (λ r. Answers moment observed said reads may_leave r batch c after old mid) (sym is) (record {
+    pub unsaid : (result : Result (Unit {0}) BatchFault) → result ≡ Err fault.NoMemory → Answers moment observed said reads may_leave result batch c next after old mid
+    unsaid result is = subst (λ r. Answers moment observed said reads may_leave r batch c next after old mid) (sym is) (record {
       d = done.d;
       setting = done.setting;
       grows = grows_so;
+      numbers = done.numbers;
       moments = shown;
       ends = inr (done.rests, (0, quiet ∙ sym (append_known-nil (said old))));
     })
@@ -201,26 +208,27 @@ module _ {H : Type 0} (moment : H → ℕ) (observed : H → ℕ → Observation
       }
 
       answered : (result : Result (Unit {0}) BatchFault) → BatchEnds c done.d after texts (said old) (said new) (reads new) (may_leave new) result
-          → Answers moment observed said reads may_leave result batch c after old new
+          → Answers moment observed said reads may_leave result batch c next after old new
       answered result ends = record {
         d = done.d;
         setting = done.setting;
         grows = grows_so;
+        numbers = done.numbers;
         moments = sees_then moment observed old mid new Shows (IsNew (may_leave mid) (said mid) (said new)) shown sees saying_shows;
         ends = ends;
       }
 
       -- the piece is said whole
-      pub all_said : said new ≡ append_known (said mid) piece → Answers moment observed said reads may_leave (Ok tt) batch c after old new
+      pub all_said : said new ≡ append_known (said mid) piece → Answers moment observed said reads may_leave (Ok tt) batch c next after old new
       all_said whole = answered (Ok tt) (rests_still, done.stands, whole ∙ ap (λ o. append_known o piece) quiet ∙ ap (append_known (said old)) are)
 
-      by_fault : (f : OutFault) → Answers moment observed said reads may_leave (Err (fault_of_saying f)) batch c after old new
+      by_fault : (f : OutFault) → Answers moment observed said reads may_leave (Err (fault_of_saying f)) batch c next after old new
       by_fault out.Failed = answered (Err fault.Say) (rests_still, said_part)
       by_fault out.NoMemory = answered (Err fault.NoMemory) (inr (rests_still, said_part))
 
       -- the saying broke off
-      pub partly_said : (f : OutFault) (result : Result (Unit {0}) BatchFault) → result ≡ Err (fault_of_saying f) → Answers moment observed said reads may_leave result batch c after old new
-      partly_said f result is = subst (λ r. Answers moment observed said reads may_leave r batch c after old new) (sym is) (by_fault f)
+      pub partly_said : (f : OutFault) (result : Result (Unit {0}) BatchFault) → result ≡ Err (fault_of_saying f) → Answers moment observed said reads may_leave result batch c next after old new
+      partly_said f result is = subst (λ r. Answers moment observed said reads may_leave r batch c next after old new) (sym is) (by_fault f)
 
 -- ---- texts
 

@@ -29,13 +29,13 @@ use Rattle.coco_serve.specs.declared.ending.Ending.{Ending}
 use Rattle.coco_serve.specs.declared.ending.Ending.TheVariants as ending
 use Rattle.coco_serve.specs.declared.fault.BatchFault.{BatchFault}
 use Rattle.coco_serve.specs.declared.fault.BatchFault.TheVariants as fault
-use Rattle.coco_serve.proofs.NextLemmas.{answers_failed, finished_short, served_more}
-use Rattle.coco_serve.proofs.RunLemmas.{AreServed, AreTaken, OnlyNow, SeenNow, disk_failed, epochs_used_up, few_epochs, finished, memory_ran_out, new_reader, read_failed, served_new}
+use Rattle.coco_serve.proofs.NextLemmas.{answers_failed, finished_short, served_more, used_up_before}
+use Rattle.coco_serve.proofs.RunLemmas.{AreServed, AreTaken, OnlyNow, SeenNow, disk_failed, few_epochs, finished, memory_ran_out, new_reader, read_failed, served_new}
 
 -- ---- causes
 
-pub used_up : (f : BatchFault) (next requests : ℕ) (before after : Counts) → CountsBatch {T = Unit {0}} (Err f) next requests before after → f ≡ fault.EpochsUsedUp → epochs_end ≤ next
-used_up f next requests before after counts is = (subst (λ x. CountsBatch {T = Unit {0}} (Err x) next requests before after) is counts).0
+pub used_up : (f : BatchFault) (next requests : ℕ) (before after : Counts) → CountsBatch {T = Unit {0}} (Err f) next requests before after → f ≡ fault.EpochsUsedUp → (epochs_end ≤ next) × (0 < requests)
+used_up f next requests before after counts is = subst (λ x. CountsBatch {T = Unit {0}} (Err x) next requests before after) is counts
 
 -- the cause of a batch's fault is the run's, since no count moved before
 pub cause_of : (f : BatchFault) (next now requests : ℕ) (bytes : List ℕ) (start end : Outside) (before : Counts) → before.say ≡ start.say_faults → before.disk ≡ start.disk_faults → now ≤ next + length (lines_of bytes)
@@ -146,10 +146,10 @@ module _ {H : Type 0} (moment : H → ℕ) (observed : H → ℕ → Observation
 
         abbrev Tries : Result (Unit {0}) BatchFault → ClusterState → H → Type 0
         Tries result k' host =
-            (d : Contents) → RestsOn d (reads mid) (may_leave mid) → StandsAt d k → IsRefused result mid host ⊎ Answers moment observed said reads may_leave result batch d k' mid host
+            (d : Contents) → RestsOn d (reads mid) (may_leave mid) → StandsAt d k → IsRefused result mid host ⊎ Answers moment observed said reads may_leave result batch d k.next_epoch k' mid host
 
         answered : (k' : ClusterState) (host : H) → Tries (Ok tt) k' host → (d : Contents) → RestsOn d (reads mid) (may_leave mid) → StandsAt d k
-            → Answers moment observed said reads may_leave (Ok tt) batch d k' mid host
+            → Answers moment observed said reads may_leave (Ok tt) batch d k.next_epoch k' mid host
         answered k' host tries d rests stands = ⊎_elim (λ none. absurd none) (λ yes. yes) (tries d rests stands)
 
         -- it was whole, and there are more
@@ -187,18 +187,18 @@ module _ {H : Type 0} (moment : H → ℕ) (observed : H → ℕ → Observation
                   (lines_so more reader'.pending r.taking.takes) some x.ends short;
             }
 
-        refused_ends : (f : BatchFault) (host : H) → IsRefused (Err f) mid host → (f ≡ fault.EpochsUsedUp → epochs_end ≤ k.next_epoch) → (c : Contents)
+        refused_ends : (f : BatchFault) (host : H) → IsRefused (Err f) mid host → (f ≡ fault.EpochsUsedUp → (epochs_end ≤ k.next_epoch) × (0 < length batch.fresh)) → 0 < length batch.answers.items → (c : Contents)
             → AreServed moment observed said reads may_leave c next size run.taken.lines k first mid → Serves moment observed said reads may_leave c next size took.bytes (ending_of f) first host
-        refused_ends fault.Say host none used c a = absurd none
-        refused_ends fault.Disk host same used c a = subst (λ x. Serves moment observed said reads may_leave c next size took.bytes ending.DiskFault first x) (sym same)
+        refused_ends fault.Say host none used some c a = absurd none
+        refused_ends fault.Disk host same used some c a = subst (λ x. Serves moment observed said reads may_leave c next size took.bytes ending.DiskFault first x) (sym same)
             (disk_failed moment observed said reads may_leave seen_now c next size run.taken.lines k first mid a took.bytes (more ++ lines_of reader'.pending) (others_so more reader'.pending r.taking.takes))
-        refused_ends fault.EpochsUsedUp host same used c a = subst (λ x. Serves moment observed said reads may_leave c next size took.bytes ending.EpochsUsedUp first x) (sym same)
-            (epochs_used_up moment observed said reads may_leave seen_now c next size run.taken.lines k first mid a took.bytes (more ++ lines_of reader'.pending) (others_so more reader'.pending r.taking.takes) (used refl))
-        refused_ends fault.NoMemory host same used c a = subst (λ x. Serves moment observed said reads may_leave c next size took.bytes ending.NoMemory first x) (sym same)
+        refused_ends fault.EpochsUsedUp host same used some c a = subst (λ x. Serves moment observed said reads may_leave c next size took.bytes ending.EpochsUsedUp first x) (sym same)
+            (let end = used refl in used_up_before moment observed said reads may_leave c next size run.taken.lines k first mid reader reader' m n batch a r took.bytes (lines_so more reader'.pending r.taking.takes) some seen_now end.0 end.1)
+        refused_ends fault.NoMemory host same used some c a = subst (λ x. Serves moment observed said reads may_leave c next size took.bytes ending.NoMemory first x) (sym same)
             (memory_ran_out moment observed said reads may_leave seen_now c next size run.taken.lines k first mid a took.bytes (more ++ lines_of reader'.pending) (others_so more reader'.pending r.taking.takes))
 
         -- it broke off
-        pub batch_broke : (result : Result (Unit {0}) BatchFault) (f : BatchFault) (k' : ClusterState) (host : H) → result ≡ Err f → Tries result k' host → (f ≡ fault.EpochsUsedUp → epochs_end ≤ k.next_epoch)
+        pub batch_broke : (result : Result (Unit {0}) BatchFault) (f : BatchFault) (k' : ClusterState) (host : H) → result ≡ Err f → Tries result k' host → (f ≡ fault.EpochsUsedUp → (epochs_end ≤ k.next_epoch) × (0 < length batch.fresh))
             → 0 < length batch.answers.items → RunsTo next size reader' before n start k (ending_of f) first host
         batch_broke result f k' host is tries used some = record {
           bytes = took.bytes;
@@ -207,7 +207,7 @@ module _ {H : Type 0} (moment : H → ℕ) (observed : H → ℕ → Observation
           low = low_so more reader'.pending r.taking.takes;
           serves = λ c rests stands.
               let a = run.served c rests stands in
-              ⊎_elim (λ none. refused_ends f host (subst (λ x. IsRefused x mid host) is none) used c a)
+              ⊎_elim (λ none. refused_ends f host (subst (λ x. IsRefused x mid host) is none) used some c a)
               (λ x. answers_failed moment observed said reads may_leave c next size run.taken.lines k k' first mid host reader reader' m n batch result a run.taken.given r x seen_now took.bytes
               (lines_so more reader'.pending r.taking.takes) some f is) (tries a.d a.rests a.stands);
         }

@@ -1,14 +1,15 @@
 -- One batch more: what it makes of a run, and how the run ends with it.
 use Rattle.std.proofs.Common.{◌≡◌, true, ℕ, ◌+◌, ◌-◌, ◌<◌, ◌≤◌, inl, inr, ◌⊎◌, ⊎_elim, Err, List, [], ◌∷◌, ◌++◌, length, map, take, Option, Some, refl, sym, ap, subst, ◌∙◌, arith, append_assoc, append-nil, length-append}
 use Rattle.std.specs.Prelude.{Result}
-use Rattle.std.proofs.lemmas.Bool.{cases_lt}
 use Rattle.std.proofs.Math.Seq.{take-append-add, take-append_seam, take-length, take_all}
 use Rattle.std.specs.Io.KnownBytes.{append_known}
+use Rattle.coco_types.specs.Limits.{epochs_end}
+use Rattle.coco_types.specs.declared.call.Request.{Request}
 use Rattle.coco_append.specs.Gaining.{RestsOn}
 use Rattle.coco_append.proofs.GainLemmas.{sees_weaker}
 use Rattle.coco_ast.specs.Growth.{GrowsInTurn}
 use Rattle.coco_ast.specs.GrowthLaws.{Keeps}
-use Rattle.coco_ast.specs.History.{History, all_dones, kept}
+use Rattle.coco_ast.specs.History.{Epoch, History, all_dones, kept}
 use Rattle.coco_ast.specs.Tree.{Procedures}
 use Rattle.coco_ast.proofs.GrowthLemmas.{growth_keeps}
 use Rattle.coco_batches.specs.Asking.{known_of}
@@ -29,8 +30,7 @@ use Rattle.coco_lines.specs.declared.class.Class.{Class}
 use Rattle.coco_lines.proofs.LinesLemmas.{lines_of-nil}
 use Rattle.coco_lines.proofs.ReplyLemmas.{answers_still, are_new}
 use Rattle.coco_store.specs.Contents.{Contents, history_of}
-use Rattle.coco_store.specs.Rules.{Setting}
-use Rattle.coco_serve.specs.Growth.{GrowsInOrder, HaveSize, IsGrown, answers_of, epochs_of}
+use Rattle.coco_serve.specs.Growth.{AddsFrom, AreFirstBatches, GrowsInOrder, IsGrown, answers_of, epochs_of}
 use Rattle.coco_serve.specs.OneBatch.{Answers, BatchEnds, SaysPart, texts_of}
 use Rattle.coco_serve.specs.Texts.{texts_over}
 use Rattle.coco_serve.specs.Seen.{IsServed, LeavesEither, ShowsBatch}
@@ -41,13 +41,29 @@ use Rattle.coco_serve.specs.declared.fault.BatchFault.{BatchFault}
 use Rattle.coco_serve.specs.declared.fault.BatchFault.TheVariants as fault
 use Rattle.coco_serve.specs.Endings.{ending_of}
 use Rattle.coco_cluster.proofs.StoreLemmas.{sees_then}
+use Rattle.coco_serve.proofs.NumberLemmas.{adds_more}
 use Rattle.coco_serve.proofs.ReplyLemmas.{keeps_some, no_later_done, texts_are_answers}
-use Rattle.coco_serve.proofs.RunLemmas.{AreServed, SeenNow, added_by, all_served, answers-append, batches_more, classes_length, cut_more, joined-more, known_at, left_by, map-more, more_served, paired, size_more, turns_more, moved}
+use Rattle.coco_serve.proofs.RunLemmas.{AreServed, SeenNow, added_by, all_served, answers-append, batches_more, classes_at, classes_length, cut_more, epochs_used_up, first_more, joined-more, left_by, map-more, more_served, paired, size_more, turns_more, moved}
 
 module _ {H : Type 0} (moment : H → ℕ) (observed : H → ℕ → Observation → Type 0) (said : H → Option (List ℕ)) (reads : H → Option Files) (may_leave : H → Files → Type 0) where
+  -- a batch that was read is the next one
+  module _ (c : Contents) (next size : ℕ) (lines : List Line) (k : ClusterState) (first mid : H) (reader reader' : ReaderState) (m n : SourceMoment) (batch : Batch)
+      (a : AreServed moment observed said reads may_leave c next size lines k first mid) (r : ReadsBatch k.procs (known_of k.kept []) reader reader' m n size batch) (bytes : List ℕ)
+      (all : lines_of bytes ≡ (lines ++ r.taking.lines) ++ lines_of reader'.pending) (some : 0 < length batch.answers.items) where
+    read_next : AreFirstBatches size bytes (a.batches ++ r.taking.lines ∷ [])
+    read_next = first_more size bytes lines r.taking.lines (lines_of reader'.pending) a.batches a.lines_are a.whole (omega (arith, r.taking.as_many, some)) (omega (arith, r.taking.as_many, r.few))
+        (λ short. ap lines_of (r.ends (omega (arith, r.taking.as_many, short))).1 ∙ lines_of-nil) all
+
+    -- it has a new request, and no number is left for its epoch
+    pub used_up_before : SeenNow moment observed said reads may_leave → epochs_end ≤ k.next_epoch → 0 < length batch.fresh → Serves moment observed said reads may_leave c next size bytes ending.EpochsUsedUp first mid
+    used_up_before seen_now end some_new =
+        let same = ap (length {A = Request}) r.taking.fresh in
+        epochs_used_up moment observed said reads may_leave seen_now c next size lines k first mid a bytes (r.taking.lines ++ lines_of reader'.pending) (all ∙ append_assoc lines r.taking.lines (lines_of reader'.pending)) end
+        r.taking.lines r.taking.classes read_next (classes_at c a.d k r.taking.lines r.taking.classes a.stands a.setting r.taking.are) (omega (arith, same, some_new))
+
   module _ (c : Contents) (next size : ℕ) (lines : List Line) (k k' : ClusterState) (first mid host : H) (reader reader' : ReaderState) (m n : SourceMoment) (batch : Batch) (result : Result (Unit {0}) BatchFault)
       (a : AreServed moment observed said reads may_leave c next size lines k first mid) (given : reader.given ≡ length lines) (r : ReadsBatch k.procs (known_of k.kept []) reader reader' m n size batch)
-      (x : Answers moment observed said reads may_leave result batch a.d k' mid host) where
+      (x : Answers moment observed said reads may_leave result batch a.d k.next_epoch k' mid host) where
     abbrev tree : Procedures
     tree = c.setting.tree
 
@@ -76,9 +92,7 @@ module _ {H : Type 0} (moment : H → ℕ) (observed : H → ℕ → Observation
     texts = texts_of a.d x.d batch
 
     are : AreClasses tree (known_in h) more cs
-    are =
-        let procs_are : k.procs ≡ tree = a.stands.procs ∙ ap (λ (s : Setting). s.tree) a.setting in
-        subst (λ kn. AreClasses tree kn more cs) (known_at a.d k a.stands) (subst (λ p. AreClasses p (known_of k.kept []) more cs) procs_are r.taking.are)
+    are = classes_at c a.d k more cs a.stands a.setting r.taking.are
 
     grows : GrowsInOrder h (new_of cs) g
     grows = subst (λ rs. GrowsInOrder h rs g) r.taking.fresh x.grows
@@ -91,6 +105,9 @@ module _ {H : Type 0} (moment : H → ℕ) (observed : H → ℕ → Observation
       grown = batches_more tree opening a.batches a.classes h more cs g a.grown.grown one_batch;
       in_order = subst (λ l. GrowsInTurn GrowsInOrder opening l g) (sym (map-more a.classes cs)) (turns_more opening (map new_of a.classes) h (new_of cs) g a.grown.in_order grows);
     }
+
+    abbrev numbers' : AddsFrom next opening g
+    numbers' = adds_more next k.next_epoch opening h g a.numbers a.reached x.numbers
 
     as_many : length a.classes ≡ length a.batches
     as_many = paired tree opening a.batches a.classes h a.grown.grown
@@ -158,11 +175,11 @@ module _ {H : Type 0} (moment : H → ℕ) (observed : H → ℕ → Observation
           stands = done.1;
           says = says_whole done;
           moments = moments';
-          added = a.added ++ gained.0;
-          epochs = gained.1 ∙ ap (λ es. es ++ gained.0) a.epochs ∙ append_assoc opening.epochs a.added gained.0;
-          numbers = (
+          numbers = numbers';
+          reached = (
               let same : epochs_of batch.fresh ≡ epochs_of (new_of cs) = ap epochs_of r.taking.fresh in
-              omega (arith, numbers, same, a.numbers, gained.2, length-append a.added gained.0));
+              let by_turn = ap (length {A = Epoch}) (sym gained.1 ∙ x.numbers.epochs) in
+              omega (arith, numbers, same, a.reached, gained.2, by_turn, length-append h.epochs gained.0, length-append h.epochs x.numbers.added, length-append a.numbers.added x.numbers.added));
         }
 
     -- ---- where a run ends with the batch
@@ -177,11 +194,11 @@ module _ {H : Type 0} (moment : H → ℕ) (observed : H → ℕ → Observation
       cut_short : (reader'.ended ≡ true) × (reader'.pending ≡ []) → (lines_of reader'.pending ≡ []) × AreBatches size batches'
       cut_short end = (ap lines_of end.1 ∙ lines_of-nil, cut_more size a.batches more a.whole some_lines (omega (arith, r.few, r.taking.as_many)))
 
-      cut : HaveSize size batches' ⊎ ((lines_of reader'.pending ≡ []) × AreBatches size batches')
-      cut = ⊎_elim (λ short. inr (cut_short (r.ends short))) (λ full. inl (size_more size a.batches more a.whole (omega (arith, r.few, r.taking.as_many, full)))) (cases_lt (length batch.answers.items) size)
+      firsts : AreFirstBatches size bytes batches'
+      firsts = read_next c next size lines k first mid reader reader' m n batch a r bytes all some
 
-      abbrev progress' : Progress tree opening size bytes
-      progress' = record { batches = batches'; classes = classes'; history = g; grown = grown'; first = record { others = lines_of reader'.pending; lines = all_lines; cut = cut } }
+      abbrev progress' : Progress tree opening next size bytes
+      progress' = record { batches = batches'; classes = classes'; history = g; grown = grown'; numbers = numbers'; first = firsts }
 
       ends_so : (e : Ending) → RunEnds c next size bytes progress' (said first) (said host) (reads host) (may_leave host) e → Serves moment observed said reads may_leave c next size bytes e first host
       ends_so e ends = record {

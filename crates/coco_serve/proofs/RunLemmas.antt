@@ -1,6 +1,7 @@
 -- A run over request lines, batch by batch. What stands in coco's lemmas too, for a history without files, is to be merged with them.
-use Rattle.std.proofs.Common.{◌≡◌, false, ℕ, suc, ◌+◌, ◌-◌, ◌<◌, ◌≤◌, inl, List, [], ◌∷◌, ◌++◌, length, map, take, Option, Some, refl, sym, ap, subst, ◌∙◌, arith, append_assoc, append-nil, length-append}
+use Rattle.std.proofs.Common.{◌≡◌, false, ℕ, suc, ◌+◌, ◌-◌, ◌<◌, ◌≤◌, inl, inr, ⊎_elim, List, [], ◌∷◌, ◌++◌, length, map, take, Option, Some, refl, sym, ap, subst, ◌∙◌, arith, append_assoc, append-nil, length-append}
 use Rattle.std.proofs.Math.Seq.{take-length, take_all}
+use Rattle.std.proofs.lemmas.Bool.{cases_lt}
 use Rattle.std.proofs.lemmas.List.{take-append-le}
 use Rattle.std.specs.Io.KnownBytes.{append_known}
 use Rattle.coco_types.specs.Limits.{epochs_end}
@@ -30,11 +31,12 @@ use Rattle.coco_lines.specs.ReaderState.{ReaderState}
 use Rattle.coco_lines.specs.Reads.{SourceMoment}
 use Rattle.coco_lines.specs.declared.class.Class.{Class}
 use Rattle.coco_store.specs.Contents.{Contents, history_of}
-use Rattle.coco_serve.specs.Growth.{GrowsInOrder, HaveSize, IsGrown, answers_of, epochs_of}
+use Rattle.coco_serve.specs.Growth.{AddsFrom, AreFirstBatches, GrowsInOrder, HaveSize, IsGrown, answers_of, epochs_of}
 use Rattle.coco_serve.specs.Seen.{IsServed, LeavesEither}
 use Rattle.coco_serve.specs.Serving.{LeavesLast, Progress, RestsAt, RunEnds, SaysAll, SaysUpTo, Serves}
 use Rattle.coco_serve.specs.declared.ending.Ending.{Ending}
 use Rattle.coco_serve.specs.declared.ending.Ending.TheVariants as ending
+use Rattle.coco_serve.proofs.NumberLemmas.{adds_none}
 
 -- ---- lists of batches
 
@@ -74,6 +76,15 @@ cut_full : (size : ℕ) (bs : List Lines) → HaveSize size bs → 0 < size → 
 cut_full size [] full some = tt
 cut_full size (x ∷ []) full some = let e : length x ≡ size = full.0 in (omega arith, omega arith)
 cut_full size (x ∷ y ∷ bs) full some = (full.0, cut_full size (y ∷ bs) full.1 some)
+
+-- whole batches, and one more that is whole or the last
+pub first_more : (size : ℕ) (bytes : List ℕ) (lines more others : List Line) (bs : List Lines) → lines ≡ joined bs → HaveSize size bs → 0 < length more → length more ≤ size → (length more < size → others ≡ [])
+    → lines_of bytes ≡ (lines ++ more) ++ others → AreFirstBatches size bytes (bs ++ more ∷ [])
+first_more size bytes lines more others bs are full some fits short all = record {
+  others = others;
+  lines = all ∙ ap (λ ls. ls ++ others) (ap (λ ls. ls ++ more) are ∙ sym (joined-more bs more));
+  cut = ⊎_elim (λ less. inr (short less, cut_more size bs more full some fits)) (λ enough. inl (size_more size bs more full (omega (arith, fits, enough)))) (cases_lt (length more) size);
+}
 
 -- ---- answers
 
@@ -116,6 +127,13 @@ known_at c k s =
     let requests : map request_of k.kept.dones ++ [] ≡ map request_of (kept (history_of c)) = append-nil (map request_of k.kept.dones) ∙ ap (map request_of) s.dones in
     let low : k.kept.floor ≡ floor (history_of c) = s.floor in
     λ i. record { requests = requests i; floor = low i }
+
+-- the classes of lines at a cluster are those in the history of a store that it stands at
+pub classes_at : (c d : Contents) (k : ClusterState) (lines : List Line) (cs : List Class) → StandsAt d k → d.setting ≡ c.setting → AreClasses k.procs (known_of k.kept []) lines cs
+    → AreClasses c.setting.tree (known_in (history_of d)) lines cs
+classes_at c d k lines cs stands same are =
+    let procs_are : k.procs ≡ c.setting.tree = stands.procs ∙ ap (λ (s : Setting). s.tree) same in
+    subst (λ kn. AreClasses c.setting.tree kn lines cs) (known_at d k stands) (subst (λ p. AreClasses p (known_of k.kept []) lines cs) procs_are are)
 
 -- ---- what is seen
 
@@ -190,9 +208,8 @@ module _ {H : Type 0} (moment : H → ℕ) (observed : H → ℕ → Observation
     pub stands : StandsAt d k
     pub says : said host ≡ append_known (said first) (answers_of (history_of d) classes)
     pub moments : SeesOnly moment observed first host (IsServed c.setting (history_of c) batches classes (history_of d) (said first))
-    pub added : List Epoch
-    pub epochs : (history_of d).epochs ≡ (history_of c).epochs ++ added
-    pub numbers : k.next_epoch ≡ next + length added
+    pub numbers : AddsFrom next (history_of c) (history_of d)
+    pub reached : k.next_epoch ≡ next + length numbers.added
 
   abbrev pub OnlyNow : Type 0
   OnlyNow = (host : H) (seen : Observation) → observed host (moment host) seen → may_leave host seen.image × (said host ≡ Some seen.said)
@@ -217,9 +234,8 @@ module _ {H : Type 0} (moment : H → ℕ) (observed : H → ℕ → Observation
         let now = only_now host seen since in
         all_served c.setting (history_of c) [] [] (history_of c) (said host) (record { grown = (refl, refl); in_order = refl }) seen
         (record { contents = c; setting = refl; good = rests.left seen.image now.0; history = refl }) 0 (sym now.1 ∙ sym (append_known-nil (said host))));
-    added = [];
-    epochs = sym (append-nil (history_of c).epochs);
-    numbers = omega (arith, same);
+    numbers = adds_none next (history_of c);
+    reached = omega (arith, same);
   }
 
   abbrev Left : (c : Contents) (batches : List Lines) (classes : List (List Class)) (whole : History) → H → H → Type 0
@@ -240,12 +256,13 @@ module _ {H : Type 0} (moment : H → ℕ) (observed : H → ℕ → Observation
     abbrev h : History
     h = history_of a.d
 
-    abbrev still : Progress tree (history_of c) size bytes
+    abbrev still : Progress tree (history_of c) next size bytes
     still = record {
       batches = a.batches;
       classes = a.classes;
       history = h;
       grown = a.grown;
+      numbers = a.numbers;
       first = record { others = others; lines = all ∙ ap (λ ls. ls ++ others) a.lines_are; cut = inl a.whole };
     }
 
@@ -299,8 +316,13 @@ module _ {H : Type 0} (moment : H → ℕ) (observed : H → ℕ → Observation
     pub disk_failed : Serves moment observed said reads may_leave c next size bytes ending.DiskFault first host
     disk_failed = ended_so ending.DiskFault (leaves_by (SaysAll (said first) (said host)) a.says)
 
-    pub epochs_used_up : epochs_end ≤ k.next_epoch → Serves moment observed said reads may_leave c next size bytes ending.EpochsUsedUp first host
-    epochs_used_up end = ended_so ending.EpochsUsedUp (rests_at, a.says, record { added = a.added; epochs = a.epochs; end = (let n = a.numbers in omega (arith, n, end)) })
+    pub epochs_used_up : epochs_end ≤ k.next_epoch → (more : Lines) (cs : List Class) → AreFirstBatches size bytes (a.batches ++ more ∷ []) → AreClasses tree (known_in h) more cs → 0 < length (new_of cs)
+        → Serves moment observed said reads may_leave c next size bytes ending.EpochsUsedUp first host
+    epochs_used_up end more cs so are some = ended_so ending.EpochsUsedUp (
+      rests_at,
+      a.says,
+      record { end = (let n = a.reached in omega (arith, n, end)); batch = more; classes = cs; first = so; are = are; some = some },
+    )
 
     pub read_failed : (rest : List Line) → ended_lines_of bytes ≡ lines ++ rest → length rest < size → Serves moment observed said reads may_leave c next size bytes ending.ReadFault first host
     read_failed rest ended few = ended_so ending.ReadFault (

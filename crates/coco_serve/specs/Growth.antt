@@ -1,6 +1,6 @@
 -- How a history grows by batches of lines, and which batches are the first ones of a text.
 use Rattle.std.specs.Prelude.{◌≡◌, ◌⊎◌, ⊤, ℕ, List, [], ◌∷◌, ◌++◌, length, map}
-use Rattle.std.specs.List.{AllByRecursion}
+use Rattle.std.specs.List.{AllByRecursion, range_with_len}
 use Rattle.coco_types.specs.declared.call.Request.{Request}
 use Rattle.coco_ast.specs.Growth.{GrowsBy, GrowsInTurn}
 use Rattle.coco_ast.specs.History.{Epoch, History, followed_by}
@@ -18,9 +18,19 @@ abbrev pub HasPlaces : History → List Request → History → Type 0
 HasPlaces h [] g = ⊤
 HasPlaces h (r ∷ rs) g = (e : Epoch) × IsCommitOrder (r ∷ rs) (map timed_of e.dones) × (g ≡ followed_by h e)
 
--- grown by one epoch of these requests, in their order of commit. Nothing is said of its number but that it is greater
+-- grown by one epoch of these requests, in their order of commit. Nothing is said here of its number but that it is greater
 abbrev pub GrowsInOrder : History → List Request → History → Type 0
 GrowsInOrder h requests g = GrowsBy h requests g × HasPlaces h requests g
+
+-- these epochs are numbered next, next + 1 and so on, without a gap
+abbrev pub AreNumberedFrom : ℕ → List Epoch → Type 0
+AreNumberedFrom next epochs = map (λ (e : Epoch). e.number) epochs ≡ range_with_len next (length epochs)
+
+-- a history has the epochs of another, and behind them these, numbered from `next` on
+pub record AddsFrom (next : ℕ) (opening history : History) : Type 0 where
+  pub added : List Epoch
+  pub epochs : history.epochs ≡ opening.epochs ++ added
+  pub numbered : AreNumberedFrom next added
 
 -- how many epochs these requests make
 abbrev pub epochs_of : List Request → ℕ

@@ -1,21 +1,22 @@
 -- What a run makes of the store in hand and of the bytes that its source gives.
-use Rattle.std.specs.Prelude.{◌≡◌, ◌⊎◌, ⊤, ℕ, ◌+◌, ◌-◌, ◌^◌, ◌<◌, ◌≤◌, List, ◌++◌, length, take, Option, Some}
+use Rattle.std.specs.Prelude.{◌≡◌, ◌⊎◌, ⊤, ℕ, ◌+◌, ◌-◌, ◌^◌, ◌<◌, ◌≤◌, List, [], ◌∷◌, ◌++◌, length, take, Option, Some}
 use Rattle.std.specs.Io.KnownBytes.{append_known}
 use Rattle.coco_types.specs.Limits.{epochs_end}
 use Rattle.coco_append.specs.Gaining.{RestsOn}
-use Rattle.coco_ast.specs.History.{Epoch, History}
+use Rattle.coco_ast.specs.History.{History}
 use Rattle.coco_ast.specs.Tree.{Procedures}
 use Rattle.coco_cluster.specs.Standing.{ClusterState, StandsAt}
 use Rattle.coco_host.specs.Files.{Files}
 use Rattle.coco_host.specs.Moments.{Observation, SeesOnly}
 use Rattle.coco_io.specs.Counts.{Rose}
 use Rattle.coco_lines.specs.Batches.{AreBatches, Batch, joined}
+use Rattle.coco_lines.specs.Classes.{AreClasses, known_in, new_of}
 use Rattle.coco_lines.specs.Lines.{Line, ended_lines_of, lines_of}
 use Rattle.coco_lines.specs.Reads.{Gives, IsSpent, SourceMoment}
 use Rattle.coco_lines.specs.declared.class.Class.{Class}
 use Rattle.coco_store.specs.Contents.{Contents, history_of}
 use Rattle.coco_store.specs.Rules.{Setting}
-use Rattle.coco_serve.specs.Growth.{AreFirstBatches, HaveSize, IsGrown, answers_of}
+use Rattle.coco_serve.specs.Growth.{AddsFrom, AreFirstBatches, HaveSize, IsGrown, answers_of}
 use Rattle.coco_serve.specs.Seen.{IsServed, LeavesEither}
 use Rattle.coco_serve.specs.declared.ending.Ending.{Ending}
 use Rattle.coco_serve.specs.declared.ending.Ending.TheVariants.{Finished, ReadFault, SayFault, DiskFault, EpochsUsedUp, NoMemory}
@@ -41,12 +42,13 @@ HasCause next bytes before after NoMemory = ⊤
 
 -- ---- batches and answers
 
--- a history grown by the first batches of these bytes
-pub record Progress (procs : Procedures) (opening : History) (size : ℕ) (bytes : List ℕ) : Type 0 where
+-- a history grown by the first batches of these bytes, the epochs that it has more numbered from `next` on
+pub record Progress (procs : Procedures) (opening : History) (next size : ℕ) (bytes : List ℕ) : Type 0 where
   pub batches : List Batch
   pub classes : List (List Class)
   pub history : History
   pub grown : IsGrown procs opening batches classes history
+  pub numbers : AddsFrom next opening history
   pub first : AreFirstBatches size bytes batches
 
 -- they are all batches of the lines
@@ -86,31 +88,35 @@ pub record LeavesLast (s : Setting) (opening : History) (batches : List Batch) (
   pub says : Says history (take count classes)
   pub left : LeavesEither s history whole now may_leave
 
--- as many epochs were added as there were numbers for
-pub record AreUsedUp (next : ℕ) (opening history : History) : Type 0 where
-  pub added : List Epoch
-  pub epochs : history.epochs ≡ opening.epochs ++ added
-  pub end : epochs_end ≤ next + length added
+-- as many epochs were added as there were numbers for, and the next batch has a new request
+pub record AreUsedUp (procs : Procedures) (opening : History) (next size : ℕ) (bytes : List ℕ) (p : Progress procs opening next size bytes) : Type 0 where
+  pub end : epochs_end ≤ next + length p.numbers.added
+  pub batch : Batch
+  pub classes : List Class
+  pub first : AreFirstBatches size bytes (p.batches ++ batch ∷ [])
+  pub are : AreClasses procs (known_in p.history) batch classes
+  pub some : 0 < length (new_of classes)
 
 -- ---- how a run ends
 
 -- by its ending: an input that was read to its end is committed and answered whole; after a fault of reading so are all whole batches; a fault of saying
 -- leaves all batches committed, the last one said in part; and after a fault of the disk, or out of memory, one batch more may be committed than is said
-abbrev pub RunEnds : (c : Contents) → ℕ → (size : ℕ) → (bytes : List ℕ) → Progress c.setting.tree (history_of c) size bytes → Option (List ℕ) → Option (List ℕ) → Option Files → (Files → Type 0) → Ending → Type 0
+abbrev pub RunEnds : (c : Contents) → (next size : ℕ) → (bytes : List ℕ) → Progress c.setting.tree (history_of c) next size bytes → Option (List ℕ) → Option (List ℕ) → Option Files → (Files → Type 0) → Ending → Type 0
 RunEnds c next size bytes p before now reads may_leave Finished = AreAll size bytes p.batches × RestsAt c.setting p.history reads may_leave × SaysAll before now p.history p.classes
 RunEnds c next size bytes p before now reads may_leave ReadFault = AreAllWhole size bytes p.batches × RestsAt c.setting p.history reads may_leave × SaysAll before now p.history p.classes
 RunEnds c next size bytes p before now reads may_leave SayFault = RestsAt c.setting p.history reads may_leave × SaysUpTo before now p.history p.classes
 RunEnds c next size bytes p before now reads may_leave DiskFault =
     LeavesLast c.setting (history_of c) p.batches p.classes p.history (SaysAll before now) now may_leave
 RunEnds c next size bytes p before now reads may_leave EpochsUsedUp =
-    RestsAt c.setting p.history reads may_leave × SaysAll before now p.history p.classes × AreUsedUp next (history_of c) p.history
+    RestsAt c.setting p.history reads may_leave × SaysAll before now p.history p.classes × AreUsedUp c.setting.tree (history_of c) next size bytes p
 RunEnds c next size bytes p before now reads may_leave NoMemory =
     LeavesLast c.setting (history_of c) p.batches p.classes p.history (SaysUpTo before now) now may_leave
 
--- of a host that rested on these contents: what was seen in the run and is left behind it, and how it ended
+-- of a host that rested on these contents: what was seen in the run and is left behind it, and how it ended. Each history seen begins the whole one, so its
+-- epochs are numbered from `next` on too
 pub record Serves {H : Type 0} (moment : H → ℕ) (observed : H → ℕ → Observation → Type 0) (said : H → Option (List ℕ)) (reads : H → Option Files) (may_leave : H → Files → Type 0)
     (c : Contents) (next size : ℕ) (bytes : List ℕ) (ending : Ending) (old new : H) : Type 0 where
-  pub progress : Progress c.setting.tree (history_of c) size bytes
+  pub progress : Progress c.setting.tree (history_of c) next size bytes
   pub moments : SeesOnly moment observed old new (IsServed c.setting (history_of c) progress.batches progress.classes progress.history (said old))
   pub left : (seen : Observation) → said new ≡ Some seen.said → may_leave new seen.image → IsServed c.setting (history_of c) progress.batches progress.classes progress.history (said old) seen
   pub ends : RunEnds c next size bytes progress (said old) (said new) (reads new) (may_leave new) ending

@@ -8,6 +8,7 @@ returns-in-Ok g c =
     inr (record {
       opened = c.open_cluster.new.host;
       opening = c.in-Ok.ensures.read;
+      sound = c.in-Ok.ensures.sound;
       bytes = runs.bytes;
       gives = runs.gives;
       next = c.in-Ok.cluster.next_epoch;

@@ -22,5 +22,14 @@ returns-then-store-ne1-clause-err g c = (
 pub returns-in-Ok-cluster_of-clause-stands : goal.returns-in-Ok-cluster_of-clause-stands
 returns-in-Ok-cluster_of-clause-stands g c = λ files d are good. (c.in-Ok.ensures.rests files d are good, c.in-Ok-cluster_of.ensures.stands files d (c.in-Ok.ensures.ok files are) good)
 
+pub returns-in-Ok-cluster_of-clause-sound : goal.returns-in-Ok-cluster_of-clause-sound
+returns-in-Ok-cluster_of-clause-sound g c = λ files are.
+    let opening = c.in-Ok.ensures.ok files are in
+    record {
+      contents = opening.contents;
+      holds = opening.holds;
+      one = ap (λ (e : LayoutEntry). e.layout.nodes) (sym (opening.has opening.contents opening.holds).layout) ∙ c.if-store-ne1.false;
+    }
+
 pub returns-in-Ok-cluster_of-clause-next : goal.returns-in-Ok-cluster_of-clause-next
 returns-in-Ok-cluster_of-clause-next g c = λ files d are holds. subst (IsNextOf d) (sym c.in-Ok-cluster_of.ensures.next) ((c.in-Ok.ensures.ok files are).has d holds).next

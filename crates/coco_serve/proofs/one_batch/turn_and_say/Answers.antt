@@ -24,7 +24,7 @@ returns-in_err-texts-clause-answers g c k rests stands =
     let done = committed g.H.Host.moment g.H.Host.observed g.H.Host.said g.H.Host.reads g.H.Host.may_leave g.met.H.Host.only_now c.turn.result c.in_ok-turn.field-0 requests k c.args.cluster.now c.turn.new.self
     c.args.host.now c.turn.new.host c.in_ok-turn.was rests stands turns in
     let p = err_from_is_err_and c.from_residual-in_err-texts.result c.from_residual-in_err-texts.ensures.1 in
-    inr (unsaid g.H.Host.moment g.H.Host.observed g.H.Host.said g.H.Host.reads g.H.Host.may_leave c.args.batch requests k c.turn.new.self c.args.host.now c.turn.new.host c.in_ok-requests.ensures c.turn.ensures.said done
+    inr (unsaid g.H.Host.moment g.H.Host.observed g.H.Host.said g.H.Host.reads g.H.Host.may_leave c.args.batch requests k c.args.cluster.now.next_epoch c.turn.new.self c.args.host.now c.turn.new.host c.in_ok-requests.ensures c.turn.ensures.said done
     c.from_residual-in_err-texts.result (p.1 ∙ ap Err p.2))
 
 pub returns-in_err-say_all-clause-answers : goal.returns-in_err-say_all-clause-answers
@@ -38,7 +38,7 @@ returns-in_err-say_all-clause-answers g c k rests stands =
     let early = subst (λ xs. map (option_map (λ t. t.items)) c.in_ok-early.early.items ≡ map (early_text c.kept.result.now.dones) xs) (c.as_slice.ensures.value ∙ sym c.as_slice-2.ensures.value) c.in_ok-early.ensures in
     let are = texts_are k done.d c.args.cluster.now c.turn.new.self c.args.batch c.kept.result.now.dones c.kept-2.result.now.dones c.as_slice-2.result.now c.as_slice-3.result.now stands done.stands
     (ap (λ n. n.dones) c.kept.ensures) (ap (λ n. n.dones) c.kept-2.ensures) c.as_slice-2.ensures.value (c.as_slice-3.ensures.value ∙ c.in_ok-texts.ensures c.kept.result.now.dones early) in
-    inr (partly_said g.H.Host.moment g.H.Host.observed g.H.Host.said g.H.Host.reads g.H.Host.may_leave c.args.batch requests k c.turn.new.self c.args.host.now c.turn.new.host c.in_ok-requests.ensures c.turn.ensures.said done
+    inr (partly_said g.H.Host.moment g.H.Host.observed g.H.Host.said g.H.Host.reads g.H.Host.may_leave c.args.batch requests k c.args.cluster.now.next_epoch c.turn.new.self c.args.host.now c.turn.new.host c.in_ok-requests.ensures c.turn.ensures.said done
     c.say_all.new.host c.as_slice-3.result.now are c.say_all.ensures.same c.say_all.ensures.crash c.say_all.ensures.sees
     (says_part c.say_all.result c.as_slice-3.result.now _ _ c.say_all.ensures.ok c.say_all.ensures.err) c.in_err-say_all.field-0.0 c.from_residual-in_err-say_all.result (p.1 ∙ ap Err p.2))
 
@@ -52,6 +52,6 @@ returns-clause-answers g c k rests stands =
     let early = subst (λ xs. map (option_map (λ t. t.items)) c.in_ok-early.early.items ≡ map (early_text c.kept.result.now.dones) xs) (c.as_slice.ensures.value ∙ sym c.as_slice-2.ensures.value) c.in_ok-early.ensures in
     let are = texts_are k done.d c.args.cluster.now c.turn.new.self c.args.batch c.kept.result.now.dones c.kept-2.result.now.dones c.as_slice-2.result.now c.as_slice-3.result.now stands done.stands
     (ap (λ n. n.dones) c.kept.ensures) (ap (λ n. n.dones) c.kept-2.ensures) c.as_slice-2.ensures.value (c.as_slice-3.ensures.value ∙ c.in_ok-texts.ensures c.kept.result.now.dones early) in
-    inr (all_said g.H.Host.moment g.H.Host.observed g.H.Host.said g.H.Host.reads g.H.Host.may_leave c.args.batch requests k c.turn.new.self c.args.host.now c.turn.new.host c.in_ok-requests.ensures c.turn.ensures.said done
+    inr (all_said g.H.Host.moment g.H.Host.observed g.H.Host.said g.H.Host.reads g.H.Host.may_leave c.args.batch requests k c.args.cluster.now.next_epoch c.turn.new.self c.args.host.now c.turn.new.host c.in_ok-requests.ensures c.turn.ensures.said done
     c.say_all.new.host c.as_slice-3.result.now are c.say_all.ensures.same c.say_all.ensures.crash c.say_all.ensures.sees
     (says_part c.say_all.result c.as_slice-3.result.now _ _ c.say_all.ensures.ok c.say_all.ensures.err) c.in_ok-say_all.ensures.ok)
