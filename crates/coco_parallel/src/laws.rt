@@ -1,0 +1,41 @@
+//! What holds of each epoch that workers ran side by side.
+
+ghost use Rattle.coco_parallel.specs.Laws.{AtEachEnd, AreAnExecution, ShardsHaveRows, TailMayRun, DonesAreItsOutcome};
+ghost use Rattle.coco_parallel.specs.Copies.{CopiesAreOfCommits};
+ghost use Rattle.coco_parallel.specs.Running.{RunsEnd};
+
+use coco_order::laws::{closed_journals_are_lawful, commits_are_serial, marks_are_own};
+
+/// What the workers tried and what the locks of the shards closed with is an execution, and the shards have the rows
+/// that its journals say.
+pub fn workers_make_an_execution()
+    ensures execution { AtEachEnd AreAnExecution }
+    ensures rows { AtEachEnd ShardsHaveRows }
+{
+    closed_journals_are_lawful();
+}
+
+/// When all locks are closed, the shards are ready for the tail: their newest values are the map that the commits
+/// leave, the stable ones are those of the start, and no mark stands. The commits with the tail's Dones, by time and
+/// id, are the outcome of the execution.
+pub fn ends_have_outcomes()
+    ensures ready { AtEachEnd TailMayRun }
+    ensures outcome { AtEachEnd DonesAreItsOutcome }
+{
+    workers_make_an_execution();
+    closed_journals_are_lawful();
+    marks_are_own();
+    commits_are_serial();
+}
+
+/// What the calls of an epoch hand on to each other, from the start of its locks to their end, is what holds at its
+/// end.
+pub fn runs_end()
+    ensures { RunsEnd }
+{}
+
+/// What a worker's pass has in the journal of a copy table are the writes of its commits there, where the net carries
+/// them.
+pub fn copies_are_of_commits()
+    ensures { CopiesAreOfCommits }
+{}
