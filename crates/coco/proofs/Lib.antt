@@ -1,5 +1,1 @@
-pub mod CommitLemmas
-pub mod EndingLemmas
-pub mod ExecutionLemmas
-pub mod KeepingLemmas
-pub mod RunLemmas
+mod EndingLemmas

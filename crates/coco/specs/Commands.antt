@@ -1,53 +1,63 @@
 -- What a call does for its words: each command by itself.
-use Rattle.std.specs.Prelude.{◌≡◌, ◌⊎◌, ⊤, ℕ, ◌^◌, List, length, Option}
-use Rattle.coco_ast.specs.History.{History}
-use Rattle.coco_ast.specs.Tree.{Procedures}
-use Rattle.coco_io.specs.Counts.{Rose}
-use Rattle.coco_lines.specs.Reads.{Gives, IsSpent, SourceMoment}
+use Rattle.std.specs.Prelude.{◌≡◌, ◌≢◌, ◌⊎◌, ⊤, ℕ, List, [], length, Option, Some, Result, Ok, Err}
+use Rattle.coco_host.specs.Files.{Files}
+use Rattle.coco_host.specs.Moments.{Observation}
+use Rattle.coco_ending.specs.declared.ending.Ending.{Ending}
+use Rattle.coco_ending.specs.declared.ending.Ending.TheVariants as ending
+use Rattle.coco_init.specs.Counts.{CountsDisk, CountsReads}
+use Rattle.coco_init.specs.Initiating.{Initiates}
+use Rattle.coco_lines.specs.Reads.{Gives}
+use Rattle.coco_make.specs.NewStore.{new_layout}
+use Rattle.coco_run.specs.Running.{RunsOn}
+use Rattle.coco_serve.specs.Faults.{Counts}
+use Rattle.coco_serve.specs.Serving.{Outside}
+use Rattle.coco_tell.specs.Telling.{Dumps, Verifies}
 use Rattle.coco_words.specs.Commands.{IsCommand, IsOnlyCommand}
 use Rattle.coco_words.specs.declared.Command.{Command}
-use Rattle.coco_words.specs.declared.Command.TheVariants.{Run}
-use Rattle.coco.specs.RunOfLines.{AnswersAll, AnswersFront, AnswersWhole}
-use Rattle.coco.specs.declared.ending.Ending.{Ending}
-use Rattle.coco.specs.declared.ending.Ending.TheVariants.{Finished, BadCommandLine, ReadFault, SayFault, NoMemory}
+use Rattle.coco_words.specs.declared.Command.TheVariants.{Init, Run, Dump, Verify}
 
--- what a call sees and changes, at one moment: its source, the bytes said, and the counts of faults
-pub record Outside : Type 0 where
-  pub source : SourceMoment
-  pub source_faults : ℕ
-  pub said : Option (List ℕ)
-  pub say_faults : ℕ
+-- the ending of a call that succeeded, or that came to this one
+abbrev pub ending_in : Result (Unit {0}) Ending → Ending
+ending_in (Ok u) = ending.Finished
+ending_in (Err e) = e
 
--- what a run has done with the bytes given, by its ending: an input that was read to its end is answered whole; after a
--- fault of reading all whole batches are answered; else a front of the answers is said. Want of memory needs no cause.
-abbrev pub RunEnds : Procedures → History → ℕ → Outside → Outside → List ℕ → Ending → Type 0
-RunEnds procs opening size before after bytes Finished = IsSpent after.source × AnswersAll procs opening size bytes before.said after.said
-RunEnds procs opening size before after bytes ReadFault =
-    (Rose before.source_faults after.source_faults ⊎ (length bytes ≡ 2 ^ 62)) × AnswersWhole procs opening size bytes before.said after.said
-RunEnds procs opening size before after bytes SayFault = Rose before.say_faults after.say_faults × AnswersFront procs opening size bytes before.said after.said
-RunEnds procs opening size before after bytes NoMemory = AnswersFront procs opening size bytes before.said after.said
-RunEnds procs opening size before after bytes BadCommandLine = ⊥
+-- a command takes nothing of its input
+pub record KeepsInput (before after : Outside) : Type 0 where
+  pub source : after.source ≡ before.source
+  pub faults : after.source_faults ≡ before.source_faults
 
-pub record Runs (procs : Procedures) (opening : History) (size : ℕ) (before after : Outside) (ending : Ending) : Type 0 where
-  pub bytes : List ℕ
-  pub gives : Gives before.source after.source bytes
-  pub ends : RunEnds procs opening size before after bytes ending
+abbrev pub counts_of : Outside → Counts
+counts_of o = record { say = o.say_faults; disk = o.disk_faults }
 
--- of how many lines a batch is
-abbrev pub lines_each : Command → ℕ
-lines_each (Run run) = run.epoch
-
-abbrev pub Does : Procedures → History → Command → Outside → Outside → Ending → Type 0
-Does procs opening (Run run) before after ending = Runs procs opening run.epoch before after ending
-
+-- words that are a command need not be obeyed where memory runs out; then nothing is done
 abbrev pub NeedsCommand : Ending → Type 0 → Type 0
-NeedsCommand BadCommandLine is = ⊤
-NeedsCommand NoMemory is = ⊤
-NeedsCommand Finished is = is
-NeedsCommand ReadFault is = is
-NeedsCommand SayFault is = is
+NeedsCommand ending.BadCommandLine is = ⊤
+NeedsCommand ending.NoMemory is = ⊤
+NeedsCommand _ is = is
 
--- words that are a command are obeyed; other words are a bad command line, or memory ran out
-pub record Obeys (procs : Procedures) (opening : History) (words : List (List ℕ)) (before after : Outside) (ending : Ending) : Type 0 where
-  pub command : (command : Command) → IsCommand words command → Does procs opening command before after ending
-  pub only : NeedsCommand ending ((command : Command) × IsOnlyCommand words command)
+module _ {H : Type 0} (moment : H → ℕ) (observed : H → ℕ → Observation → Type 0) (said : H → Option (List ℕ)) (reads : H → Option Files) (may_leave : H → Files → Type 0) where
+  -- `init`: a store of these sizes, with the procedures of the text that the source gave
+  pub record Inits (nodes partitions copies : ℕ) (how : Ending) (before after : Outside) (old new : H) : Type 0 where
+    pub result : Result (Unit {0}) Ending
+    pub ends : how ≡ ending_in result
+    pub text : List ℕ
+    pub gives : Gives before.source after.source text
+    pub initiates : Initiates moment observed said reads may_leave result (new_layout nodes partitions copies text) text after.source old new
+    pub only_there : (files : Files) → reads old ≡ Some files → files 0 ≢ [] → (result ≡ Err (ending.AlreadyThere (length (files 0)))) ⊎ (result ≡ Err ending.DiskFault)
+    pub reading : CountsReads result before.source_faults after.source_faults
+    pub disk : CountsDisk result before.disk_faults after.disk_faults
+
+  abbrev pub Does : Command → Ending → Outside → Outside → H → H → Type 0
+  Does (Init nodes partitions copies) how before after old new = Inits nodes partitions copies how before after old new
+  Does (Run run) how before after old new = RunsOn moment observed said reads may_leave run.epoch how before after old new
+  Does Dump how before after old new = KeepsInput before after × Dumps moment observed said reads may_leave how (counts_of before) (counts_of after) old new
+  Does Verify how before after old new = KeepsInput before after × Verifies moment observed said reads may_leave how (counts_of before) (counts_of after) old new
+
+  -- nothing is done, for want of memory
+  abbrev pub LacksMemory : Ending → Outside → Outside → H → H → Type 0
+  LacksMemory how before after old new = (how ≡ ending.NoMemory) × (after ≡ before) × (new ≡ old)
+
+  -- words that are a command are obeyed; other words are a bad command line, or memory ran out
+  pub record Obeys (words : List (List ℕ)) (how : Ending) (before after : Outside) (old new : H) : Type 0 where
+    pub command : (command : Command) → IsCommand words command → Does command how before after old new ⊎ LacksMemory how before after old new
+    pub only : NeedsCommand how ((command : Command) × IsOnlyCommand words command)

@@ -3,7 +3,7 @@ ghost use Rattle.std.specs.Prelude.{◌≡◌, ◌≢◌, drop, map, string_byte
 ghost use Rattle.std.specs.IoError.{error_kind};
 ghost use Rattle.coco.specs.Arguments.{folder_in};
 
-use crate::ending::Ending;
+use coco_ending::Ending;
 use std::io::{Error, ErrorKind};
 
 /// The name of the store's folder, which stands behind the program's own name: `.` where none does.

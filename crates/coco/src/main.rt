@@ -1,21 +1,15 @@
-//! The program: request lines in, the replies of a serial run out.
+//! The program: a store in the files of a folder, that takes transactions as request lines.
 #![tactic(auto)]
 
-pub mod answer_lines;
 pub mod arguments;
-pub mod commit_and_say;
-pub mod commit_order;
-pub mod ending;
-pub mod execution;
-pub mod held_history;
 #[cfg(test)]
 mod tests;
 pub mod top;
 
 use arguments::{ending_without, folder_of, words_of};
+use coco_ending::Ending;
 use coco_host::FolderHost;
 use coco_io::{StdSink, StdSource};
-use ending::Ending;
 use std::env;
 use std::process::ExitCode;
 use top::coco;
@@ -25,7 +19,7 @@ fn main(rt: HostRuntime) -> ExitCode {
     let status = match start(rt, &mut errs) {
         Ok(status) => status,
         Err(ending) => {
-            ending.complain(&mut errs);
+            let _ = ending.complain(rt.alloc(), &mut errs);
             ending.status()
         }
     };

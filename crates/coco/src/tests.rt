@@ -1,193 +1,198 @@
-//! The top call on objects in memory: worked rows, and one call failing after another.
+//! The top call on stores in memory: worked calls one after another, every call of the host failing in turn, and files
+//! that are cut.
 
 use crate::top::coco;
-use coco_host::MemoryHost;
+use coco_host::{FuseHost, Host, MemoryHost};
 use coco_io::{MemorySink, MemorySource};
 use coco_types::NoMemory;
 use std::alloc::Global;
 use std::test::Fail;
 
-// What a call left: its status, the bytes said, and the line on the error stream.
+// The status of a call, and its line on the error stream.
 #[derive(Drop)]
 struct Left {
     status: u8,
-    host: MemoryHost,
-    errs: MemorySink,
+    line: MemorySink,
 }
 
-// A call on these words and this text, with the read, the say and the write to the error stream of these
-// numbers failing, and so many bytes at once.
-fn call(
+// A call on these words and this text, whose read of this number fails.
+fn call<H: Host>(
     alloc: Global,
+    host: &mut H,
     words: &str,
     text: &str,
-    fails: [u64; 3],
-    most: u32,
+    failing_read: u64,
 ) -> Result<Left, NoMemory> {
     let mut all = Vec::new(alloc);
     for word in words.split_whitespace() {
         all.push(String::from_str(alloc, word)?)?;
     }
     let bytes = Vec::from_slice(alloc, text.as_bytes())?;
-    let mut input = MemorySource::new(bytes, Vec::from_slice(alloc, &fails[..1])?);
-    input.short_reads(most.max(1) as usize);
-    let mut host = MemoryHost::new(alloc, Vec::from_slice(alloc, &fails[1..2])?);
-    host.short_says(most.max(1));
-    let mut errs = MemorySink::new(alloc, Vec::from_slice(alloc, &fails[2..])?);
-    let status = coco(&(), alloc, all.as_slice(), &mut host, &mut input, &mut errs);
-    Ok(Left { status, host, errs })
+    let fails = Vec::from_slice(alloc, &[failing_read])?;
+    let mut input = MemorySource::new(bytes, fails);
+    input.short_reads(40);
+    let mut line = MemorySink::new(alloc, Vec::new(alloc));
+    let status = coco(&(), alloc, all.as_slice(), host, &mut input, &mut line);
+    Ok(Left { status, line })
 }
 
 const NEVER: u64 = u64::MAX;
 
-// Each row: the batch's size, the lines, and behind an arrow the answers.
-const ROWS: &str = r#"1
-{"args":[5,70],"call":"put","id":1}
-{"args":[5],"call":"get","id":2}
-->
-{"epoch":1,"id":1,"ok":70,"time":1}
-{"epoch":2,"id":2,"ok":70,"time":1}
-=
-2
-{"args":[5,70],"call":"put","id":1}
-{"args":[5],"call":"get","id":2,"snapshot":true}
-->
-{"epoch":1,"id":1,"ok":70,"time":1}
-{"epoch":1,"id":2,"ok":null,"time":0}
-=
-1
-{"args":[5,9223372036854775807],"call":"put","id":1}
-{"args":[5,1],"call":"add","id":2}
-{"args":[5],"call":"get","id":3}
-->
-{"epoch":1,"id":1,"ok":9223372036854775807,"time":1}
-{"epoch":2,"id":2,"refused":"overflow","time":1}
-{"epoch":3,"id":3,"ok":9223372036854775807,"time":1}
-=
-2
-{"args":[5,70],"call":"put","id":1}
-{"args":[5,70],"call":"put","id":1}
-{"args":[5,70],"call":"put","id":1}
-{"args":[5,71],"call":"put","id":1}
-->
-{"epoch":1,"id":1,"ok":70,"time":1}
-{"epoch":1,"id":1,"ok":70,"time":1}
-{"epoch":1,"id":1,"ok":70,"time":1}
-{"error":"reused","line":4}
-=
-4
-{"args":[5],"call":"get","id":9,"snapshot":true}
-{"args":[5,1],"call":"add","id":3}
-{"args":[5],"call":"get","id":8,"snapshot":true}
-{"args":[5,1],"call":"add","id":2}
-{"args":[5],"call":"get","id":7,"snapshot":true}
-->
-{"epoch":1,"id":9,"ok":null,"time":0}
-{"epoch":1,"id":3,"ok":1,"time":1}
-{"epoch":1,"id":8,"ok":null,"time":0}
-{"epoch":1,"id":2,"ok":2,"time":2}
-{"epoch":2,"id":7,"ok":2,"time":0}
-=
-2
-{
-[]
-{"args":[5],"call":"find","id":1}
-{"args":[5,6],"call":"get","id":1}
-{"args":[5,6],"call":"put","id":1,"snapshot":true}
-{"args":[-1],"call":"get","id":1}
-{"args":["é"],"call":"get","id":18446744073709551615}
-->
-{"error":"json","line":1}
-{"error":"shape","line":2}
-{"error":"name","line":3}
-{"error":"args","line":4}
-{"error":"snapshot","line":5}
-{"epoch":1,"id":1,"refused":"bad row","time":1}
-{"epoch":2,"id":18446744073709551615,"refused":"kind","time":1}"#;
-
-#[test]
-fn worked_rows_are_answered(rt: HostRuntime) -> Result<(), Fail> {
-    for row in ROWS.split("\n=\n") {
-        let Some((asked, said)) = row.split_once("\n->\n") else {
-            return Err(Fail::new("a row without answers"));
-        };
-        let Some((size, text)) = asked.split_once('\n') else {
-            return Err(Fail::new("a row without lines"));
-        };
-        let words = format!(in rt.alloc(); "run --epoch {size}")?;
-        for most in [1u32, 100_000] {
-            let left = call(rt.alloc(), words.as_str(), text, [NEVER; 3], most)?;
-            assert_eq!(rt; left.status, 0, "{row}");
-            assert!(rt;
-                left.host.said().strip_suffix(b"\n") == Some(said.as_bytes()),
-                "{row}"
-            );
-            assert!(rt; left.errs.bytes().is_empty());
-        }
-    }
-    Ok(())
+fn new_host(alloc: Global, failing: u64) -> Result<MemoryHost, NoMemory> {
+    Ok(MemoryHost::new(alloc, Vec::from_slice(alloc, &[failing])?))
 }
 
-const TEXT: &str = r#"{"args":[5,70],"call":"put","id":1}
+const LINES: &str = r#"{"args":[5,70],"call":"put","id":1}
 {"args":[5],"call":"get","id":2}
 "#;
 
-// The text has two lines of 36 and 33 bytes, each read gives one byte, and the 70th meets the end; the
-// answer of each line has 36 bytes.
+const FIRST: &str = r#"{"args":[5,70],"call":"put","id":1}
+"#;
+
+const ANSWERS: &str = r#"{"epoch":1,"id":1,"ok":70,"time":1}
+{"epoch":2,"id":2,"ok":70,"time":1}
+"#;
+
+const DUMP: &str =
+    r#"{"args":[5,70],"call":"put","epoch":1,"id":1,"ok":70,"snapshot":false,"time":1}
+{"args":[5],"call":"get","epoch":2,"id":2,"ok":70,"snapshot":false,"time":1}
+{"row":5,"table":"main","value":70}
+"#;
+
+const WRONG_BYTE: &str = "coco: procedures refused: unexpected at byte 20\n";
+
+const NO_REPLY: &str = "coco: procedures refused: no reply at item 1 statement 0\n";
+
+const THERE: &str = "coco: already there: file 0 has 39 bytes\n";
+
+// Each call on one store: its words, its input, its status, what it says, and its line on the error stream.
+const CALLS: [(&str, &str, u8, &str, &str); 12] = [
+    ("run", LINES, 7, "", "coco: not a store: file 0 at byte 0\n"),
+    ("init --nodes 2", "", 1, "", "coco: bad command line\n"),
+    ("init", "proc f() { refuse 1 }", 9, "", WRONG_BYTE),
+    ("init", "proc f() { let x = 1; }", 9, "", NO_REPLY),
+    ("init", "", 0, "", ""),
+    ("init", "", 10, "", THERE),
+    ("run --epoch 1", LINES, 0, ANSWERS, ""),
+    ("run --epoch 2", LINES, 0, ANSWERS, ""),
+    ("dump", "", 0, DUMP, ""),
+    ("verify", "", 0, "serial 2\n", ""),
+    ("dump --epoch 1", "", 1, "", "coco: bad command line\n"),
+    ("run --", LINES, 1, "", "coco: bad command line\n"),
+];
+
 #[test]
-fn a_failing_read_leaves_the_answers_of_whole_batches(rt: HostRuntime) -> Result<(), Fail> {
-    for (words, first, second) in [
-        ("run --epoch 1", 36u64, 69),
-        ("run --epoch 2", 69, 69),
-        ("run", 70, 70),
-    ] {
-        for read in 0..72 {
-            let left = call(rt.alloc(), words, TEXT, [read, NEVER, NEVER], 1)?;
-            let answered = if read < first {
-                0
-            } else if read < second {
-                36
-            } else {
-                72
-            };
-            assert_eq!(rt; left.host.said().len(), answered, "read {read} fails");
-            let line: &str = if read < 70 { "coco: read fault\n" } else { "" };
-            assert_eq!(rt; left.errs.bytes(), line.as_bytes());
-            assert_eq!(rt; left.status, if read < 70 { 2 } else { 0 });
-        }
+fn worked_calls_follow_one_another(rt: HostRuntime) -> Result<(), Fail> {
+    let mut host = new_host(rt.alloc(), NEVER)?;
+    for (words, text, status, said, line) in CALLS {
+        let before = host.said().len();
+        let left = call(rt.alloc(), &mut host, words, text, NEVER)?;
+        assert_eq!(rt; left.status, status, "{words}");
+        assert!(rt;
+            host.said().get(before..) == Some(said.as_bytes()),
+            "{words}"
+        );
+        assert_eq!(rt; left.line.bytes(), line.as_bytes());
     }
     Ok(())
 }
 
+// The first two reads give the first line with four bytes behind it, and the third one fails.
 #[test]
-fn a_failing_say_leaves_a_front_of_the_answers(rt: HostRuntime) -> Result<(), Fail> {
-    for most in [1u32, 8, 36] {
-        for say in 0..73u64 {
-            let left = call(rt.alloc(), "run --epoch 1", TEXT, [NEVER, say, NEVER], most)?;
-            let whole = left.host.said().len() == 72;
-            assert!(rt;
-                whole || left.host.said().len() as u64 <= say.saturating_mul(u64::from(most))
-            );
-            assert_eq!(rt; left.status, if whole { 0 } else { 3 }, "say {say} fails");
-            assert_eq!(rt; left.errs.bytes().is_empty(), whole);
-        }
+fn a_failing_read_leaves_whole_batches(rt: HostRuntime) -> Result<(), Fail> {
+    for (words, said) in [("run --epoch 1", &ANSWERS[..36]), ("run --epoch 2", "")] {
+        let mut host = new_host(rt.alloc(), NEVER)?;
+        call(rt.alloc(), &mut host, "init", "", NEVER)?;
+        let left = call(rt.alloc(), &mut host, words, LINES, 1)?;
+        assert_eq!(rt; left.status, 2);
+        assert_eq!(rt; left.line.bytes(), b"coco: read fault\n".as_slice());
+        assert_eq!(rt; host.said(), said.as_bytes());
     }
     Ok(())
 }
 
+// After a crash by this pick the same lines are answered, each once.
+fn goes_on(alloc: Global, host: MemoryHost, pick: u64) -> Result<bool, NoMemory> {
+    let mut host = host.crash(pick)?;
+    let left = call(alloc, &mut host, "run --epoch 1", LINES, NEVER)?;
+    let answered = host.said().len();
+    let seventies = text_of(host.said()).matches("\"ok\":70,").count();
+    let verdict = call(alloc, &mut host, "verify", "", NEVER)?;
+    Ok(
+        left.status == 0
+            && seventies == 2
+            && verdict.status == 0
+            && host.said().get(answered..) == Some(b"serial 2\n".as_slice()),
+    )
+}
+
+fn text_of(bytes: &[u8]) -> &str {
+    std::str::from_utf8(bytes).unwrap_or("")
+}
+
+// Every call of the host fails in turn, those of `init` and those of `run`.
 #[test]
-fn other_words_are_no_command(rt: HostRuntime) -> Result<(), Fail> {
-    for words in [
-        "",
-        "help",
-        "run --",
-        "run --epoch 0",
-        "run --epoch=1 --epoch=2",
-    ] {
-        let left = call(rt.alloc(), words, TEXT, [NEVER; 3], 100)?;
-        assert_eq!(rt; left.status, 1);
-        assert!(rt; left.host.said().is_empty());
-        assert_eq!(rt; left.errs.bytes(), b"coco: bad command line\n".as_slice());
+fn a_failing_call_loses_nothing(rt: HostRuntime) -> Result<(), Fail> {
+    for pick in 0..8 {
+        let mut last = 0;
+        for failing in 0..1000 {
+            let mut host = new_host(rt.alloc(), failing)?;
+            if call(rt.alloc(), &mut host, "init", "", NEVER)?.status != 0 {
+                continue;
+            }
+            let left = call(rt.alloc(), &mut host, "run --epoch 1", LINES, NEVER)?;
+            if left.status == 0 {
+                break;
+            }
+            let fault = if host.say_faults() > 0 { 3 } else { 4 };
+            assert_eq!(rt; left.status, fault, "call {failing} fails");
+            assert!(rt; goes_on(rt.alloc(), host, pick)?, "call {failing} fails");
+            last = failing;
+        }
+        assert!(rt; last > 20);
+    }
+    Ok(())
+}
+
+// The host is given up behind every number of writes and syncs.
+#[test]
+fn a_fuse_loses_nothing(rt: HostRuntime) -> Result<(), Fail> {
+    for pick in 0..8 {
+        let mut last = 0;
+        for passes in 0..1000 {
+            let mut host = new_host(rt.alloc(), NEVER)?;
+            call(rt.alloc(), &mut host, "init", "", NEVER)?;
+            let mut host = FuseHost::new(host, passes);
+            let left = call(rt.alloc(), &mut host, "run --epoch 1", LINES, NEVER)?;
+            if left.status == 0 {
+                break;
+            }
+            assert!(rt; left.status == 3 || left.status == 4);
+            assert!(rt; goes_on(rt.alloc(), host.inner(), pick)?, "{passes} passes");
+            last = passes;
+        }
+        assert!(rt; last > 10);
+    }
+    Ok(())
+}
+
+// Each cut: the file, its length, and the byte at which it is no store.
+#[test]
+fn a_cut_file_is_refused_at_its_place(rt: HostRuntime) -> Result<(), Fail> {
+    for len in 0..75 {
+        for (file, at) in [(1, len.min(8)), (0, len.min(8))] {
+            if file == 0 && len > 8 {
+                continue;
+            }
+            let mut host = new_host(rt.alloc(), NEVER)?;
+            call(rt.alloc(), &mut host, "init", "", NEVER)?;
+            call(rt.alloc(), &mut host, "run", FIRST, NEVER)?;
+            host.cut(file, len);
+            let left = call(rt.alloc(), &mut host, "run", LINES, NEVER)?;
+            let line = format!(in rt.alloc(); "coco: not a store: file {file} at byte {at}\n")?;
+            assert_eq!(rt; left.status, 7, "file {file} of {len} bytes");
+            assert_eq!(rt; left.line.bytes(), line.as_bytes());
+        }
     }
     Ok(())
 }

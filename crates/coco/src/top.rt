@@ -1,24 +1,25 @@
 //! The top call: words in, a status out.
 
-ghost use Rattle.std.specs.Prelude.{◌≡◌, ◌≢◌, ℕ, List, map, take};
+ghost use Rattle.std.specs.Prelude.{◌≡◌, ℕ, map, take};
 ghost use Rattle.std.specs.Io.KnownBytes.{append_known};
 ghost use Rattle.std.specs.String.{string_bytes};
-ghost use Rattle.coco_ast.specs.Builtins.{builtins};
-ghost use Rattle.coco_ast.specs.History.{no_history};
-ghost use Rattle.coco.specs.Commands.{Obeys, lines_each};
-ghost use Rattle.coco.specs.Endings.{line_of, status_of};
-ghost use Rattle.coco.specs.declared.ending.Ending.{Ending as CallEnding};
+ghost use Rattle.coco_ending.specs.Endings.{line_of, status_of};
+ghost use Rattle.coco_ending.specs.declared.ending.Ending.{Ending as CallEnding};
+ghost use Rattle.coco_words.specs.Commands.{numbers_of, options_of};
+ghost use Rattle.coco_words.specs.Options.{AreInRange};
+ghost use Rattle.coco.specs.Commands.{Does, Inits, Obeys};
 
-use crate::answer_lines::answer_lines;
-use crate::ending::Ending;
+use coco_ending::Ending;
 use coco_host::Host;
+use coco_init::init;
 use coco_io::{Sink, Source};
+use coco_run::run;
+use coco_tell::{dump, verify};
 use coco_words::{Command, WordsFault, words as command_of};
 use std::alloc::Global;
 
-/// Does what the words ask, and answers the program's status: 0 where it is done, 1 where the words are
-/// no command, 2 after a fault of the input, 3 after a fault of the reply stream, and 6 for want of
-/// memory. A status other than 0 has its line on the error stream, whose faults change nothing.
+/// Does what the words ask of the store in the host's files, and answers the program's status. A status other than 0
+/// has its line on the error stream, whose faults change nothing.
 ///
 /// The runtime is what workers will be started with.
 pub fn coco<R, H: Host, I: Source, E: Sink>(
@@ -31,36 +32,64 @@ pub fn coco<R, H: Host, I: Source, E: Sink>(
 ) -> u8
     // The status and the line on the error stream are those of one ending, in which the words were obeyed.
     ensures obeys { (ending : CallEnding) × (result ≡ status_of ending)
-        × Obeys builtins no_history (map string_bytes words.now)
-        (record { source = record { given = I.given input.old; left = I.remaining input.old; at_end = I.at_end input.old }; source_faults = I.faults input.old; said = H.said host.old; say_faults = H.say_faults host.old })
-        (record { source = record { given = I.given input.new; left = I.remaining input.new; at_end = I.at_end input.new }; source_faults = I.faults input.new; said = H.said host.new; say_faults = H.say_faults host.new }) ending
+        × Obeys H.moment H.observed H.said H.reads H.may_leave (map string_bytes words.now) ending
+        (record { source = record { given = I.given input.old; left = I.remaining input.old; at_end = I.at_end input.old }; source_faults = I.faults input.old; say_faults = H.say_faults host.old; disk_faults = H.disk_faults host.old })
+        (record { source = record { given = I.given input.new; left = I.remaining input.new; at_end = I.at_end input.new }; source_faults = I.faults input.new; say_faults = H.say_faults host.new; disk_faults = H.disk_faults host.new })
+        host.old host.new
         × ((count : ℕ) × (E.contents errs.new ≡ append_known (E.contents errs.old) (take count (line_of ending)))) }
     ensures untouched { result ≡ 1 → (host.new ≡ host.old) × (input.new ≡ input.old) }
 {
     let ending = obey(alloc, words, host, input);
-    ending.complain(errs);
+    complain(alloc, &ending, errs);
     ending.status()
+}
+
+// Writes the line of an ending, or the front of it where that fails.
+fn complain<E: Sink>(alloc: Global, ending: &Ending, errs: &mut E)
+    ensures { (count : ℕ) × (E.contents errs.new ≡ append_known (E.contents errs.old) (take count (line_of ending.now))) }
+{
+    let _ = ending.complain(alloc, errs);
 }
 
 // The same but for the error stream.
 fn obey<H: Host, I: Source>(alloc: Global, words: &[String], host: &mut H, input: &mut I) -> Ending
-    ensures obeys { Obeys builtins no_history (map string_bytes words.now)
-        (record { source = record { given = I.given input.old; left = I.remaining input.old; at_end = I.at_end input.old }; source_faults = I.faults input.old; said = H.said host.old; say_faults = H.say_faults host.old })
-        (record { source = record { given = I.given input.new; left = I.remaining input.new; at_end = I.at_end input.new }; source_faults = I.faults input.new; said = H.said host.new; say_faults = H.say_faults host.new }) result }
-    ensures untouched { result ≡ Ending.BadCommandLine → (host.new ≡ host.old) × (input.new ≡ input.old) }
+    ensures obeys { Obeys H.moment H.observed H.said H.reads H.may_leave (map string_bytes words.now) result
+        (record { source = record { given = I.given input.old; left = I.remaining input.old; at_end = I.at_end input.old }; source_faults = I.faults input.old; say_faults = H.say_faults host.old; disk_faults = H.disk_faults host.old })
+        (record { source = record { given = I.given input.new; left = I.remaining input.new; at_end = I.at_end input.new }; source_faults = I.faults input.new; say_faults = H.say_faults host.new; disk_faults = H.disk_faults host.new })
+        host.old host.new }
+    ensures untouched { result ≡ CallEnding.BadCommandLine → (host.new ≡ host.old) × (input.new ≡ input.old) }
 {
     match command_of(alloc, words) {
-        Ok(command) => answer_lines(alloc, host, input, lines_each(command)),
+        Ok(command) => execute(alloc, command, host, input),
         Err(WordsFault::Usage) => Ending::BadCommandLine,
         Err(WordsFault::NoMemory) => Ending::NoMemory,
     }
 }
 
-// Of how many lines a batch is.
-fn lines_each(command: Command) -> u32
-    ensures { result ≡ lines_each command }
+// Does what a command asks.
+fn execute<H: Host, I: Source>(
+    alloc: Global,
+    command: Command,
+    host: &mut H,
+    input: &mut I,
+) -> Ending
+    requires { AreInRange (options_of command) (numbers_of command) }
+    ensures { Does H.moment H.observed H.said H.reads H.may_leave command result
+        (record { source = record { given = I.given input.old; left = I.remaining input.old; at_end = I.at_end input.old }; source_faults = I.faults input.old; say_faults = H.say_faults host.old; disk_faults = H.disk_faults host.old })
+        (record { source = record { given = I.given input.new; left = I.remaining input.new; at_end = I.at_end input.new }; source_faults = I.faults input.new; say_faults = H.say_faults host.new; disk_faults = H.disk_faults host.new })
+        host.old host.new }
 {
     match command {
-        Command::Run(options) => options.epoch,
+        Command::Init {
+            nodes,
+            partitions,
+            copies,
+        } => match init(alloc, host, input, nodes, partitions, copies) {
+            Ok(()) => Ending::Finished,
+            Err(ending) => ending,
+        },
+        Command::Run(options) => run(alloc, host, input, options.epoch),
+        Command::Dump => dump(alloc, host),
+        Command::Verify => verify(alloc, host),
     }
 }
