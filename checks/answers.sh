@@ -24,11 +24,17 @@ expect() {
     fi
 }
 
+# new: a store without epochs.
+new() {
+    rm -rf "$work/store"
+    "$program" "$work/store" init </dev/null
+}
+
 # run INPUT WORD..: runs the program on a file.
 run() {
     local input=$1
     shift
-    "$program" "$work" "$@" <"$input" >"$work/said" 2>"$work/errors"
+    "$program" "$work/store" "$@" <"$input" >"$work/said" 2>"$work/errors"
     status=$?
 }
 
@@ -37,23 +43,34 @@ if [ ! -x "$program" ]; then
     exit 2
 fi
 
-cp examples/replies.jsonl "$work/wanted"
-run examples/requests.jsonl run --epoch 4
+: >"$work/wanted"
+run examples/builtin/requests.jsonl run
+expect 'no store' 7 'coco: not a store: file 0 at byte 0'
+new
+run /dev/null init
+expect 'a store that is there' 10 'coco: already there: file 0 has 39 bytes'
+cp examples/builtin/replies.jsonl "$work/wanted"
+run examples/builtin/requests.jsonl run --epoch 4
 expect 'the example' 0 ''
+run examples/builtin/requests.jsonl run --epoch 4
+expect 'the example again' 0 ''
+printf 'serial 9\n' >"$work/wanted"
+run /dev/null verify
+expect 'the verdict' 0 ''
 
 : >"$work/wanted"
 run /dev/null run
 expect 'no input' 0 ''
-run examples/requests.jsonl
+run examples/builtin/requests.jsonl
 expect 'no command' 1 'coco: bad command line'
-run examples/requests.jsonl run --epoch 1025
+run examples/builtin/requests.jsonl run --epoch 1025
 expect 'an epoch of 1,025 lines' 1 'coco: bad command line'
-run examples/requests.jsonl run $'\xff'
+run examples/builtin/requests.jsonl run $'\xff'
 expect 'a word that is no text' 1 'coco: bad command line'
 run "$work" run
 expect 'an input that can not be read' 2 'coco: read fault'
 
-"$program" "$work" run <examples/requests.jsonl 2>"$work/errors" >/dev/full
+"$program" "$work/store" run <examples/builtin/requests.jsonl 2>"$work/errors" >/dev/full
 status=$?
 : >"$work/said"
 expect 'an output that is full' 3 'coco: reply stream fault'
@@ -66,6 +83,7 @@ expect 'an output that is full' 3 'coco: reply stream fault'
     printf '{"args":[5,70],"call":"put","id":1}'
 } >"$work/lines"
 printf '%s\n' '{"error":"long","line":1}' '{"error":"json","line":2}' '{"epoch":1,"id":1,"ok":70,"time":1}' >"$work/wanted"
+new
 run "$work/lines" run
 expect 'long lines, and a last line without its end' 0 ''
 

@@ -52,10 +52,12 @@ times() {
     repeated=$(head -c "$1" /dev/zero | tr '\0' "$2")
 }
 
-# compare NAME: the lines must get their answers.
+# compare NAME: on a new store the lines must get their answers.
 compare() {
     local status
-    "$program" . run --epoch "$size" <"$work/lines" >"$work/said" 2>"$work/errors"
+    rm -rf "$work/store"
+    "$program" "$work/store" init </dev/null
+    "$program" "$work/store" run --epoch "$size" <"$work/lines" >"$work/said" 2>"$work/errors"
     status=$?
     if [ "$status" -ne 0 ] || [ -s "$work/errors" ] || ! cmp -s "$work/said" "$work/wanted"; then
         printf '%s, %s lines a batch: status %s\n' "$1" "$size" "$status"

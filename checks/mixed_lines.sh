@@ -145,7 +145,9 @@ for seed in 1 2 3; do
         exec 3>"$work/lines" 4>"$work/wanted"
         while [ "$number" -lt 1000 ]; do batch; done
         exec 3>&- 4>&-
-        "$program" . run --epoch "$size" <"$work/lines" >"$work/said"
+        rm -rf "$work/store"
+        "$program" "$work/store" init </dev/null
+        "$program" "$work/store" run --epoch "$size" <"$work/lines" >"$work/said"
         status=$?
         if [ "$status" -ne 0 ] || ! cmp -s "$work/said" "$work/wanted"; then
             printf 'seed %s, %s lines a batch: status %s\n' "$seed" "$size" "$status"

@@ -64,7 +64,7 @@ refused 'no reply at item 1 statement 0' 'proc p(a) { if a { reply 1; } }'
 times 262145 ' '
 refused 'long at byte 262144' "$repeated"
 
-cp examples/bank.coco "$work/text"
+cp examples/bank/procedures.coco "$work/text"
 stays 'the bank' 20
 printf 'proc p(a, b) { let x = not (a and not - b) or a < 2 * (b + 1) %% 3; refuse 65535; }' >"$work/text"
 stays 'operators' 4

@@ -3,11 +3,15 @@
 set -u
 cd "$(dirname "$0")/.." || exit 2
 program=${1:-$PWD/crates/coco/out/coco}
+work=$(mktemp -d) || exit 2
+trap 'rm -rf "$work"' EXIT
 failed=0
 
-# answers NAME EPOCH: the lines of file 3 must get the answers of file 4.
+# answers NAME EPOCH: on a new store the lines of file 3 must get the answers of file 4.
 answers() {
-    said=$("$program" . run --epoch "$2" <&3)
+    rm -rf "$work/store"
+    "$program" "$work/store" init </dev/null
+    said=$("$program" "$work/store" run --epoch "$2" <&3)
     status=$?
     if [ "$status" -ne 0 ] || [ "$said" != "$(cat <&4)" ]; then
         printf '%s: status %s, said\n%s\n' "$1" "$status" "$said"

@@ -1,0 +1,67 @@
+#!/usr/bin/env bash
+# Faults around a store in a real folder: a folder that can't be written, another program on it, a second `init`, answers
+# that nobody takes. Each ends in its status and its line, and loses and doubles nothing.
+. "$(dirname "$0")/store.bash"
+prepare
+
+# Root may write wherever it likes, so it runs the program as somebody else.
+read_only() {
+    local user=()
+    [ "$(id -u)" -eq 0 ] && user=(setpriv --reuid 65534 --regid 65534 --clear-groups)
+    if ! "${user[@]}" true 2>"$work/errors"; then
+        echo 'skipped: a read-only folder, since root keeps its rights here'
+        return
+    fi
+    cp -r "$work/calm" "$work/shut"
+    cp "$program" "$work/program"
+    chmod a+rx "$work" "$work/program"
+    chmod -R a=rX "$work/shut"
+    for command in run dump verify; do
+        "${user[@]}" "$work/program" "$work/shut" "$command" <"$work/lines" >"$work/said" 2>"$work/errors"
+        status=$?
+        ends "$command in a read-only folder" 4 'coco: disk fault'
+    done
+    diff -r "$work/shut" "$work/calm" || wrong 'a read-only folder has changed'
+    chmod -R u+w "$work/shut"
+    whole "$work/shut"
+}
+
+second_program() {
+    local first
+    new "$work/held"
+    mkfifo "$work/pipe"
+    "$program" "$work/held" run --epoch "$size" <"$work/pipe" >"$work/first" &
+    first=$!
+    exec 3>"$work/pipe"
+    head -n "$size" "$work/lines" >&3
+    while [ ! -s "$work/first" ] && kill -0 "$first" 2>"$work/errors"; do sleep 0.01; done
+    for command in init run dump verify; do
+        on "$work/held" "$command"
+        ends "$command beside another program" 4 'coco: disk fault'
+    done
+    exec 3>&-
+    wait "$first" || wrong 'the first of two programs'
+    whole "$work/held"
+}
+
+second_init() {
+    cp -r "$work/calm" "$work/twice"
+    on "$work/twice" init
+    ends 'a second init' 10 'coco: already there: file 0 has 39 bytes'
+    diff -r "$work/twice" "$work/calm" || wrong 'a second init has changed the store'
+}
+
+# Somebody takes a few of the answers and goes.
+closed_answers() {
+    new "$work/left"
+    "$program" "$work/left" run --epoch "$size" <"$work/lines" 2>"$work/errors" | head -c 100 >"$work/said"
+    status=${PIPESTATUS[0]}
+    ends 'answers that nobody takes' 3 'coco: reply stream fault'
+    whole "$work/left"
+}
+
+read_only
+second_program
+second_init
+closed_answers
+ended
