@@ -1,10 +1,10 @@
 //! The files of a folder of the machine.
 ghost use Rattle.std.specs.Prelude.{◌≡◌, ◌+◌, ◌<◌, ◌≤◌, ◌^◌, length, IfOk, OnOk};
 
-use std::fs::{self, File, OpenFile, OpenOptions};
+use std::fs::{self, File, Metadata, OpenFile, OpenOptions};
 use std::io::{self, ErrorKind};
 use std::os::fd::AsRawFd;
-use std::os::unix::fs::FileExt;
+use std::os::unix::fs::{FileExt, MetadataExt};
 
 // Every file ends before this place.
 const END: u64 = 1 << 62;
@@ -18,12 +18,14 @@ struct Opened {
 }
 
 /// A folder of the machine and its open files. The folder is locked from the first use of a file on, or
-/// from the moment that it is made.
+/// from the moment that it is made. A folder that another program makes in between, or in its place, is
+/// left alone.
 #[derive(Drop)]
 pub struct Folder {
     rt: HostRuntime,
     name: String,
     held: Option<File>,
+    was_absent: bool,
     files: Vec<Opened>,
 }
 
@@ -36,6 +38,7 @@ impl Folder {
             rt,
             name,
             held: None,
+            was_absent: false,
             files: Vec::new(rt.alloc()),
         }
     }
@@ -119,15 +122,15 @@ impl Folder {
     fn make(&mut self, number: u32) -> io::Result<usize> {
         if !self.hold()? {
             fs::create_dir(&self.rt, self.name.as_str())?;
-            if !self.hold()? {
-                return Err(ErrorKind::NotFound.into());
-            }
+            let folder = File::open(&self.rt, self.name.as_str())?;
+            self.lock(folder)?;
         }
         let path = format!(in self.rt.alloc(); "{}/{number}.coco", self.name.as_str())?;
+        // A new file alone: another program may have had the new folder before it was locked.
         let file = OpenOptions::new()
             .read(true)
             .write(true)
-            .create(true)
+            .create_new(true)
             .open(&self.rt, path.as_str())?;
         self.keep(number, file)
     }
@@ -138,19 +141,31 @@ impl Folder {
             return Ok(true);
         }
         match File::open(&self.rt, self.name.as_str()) {
+            // A caller was told that no file has a byte, and may rest on it.
+            Ok(_) if self.was_absent => Err(ErrorKind::AlreadyExists.into()),
             Ok(folder) => {
-                let folder = above_streams(folder)?;
-                folder.try_lock()?;
-                self.held = Some(folder);
+                self.lock(folder)?;
                 Ok(true)
             }
-            Err(error) if error.kind() == ErrorKind::NotFound => Ok(false),
+            Err(error) if error.kind() == ErrorKind::NotFound => {
+                self.was_absent = true;
+                Ok(false)
+            }
             Err(error) => Err(error),
         }
     }
 
+    // Locks the folder for as long as this value lives.
+    fn lock(&mut self, folder: File) -> io::Result<()> {
+        let folder = above_streams(folder)?;
+        folder.try_lock()?;
+        self.held = Some(folder);
+        Ok(())
+    }
+
     // Keeps an open file, and answers its place.
     fn keep(&mut self, number: u32, file: File) -> io::Result<usize> {
+        self.expect_same()?;
         let place = self.files.len();
         self.files.push(Opened {
             number,
@@ -158,6 +173,15 @@ impl Folder {
             is_entered: false,
         })?;
         Ok(place)
+    }
+
+    // The name is still that of the folder that is locked. A file that was opened by it is then in that one.
+    fn expect_same(&self) -> io::Result<()> {
+        let there = fs::metadata(&self.rt, self.name.as_str())?;
+        match &self.held {
+            Some(folder) if is_same(&folder.metadata()?, &there) => Ok(()),
+            _ => Err(ErrorKind::NotFound.into()),
+        }
     }
 
     // Makes the entries of the folder durable, and its own in the folder above.
@@ -168,6 +192,10 @@ impl Folder {
         let above = format!(in self.rt.alloc(); "{}/..", self.name.as_str())?;
         sync_all(&File::open(&self.rt, above.as_str())?)
     }
+}
+
+fn is_same(one: &Metadata, other: &Metadata) -> bool {
+    one.dev() == other.dev() && one.ino() == other.ino()
 }
 
 // What is meant for a standard stream that was closed must not land in a file.

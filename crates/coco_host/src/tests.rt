@@ -1,4 +1,5 @@
 //! Hosts say pieces however they are cut, and keep files.
+use crate::files::Folder;
 use crate::{FolderHost, FuseHost, Host, MemoryHost, say_all};
 use coco_types::{Failed, OutFault};
 use std::fs;
@@ -85,6 +86,40 @@ fn a_folder_keeps_files_and_is_one_hosts_alone(rt: HostRuntime) -> Result<(), Fa
     assert_eq!(rt; other.len(1), Err(Failed));
     assert_eq!(rt; other.disk_faults(), 1);
     fs::remove_dir_all(&rt, "a_store")?;
+    Ok(())
+}
+
+#[test]
+fn a_folder_that_was_made_since_is_left_alone(rt: HostRuntime) -> Result<(), Fail> {
+    let mut late = FolderHost::new(rt, "a_late_store")?;
+    assert_eq!(rt; late.len(0), Ok(0));
+    fill(rt, "a_late_store")?;
+    assert_eq!(rt; late.write_at(0, 0, b"late"), Err(OutFault::Failed));
+    assert_eq!(rt; late.write_at(1, 0, b"late"), Err(OutFault::Failed));
+    assert_eq!(rt; late.disk_faults(), 2);
+    fs::remove_dir_all(&rt, "a_late_store")?;
+    Ok(())
+}
+
+#[test]
+fn a_folder_in_the_place_of_the_one_that_was_there_is_left_alone(
+    rt: HostRuntime,
+) -> Result<(), Fail> {
+    fs::create_dir(&rt, "a_store_again")?;
+    let mut late = FolderHost::new(rt, "a_store_again")?;
+    assert_eq!(rt; late.len(0), Ok(0));
+    fs::remove_dir(&rt, "a_store_again")?;
+    fill(rt, "a_store_again")?;
+    assert_eq!(rt; late.write_at(0, 0, b"late"), Err(OutFault::Failed));
+    assert_eq!(rt; late.disk_faults(), 1);
+    fs::remove_dir_all(&rt, "a_store_again")?;
+    Ok(())
+}
+
+// Makes the folder and a file as another host does, which is done then.
+fn fill(rt: HostRuntime, name: &str) -> Result<(), Fail> {
+    let mut folder = Folder::new(rt, String::from_str(rt.alloc(), name)?);
+    folder.write_at(0, 0, b"letters")?;
     Ok(())
 }
 
