@@ -18,7 +18,7 @@ use Rattle.coco_shard.specs.declared.ops.Answer.{Answer}
 use Rattle.coco_shard.specs.declared.ops.Answer.TheVariants.{Got, Locked, Marked, Changed, Extended, Installed, Released, NotMine, Stood}
 use Rattle.coco_shard.specs.RowState.{RowState, resting, row_at, with_row}
 use Rattle.coco_shard.specs.Table.{answer_in, answer_at, after_ask, left_by, key_of, leaves_row, may_make_row}
-use Rattle.coco_shard.specs.Kept.{Acts, Follows, state_of, kept_at, shown, view_of}
+use Rattle.coco_shard.specs.Kept.{Acts, Changes, Follows, state_of, kept_at, shown, view_of}
 use Rattle.coco_types.proofs.Keys.{is_key, one_key, keys_total}
 use Rattle.coco_types.proofs.KeyMaps.{get_key, get_put, get_taken, same_keyed}
 
@@ -189,3 +189,14 @@ pub added_on_ok : {T E : Type 0} (r : Result T E) (es fs : List (RowKey × Kept)
     → OnOk r ((q : RowKey) → kept_at fs q ≡ cond (is_key k q) (Some kept) (kept_at es q)) → OnOk r (view_of fs ≡ insert (view_of es) k row)
 added_on_ok (Ok x) es fs k kept row is at = added_view es fs k kept at ∙ ap (insert (view_of es) k) is
 added_on_ok (Err e) es fs k kept row is at = tt
+
+-- ---- a row that is changed, or made where it is missing
+
+pub changed_view : (es : List (RowKey × Kept)) (k : RowKey) (before after : Kept) (change : RowState → RowState) → kept_at es k ≡ Some before → state_of after.row ≡ change (state_of before.row)
+    → view_of (set_value (is_at (key_cmp k)) es after) ≡ insert (view_of es) k (change (row_at (view_of es) k))
+changed_view es k before after change was is = put_back_view es k before after (Some (change (row_at (view_of es) k))) was (is ∙ ap change (sym (row_in es k before was)))
+
+pub made_changes : {T : Type 0} (r : Result T NoMemory) (es fs : List (RowKey × Kept)) (k : RowKey) (kept : Kept) (change : RowState → RowState) → kept_at es k ≡ None → state_of kept.row ≡ change (resting None)
+    → OnOk r ((q : RowKey) → kept_at fs q ≡ cond (is_key k q) (Some kept) (kept_at es q)) → OnErr r (fs ≡ es) → Changes es fs k change r
+made_changes (Ok x) es fs k kept change none is at same = record { ok = added_view es fs k kept at ∙ ap (insert (view_of es) k) (is ∙ ap change (sym (no_row_in es k none))); err = tt; missing = tt }
+made_changes (Err e) es fs k kept change none is at same = record { ok = tt; err = same; missing = none }

@@ -1,66 +1,17 @@
 -- What a shard's steps outside of `apply` come to.
-use Rattle.std.proofs.Common.{◌≡◌, ℕ, Bool, true, false, cond, ◌==◌, List, Option, None, Some, Result, Ok, Err, OnOk, OnErr, refl, sym, ap, ◌∙◌, subst, eq-eqb}
+use Rattle.std.proofs.Common.{◌≡◌, Bool, true, false, cond, List, Option, None, Some, Result, Ok, Err, OnOk, OnErr, refl, sym, ap, ◌∙◌, subst}
 use Rattle.std.specs.Option.{option_map, unwrap_or}
 use Rattle.std.specs.FinMap.{get, insert, empty, get-empty}
 use Rattle.coco_types.specs.RowKey.{RowKey, key_cmp}
 use Rattle.coco_types.specs.declared.value.Value.{Value}
-use Rattle.coco_types.specs.declared.call.AttemptId.{AttemptId}
 use Rattle.coco_shard.specs.declared.kept.Kept.{Kept}
-use Rattle.coco_shard.specs.declared.ops.Op.TheVariants.{Read, Lock, Extend, Install}
-use Rattle.coco_shard.specs.declared.ops.Answer.TheVariants.{Got, Locked, Changed, Extended}
-use Rattle.coco_shard.specs.RowState.{RowState, ShardState, resting, row_at, with_row, Holds, IsSettled, loaded}
-use Rattle.coco_shard.specs.Table.{after_ask, answer_at, left_by, unless_marked, installed, extended}
+use Rattle.coco_shard.specs.RowState.{RowState, ShardState, resting, row_at, Holds, IsSettled, loaded}
 use Rattle.coco_shard.specs.Kept.{view_of}
 use Rattle.coco_types.proofs.Keys.{is_key}
-use Rattle.coco_types.proofs.KeyMaps.{get_put, get_put_same, get_taken, put_put}
-
-abbrev tail : AttemptId
-tail = record { worker = 0; number = 0 }
+use Rattle.coco_types.proofs.KeyMaps.{get_put, get_put_same, get_taken}
 
 pub row_put_same : (s : ShardState) (k : RowKey) (row : RowState) → row_at (insert s k row) k ≡ row
 row_put_same s k row = ap (λ o. unwrap_or o (resting None)) (get_put_same s k row)
-
--- ---- a lock and an install
-
-lock_left : (row : RowState) (k : RowKey) (by : AttemptId) → row.mark ≡ None → left_by (answer_at row by (Lock k)) by (Lock k) row ≡ Some (record row { mark = Some by })
-lock_left row k by free = ap (λ m. left_by (unless_marked m by (Locked row.wts row.rts)) by (Lock k) row) free
-
-pub lock_install : (s : ShardState) (k : RowKey) (time : ℕ) (value : Option Value) → (row_at s k).mark ≡ None
-    → after_ask (after_ask s (record { by = tail; op = Lock k })) (record { by = tail; op = Install k time value }) ≡ insert s k (installed time value (row_at s k))
-lock_install s k time value free =
-    let locked : RowState = record (row_at s k) { mark = Some tail } in
-    let first : after_ask s (record { by = tail; op = Lock k }) ≡ insert s k locked = ap (with_row s k) (lock_left (row_at s k) k tail free) in
-    ap (λ t. after_ask t (record { by = tail; op = Install k time value })) first
-    ∙ ap (λ row. with_row (insert s k locked) k (left_by (answer_at row tail (Install k time value)) tail (Install k time value) row)) (row_put_same s k locked)
-    ∙ put_put s k locked (installed time value (row_at s k))
-
--- ---- a read and an extension
-
-same_number : (n : ℕ) → (n == n) ≡ true
-same_number n = eq-eqb n n refl
-
-extend_left : (row : RowState) (k : RowKey) (time : ℕ) (by : AttemptId) → row.mark ≡ None → left_by (answer_at row by (Extend k row.wts time)) by (Extend k row.wts time) row ≡ Some (extended time row)
-extend_left row k time by free =
-    ap (λ b. left_by (cond b (unless_marked row.mark by Extended) (Changed row.wts)) by (Extend k row.wts time) row) (same_number row.wts)
-    ∙ ap (λ m. left_by (unless_marked m by Extended) by (Extend k row.wts time) row) free
-
-pub read_extend : (s : ShardState) (k : RowKey) (wts time : ℕ) → (row_at s k).mark ≡ None → wts ≡ (row_at s k).wts
-    → after_ask (after_ask s (record { by = tail; op = Read k })) (record { by = tail; op = Extend k wts time }) ≡ insert s k (extended time (row_at s k))
-read_extend s k wts time free is =
-    ap (λ n. after_ask (insert s k (row_at s k)) (record { by = tail; op = Extend k n time })) is
-    ∙ ap (λ row. with_row (insert s k (row_at s k)) k (left_by (answer_at row tail (Extend k (row_at s k).wts time)) tail (Extend k (row_at s k).wts time) row)) (row_put_same s k (row_at s k))
-    ∙ ap (with_row (insert s k (row_at s k)) k) (extend_left (row_at s k) k time tail free)
-    ∙ put_put s k (row_at s k) (extended time (row_at s k))
-
-pub got_wts : (wts rts wts' rts' : ℕ) (value value' : Option Value) → Got wts rts value ≡ Got wts' rts' value' → wts ≡ wts'
-got_wts wts rts wts' rts' value value' h = cc
-
--- a row that was read is there
-pub read_is_there : (s : ShardState) (k : RowKey) → get (after_ask s (record { by = tail; op = Read k })) k ≡ None → ⊥
-read_is_there s k none = some_none (sym (get_put_same s k (row_at s k)) ∙ none)
-  where
-    some_none : {X : Type 0} {x : X} → Some x ≡ None → ⊥
-    some_none h = cc
 
 -- ---- a load
 

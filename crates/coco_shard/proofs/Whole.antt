@@ -127,3 +127,10 @@ whole_kept es fs ks ls room more whole rows keys enough =
       once = whole.once;
       room = omega (arith, whole.room);
     }))
+
+-- the rows after one is changed in its place, with the list that has its key where it is touched for the first time
+pub changed_whole : (es fs : List (RowKey × Kept)) (ks ls : List RowKey) (room more : ℕ) (k : RowKey) (before after : Kept) (touches : Bool)
+    → IsWhole es ks room → kept_at es k ≡ Some before → IsSound after → after.touched ≡ before.touched || touches → (touches ≡ true → before.touched ≡ false) → room ≤ more
+    → fs ≡ set_value (is_at (key_cmp k)) es after → ls ≡ with_key touches ks k → IsWhole fs ls more
+changed_whole es fs ks ls room more k before after touches whole was sound is once le put items =
+    whole_kept _ fs _ ls more more (put_back_whole es ks room more k before after touches whole was sound is once le) put items (omega arith)

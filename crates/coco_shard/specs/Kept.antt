@@ -4,7 +4,7 @@ use Rattle.std.specs.List.{list_any}
 use Rattle.std.specs.Option.{unwrap_or, option_map}
 use Rattle.std.specs.Map.{lookup, set_value, values_of}
 use Rattle.std.specs.BTreeMap.{is_at}
-use Rattle.std.specs.FinMap.{from_entries}
+use Rattle.std.specs.FinMap.{from_entries, insert}
 use Rattle.coco_types.specs.RowKey.{RowKey, key_cmp}
 use Rattle.coco_types.specs.declared.error.NoMemory.{NoMemory}
 use Rattle.coco_types.specs.declared.value.Value.{Value}
@@ -15,7 +15,7 @@ use Rattle.coco_shard.specs.declared.kept.Kept.{Kept}
 use Rattle.coco_shard.specs.declared.ops.Op.{Op}
 use Rattle.coco_shard.specs.declared.ops.Ask.{Ask}
 use Rattle.coco_shard.specs.declared.ops.Answer.{Answer}
-use Rattle.coco_shard.specs.RowState.{RowState, ShardState}
+use Rattle.coco_shard.specs.RowState.{RowState, ShardState, row_at}
 use Rattle.coco_shard.specs.Table.{after_ask, answer_at, answer_in, key_of, left_by, may_make_row}
 
 abbrev pub state_of : Row → RowState
@@ -98,3 +98,10 @@ pub record Acts (es fs : List (RowKey × Kept)) (ask : Ask) (result : Result Ans
   pub err : OnErr result (fs ≡ es)
   pub missing : OnErr result (kept_at es (key_of ask.op) ≡ None)
   pub makes : OnErr result (may_make_row ask.op ≡ true)
+
+-- What becomes of the rows where the row of a key is changed, or made where it is missing. Out of memory nothing has
+-- changed, and the key has no row.
+pub record Changes {T : Type 0} (es fs : List (RowKey × Kept)) (key : RowKey) (change : RowState → RowState) (result : Result T NoMemory) : Type 0 where
+  pub ok : OnOk result (view_of fs ≡ insert (view_of es) key (change (row_at (view_of es) key)))
+  pub err : OnErr result (fs ≡ es)
+  pub missing : OnErr result (kept_at es key ≡ None)

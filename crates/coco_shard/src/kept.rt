@@ -5,7 +5,7 @@ ghost use Rattle.coco_types.specs.RowKey.{RowKey};
 ghost use Rattle.coco_rows.specs.Versions.{at_rest, newest_of};
 ghost use Rattle.coco_shard.specs.declared.ops.Answer.TheVariants.{Got};
 ghost use Rattle.coco_shard.specs.Kept.{Follows, IsSound, state_of};
-ghost use Rattle.coco_shard.specs.Table.{is_mark_of, installed};
+ghost use Rattle.coco_shard.specs.Table.{is_mark_of, extended, installed};
 
 use crate::ops::{Answer, Ask, Op};
 use coco_rows::{Newest, Row};
@@ -109,7 +109,7 @@ fn extend(row: &mut Row, by: AttemptId, wts: u64, time: u64, answer: &mut Answer
         *answer = Answer::Marked { holder };
         return;
     }
-    row.rts = row.rts.max(time);
+    raise_read_time(row, time);
     *answer = Answer::Extended;
 }
 
@@ -143,4 +143,11 @@ pub fn put(row: &mut Row, time: u64, value: &Option<Value>)
     row.wts = time;
     row.rts = time;
     row.mark = None;
+}
+
+// Makes the newest version valid until the time.
+pub fn raise_read_time(row: &mut Row, time: u64)
+    ensures row { state_of row.new ≡ extended time (state_of row.old) }
+{
+    row.rts = row.rts.max(time);
 }

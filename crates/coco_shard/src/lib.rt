@@ -8,6 +8,7 @@ pub mod packed;
 mod settle;
 pub mod shard;
 mod table;
+mod tail;
 mod values;
 
 pub use ops::{Answer, Ask, Op};
@@ -101,6 +102,7 @@ mod tests {
         shard.put_at(FIVE, 4, int(3))?;
         assert_eq!(rt; shard.read_at(FIVE, 5)?, int(3));
         assert_eq!(rt; shard.greatest_time(), 5);
-        Ok(())
+        shard.put_at(FIVE, 6, int(8))?;
+        reads(&rt, &mut shard, 6, 8)
     }
 }

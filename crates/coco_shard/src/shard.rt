@@ -9,8 +9,9 @@ use crate::kept::{Kept, read};
 use crate::ops::{Answer, Ask, Op};
 use crate::settle::settle;
 use crate::table::{act_on_missing, act_on_rows, drop_loaded, load_row, stable_of};
+use crate::tail::{put_row, read_row};
 use crate::values::{greatest, values};
-use coco_types::{AttemptId, Key, Machine, MapRows, NoMemory, Value};
+use coco_types::{Key, Machine, MapRows, NoMemory, Value};
 use std::alloc::Global;
 use std::collections::BTreeMap;
 use std::marker::Model;
@@ -119,18 +120,7 @@ impl Shard {
         ensures err { OnErr result (self.new ≡ self.old) }
         ensures missing { OnErr result (get self.old key ≡ None) }
     {
-        let by = TAIL;
-        let lock = Ask {
-            by,
-            op: Op::Lock(key),
-        };
-        let install = Ask {
-            by,
-            op: Op::Install { key, time, value },
-        };
-        self.apply(lock)?;
-        self.apply(install)?;
-        Ok(())
+        put_row(&mut self.rows, &mut self.touched, key, time, &value)
     }
 
     /// The newest value, which is valid until the time from then on. Out of memory, nothing has changed.
@@ -142,28 +132,9 @@ impl Shard {
         ensures err { OnErr result (self.new ≡ self.old) }
         ensures missing { OnErr result (get self.old key ≡ None) }
     {
-        let by = TAIL;
-        let read = Ask {
-            by,
-            op: Op::Read(key),
-        };
-        let Answer::Got { wts, value, .. } = self.apply(read)? else {
-            unreachable!()
-        };
-        let extend = Ask {
-            by,
-            op: Op::Extend { key, wts, time },
-        };
-        self.apply(extend)?;
-        Ok(value)
+        read_row(&mut self.rows, &mut self.touched, key, time)
     }
 }
-
-// Whom the steps of an epoch's tail are by. It runs alone, so no attempt's mark stands.
-const TAIL: AttemptId = AttemptId {
-    worker: 0,
-    number: 0,
-};
 
 impl Machine for Shard {
     type Ask = Ask;

@@ -112,7 +112,7 @@ fn make_room(touched: &mut Vec<Key>, rows: usize) -> Result<(), NoMemory>
 }
 
 // Puts a key into the list where it is touched for the first time. The room is there.
-fn list_key(touched: &mut Vec<Key>, key: Key, touches: bool)
+pub fn list_key(touched: &mut Vec<Key>, key: Key, touches: bool)
     requires { touches ≡ true → vec_len touched.old < vec_capacity touched.old }
     ensures items { touched.new.items ≡ (if touches then touched.old.items ++ key ∷ [] else touched.old.items) }
     ensures capacity { vec_capacity touched.old ≤ vec_capacity touched.new }

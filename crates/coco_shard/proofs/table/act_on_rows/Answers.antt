@@ -1,21 +1,19 @@
-use Rattle.std.proofs.Common.{◌≡◌, ◌∙◌, ap, sym, Some, vec_capacity, arith, rules}
+use Rattle.std.proofs.Common.{◌≡◌, ◌∙◌, ap, sym, Some, vec_capacity, rules}
 use Rattle.std.specs.BTreeMap.{is_at}
 use Rattle.std.specs.Map.{set_value}
 use Rattle.coco_types.specs.RowKey.{key_cmp}
 use Rattle.coco_shard.specs.Kept.{kept_at, view_of}
 use Rattle.coco_shard.specs.Table.{key_of}
 use Rattle.coco_shard.proofs.Entries.{acted_answer, acted_view}
-use Rattle.coco_shard.proofs.Whole.{put_back_whole, whole_kept}
+use Rattle.coco_shard.proofs.Whole.{changed_whole}
 use Rattle.coco_shard.proofs.table.act_on_rows.Goals as goal
 
 pub returns-clause-whole : goal.returns-clause-whole
 returns-clause-whole c =
-    let was : kept_at c.args.rows.now.entries c.key-key.result ≡ Some c.in-Some.kept.now = sym c.in-Some.ensures.value in
     let put : (c.get_mut.follows.lender c.touch.new.self).entries ≡ set_value (is_at (key_cmp c.key-key.result)) c.args.rows.now.entries c.touch.new.self = search rules in
-    whole_kept _ (c.get_mut.follows.lender c.touch.new.self).entries _ c.list_key.new.touched.items _ _
-    (put_back_whole c.args.rows.now.entries c.args.touched.now.items (vec_capacity c.args.touched.now) (vec_capacity c.list_key.new.touched) c.key-key.result c.in-Some.kept.now c.touch.new.self c.touch.result
-    c.requires was c.touch.ensures.sound c.touch.ensures.touched c.touch.ensures.once c.list_key.ensures.capacity)
-    put c.list_key.ensures.items (omega arith)
+    changed_whole c.args.rows.now.entries (c.get_mut.follows.lender c.touch.new.self).entries c.args.touched.now.items c.list_key.new.touched.items (vec_capacity c.args.touched.now) (vec_capacity c.list_key.new.touched)
+    c.key-key.result c.in-Some.kept.now c.touch.new.self c.touch.result
+    c.requires (sym c.in-Some.ensures.value) c.touch.ensures.sound c.touch.ensures.touched c.touch.ensures.once c.list_key.ensures.capacity put c.list_key.ensures.items
 
 pub returns-clause-acts : goal.returns-clause-acts
 returns-clause-acts c =

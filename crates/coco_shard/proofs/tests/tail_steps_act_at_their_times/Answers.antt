@@ -1,4 +1,4 @@
-use Rattle.std.proofs.Common.{◌≡◌, ap, arith}
+use Rattle.std.proofs.Common.{◌≡◌, ◌∙◌, ap, arith, max}
 use Rattle.coco_types.specs.RowKey.{RowKey}
 use Rattle.coco_shard.specs.RowState.{row_at}
 use Rattle.coco_shard.proofs.Steps.{fresh_row, put_row}
@@ -17,4 +17,15 @@ pub read_at-requires : goal.read_at-requires
 read_at-requires g c = record {
   unmarked = ap (λ row. row.mark) (put_row _ c.put_at.new.self five _ c.in_ok-put_at.ensures.ok);
   later = let four : (row_at c.put_at.new.self five).rts ≡ 4 = ap (λ row. row.rts) (put_row _ c.put_at.new.self five _ c.in_ok-put_at.ensures.ok) in omega arith;
+}
+
+pub put_at-requires-2 : goal.put_at-requires-2
+put_at-requires-2 g c = record {
+  unmarked =
+      ap (λ row. row.mark) (put_row _ c.read_at.new.self five _ c.in_ok-read_at.ensures.ok)
+      ∙ ap (λ row. row.mark) (put_row _ c.put_at.new.self five _ c.in_ok-put_at.ensures.ok);
+  later =
+      let four : (row_at c.put_at.new.self five).rts ≡ 4 = ap (λ row. row.rts) (put_row _ c.put_at.new.self five _ c.in_ok-put_at.ensures.ok) in
+      let five_then : (row_at c.read_at.new.self five).rts ≡ max (row_at c.put_at.new.self five).rts 5 = ap (λ row. row.rts) (put_row _ c.read_at.new.self five _ c.in_ok-read_at.ensures.ok) in
+      omega arith;
 }

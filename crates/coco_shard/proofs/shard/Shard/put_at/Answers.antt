@@ -1,11 +1,9 @@
-use Rattle.std.proofs.Common.{ap, ◌∙◌}
-use Rattle.coco_shard.specs.declared.ops.Op.TheVariants.{Install}
-use Rattle.coco_shard.specs.Table.{after_ask}
-use Rattle.coco_shard.proofs.Steps.{lock_install}
+use Rattle.std.proofs.Common.{◌≡◌, None, OnErr, subst}
+use Rattle.std.specs.FinMap.{get}
+use Rattle.coco_shard.specs.RowState.{ShardState}
+use Rattle.coco_shard.proofs.Entries.{missing_on_err}
 use Rattle.coco_shard.proofs.shard.Shard.put_at.Goals as goal
 
-pub returns-clause-ok : goal.returns-clause-ok
-returns-clause-ok c =
-    c.in_ok-apply-2.ensures.state
-    ∙ ap (λ s. after_ask s (record { by = record { worker = 0; number = 0 }; op = Install c.args.key c.args.time c.args.value })) c.in_ok-apply.ensures.state
-    ∙ lock_install c.args.self.now c.args.key c.args.time c.args.value c.requires.unmarked
+pub returns-clause-missing : goal.returns-clause-missing
+returns-clause-missing c =
+    subst (λ (s : ShardState). OnErr c.put_row.result (get s c.args.key ≡ None)) c.self.view_is (missing_on_err c.put_row.result c.self.inside.rows.entries c.args.key c.put_row.ensures.changes.missing)
