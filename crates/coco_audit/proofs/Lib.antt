@@ -1,5 +1,6 @@
 pub mod Between
 pub mod Fitting
 pub mod LentMaps
+pub mod LineLemmas
 pub mod Replies
 pub mod Tokens

@@ -1,5 +1,5 @@
-use Rattle.std.proofs.Common.{◌≡◌, ℕ, List, [], ◌∷◌, ◌++◌, Result, Ok, Err, ap, ◌∙◌, append_assoc}
-use Rattle.std.specs.Prelude.{OnOk, IsOk}
+use Rattle.std.proofs.Common.{◌≡◌, ℕ, List, [], ◌∷◌, ◌++◌, Result, Ok, Err, ap, ◌∙◌}
+use Rattle.std.specs.Prelude.{OnOk}
 use Rattle.json.specs.Print.{print}
 use Rattle.json.specs.Tree.{json_tokens}
 use Rattle.json.specs.Token.{Token}
@@ -7,15 +7,14 @@ use Rattle.serde_json.specs.Data.{Data}
 use Rattle.serde_json.specs.Written.{outline, compact_text}
 use Rattle.serde_json.proofs.Texts.{print-outline}
 
--- where the whole is Ok, so was its part, and what holds of both gives a third
-pub on_both : {A B E F : Type 0} {P Q R : Type 0} (whole : Result A E) (part : Result B F) → OnOk whole (IsOk part) → OnOk whole P → OnOk part Q → (P → Q → R) → OnOk whole R
-on_both (Err e) part is p q f = tt
-on_both (Ok a) (Ok b) is p q f = f p q
-on_both (Ok a) (Err e) is p q f = cc
+-- what follows from a fact of a success
+pub on_ok : {A E P Q : Type 0} (result : Result A E) → OnOk result P → (P → Q) → OnOk result Q
+on_ok (Err e) p f = tt
+on_ok (Ok a) p f = f p
 
--- the tokens of a value, printed behind what stood before, and a line feed
-pub printed : (before items ended : List ℕ) (start tokens : List Token) (d : Data) → items ≡ before ++ print tokens → start ≡ [] → tokens ≡ start ++ json_tokens (outline d)
-    → ended ≡ items ++ 10 ∷ [] → ended ≡ before ++ (compact_text d ++ 10 ∷ [])
-printed before items ended start tokens d is none all end =
+-- the tokens of a value, printed at the end of a buffer by a new writer, and a line feed
+pub printed : (out old before : List ℕ) (start tokens : List Token) (d : Data) → before ≡ [] → start ≡ [] → tokens ≡ start ++ json_tokens (outline d)
+    → out ≡ old ++ (before ++ print tokens ++ 10 ∷ []) → out ≡ old ++ (compact_text d ++ 10 ∷ [])
+printed out old before start tokens d empty none all put =
     let text : print tokens ≡ compact_text d = ap print (all ∙ ap (λ s. s ++ json_tokens (outline d)) none) ∙ print-outline d in
-    end ∙ ap (λ s. s ++ 10 ∷ []) (is ∙ ap (λ s. before ++ s) text) ∙ append_assoc before (compact_text d) (10 ∷ [])
+    put ∙ (λ i. old ++ (empty i ++ text i ++ 10 ∷ []))

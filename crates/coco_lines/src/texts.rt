@@ -1,6 +1,7 @@
 //! The texts of answers.
 
-ghost use Rattle.std.specs.Prelude.{◌≡◌, ◌++◌, ◌∷◌, [], codes, decimal, take, IfOk, OnOk, OnErr, IsOk};
+ghost use Rattle.std.specs.Prelude.{◌≡◌, ◌++◌, ◌∷◌, [], codes, decimal, IfOk, OnOk, OnErr};
+ghost use Rattle.json.specs.Print.{print};
 ghost use Rattle.json.specs.Token.{key, string, number};
 ghost use Rattle.json.specs.Tree.{json_tokens};
 ghost use Rattle.serde_json.specs.Written.{outline};
@@ -10,7 +11,9 @@ use crate::LineError;
 use coco_types::{Cause, Done, KeptReply, Lent, NoMemory, Packed};
 use json::Writer;
 use std::alloc::{AllocError, Global};
-use std::mem;
+
+// How many bytes most texts have at the most.
+const MOST_TEXTS: usize = 128;
 
 /// The text that is said for a record.
 pub fn done_text(alloc: Global, done: &Done) -> Result<Vec<u8>, NoMemory>
@@ -36,11 +39,9 @@ pub fn write_done(out: &mut Vec<u8>, done: &Done) -> Result<(), NoMemory>
     ensures err { OnErr result (out.new.items ≡ out.old.items) }
 {
     let alloc = *out.allocator();
-    let before = out.len();
-    let mut writer = writer_over(out);
-    let put = put_done(alloc, &mut writer, done);
-    *out = writer.into_inner();
-    ended(out, before, put)
+    let mut writer = small_writer(alloc)?;
+    put_done(alloc, &mut writer, done)?;
+    put_line(out, writer)
 }
 
 /// Puts the text of a refused line at the end of a buffer, whole or not at all.
@@ -48,35 +49,29 @@ pub fn write_error(out: &mut Vec<u8>, error: LineError, number: u64) -> Result<(
     ensures ok { OnOk result (out.new.items ≡ out.old.items ++ error_text error number) }
     ensures err { OnErr result (out.new.items ≡ out.old.items) }
 {
-    let before = out.len();
-    let mut writer = writer_over(out);
-    let put = put_error(&mut writer, error, number);
-    *out = writer.into_inner();
-    ended(out, before, put)
+    let mut writer = small_writer(*out.allocator())?;
+    put_error(&mut writer, error, number)?;
+    put_line(out, writer)
 }
 
-// A writer behind what the buffer holds, which is taken out of it.
-fn writer_over(out: &mut Vec<u8>) -> Writer
-    ensures before { result.before ≡ out.old.items }
-    ensures tokens { result.tokens ≡ [] }
+// A writer with room for most texts. A writer over the buffer of many answers would clear room as long as these for
+// each text.
+fn small_writer(alloc: Global) -> Result<Writer, NoMemory>
+    ensures before { IfOk result (λ writer. writer.before ≡ []) }
+    ensures tokens { IfOk result (λ writer. writer.tokens ≡ []) }
 {
-    let empty = Vec::new(*out.allocator());
-    Writer::new(mem::replace(out, empty))
+    Ok(Writer::new(Vec::with_capacity(alloc, MOST_TEXTS)?))
 }
 
-// Ends a whole text with a line feed, and cuts one that isn't whole off again.
-fn ended(out: &mut Vec<u8>, before: usize, put: Result<(), AllocError>) -> Result<(), NoMemory>
-    ensures whole { OnOk result (IsOk put) }
-    ensures ok { OnOk result (out.new.items ≡ out.old.items ++ 10 ∷ []) }
-    ensures err { OnErr result (out.new.items ≡ take before out.old.items) }
+// Puts a whole text at the end of a buffer, with a line feed.
+fn put_line(out: &mut Vec<u8>, writer: Writer) -> Result<(), NoMemory>
+    ensures ok { OnOk result (out.new.items ≡ out.old.items ++ (writer.before ++ print writer.tokens ++ 10 ∷ [])) }
+    ensures err { OnErr result (out.new.items ≡ out.old.items) }
 {
-    if let Ok(()) = put {
-        if let Ok(()) = out.push(b'\n') {
-            return Ok(());
-        }
-    }
-    out.truncate(before);
-    Err(NoMemory)
+    let mut text = writer.into_inner();
+    text.push(b'\n')?;
+    out.extend_from_slice(text.as_slice())?;
+    Ok(())
 }
 
 fn put_done(alloc: Global, writer: &mut Writer, done: &Done) -> Result<(), AllocError>

@@ -1,6 +1,6 @@
 use Rattle.std.proofs.Common.{◌∙◌, ◌++◌, ap}
 use Rattle.json.specs.Print.{print}
-use Rattle.coco_lines.proofs.TextLemmas.{on_both, printed}
+use Rattle.coco_audit.proofs.LineLemmas.{on_both, printed}
 use Rattle.coco_audit.specs.Texts.{dump_row_text, dump_row_json}
 use Rattle.coco_audit.proofs.dump.write_dump_row.Goals as goal
 

@@ -1,6 +1,6 @@
 use Rattle.std.proofs.Common.{◌∙◌, ◌++◌, ap}
 use Rattle.json.specs.Print.{print}
-use Rattle.coco_lines.proofs.TextLemmas.{on_both, printed}
+use Rattle.coco_audit.proofs.LineLemmas.{on_both, printed}
 use Rattle.coco_audit.specs.Texts.{not_serial_text, not_serial_json}
 use Rattle.coco_audit.proofs.verify.write_not_serial.Goals as goal
 

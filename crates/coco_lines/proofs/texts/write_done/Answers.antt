@@ -1,13 +1,10 @@
-use Rattle.std.proofs.Common.{◌∙◌, ◌++◌, ap}
-use Rattle.json.specs.Print.{print}
+use Rattle.std.proofs.Common.{◌∙◌}
 use Rattle.coco_lines.specs.Texts.{done_text, done_json}
-use Rattle.coco_lines.proofs.TextLemmas.{on_both, printed}
+use Rattle.coco_lines.proofs.TextLemmas.{on_ok, printed}
 use Rattle.coco_lines.proofs.texts.write_done.Goals as goal
 
 pub returns-clause-ok : goal.returns-clause-ok
 unfolding done_text
 returns-clause-ok c =
-    let started = c.put_done-put.ensures.before ∙ c.writer_over-writer.ensures.before in
-    let items = c.into_inner.ensures.items ∙ ap (λ s. s ++ print c.put_done-put.new.writer.tokens) started in
-    on_both c.ended.result c.put_done-put.result c.ended.ensures.whole c.ended.ensures.ok c.put_done-put.ensures.ok
-    (λ end all. printed _ _ _ _ _ (done_json c.args.done.now) items c.writer_over-writer.ensures.tokens all end)
+    on_ok c.put_line.result c.put_line.ensures.ok
+    (printed _ _ _ _ _ (done_json c.args.done.now) (c.in_ok-put_done.ensures.before ∙ c.in_ok-writer.ensures.before) c.in_ok-writer.ensures.tokens c.in_ok-put_done.ensures.ok)
