@@ -1,5 +1,5 @@
 -- The list of keys for which something pends, as rows are put back and added.
-use Rattle.std.proofs.Common.{◌≡◌, ℕ, ◌+◌, ◌≤◌, ◌<◌, Bool, true, false, cond, ◌||◌, List, [], ◌∷◌, ◌++◌, length, Option, None, Some, refl, sym, ap, ◌∙◌, subst, arith, not, sum_by, inl, inr, ◌⊎◌, length-append}
+use Rattle.std.proofs.Common.{◌≡◌, ℕ, ◌+◌, ◌≤◌, ◌<◌, Bool, true, false, cond, ◌||◌, List, [], ◌∷◌, ◌++◌, length, Option, None, Some, refl, sym, ap, ◌∙◌, subst, arith, not, sum_by, Result, Ok, Err, OnOk, is_ok, inl, inr, ◌⊎◌, length-append}
 use Rattle.std.specs.Option.{unwrap_or, option_and_then, option_map, is_some, IsSome}
 use Rattle.std.specs.List.{list_any}
 use Rattle.std.specs.Map.{set_value, remove_entry, values_of}
@@ -126,6 +126,30 @@ added_whole es ks room more k kept fs whole none stands_so rising put at len eno
     (rw (length-with_key (pends kept) ks k) (added_counts (pends kept) (length ks) _ _ (length es) _ (omega (arith, sums, zero, here)) whole.once len))
     (omega (arith, len, enough))
 
+firsts : (before first : Bool) → before ≡ not first → true ≡ before || first
+firsts true first h = refl
+firsts false true h = refl
+firsts false false h = sym h
+
+once : (before first : Bool) → before ≡ not first → first ≡ true → before ≡ false
+once before first is h = is ∙ ap not h
+
+-- a row is put back where an entry put it
+pub entered_whole : (es fs : List (RowKey × Kept)) (ks : List RowKey) (room more : ℕ) (k : RowKey) (before after : Kept) (first : Bool)
+    → IsWhole es ks room → kept_at es k ≡ Some before → pends after ≡ true → pends before ≡ not first → room ≤ more
+    → IsRising fs → fs ≡ insert_entry key_cmp es k after → ((q : RowKey) → kept_at fs q ≡ cond (is_key k q) (Some after) (kept_at es q)) → length fs ≡ length es
+    → IsWhole fs (with_key first ks k) more
+entered_whole es fs ks room more k before after first whole was now is le rising put at len =
+    let sums : sum_by waits (values_of (insert_entry key_cmp es k after)) + unwrap_or (option_map waits (kept_at es k)) 0 ≡ sum_by waits (values_of es) + waits after = sum_by-insert_entry waits keys_total es k after whole.rising in
+    let old : unwrap_or (option_map waits (kept_at es k)) 0 ≡ waits before = ap (λ o. unwrap_or (option_map waits o) 0) was in
+    let here : sum_by waits (values_of fs) ≡ sum_by waits (values_of (insert_entry key_cmp es k after)) = ap (λ z. sum_by waits (values_of z)) put in
+    let few : cond first (length ks + 1) (length ks) + sum_by waits (values_of fs) ≤ length es =
+    counts (pends before) (pends after) first (length ks) (sum_by waits (values_of es)) (sum_by waits (values_of fs)) (length es) (now ∙ firsts (pends before) first is) (once (pends before) first is) whole.once (omega (arith, sums, old, here)) in
+    whole_after es fs ks room more k after first whole rising at (λ h. absurd (two_sides (sym now ∙ h)))
+    (λ t. elim (or_cases (pends before) first (sym (now ∙ firsts (pends before) first is) ∙ now)) [ inl now ↦ inl now | inr old ↦ inr (whole.has k before was old) ])
+    (rw (length-with_key first ks k) (omega (arith, few, len)))
+    (omega (arith, len, whole.room, le))
+
 -- the same rows and keys, with as much room or more
 pub whole_kept : (es fs : List (RowKey × Kept)) (ks ls : List RowKey) (room more : ℕ) → IsWhole es ks room → fs ≡ es → ls ≡ ks → room ≤ more → IsWhole fs ls more
 whole_kept es fs ks ls room more whole rows keys enough =
@@ -185,14 +209,6 @@ loaded_whole es ks room k value before whole was keeps =
 pub set_rises : (es : List (RowKey × Kept)) (k : RowKey) (after : Kept) → IsRising es → IsRising (set_value (is_at (key_cmp k)) es after)
 set_rises es k after rising = rw (keys-set_value (is_at (key_cmp k)) es after) rising
 
-firsts : (before first : Bool) → before ≡ not first → true ≡ before || first
-firsts true first h = refl
-firsts false true h = refl
-firsts false false h = sym h
-
-once : (before first : Bool) → before ≡ not first → first ≡ true → before ≡ false
-once before first is h = is ∙ ap not h
-
 -- something pends for a row, for which nothing may have pended before
 pub first_whole : (es : List (RowKey × Kept)) (ks : List RowKey) (room more : ℕ) (k : RowKey) (before after : Kept) (first : Bool)
     → IsWhole es ks room → kept_at es k ≡ Some before → pends after ≡ true → pends before ≡ not first → room ≤ more
@@ -210,3 +226,8 @@ nothing_kept (Some v) o h = absurd (two_sides h)
 pub stands_alone : (value : Option Value) (o : Option Kept) → (is_some value || is_some (option_and_then pending_of o)) ≡ true → o ≡ None → IsSome value
 stands_alone (Some v) o h none = refl
 stands_alone None o h none = ap (λ o. is_some (option_and_then pending_of o)) (sym none) ∙ h
+
+-- what holds of an Ok
+pub on_ok_there : {A E P : Type 0} (r : Result A E) → is_ok r ≡ true → OnOk r P → P
+on_ok_there (Ok x) is h = h
+on_ok_there (Err e) is h = cc

@@ -14,6 +14,7 @@ use crate::settle::drop_row;
 use coco_types::{Key, NoMemory, Value, Write};
 use std::alloc::Global;
 use std::collections::BTreeMap;
+use std::collections::btree_map::Entry;
 
 // Takes a put of the current epoch.
 pub fn put(
@@ -31,18 +32,28 @@ pub fn put(
     ensures missing { OnErr result (HasNothing (view_of epoch rows.old.entries) (key_of (Put epoch time write.now))) }
 {
     let key = write.key;
-    let Some(kept) = rows.get_mut(&key) else {
-        let made = Kept {
-            stable: None,
-            pending: Some((time, write.value)),
-        };
-        add_row(rows, listed, key, made)?;
-        return Ok(CopyAnswer::Applied);
-    };
-    let first = kept.pending.is_none();
-    let answer = kept.put(time, &write.value);
-    list_key(listed, key, first);
-    Ok(answer)
+    // Want of this room matters only where the key is new.
+    let has_room = make_room(listed, rows.len()).is_ok();
+    match rows.entry(key)? {
+        Entry::Occupied(entry) => {
+            let kept = entry.into_mut();
+            let first = kept.pending.is_none();
+            let answer = kept.put(time, &write.value);
+            list_key(listed, key, first);
+            Ok(answer)
+        }
+        Entry::Vacant(entry) => {
+            if !has_room {
+                return Err(NoMemory);
+            }
+            entry.insert(Kept {
+                stable: None,
+                pending: Some((time, write.value)),
+            });
+            list_key(listed, key, true);
+            Ok(CopyAnswer::Applied)
+        }
+    }
 }
 
 // Makes both rooms for a new row, and then puts it there.

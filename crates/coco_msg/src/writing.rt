@@ -96,12 +96,34 @@ fn put_message(out: &mut Vec<u8>, message: &Message) -> Result<(), NoMemory>
     }
 }
 
+// The bytes of a message's fields but for its list, at most.
+const FIELDS: usize = 26;
+
+// Those of a place.
+const PLACE: usize = 4;
+
+// Those of a write of a number.
+const WRITE: usize = 19;
+
+// Room for a message, so that its bytes needn't grow but for texts.
+fn room(message: &Message) -> usize
+    requires { HasBytes message.now }
+{
+    match message {
+        Message::Ship { writes, .. } => FIELDS + WRITE * writes.len(),
+        Message::Total { places, .. } | Message::Missing { places, .. } => {
+            FIELDS + PLACE * places.len()
+        }
+        _ => FIELDS,
+    }
+}
+
 /// The bytes of a message. Its places are to rise, and its lists to have fewer than 2^32 items.
 pub fn message_bytes(alloc: Global, message: &Message) -> Result<Vec<u8>, NoMemory>
     requires { HasBytes message.now }
     ensures { IfOk result (λ bytes. bytes.items ≡ bytes_of message.now) }
 {
-    let mut out = Vec::new(alloc);
+    let mut out = Vec::with_capacity(alloc, room(message))?;
     put_message(&mut out, message)?;
     Ok(out)
 }

@@ -1,50 +1,88 @@
-use Rattle.std.proofs.Common.{◌≡◌, ◌∙◌, ap, sym, Some, None, cond, vec_capacity, arith, rules}
+use Rattle.std.proofs.Common.{◌≡◌, ◌∙◌, ◌+◌, ◌≤◌, ap, sym, refl, Some, None, length, not, true, arith, rules, vec_capacity}
 use Rattle.std.specs.Option.{option_and_then}
-use Rattle.std.specs.BTreeMap.{is_at}
-use Rattle.std.specs.Map.{set_value}
+use Rattle.std.specs.BTreeMap.{insert_entry}
 use Rattle.coco_types.specs.RowKey.{key_cmp}
 use Rattle.coco_copy.specs.declared.kept.Kept.{Kept}
-use Rattle.coco_copy.specs.Kept.{kept_at, pending_of, stable_of, view_of}
+use Rattle.coco_copy.specs.Kept.{kept_at, pending_of, stable_of}
 use Rattle.coco_copy.specs.Puts.{by_time}
-use Rattle.coco_copy.proofs.Parts.{set_at}
+use Rattle.coco_copy.proofs.Parts.{IsRising}
 use Rattle.coco_copy.proofs.Views.{answer_view, made_answer, made_view, none_there, on_err_of, put_view}
-use Rattle.coco_copy.proofs.Whole.{first_whole, set_rises, whole_kept}
+use Rattle.coco_copy.proofs.Whole.{added_whole, entered_whole, on_ok_there, room_left, whole_kept, with_key}
 use Rattle.coco_copy.proofs.rows.put.Goals as goal
 
-pub returns-in_default-clause-answer : goal.returns-in_default-clause-answer
-returns-in_default-clause-answer c = made_answer c.args.rows.now.entries c.requires.rising c.args.epoch c.args.time c.args.write.now (sym c.in_default.ensures.value)
+pub returns-in_err-entry-clause-missing : goal.returns-in_err-entry-clause-missing
+returns-in_err-entry-clause-missing c = on_err_of c.from_residual.result (none_there c.args.rows.now.entries c.args.write.now.key c.requires.rising c.in_err-entry.ensures.absent c.args.epoch)
 
-pub returns-in_default-clause-state : goal.returns-in_default-clause-state
-returns-in_default-clause-state c =
-    let same : c.get_mut.follows.lender-at-none.entries ≡ c.args.rows.now.entries = search rules in
-    let made : Kept = record { stable = None; pending = Some (c.args.time, c.args.write.now.value) } in
-    made_view c.args.rows.now.entries c.add_row.new.rows.entries c.requires.rising c.in_ok-add_row.ensures.whole.rising c.args.epoch c.args.time c.args.write.now (sym c.in_default.ensures.value)
-    (λ q. c.in_ok-add_row.ensures.ok q ∙ ap (λ es. cond (is_at (key_cmp c.args.write.now.key) q) (Some made) (kept_at es q)) same)
+pub list_key-requires : goal.list_key-requires
+list_key-requires c = λ first.
+    let was : kept_at c.args.rows.now.entries c.args.write.now.key ≡ Some c.into_mut-kept.result.now = search rules in
+    let left = room_left c.args.rows.now.entries c.args.listed.now.items (vec_capacity c.args.listed.now) c.args.write.now.key c.into_mut-kept.result.now c.requires was (c.is_none-first.ensures ∙ ap not first) in
+    omega (arith, left, c.make_room.ensures.capacity, ap length c.make_room.ensures.items)
 
-pub returns-clause-whole : goal.returns-clause-whole
-returns-clause-whole c =
-    let was : kept_at c.args.rows.now.entries c.args.write.now.key ≡ Some c.in-Some.kept.now = sym c.in-Some.ensures.value in
-    let put : (c.get_mut.follows.lender c.put-answer.new.self).entries ≡ set_value (is_at (key_cmp c.args.write.now.key)) c.args.rows.now.entries c.put-answer.new.self = search rules in
-    whole_kept _ (c.get_mut.follows.lender c.put-answer.new.self).entries _ c.list_key.new.listed.items _ _
-    (first_whole c.args.rows.now.entries c.args.listed.now.items (vec_capacity c.args.listed.now) (vec_capacity c.list_key.new.listed) c.args.write.now.key c.in-Some.kept.now c.put-answer.new.self c.is_none-first.result
-    c.requires was c.put-answer.ensures.pends c.is_none-first.ensures c.list_key.ensures.capacity)
-    put c.list_key.ensures.items (omega arith)
+pub returns-then-not-has_room-clause-missing : goal.returns-then-not-has_room-clause-missing
+returns-then-not-has_room-clause-missing c =
+    let none : kept_at c.args.rows.now.entries c.args.write.now.key ≡ None = search rules in
+    none_there c.args.rows.now.entries c.args.write.now.key c.requires.rising none c.args.epoch
 
-pub returns-clause-answer : goal.returns-clause-answer
-returns-clause-answer c =
-    let was : kept_at c.args.rows.now.entries c.args.write.now.key ≡ Some c.in-Some.kept.now = sym c.in-Some.ensures.value in
+pub returns-in-Occupied-clause-whole : goal.returns-in-Occupied-clause-whole
+returns-in-Occupied-clause-whole c =
+    let es = c.args.rows.now.entries in
+    let key = c.args.write.now.key in
+    let before = c.into_mut-kept.result.now in
+    let after = c.put-answer.new.self in
+    let was : kept_at es key ≡ Some before = search rules in
+    let put : c.rows-in-Occupied-2-1.given.0.entries ≡ insert_entry key_cmp es key after = search rules in
+    let more : vec_capacity c.args.listed.now ≤ vec_capacity c.list_key.new.listed = omega (arith, c.make_room.ensures.capacity, c.list_key.ensures.capacity) in
+    whole_kept _ _ (with_key c.is_none-first.result c.args.listed.now.items key) c.list_key.new.listed.items _ _
+    (entered_whole es _ c.args.listed.now.items (vec_capacity c.args.listed.now) (vec_capacity c.list_key.new.listed) key before after c.is_none-first.result
+    c.requires was c.put-answer.ensures.pends c.is_none-first.ensures more (search rules) put
+    (λ q. ap (λ z. kept_at z q) (put ∙ sym (c.in_ok-entry.ensures.update.1 after)) ∙ (c.in_ok-entry.ensures.update.0 after).0 q) (search rules))
+    refl (c.list_key.ensures.items ∙ ap (λ ks. with_key c.is_none-first.result ks key) c.make_room.ensures.items) (omega arith)
+
+pub returns-in-Occupied-clause-answer : goal.returns-in-Occupied-clause-answer
+returns-in-Occupied-clause-answer c =
+    let was : kept_at c.args.rows.now.entries c.args.write.now.key ≡ Some c.into_mut-kept.result.now = search rules in
     c.put-answer.ensures.answer ∙ ap (λ o. by_time (option_and_then pending_of o) c.args.time) (sym was) ∙ answer_view c.args.rows.now.entries c.args.epoch c.args.time c.args.write.now c.requires.rising
 
-pub returns-clause-state : goal.returns-clause-state
-returns-clause-state c =
-    let was : kept_at c.args.rows.now.entries c.args.write.now.key ≡ Some c.in-Some.kept.now = sym c.in-Some.ensures.value in
-    let put : (c.get_mut.follows.lender c.put-answer.new.self).entries ≡ set_value (is_at (key_cmp c.args.write.now.key)) c.args.rows.now.entries c.put-answer.new.self = search rules in
-    ap (view_of c.args.epoch) put
-    ∙ put_view c.args.rows.now.entries _ c.requires.rising (set_rises c.args.rows.now.entries c.args.write.now.key c.put-answer.new.self c.requires.rising) c.args.epoch c.args.time c.args.write.now c.put-answer.new.self c.put-answer.result
-    (λ q. set_at c.args.rows.now.entries c.args.write.now.key c.in-Some.kept.now c.put-answer.new.self q was)
+pub returns-in-Occupied-clause-state : goal.returns-in-Occupied-clause-state
+returns-in-Occupied-clause-state c =
+    let was : kept_at c.args.rows.now.entries c.args.write.now.key ≡ Some c.into_mut-kept.result.now = search rules in
+    let es = c.args.rows.now.entries in
+    let after = c.put-answer.new.self in
+    let put : c.rows-in-Occupied-2-1.given.0.entries ≡ insert_entry key_cmp es c.args.write.now.key after = search rules in
+    let rises : IsRising c.rows-in-Occupied-2-1.given.0.entries = search rules in
+    put_view es c.rows-in-Occupied-2-1.given.0.entries c.requires.rising rises c.args.epoch c.args.time c.args.write.now after c.put-answer.result
+    (λ q. ap (λ z. kept_at z q) (put ∙ sym (c.in_ok-entry.ensures.update.1 after)) ∙ (c.in_ok-entry.ensures.update.0 after).0 q)
     (c.put-answer.ensures.answer ∙ ap (λ o. by_time (option_and_then pending_of o) c.args.time) (sym was))
     (c.put-answer.ensures.stable ∙ ap (option_and_then stable_of) (sym was))
     c.put-answer.ensures.applied (λ h. ap (λ k. Some k) (c.put-answer.ensures.unchanged h) ∙ sym was)
 
-pub returns-in_err-add_row-clause-missing : goal.returns-in_err-add_row-clause-missing
-returns-in_err-add_row-clause-missing c = on_err_of c.from_residual.result (none_there c.args.rows.now.entries c.args.write.now.key c.requires.rising (sym c.in_default.ensures.value) c.args.epoch)
+pub returns-else-not-has_room-clause-whole : goal.returns-else-not-has_room-clause-whole
+returns-else-not-has_room-clause-whole c =
+    let es = c.args.rows.now.entries in
+    let key = c.args.write.now.key in
+    let made : Kept = record { stable = None; pending = Some (c.args.time, c.args.write.now.value) } in
+    let none : kept_at es key ≡ None = search rules in
+    let put : c.rows-in-Vacant-2-1.given.0.entries ≡ insert_entry key_cmp es key made = search rules in
+    let enough : length es + 1 ≤ vec_capacity c.make_room.new.listed = rw (← c.len.ensures.len) (on_ok_there c.make_room.result (sym c.is_ok-has_room.ensures.value ∙ c.if-not-has_room.false) c.make_room.ensures.ok) in
+    whole_kept _ _ (with_key true c.make_room.new.listed.items key) c.list_key-in-Vacant.new.listed.items (vec_capacity c.make_room.new.listed) _
+    (added_whole es c.make_room.new.listed.items (vec_capacity c.args.listed.now) (vec_capacity c.make_room.new.listed) key made _
+    (whole_kept es es c.args.listed.now.items c.make_room.new.listed.items (vec_capacity c.args.listed.now) (vec_capacity c.args.listed.now) c.requires refl c.make_room.ensures.items (omega arith))
+    none (λ h. cc) (search rules) put
+    (λ q. ap (λ z. kept_at z q) (put ∙ sym (c.in_ok-entry.ensures.update.1 made)) ∙ (c.in_ok-entry.ensures.update.0 made).0 q) (search rules) enough)
+    refl c.list_key-in-Vacant.ensures.items c.list_key-in-Vacant.ensures.capacity
+
+pub returns-else-not-has_room-clause-answer : goal.returns-else-not-has_room-clause-answer
+returns-else-not-has_room-clause-answer c =
+    let none : kept_at c.args.rows.now.entries c.args.write.now.key ≡ None = search rules in
+    made_answer c.args.rows.now.entries c.requires.rising c.args.epoch c.args.time c.args.write.now none
+
+pub returns-else-not-has_room-clause-state : goal.returns-else-not-has_room-clause-state
+returns-else-not-has_room-clause-state c =
+    let none : kept_at c.args.rows.now.entries c.args.write.now.key ≡ None = search rules in
+    let es = c.args.rows.now.entries in
+    let made : Kept = record { stable = None; pending = Some (c.args.time, c.args.write.now.value) } in
+    let put : c.rows-in-Vacant-2-1.given.0.entries ≡ insert_entry key_cmp es c.args.write.now.key made = search rules in
+    let rises : IsRising c.rows-in-Vacant-2-1.given.0.entries = search rules in
+    made_view es c.rows-in-Vacant-2-1.given.0.entries c.requires.rising rises c.args.epoch c.args.time c.args.write.now none
+    (λ q. ap (λ z. kept_at z q) (put ∙ sym (c.in_ok-entry.ensures.update.1 made)) ∙ (c.in_ok-entry.ensures.update.0 made).0 q)
