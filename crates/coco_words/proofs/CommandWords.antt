@@ -17,7 +17,7 @@ use Rattle.coco_words.specs.Commands.{IsCommand, IsOnlyCommand, kind_of, name_of
 use Rattle.coco_words.specs.Matches.{HasValuesOf, app_for}
 use Rattle.coco_words.specs.Options.{AreNumbersOf, GivesNumbers, GivesOptions, names_in, value_of}
 use Rattle.coco_words.specs.declared.Command.{Command}
-use Rattle.coco_words.specs.declared.Command.TheVariants.{Init, Run, Dump, Verify}
+use Rattle.coco_words.specs.declared.Command.TheVariants.{Init, Run, Dump, Verify, Migrate}
 use Rattle.coco_words.specs.declared.Kind.{Kind}
 use Rattle.coco_words.specs.declared.Kind.TheVariants as kind
 use Rattle.coco_words.proofs.ClapOptions.{at, check-nil, dash, defaults-nil, finished-is, first_of-rows, or_else-nil, rows, rule, shape, spelled}
@@ -38,6 +38,7 @@ is_free kind.Init = refl
 is_free kind.Run = refl
 is_free kind.Dump = refl
 is_free kind.Verify = refl
+is_free kind.Migrate = refl
 
 pub is_plain_parser : (k : Kind) → is_simple (app_for (names_for k)) ≡ true
 unfolding clap_on_literals
@@ -45,6 +46,7 @@ is_plain_parser kind.Init = refl
 is_plain_parser kind.Run = refl
 is_plain_parser kind.Dump = refl
 is_plain_parser kind.Verify = refl
+is_plain_parser kind.Migrate = refl
 
 module _ (ns : List Text) where
   abbrev built : App
@@ -69,6 +71,7 @@ fault-is kind.Init words = level-is (names_for kind.Init) words
 fault-is kind.Run words = level-is (names_for kind.Run) words
 fault-is kind.Dump words = level-is (names_for kind.Dump) words
 fault-is kind.Verify words = level-is (names_for kind.Verify) words
+fault-is kind.Migrate words = level-is (names_for kind.Migrate) words
 
 finished : (ns words : List Text) → fold with_default (found own ns (ended own ns (at [] None idle) words)) (map rule ns) ≡ found own ns (ended own ns (at [] None idle) words)
 finished ns words = finished-is (found own ns (ended own ns (at [] None idle) words)) ns
@@ -78,6 +81,7 @@ matches-is kind.Init words = finished (names_for kind.Init) words
 matches-is kind.Run words = finished (names_for kind.Run) words
 matches-is kind.Dump words = finished (names_for kind.Dump) words
 matches-is kind.Verify words = finished (names_for kind.Verify) words
+matches-is kind.Migrate words = finished (names_for kind.Migrate) words
 
 -- what may be wrong with the words, in turn
 level-parts : (k : Kind) (words : List Text) → let ns = names_for k in let end = found own ns (ended own ns (at [] None idle) words) in
@@ -88,6 +92,7 @@ level-parts kind.Init words = refl
 level-parts kind.Run words = refl
 level-parts kind.Dump words = refl
 level-parts kind.Verify words = refl
+level-parts kind.Migrate words = refl
 
 -- ---- what is read
 
@@ -119,11 +124,16 @@ spells-epoch : Spells (codes "epoch")
 spells-epoch None = refl
 spells-epoch (Some v) = refl
 
+spells-keep : Spells (codes "keep")
+spells-keep None = refl
+spells-keep (Some v) = refl
+
 spells : (k : Kind) → AllByRecursion Spells (names_for k)
 spells kind.Init = (spells-nodes, (spells-partitions, (spells-copies, tt)))
 spells kind.Run = (spells-epoch, tt)
 spells kind.Dump = tt
 spells kind.Verify = tt
+spells kind.Migrate = (spells-keep, tt)
 
 readable : (k : Kind) → IsReadable own (names_for k)
 readable k = contained Spells (names_for k) (spells k)
@@ -177,6 +187,7 @@ made kind.Init (n ∷ p ∷ c ∷ []) = Init n p c
 made kind.Run (e ∷ []) = Run (record { epoch = e })
 made kind.Dump ns = Dump
 made kind.Verify ns = Verify
+made kind.Migrate (n ∷ []) = Migrate n
 made k ns = Dump
 
 made-is : (command : Command) → made (kind_of command) (numbers_of command) ≡ command
@@ -185,6 +196,7 @@ made-is (Init n p c) = refl
 made-is (Run run) = refl
 made-is Dump = refl
 made-is Verify = refl
+made-is (Migrate keep) = refl
 
 same_command : (c d : Command) → kind_of c ≡ kind_of d → numbers_of c ≡ numbers_of d → c ≡ d
 same_command c d k n = sym (made-is c) ∙ (λ i. made (k i) (n i)) ∙ made-is d
@@ -197,18 +209,27 @@ same_kind kind.Init kind.Init e = refl
 same_kind kind.Init kind.Run e = absurd (differ _ _ refl e)
 same_kind kind.Init kind.Dump e = absurd (differ _ _ refl e)
 same_kind kind.Init kind.Verify e = absurd (differ _ _ refl e)
+same_kind kind.Init kind.Migrate e = absurd (differ _ _ refl e)
 same_kind kind.Run kind.Init e = absurd (differ _ _ refl e)
 same_kind kind.Run kind.Run e = refl
 same_kind kind.Run kind.Dump e = absurd (differ _ _ refl e)
 same_kind kind.Run kind.Verify e = absurd (differ _ _ refl e)
+same_kind kind.Run kind.Migrate e = absurd (differ _ _ refl e)
 same_kind kind.Dump kind.Init e = absurd (differ _ _ refl e)
 same_kind kind.Dump kind.Run e = absurd (differ _ _ refl e)
 same_kind kind.Dump kind.Dump e = refl
 same_kind kind.Dump kind.Verify e = absurd (differ _ _ refl e)
+same_kind kind.Dump kind.Migrate e = absurd (differ _ _ refl e)
 same_kind kind.Verify kind.Init e = absurd (differ _ _ refl e)
 same_kind kind.Verify kind.Run e = absurd (differ _ _ refl e)
 same_kind kind.Verify kind.Dump e = absurd (differ _ _ refl e)
 same_kind kind.Verify kind.Verify e = refl
+same_kind kind.Verify kind.Migrate e = absurd (differ _ _ refl e)
+same_kind kind.Migrate kind.Init e = absurd (differ _ _ refl e)
+same_kind kind.Migrate kind.Run e = absurd (differ _ _ refl e)
+same_kind kind.Migrate kind.Dump e = absurd (differ _ _ refl e)
+same_kind kind.Migrate kind.Verify e = absurd (differ _ _ refl e)
+same_kind kind.Migrate kind.Migrate e = refl
 
 -- a command that these words are is of this kind, and the words behind its name give its numbers
 gives_at : (words others : List Text) (k : Kind) → words ≡ name_of k ∷ others → (command : Command) → IsCommand words command

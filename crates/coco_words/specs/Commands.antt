@@ -1,8 +1,8 @@
 -- The commands of the program.
-use Rattle.std.specs.Prelude.{◌≡◌, ℕ, List, [], ◌∷◌, Some, codes}
+use Rattle.std.specs.Prelude.{◌≡◌, ℕ, List, [], ◌∷◌, None, Some, codes}
 use Rattle.coco_words.specs.Options.{Text, NumberOption, GivesNumbers}
 use Rattle.coco_words.specs.declared.Command.{Command}
-use Rattle.coco_words.specs.declared.Command.TheVariants.{Init, Run, Dump, Verify}
+use Rattle.coco_words.specs.declared.Command.TheVariants.{Init, Run, Dump, Verify, Migrate}
 use Rattle.coco_words.specs.declared.Kind.{Kind}
 use Rattle.coco_words.specs.declared.Kind.TheVariants as kind
 
@@ -11,6 +11,7 @@ kind_of (Init nodes partitions copies) = kind.Init
 kind_of (Run run) = kind.Run
 kind_of Dump = kind.Dump
 kind_of Verify = kind.Verify
+kind_of (Migrate keep) = kind.Migrate
 
 -- the word that a command begins with
 abbrev pub name_of : Kind → Text
@@ -18,10 +19,15 @@ name_of kind.Init = codes "init"
 name_of kind.Run = codes "run"
 name_of kind.Dump = codes "dump"
 name_of kind.Verify = codes "verify"
+name_of kind.Migrate = codes "migrate"
 
 -- an option that needn't be given
 abbrev pub optional : Text → ℕ → ℕ → ℕ → NumberOption
 optional name default least most = record { name = name; default = Some default; least = least; most = most }
+
+-- an option that has to be given
+abbrev pub wanted : Text → ℕ → ℕ → NumberOption
+wanted name least most = record { name = name; default = None; least = least; most = most }
 
 -- the options of a command. A store has one node and no copies until there can be several
 abbrev pub options_for : Kind → List NumberOption
@@ -29,6 +35,7 @@ options_for kind.Init = optional (codes "nodes") 1 1 1 ∷ optional (codes "part
 options_for kind.Run = optional (codes "epoch") 100 1 1024 ∷ []
 options_for kind.Dump = []
 options_for kind.Verify = []
+options_for kind.Migrate = wanted (codes "keep") 1 1000 ∷ []
 
 abbrev pub options_of : Command → List NumberOption
 options_of command = options_for (kind_of command)
@@ -39,6 +46,7 @@ numbers_of (Init nodes partitions copies) = nodes ∷ partitions ∷ copies ∷ 
 numbers_of (Run run) = run.epoch ∷ []
 numbers_of Dump = []
 numbers_of Verify = []
+numbers_of (Migrate keep) = keep ∷ []
 
 -- the words are the command: its name first, and then its options
 abbrev pub IsCommand : List Text → Command → Type 0

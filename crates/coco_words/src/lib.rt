@@ -35,6 +35,10 @@ pub enum Command {
     Dump,
     /// Say whether the replies are those of a serial run.
     Verify,
+    /// Keep the replies of so many of the last epochs, 1 to 1,000.
+    Migrate {
+        keep: u16,
+    },
 }
 
 /// The options of `run`.
@@ -60,6 +64,7 @@ pub enum Kind {
     Run,
     Dump,
     Verify,
+    Migrate,
 }
 
 /// The command that the words are: its name, and then its options.
@@ -90,6 +95,7 @@ fn kind_named(name: &str) -> Option<Kind>
         "run" => Some(Kind::Run),
         "dump" => Some(Kind::Dump),
         "verify" => Some(Kind::Verify),
+        "migrate" => Some(Kind::Migrate),
         _ => None,
     }
 }
@@ -109,6 +115,10 @@ fn command_with(kind: Kind, matches: &ArgMatches<'_>) -> Option<Command>
         }
         Kind::Dump => Some(Command::Dump),
         Kind::Verify => Some(Command::Verify),
+        Kind::Migrate => {
+            let keep = number_of(matches, "keep", None, 1, 1_000)?;
+            Some(Command::Migrate { keep: keep as u16 })
+        }
     }
 }
 

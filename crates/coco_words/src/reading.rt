@@ -56,6 +56,7 @@ fn parser_for<'a>(alloc: Global, kind: Kind) -> Result<Command<'a>, AllocError>
         Kind::Run => with_option(alloc, none, "epoch"),
         Kind::Dump => Ok(none),
         Kind::Verify => Ok(none),
+        Kind::Migrate => with_option(alloc, none, "keep"),
     }
 }
 

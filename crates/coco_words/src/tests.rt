@@ -43,6 +43,8 @@ fn each_command_has_its_options(rt: HostRuntime) -> Result<(), Fail> {
         ("init --copies=0 --partitions=03 --nodes 1", store(3)),
         ("dump", Command::Dump),
         ("verify", Command::Verify),
+        ("migrate --keep 1", Command::Migrate { keep: 1 }),
+        ("migrate --keep=1000", Command::Migrate { keep: 1_000 }),
     ];
     for (line, command) in cases {
         assert_eq!(rt; asked(rt.alloc(), line), Ok(command), "{line}");
@@ -85,6 +87,11 @@ fn other_words_are_no_command(rt: HostRuntime) -> Result<(), Fail> {
         "dump 1",
         "dump --epoch 1",
         "verify --",
+        "migrate",
+        "migrate --keep 0",
+        "migrate --keep 1001",
+        "migrate --keep 1 --keep 1",
+        "migrate 1",
     ];
     for line in cases {
         assert_eq!(rt; asked(rt.alloc(), line), Err(WordsFault::Usage), "{line}");

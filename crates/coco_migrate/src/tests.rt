@@ -1,0 +1,156 @@
+//! The worked store of two epochs, given keep numbers.
+
+ghost use Rattle.std.specs.Prelude.{◌<◌, ◌≤◌};
+
+use crate::migrate;
+use coco_ending::Ending;
+use coco_host::{FuseHost, Host, MemoryHost};
+use coco_io::MemorySource;
+use coco_recover::recover;
+use coco_run::run;
+use std::alloc::Global;
+use std::test::Fail;
+
+// One node, one partition, no copies, and an empty text: without a keep number, with 1, and with 2 behind that.
+const LAYOUTS: [u8; 103] =
+    *b"COCOLOG\x00\x01\x00\x00\x00\x19\x01\x01\x01\x01\x00\x00\x00\x00\x01\x00\x00\x00\x02\x00\x00\x00\x00\x00\x00\x00\x00\x00\x00\x00\x00\
+\x01\x00\x00\x00\x1b\x01\x02\x01\x01\x00\x00\x00\x00\x01\x00\x00\x00\x02\x00\x00\x00\x00\x00\x00\x00\x00\x00\x00\x00\x00\x00\x01\
+\x01\x00\x00\x00\x1b\x01\x02\x01\x01\x00\x00\x00\x00\x01\x00\x00\x00\x02\x00\x00\x00\x00\x00\x00\x00\x00\x00\x00\x00\x00\x00\x02\x00";
+
+// The first layout, behind it the same one with a base in file 3, and that one with the keep number 1,000.
+const WITH_BASE: [u8; 111] =
+    *b"COCOLOG\x00\x01\x00\x00\x00\x19\x01\x01\x01\x01\x00\x00\x00\x00\x01\x00\x00\x00\x02\x00\x00\x00\x00\x00\x00\x00\x00\x00\x00\x00\x00\
+\x01\x00\x00\x00\x1f\x01\x03\x01\x01\x00\x00\x00\x00\x01\x00\x00\x00\x02\x00\x00\x00\x00\x00\x00\x00\x00\x00\x00\x00\x00\x00\x00\x00\x00\x00\x03\
+\x01\x00\x00\x00\x1f\x01\x03\x01\x01\x00\x00\x00\x00\x01\x00\x00\x00\x02\x00\x00\x00\x00\x00\x00\x00\x00\x00\x00\x00\x00\x03\xe8\x00\x00\x00\x03\x00";
+
+// A base of epoch 0 without replies and rows.
+const BASE: [u8; 48] =
+    *b"COCOLOG\x03\x01\x00\x00\x00\x22\x04\x00\x00\x00\x00\x00\x00\x00\x00\x00\x00\x00\x00\x00\x00\x00\x00\x00\x00\x00\x00\x00\x00\x00\x00\x00\x00\x00\x00\x00\x00\x00\x00\x00\x00";
+
+const TWO_LINES: &str = r#"{"args":[5,70],"call":"put","id":1}
+{"args":[5],"call":"get","id":2}
+"#;
+
+// A line that is forgotten, two that aren't, and one whose reply is forgotten where each line is an epoch.
+const FOUR_LINES: &str = r#"{"args":[5,70],"call":"put","id":1}
+{"args":[5],"call":"get","id":2}
+{"args":[5],"call":"get","id":3}
+{"args":[5],"call":"get","id":2}
+"#;
+
+const FOUR_ANSWERS: &str = r#"{"error":"old","line":1}
+{"epoch":2,"id":2,"ok":70,"time":1}
+{"epoch":3,"id":3,"ok":70,"time":1}
+{"error":"old","line":4}
+"#;
+
+const ONE_BATCH: &str = r#"{"error":"old","line":1}
+{"epoch":2,"id":2,"ok":70,"time":1}
+{"epoch":3,"id":3,"ok":70,"time":1}
+{"epoch":2,"id":2,"ok":70,"time":1}
+"#;
+
+// Runs lines on the store, so many in a batch.
+fn run_lines(alloc: Global, host: &mut MemoryHost, lines: &str, size: u32) -> Result<Ending, Fail>
+    requires some { 0 < size }
+    requires few { size ≤ 1024 }
+{
+    let bytes = Vec::from_slice(alloc, lines.as_bytes())?;
+    let mut input = MemorySource::new(bytes, Vec::new(alloc));
+    Ok(run(alloc, host, &mut input, size))
+}
+
+// A store with these bytes in its layouts' file, and without epochs.
+fn new_store(alloc: Global, layouts: &[u8]) -> Result<MemoryHost, Fail> {
+    let mut host = MemoryHost::new(alloc, Vec::new(alloc));
+    host.write_at(0, 0, layouts)?;
+    host.write_at(1, 0, b"COCOLOG\x01\x00")?;
+    host.write_at(2, 0, b"COCOLOG\x02\x00")?;
+    host.write_at(3, 0, &BASE)?;
+    Ok(host)
+}
+
+// The store of two epochs, without a keep number.
+fn worked_store(alloc: Global) -> Result<MemoryHost, Fail> {
+    let mut first = LAYOUTS;
+    first[38] = 0;
+    let mut host = new_store(alloc, &first[..39])?;
+    run_lines(alloc, &mut host, TWO_LINES, 1)?;
+    Ok(host)
+}
+
+#[test]
+fn each_keep_number_is_one_layout_more(rt: HostRuntime) -> Result<(), Fail> {
+    let alloc = rt.alloc();
+    let mut host = worked_store(alloc)?;
+    let mut once = LAYOUTS;
+    once[70] = 0;
+    let once = &once[..71];
+    let mut bytes = [0; 120];
+    assert_eq!(rt; migrate(alloc, &mut host, 1), Ending::Finished);
+    assert_eq!(rt; host.read_at(0, 0, &mut bytes), Ok(71));
+    assert_eq!(rt; &bytes[..71], once);
+    assert_eq!(rt; migrate(alloc, &mut host, 2), Ending::Finished);
+    assert_eq!(rt; host.read_at(0, 0, &mut bytes), Ok(103));
+    assert_eq!(rt; &bytes[..103], LAYOUTS.as_slice());
+    Ok(())
+}
+
+#[test]
+fn a_base_file_stays(rt: HostRuntime) -> Result<(), Fail> {
+    let alloc = rt.alloc();
+    let mut before = WITH_BASE;
+    before[74] = 0;
+    let mut host = new_store(alloc, &before[..75])?;
+    let mut bytes = [0; 120];
+    assert_eq!(rt; migrate(alloc, &mut host, 1_000), Ending::Finished);
+    assert_eq!(rt; host.read_at(0, 0, &mut bytes), Ok(111));
+    assert_eq!(rt; &bytes[..111], WITH_BASE.as_slice());
+    Ok(())
+}
+
+// What the store with the keep number 1 answers, for so many lines in a batch.
+fn answers(alloc: Global, size: u32) -> Result<Vec<u8>, Fail>
+    requires some { 0 < size }
+    requires few { size ≤ 1024 }
+{
+    let mut host = worked_store(alloc)?;
+    let before = host.said().len();
+    let _ = migrate(alloc, &mut host, 1);
+    run_lines(alloc, &mut host, FOUR_LINES, size)?;
+    match host.said().get(before..) {
+        Some(said) => Ok(Vec::from_slice(alloc, said)?),
+        None => Ok(Vec::new(alloc)),
+    }
+}
+
+#[test]
+fn what_is_forgotten_is_old(rt: HostRuntime) -> Result<(), Fail> {
+    let alloc = rt.alloc();
+    assert_eq!(rt; answers(alloc, 1)?.as_slice(), FOUR_ANSWERS.as_bytes());
+    assert_eq!(rt; answers(alloc, 4)?.as_slice(), ONE_BATCH.as_bytes());
+    Ok(())
+}
+
+// The opening syncs three files, and then the write of the layout fails.
+#[test]
+fn a_crash_within_the_first_write_leaves_no_keep_number(rt: HostRuntime) -> Result<(), Fail> {
+    let alloc = rt.alloc();
+    for pick in [0, 1, 2, 3, 7] {
+        let mut host = FuseHost::new(worked_store(alloc)?, 3);
+        assert_eq!(rt; migrate(alloc, &mut host, 1), Ending::DiskFault);
+        let mut host = host.inner().crash(pick)?;
+        let store = recover(alloc, &mut host)?;
+        assert_eq!(rt; store.keep, None);
+    }
+    Ok(())
+}
+
+#[test]
+fn what_is_no_store_is_left_alone(rt: HostRuntime) -> Result<(), Fail> {
+    let mut host = MemoryHost::new(rt.alloc(), Vec::new(rt.alloc()));
+    let refused = Ending::NotAStore { file: 0, at: 0 };
+    assert_eq!(rt; migrate(rt.alloc(), &mut host, 1), refused);
+    assert_eq!(rt; host.len(0), Ok(0));
+    Ok(())
+}
