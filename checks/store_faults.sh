@@ -1,6 +1,6 @@
 #!/usr/bin/env bash
-# Faults around a store in a real folder: a folder that can't be written, another program on it, a second `init`, answers
-# that nobody takes. Each ends in its status and its line, and loses and doubles nothing.
+# Faults around a store in a real folder: a folder that can't be written, another program on it, a second `init`, a late
+# one, answers that nobody takes. Each ends in its status and its line, and loses and doubles nothing.
 . "$(dirname "$0")/store.bash"
 prepare
 
@@ -51,6 +51,31 @@ second_init() {
     diff -r "$work/twice" "$work/calm" || wrong 'a second init has changed the store'
 }
 
+# A folder that was made while an `init` read its text isn't that init's any more, whether none was there or another.
+late_init() {
+    local late before
+    mkfifo "$work/text"
+    for before in 'no folder' 'an empty folder'; do
+        rm -rf "$work/raced" "$work/kept"
+        [ "$before" = 'no folder' ] || mkdir "$work/raced"
+        "$program" "$work/raced" init <"$work/text" >"$work/late" 2>&1 &
+        late=$!
+        exec 4>"$work/text"
+        # More than a pipe holds: when it is all written, that init has looked at the folder.
+        yes '' | head -n 200000 >&4
+        new "$work/raced"
+        on "$work/raced" run --epoch "$size"
+        ends 'a run on a store that another init made' 0
+        cp -r "$work/raced" "$work/kept"
+        exec 4>&-
+        wait "$late"
+        status=$?
+        cp "$work/late" "$work/errors"
+        ends "an init that found $before, where another made a store" 4 'coco: disk fault'
+        diff -r "$work/raced" "$work/kept" || wrong "an init that found $before has changed another's store"
+    done
+}
+
 # Somebody takes a few of the answers and goes.
 closed_answers() {
     new "$work/left"
@@ -63,5 +88,6 @@ closed_answers() {
 read_only
 second_program
 second_init
+late_init
 closed_answers
 ended

@@ -8,13 +8,14 @@ use Rattle.coco_init.specs.Counts.{CountsDisk, CountsReads}
 use Rattle.coco_init.specs.Initiating.{Initiates}
 use Rattle.coco_lines.specs.Reads.{Gives}
 use Rattle.coco_make.specs.NewStore.{new_layout}
+use Rattle.coco_migrate.specs.Migrating.{Migrates}
 use Rattle.coco_run.specs.Running.{RunsOn}
 use Rattle.coco_serve.specs.Faults.{Counts}
 use Rattle.coco_serve.specs.Serving.{Outside}
 use Rattle.coco_tell.specs.Telling.{Dumps, Verifies}
 use Rattle.coco_words.specs.Commands.{IsCommand, IsOnlyCommand}
 use Rattle.coco_words.specs.declared.Command.{Command}
-use Rattle.coco_words.specs.declared.Command.TheVariants.{Init, Run, Dump, Verify}
+use Rattle.coco_words.specs.declared.Command.TheVariants.{Init, Run, Dump, Verify, Migrate}
 
 -- the ending of a call that succeeded, or that came to this one
 abbrev pub ending_in : Result (Unit {0}) Ending → Ending
@@ -52,6 +53,7 @@ module _ {H : Type 0} (moment : H → ℕ) (observed : H → ℕ → Observation
   Does (Run run) how before after old new = RunsOn moment observed said reads may_leave run.epoch how before after old new
   Does Dump how before after old new = KeepsInput before after × Dumps moment observed said reads may_leave how (counts_of before) (counts_of after) old new
   Does Verify how before after old new = KeepsInput before after × Verifies moment observed said reads may_leave how (counts_of before) (counts_of after) old new
+  Does (Migrate keep) how before after old new = KeepsInput before after × Migrates moment observed said reads may_leave keep how (counts_of before) (counts_of after) old new
 
   -- nothing is done, for want of memory
   abbrev pub LacksMemory : Ending → Outside → Outside → H → H → Type 0

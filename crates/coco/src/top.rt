@@ -13,6 +13,7 @@ use coco_ending::Ending;
 use coco_host::Host;
 use coco_init::init;
 use coco_io::{Sink, Source};
+use coco_migrate::migrate;
 use coco_run::run;
 use coco_tell::{dump, verify};
 use coco_words::{Command, WordsFault, words as command_of};
@@ -91,5 +92,6 @@ fn execute<H: Host, I: Source>(
         Command::Run(options) => run(alloc, host, input, options.epoch),
         Command::Dump => dump(alloc, host),
         Command::Verify => verify(alloc, host),
+        Command::Migrate { keep } => migrate(alloc, host, keep),
     }
 }
