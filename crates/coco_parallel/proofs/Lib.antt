@@ -7,3 +7,9 @@ mod CopyLemmas
 mod LockLemmas
 mod EndLemmas
 mod OutcomeLemmas
+mod DeskLemmas
+mod StationLemmas
+mod CrewLemmas
+mod CrewEndLemmas
+mod KeepingLemmas
+mod RanLemmas

@@ -31,10 +31,10 @@ still_of : (count p : ℕ) (s : ShardState) (journal : Journal) → IsOfPartitio
 still_of count p s [] of on = of
 still_of count p s (e ∷ es) of on = still_of count p (after_ask s e.ask) es (asked_of count p s e.ask on.0 of) on.1
 
-past_end : (shards : List ShardState) (p : ℕ) → length shards ≤ p → shard_at shards p ≡ empty
+pub past_end : (shards : List ShardState) (p : ℕ) → length shards ≤ p → shard_at shards p ≡ empty
 past_end shards p le = ap (λ o. unwrap_or o empty) (slice_get_past shards p le)
 
-within_or_past : (p n : ℕ) → (p < n) ⊎ (n ≤ p)
+pub within_or_past : (p n : ℕ) → (p < n) ⊎ (n ≤ p)
 within_or_past p n = grind arith
 
 module _ (law : ClosedIsLawful) (s : Start) (slots : List Slot) (journals : List Journal) (machines : List ShardState) (start : IsStart s) (ended : HasEnded s slots journals machines) where

@@ -12,7 +12,7 @@ pub record HandedFrom {T : Type 0} (items : List T) (left : ℕ) (before after :
   pub from : (place : ℕ) (d : Vec T) (x : T) → left ≤ place → place < length before → GainsOne (slice_index_or items place x) (slice_index_or before place d) (slice_index_or after place d)
   pub below : (place : ℕ) (d : Vec T) → place < left → slice_index_or after place d ≡ slice_index_or before place d
 
-any_default : {X : Type 0} (xs : List X) (i : ℕ) (d e : X) → i < length xs → slice_index_or xs i d ≡ slice_index_or xs i e
+pub any_default : {X : Type 0} (xs : List X) (i : ℕ) (d e : X) → i < length xs → slice_index_or xs i d ≡ slice_index_or xs i e
 any_default xs i d e lt = same_Some (slice_index_or xs i d) (slice_index_or xs i e) (sym (slice_get-get_or xs i d lt) ∙ slice_get-get_or xs i e lt)
 
 same_or_above : (n m : ℕ) → n - 1 ≤ m → 0 < n → (m ≡ n - 1) ⊎ (n ≤ m)
@@ -72,7 +72,7 @@ column_short : {T : Type 0} (place : ℕ) (xs : List (Vec T)) → length (column
 column_short place [] = omega arith
 column_short place (x ∷ xs) = one_more (slice_get x.items place) (column place xs) (length xs) (column_short place xs)
 
-some_at : {T : Type 0} (xs : List T) (n : ℕ) → n < length xs → (x : T) × (slice_get xs n ≡ Some x)
+pub some_at : {T : Type 0} (xs : List T) (n : ℕ) → n < length xs → (x : T) × (slice_get xs n ≡ Some x)
 some_at [] n lt = absurd (omega arith)
 some_at (x ∷ xs) zero lt = (x, refl)
 some_at (x ∷ xs) (suc n) lt = some_at xs n (omega arith)

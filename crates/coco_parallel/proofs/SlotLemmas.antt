@@ -70,7 +70,7 @@ among_counted n place lt (x ∷ xs) =
 
 -- ---- a pass
 
-some_mapped : {X Y : Type 0} (f : X → Y) (o : Option X) (y : Y) → option_map f o ≡ Some y → (x : X) × (o ≡ Some x) × (f x ≡ y)
+pub some_mapped : {X Y : Type 0} (f : X → Y) (o : Option X) (y : Y) → option_map f o ≡ Some y → (x : X) × (o ≡ Some x) × (f x ≡ y)
 some_mapped f None y is = absurd cc
 some_mapped f (Some x) y is = (x, refl, same_Some (f x) y is)
 

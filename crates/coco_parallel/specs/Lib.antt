@@ -5,3 +5,6 @@ pub mod Rows
 pub mod Locking
 pub mod Working
 pub mod Running
+pub mod Desks
+pub mod Stations
+pub mod Worked

@@ -1,0 +1,54 @@
+-- Stations that are manned from rows and seats, and taken apart.
+use Rattle.std.proofs.Common.{◌≡◌, ℕ, zero, suc, ◌+◌, ◌<◌, List, [], ◌∷◌, ◌++◌, All, map, length, slice_index_or, append_assoc, refl, sym, ap, ◌∙◌, subst, arith}
+use Rattle.std.specs.Global.{Vec}
+use Rattle.std.specs.List.{cons_option, range_with_len, slice_get}
+use Rattle.std.proofs.lemmas.List.{length-map}
+use Rattle.std.proofs.lemmas.List.Elements.{All-map}
+use Rattle.coco_claim.specs.Seats.{Drawer, Round, new_seats}
+use Rattle.coco_worker.specs.Gains.{ShardPass}
+use Rattle.coco_worker.specs.declared.slot.Slot.{Slot}
+use Rattle.coco_parallel.specs.Copies.{CopyPass}
+use Rattle.coco_parallel.specs.Stations.{station_of, stations_of}
+use Rattle.coco_parallel.specs.declared.workers.Station.{Station}
+
+abbrev Rows : Type 0
+Rows = List (Vec ShardPass)
+
+abbrev CopyRows : Type 0
+CopyRows = List (Vec CopyPass)
+
+-- ---- one of them
+
+pub stations_count : (worker : ℕ) (rows : Rows) (copies : CopyRows) (seats : List Drawer) → length rows ≡ length seats → length copies ≡ length seats → length (stations_of worker rows copies seats) ≡ length seats
+stations_count worker [] copies [] a b = refl
+stations_count worker [] copies (s ∷ ss) a b = absurd (omega (arith, a))
+stations_count worker (r ∷ rs) copies [] a b = absurd (omega (arith, a))
+stations_count worker (r ∷ rs) [] (s ∷ ss) a b = absurd (omega (arith, b))
+stations_count worker (r ∷ rs) (c ∷ cs) (s ∷ ss) a b = ap suc (stations_count (suc worker) rs cs ss (omega (arith, a)) (omega (arith, b)))
+
+pub station_at : (worker : ℕ) (rows : Rows) (copies : CopyRows) (seats : List Drawer) → length rows ≡ length seats → length copies ≡ length seats → (n : ℕ) (d : Station) (r : Vec ShardPass) (c : Vec CopyPass) (s : Drawer) → n < length seats
+    → slice_index_or (stations_of worker rows copies seats) n d ≡ station_of (worker + n) (slice_index_or rows n r) (slice_index_or copies n c) (slice_index_or seats n s)
+station_at worker rows copies [] a b n d r c s lt = absurd (omega arith)
+station_at worker [] copies (s' ∷ ss) a b n d r c s lt = absurd (omega (arith, a))
+station_at worker (r' ∷ rs) [] (s' ∷ ss) a b n d r c s lt = absurd (omega (arith, b))
+station_at worker (r' ∷ rs) (c' ∷ cs) (s' ∷ ss) a b zero d r c s lt = ap (λ (w : ℕ). station_of w r' c' s') (let h : worker ≡ worker + 0 = omega arith in h)
+station_at worker (r' ∷ rs) (c' ∷ cs) (s' ∷ ss) a b (suc n) d r c s lt =
+    station_at (suc worker) rs cs ss (omega (arith, a)) (omega (arith, b)) n d r c s (omega arith)
+    ∙ ap (λ (w : ℕ). station_of w (slice_index_or rs n r) (slice_index_or cs n c) (slice_index_or ss n s)) (let h : suc worker + n ≡ worker + suc n = omega arith in h)
+
+-- ---- new seats
+
+-- a seat that drew nothing
+pub record IsFresh (claims : Round) (seat : Drawer) : Type 0 where
+  pub of : seat.claims ≡ claims
+  pub drawn : seat.drawn ≡ []
+
+pub fresh_seats : (claims : Round) → All (IsFresh claims) (new_seats claims)
+fresh_seats claims = All-map (IsFresh claims) (λ (mark : ℕ). let seat : Drawer = record { claims = claims; mark = mark; drawn = [] } in seat) (range_with_len 0 claims.seats) (λ k d lt. record { of = refl; drawn = refl })
+
+pub seats_count : (claims : Round) → length (new_seats claims) ≡ claims.seats
+seats_count claims = length-map (range_with_len 0 claims.seats) (λ (mark : ℕ). let seat : Drawer = record { claims = claims; mark = mark; drawn = [] } in seat) ∙ ranged 0 claims.seats
+  where
+    ranged : (first count : ℕ) → length (range_with_len first count) ≡ count
+    ranged first zero = refl
+    ranged first (suc count) = ap suc (ranged (first + 1) count)
