@@ -36,6 +36,11 @@ fn call<H: Host>(
     Ok(Left { status, line })
 }
 
+// Whether a call ended so.
+fn ended(left: &Left, status: u8, line: &str) -> bool {
+    left.status == status && left.line.bytes() == line.as_bytes()
+}
+
 const NEVER: u64 = u64::MAX;
 
 fn new_host(alloc: Global, failing: u64) -> Result<MemoryHost, NoMemory> {
@@ -87,12 +92,8 @@ fn worked_calls_follow_one_another(rt: HostRuntime) -> Result<(), Fail> {
     for (words, text, status, said, line) in CALLS {
         let before = host.said().len();
         let left = call(rt.alloc(), &mut host, words, text, NEVER)?;
-        assert_eq!(rt; left.status, status, "{words}");
-        assert!(rt;
-            host.said().get(before..) == Some(said.as_bytes()),
-            "{words}"
-        );
-        assert_eq!(rt; left.line.bytes(), line.as_bytes());
+        let is_said = host.said().get(before..) == Some(said.as_bytes());
+        assert!(rt; is_said && ended(&left, status, line), "{words}");
     }
     Ok(())
 }
@@ -104,9 +105,8 @@ fn a_failing_read_leaves_whole_batches(rt: HostRuntime) -> Result<(), Fail> {
         let mut host = new_host(rt.alloc(), NEVER)?;
         call(rt.alloc(), &mut host, "init", "", NEVER)?;
         let left = call(rt.alloc(), &mut host, words, LINES, 1)?;
-        assert_eq!(rt; left.status, 2);
-        assert_eq!(rt; left.line.bytes(), b"coco: read fault\n".as_slice());
-        assert_eq!(rt; host.said(), said.as_bytes());
+        let is_said = host.said() == said.as_bytes();
+        assert!(rt; is_said && ended(&left, 2, "coco: read fault\n"), "{words}");
     }
     Ok(())
 }
@@ -145,8 +145,8 @@ fn a_failing_call_loses_nothing(rt: HostRuntime) -> Result<(), Fail> {
                 break;
             }
             let fault = if host.say_faults() > 0 { 3 } else { 4 };
-            assert_eq!(rt; left.status, fault, "call {failing} fails");
-            assert!(rt; goes_on(rt.alloc(), host, pick)?, "call {failing} fails");
+            let is_well = left.status == fault && goes_on(rt.alloc(), host, pick)?;
+            assert!(rt; is_well, "call {failing} fails");
             last = failing;
         }
         assert!(rt; last > 20);
@@ -167,8 +167,8 @@ fn a_fuse_loses_nothing(rt: HostRuntime) -> Result<(), Fail> {
             if left.status == 0 {
                 break;
             }
-            assert!(rt; left.status == 3 || left.status == 4);
-            assert!(rt; goes_on(rt.alloc(), host.inner(), pick)?, "{passes} passes");
+            let is_well = matches!(left.status, 3 | 4) && goes_on(rt.alloc(), host.inner(), pick)?;
+            assert!(rt; is_well, "{passes} passes");
             last = passes;
         }
         assert!(rt; last > 10);
@@ -190,8 +190,10 @@ fn a_cut_file_is_refused_at_its_place(rt: HostRuntime) -> Result<(), Fail> {
             host.cut(file, len);
             let left = call(rt.alloc(), &mut host, "run", LINES, NEVER)?;
             let line = format!(in rt.alloc(); "coco: not a store: file {file} at byte {at}\n")?;
-            assert_eq!(rt; left.status, 7, "file {file} of {len} bytes");
-            assert_eq!(rt; left.line.bytes(), line.as_bytes());
+            assert!(rt;
+                ended(&left, 7, line.as_str()),
+                "file {file} of {len} bytes"
+            );
         }
     }
     Ok(())
