@@ -276,9 +276,8 @@ module _ (b : Beginning) (x : Execution) (is : IsExecution b x) (epoch : ℕ) wh
         from true s = let both : Committed 0 (run b.procs tried.request.call tried.script.rows).reply ≡ Committed n reply = sym s.outcome_is ∙ out in let e : (run b.procs tried.request.call tried.script.rows).reply ≡ reply = cc in sym e
         from false s = sym (outcome_reply (option_or s.locking_conflict s.extending_conflict) (time_of s.reads s.locks) (run b.procs tried.request.call tried.script.rows).reply n reply (sym s.outcome_is ∙ out)).0
 
-    pub right : (a : Act) → Among acs a → IsRight b.procs b.opening acs a
-    right a among =
-        let c : Committing b epoch ts a = act_from b epoch ts all a (to a among) in
+    pub right_of : (a : Act) → Committing b epoch ts a → IsRight b.procs b.opening acs a
+    right_of a c =
         let reads : (k : RowKey) → Among (run b.procs c.tried.request.call c.tried.script.rows).needs k → ReadsWell b x is k c.t.by c.time (value_at c.tried.script.rows k) =
         reads_right b x is c.t c.tried c.time c.reply c.among c.outcome_is in
         subst (IsRight b.procs b.opening acs) (sym c.act_is) (record {
@@ -286,6 +285,9 @@ module _ (b : Beginning) (x : Execution) (is : IsExecution b x) (epoch : ℕ) wh
           last = all_from _ (run b.procs c.tried.request.call c.tried.script.rows).needs (λ k needed. last_below k c.t.by c.time (value_at c.tried.script.rows k) (reads k needed).last);
           alone = all_from _ (run b.procs c.tried.request.call c.tried.script.rows).needs (λ k needed d u in_as same w. alone_at k c.t.by c.time (value_at c.tried.script.rows k) (reads k needed).last d u in_as same w);
         })
+
+    pub right : (a : Act) → Among acs a → IsRight b.procs b.opening acs a
+    right a among = right_of a (act_from b epoch ts all a (to a among))
 
     pub apart : ApartInTime b.procs b.opening acs
     apart a c k v w in_a in_c same wrote_a wrote_c =

@@ -16,7 +16,11 @@ mod Snapshots
 mod CommitReads
 mod Commits
 mod Times
+mod ReadTimes
+mod ScriptCounts
 mod Tail
 mod Whole
 mod WorkedExecutions
 mod Closed
+mod WritesThere
+mod Epochs

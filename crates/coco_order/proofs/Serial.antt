@@ -46,6 +46,10 @@ abbrev pub dones : List Act → List Done
 dones [] = []
 dones (a ∷ acts) = a.done ∷ dones acts
 
+-- with another map seen
+abbrev pub seeing : Act → Rows → Act
+seeing a seen = record a { seen = seen }
+
 -- by rising times, no attempt twice
 abbrev pub RiseInTime : List Act → Type 0
 RiseInTime [] = Unit {0}
@@ -108,15 +112,15 @@ module _ (ps : Procedures) (opening : Rows) where
           | inr (inr late) ↦ absurd (let le : a.done.time ≤ b.done.time = after b late in omega arith)
         ]
 
-    agrees_at : (k : RowKey) → LastBelow (before ++ a ∷ rest) k a.done.time (value_at a.seen k)
+    agrees_at : (seen : Rows) (k : RowKey) → LastBelow (before ++ a ∷ rest) k a.done.time (value_at seen k)
         → ((b : Act) (v : Datum) → Among (before ++ a ∷ rest) b → b.done.time ≡ a.done.time → writes_at b k ≡ Some v → b.by ≡ a.by)
-        → value_at a.seen k ≡ value_at m k
-    agrees_at k found alone = from found (latest k)
+        → value_at seen k ≡ value_at m k
+    agrees_at seen k found alone = from found (latest k)
       where
-        from : LastBelow (before ++ a ∷ rest) k a.done.time (value_at a.seen k)
+        from : LastBelow (before ++ a ∷ rest) k a.done.time (value_at seen k)
             → (((value_at m k ≡ value_at opening k) × ((b : Act) → Among before b → writes_at b k ≡ None))
             ⊎ ((last : Act) × Among before last × (writes_at last k ≡ Some (value_at m k)) × ((b : Act) (v : Datum) → Among before b → writes_at b k ≡ Some v → b.done.time ≤ last.done.time)))
-            → value_at a.seen k ≡ value_at m k
+            → value_at seen k ≡ value_at m k
         from (inl none) (inl nothing) = none.0 ∙ sym nothing.0
         from (inl none) (inr some) =
             let lt : some.0.done.time < a.done.time = below k alone some.0 (value_at m k) some.1 some.2 in
@@ -125,18 +129,22 @@ module _ (ps : Procedures) (opening : Rows) where
         from (inr last) (inr some) =
             let lt : some.0.done.time < a.done.time = below k alone some.0 (value_at m k) some.1 some.2 in
             let in_last : Among before last.0 = before_it last.0 last.1 last.3 in
-            let le : last.0.done.time ≤ some.0.done.time = some.3 last.0 (value_at a.seen k) in_last last.2 in
+            let le : last.0.done.time ≤ some.0.done.time = some.3 last.0 (value_at seen k) in_last last.2 in
             let ge : some.0.done.time ≤ last.0.done.time = last.4 some.0 (value_at m k) (Among-left before (a ∷ rest) some.0 some.1) lt some.2 in
-            apart last.0 some.0 k (value_at a.seen k) (value_at m k) last.1 (Among-left before (a ∷ rest) some.0 some.1) (omega arith) last.2 some.2
+            apart last.0 some.0 k (value_at seen k) (value_at m k) last.1 (Among-left before (a ∷ rest) some.0 some.1) (omega arith) last.2 some.2
 
-    agree_on : (keys : List RowKey) → AllByRecursion (λ k. LastBelow (before ++ a ∷ rest) k a.done.time (value_at a.seen k)) keys
+    agree_on : (seen : Rows) (keys : List RowKey) → AllByRecursion (λ k. LastBelow (before ++ a ∷ rest) k a.done.time (value_at seen k)) keys
         → AllByRecursion (λ k. (b : Act) (v : Datum) → Among (before ++ a ∷ rest) b → b.done.time ≡ a.done.time → writes_at b k ≡ Some v → b.by ≡ a.by) keys
-        → AgreeOn keys a.seen m
-    agree_on [] last alone = tt
-    agree_on (k ∷ keys) last alone = (agrees_at k last.0 alone.0, agree_on keys last.1 alone.1)
+        → AgreeOn keys seen m
+    agree_on seen [] last alone = tt
+    agree_on seen (k ∷ keys) last alone = (agrees_at seen k last.0 alone.0, agree_on seen keys last.1 alone.1)
+
+    -- on any map on which this act is right
+    pub alike_on : (seen : Rows) → IsRight (before ++ a ∷ rest) (seeing a seen) → RunAlike (run ps a.done.call seen) (run ps a.done.call m)
+    alike_on seen there = run_depends ps a.done.call seen m (agree_on seen (run ps a.done.call seen).needs there.last there.alone)
 
     pub alike : RunAlike (run ps a.done.call a.seen) (run ps a.done.call m)
-    alike = run_depends ps a.done.call a.seen m (agree_on (ran a).needs right.last right.alone)
+    alike = alike_on a.seen right
 
     over : (k : RowKey) → value_at (run ps a.done.call m).rows k ≡ unwrap_or (writes_at a k) (value_at m k)
     over k =
@@ -200,12 +208,18 @@ module _ (ps : Procedures) (opening : Rows) where
         more.1,
       )
 
+  -- each act writes what its call's run writes on the map so far, also with any other map seen on which it is right
+  abbrev pub WriteThere : List Act → Rows → List Act → Type 0
+  WriteThere all m [] = Unit {0}
+  WriteThere all m (a ∷ acts) = ((seen : Rows) → IsRight all (seeing a seen) → (run ps a.done.call seen).writes ≡ (run ps a.done.call m).writes) × WriteThere all (run ps a.done.call m).rows acts
+
   pub record Serial (m : Rows) (before rest : List Act) : Type 0 where
     pub replies : RepliesAreRuns ps m (dones rest)
+    pub writes : WriteThere (before ++ rest) m rest
     pub latest : Latest (before ++ rest) (rows_after ps m (dones rest))
 
   serial_from : (before rest : List Act) (m : Rows) → Latest before m → ((a : Act) → Among (before ++ rest) a → IsRight (before ++ rest) a) → ApartInTime (before ++ rest) → RiseInTime (before ++ rest) → Serial m before rest
-  serial_from before [] m latest right apart rise = record { replies = tt; latest = subst (λ (xs : List Act). Latest xs m) (sym (append-nil before)) latest }
+  serial_from before [] m latest right apart rise = record { replies = tt; writes = tt; latest = subst (λ (xs : List Act). Latest xs m) (sym (append-nil before)) latest }
   serial_from before (a ∷ rest) m latest right apart rise =
       let sides = rise_split before a rest rise in
       let here : IsRight (before ++ a ∷ rest) a = right a (Among-right before (a ∷ rest) a (inl refl)) in
@@ -218,6 +232,10 @@ module _ (ps : Procedures) (opening : Rows) where
       (subst (λ (xs : List Act). RiseInTime xs) (sym joined) rise) in
       record {
         replies = (here.reply ∙ same.reply, next.replies);
+        writes = (
+          λ seen there. (alike_on before a rest m latest here apart sides.0 sides.1 seen there).writes,
+          subst (λ (xs : List Act). WriteThere xs (run ps a.done.call m).rows rest) joined next.writes,
+        );
         latest = subst (λ (xs : List Act). Latest xs (rows_after ps (run ps a.done.call m).rows (dones rest))) joined next.latest;
       }
 

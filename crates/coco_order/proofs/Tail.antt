@@ -39,13 +39,13 @@ use Rattle.coco_order.proofs.Orderly.{orderly}
 use Rattle.coco_order.proofs.Acts.{act, acts, acts_dones, Committing, act_from, all_tried, in_transcript}
 use Rattle.coco_order.proofs.CommitReads.{ReadsWell, reads_right}
 use Rattle.coco_order.proofs.Serial.{Act, dones, writes_at, LastBelow, IsRight, ApartInTime, RiseInTime, Latest, Serial, serial, written, value_over}
-use Rattle.coco_order.proofs.Commits.{all_from, among_contains, contains_among, Lifted, lifted, dones_map, differ, rise_of, every, act_installs, install_acts, right, apart, every_epoch, every_distinct, timed_at, flips}
+use Rattle.coco_order.proofs.Commits.{all_from, among_contains, contains_among, Lifted, lifted, dones_map, differ, rise_of, every, act_installs, install_acts, right_of, apart, every_epoch, every_distinct, timed_at, flips}
 
 -- ---- lists of acts
 
 module _ (ps : Procedures) (opening : Rows) where
   -- what is right in a list of acts is right in any that has the same ones
-  right_again : (xs ys : List Act) → ((a : Act) → Among xs a → Among ys a) → ((a : Act) → Among ys a → Among xs a) → (a : Act) → IsRight ps opening xs a → IsRight ps opening ys a
+  pub right_again : (xs ys : List Act) → ((a : Act) → Among xs a → Among ys a) → ((a : Act) → Among ys a → Among xs a) → (a : Act) → IsRight ps opening xs a → IsRight ps opening ys a
   right_again xs ys to back a right = record {
     reply = right.reply;
     last = each (run ps a.done.call a.seen).needs right.last;
@@ -115,7 +115,7 @@ module _ (b : Beginning) (epoch : ℕ) where
       record { later = (let lt : suc time < c.done.time = o.later in omega arith); by_is = o.by_is; reply_is = o.reply_is; epoch_is = o.epoch_is }
 
   -- one act at a time
-  tail_one : (rows : Rows) (time : ℕ) (rs : List Request) (c d : Act) → Among (tail_acts rows time rs) c → Among (tail_acts rows time rs) d → c.done.time ≡ d.done.time → c ≡ d
+  pub tail_one : (rows : Rows) (time : ℕ) (rs : List Request) (c d : Act) → Among (tail_acts rows time rs) c → Among (tail_acts rows time rs) d → c.done.time ≡ d.done.time → c ≡ d
   tail_one rows time [] c d h g e = absurd h
   tail_one rows time (r ∷ rs) c d (inl p) (inl q) e = sym p ∙ q
   tail_one rows time (r ∷ rs) c d (inl p) (inr q) e =
@@ -257,11 +257,11 @@ some_at place (r ∷ rs) h =
     (λ _ t _. (r, inl refl, eqb-true r.place place t))
     (λ _ _ g. (let rest = some_at place rs g in (rest.0, inr rest.1, rest.2))) refl h
 
-all_of_tries : (attempts : ℕ) (rss : List (List Tries)) (r : Tries) → AllByRecursion (AllByRecursion (AreTries attempts)) rss → Among (concat rss) r → AreTries attempts r
+pub all_of_tries : (attempts : ℕ) (rss : List (List Tries)) (r : Tries) → AllByRecursion (AllByRecursion (AreTries attempts)) rss → Among (concat rss) r → AreTries attempts r
 all_of_tries attempts [] r all h = absurd h
 all_of_tries attempts (rs ∷ rss) r all h = elim (Among-append rs (concat rss) r h) [ inl here ↦ all_among (AreTries attempts) rs r all.0 here | inr more ↦ all_of_tries attempts rss r all.1 more ]
 
-committed_at : (place : ℕ) (ts : List Tried) (t : Tried) → Among ts t → t.place ≡ place → is_commit t.outcome ≡ true → list_any (λ u. eqb u.place place && is_commit u.outcome) ts ≡ true
+pub committed_at : (place : ℕ) (ts : List Tried) (t : Tried) → Among ts t → t.place ≡ place → is_commit t.outcome ≡ true → list_any (λ u. eqb u.place place && is_commit u.outcome) ts ≡ true
 committed_at place [] t h at commit = absurd h
 committed_at place (u ∷ ts) t (inl same) at commit =
     let here : (eqb u.place place && is_commit u.outcome) ≡ true = subst (λ (v : Tried). (eqb v.place place && is_commit v.outcome) ≡ true) (sym same) (ap (λ (z : Bool). z && is_commit t.outcome) (eq-eqb t.place place at) ∙ commit) in
@@ -269,7 +269,7 @@ committed_at place (u ∷ ts) t (inl same) at commit =
 committed_at place (u ∷ ts) t (inr more) at commit =
     by_bool (λ z. z || list_any (λ v. eqb v.place place && is_commit v.outcome) ts ≡ true) (eqb u.place place && is_commit u.outcome) (λ _. refl) (λ _. committed_at place ts t more at commit)
 
-get_short : {X : Type 0} (xs : List X) (n : ℕ) (x : X) → slice_get xs n ≡ Some x → n < length xs
+pub get_short : {X : Type 0} (xs : List X) (n : ℕ) (x : X) → slice_get xs n ≡ Some x → n < length xs
 get_short [] n x h = absurd (none_some h)
 get_short (y ∷ xs) zero x h = omega arith
 get_short (y ∷ xs) (suc n) x h = let lt : n < length xs = get_short xs n x h in omega arith
@@ -340,13 +340,13 @@ wts_below row h [] good = good.times
 wts_below row h (e ∷ es) good = wts_below (left e row) (next_holds e h) es (good_next row h e es good)
 
 module _ (b : Beginning) (x : Execution) (is : IsExecution b x) (epoch : ℕ) (ds : List Done) (o : IsOutcome b epoch x ds) where
-  abbrev commits_of : List Act
+  abbrev pub commits_of : List Act
   commits_of = every b x is epoch
 
-  abbrev tail_of : List Act
+  abbrev pub tail_of : List Act
   tail_of = tail_acts b epoch o.rows o.most (tail_requests b x)
 
-  abbrev whole : List Act
+  abbrev pub whole : List Act
   whole = every b x is epoch ++ tail_acts b epoch o.rows o.most (tail_requests b x)
 
   row_is : (k : RowKey) → law_row (value_at b.opening) k (journal_on b x k) ≡ walk (resting (value_at b.opening k)) (on k (journal_on b x k))
@@ -397,22 +397,21 @@ module _ (b : Beginning) (x : Execution) (is : IsExecution b x) (epoch : ℕ) (d
   later c among = (of_tail b epoch o.rows o.most (tail_requests b x) c among).later
 
   -- a commit reads the same with the tail behind it
-  commit_right : (a : Act) → Among commits_of a → IsRight b.procs b.opening whole a
-  commit_right a among = record {
+  pub commit_right : (a : Act) → Committing b epoch (concat x.transcripts) a → IsRight b.procs b.opening whole a
+  commit_right a made = record {
     reply = base.reply;
     last = last_each (run b.procs a.done.call a.seen).needs reached base.last;
     alone = alone_each (run b.procs a.done.call a.seen).needs reached base.alone;
   }
     where
       base : IsRight b.procs b.opening commits_of a
-      base = right b x is epoch commits_of (λ c h. h) (λ c h. h) a among
+      base = right_of b x is epoch commits_of (λ c h. h) (λ c h. h) a made
 
       reached : AllByRecursion (λ k. a.done.time ≤ o.most) (run b.procs a.done.call a.seen).needs
       reached =
-          let c : Committing b epoch (concat x.transcripts) a = act_from b epoch (concat x.transcripts) (all_tried b x is) a among in
-          subst (λ (z : Act). AllByRecursion (λ k. z.done.time ≤ o.most) (run b.procs z.done.call z.seen).needs) (sym c.act_is)
-          (all_from _ (run b.procs c.tried.request.call c.tried.script.rows).needs (λ k needed. (
-          let reach : c.time ≤ (walk (resting (value_at b.opening k)) (on k (journal_on b x k))).rts = (reads_right b x is c.t c.tried c.time c.reply c.among c.outcome_is k needed).reach in
+          subst (λ (z : Act). AllByRecursion (λ k. z.done.time ≤ o.most) (run b.procs z.done.call z.seen).needs) (sym made.act_is)
+          (all_from _ (run b.procs made.tried.request.call made.tried.script.rows).needs (λ k needed. (
+          let reach : made.time ≤ (walk (resting (value_at b.opening k)) (on k (journal_on b x k))).rts = (reads_right b x is made.t made.tried made.time made.reply made.among made.outcome_is k needed).reach in
           let most : (walk (resting (value_at b.opening k)) (on k (journal_on b x k))).rts ≤ o.most = read_most k in omega arith)))
 
       wider : (k : RowKey) → a.done.time ≤ o.most → LastBelow b.procs b.opening commits_of k a.done.time (value_at a.seen k) → LastBelow b.procs b.opening whole k a.done.time (value_at a.seen k)
@@ -430,9 +429,9 @@ module _ (b : Beginning) (x : Execution) (is : IsExecution b x) (epoch : ℕ) (d
       alone_each (k ∷ ks) le all =
           ((λ c v in_whole same w. elim (Among-append commits_of tail_of c in_whole) [ inl here ↦ all.0 c v here same w | inr behind ↦ absurd (let more : o.most < c.done.time = later c behind in let at : a.done.time ≤ o.most = le.0 in omega arith) ]), alone_each ks le.1 all.1)
 
-  whole_right : (a : Act) → Among whole a → IsRight b.procs b.opening whole a
+  pub whole_right : (a : Act) → Among whole a → IsRight b.procs b.opening whole a
   whole_right a among = elim (Among-append commits_of tail_of a among) [
-    | inl here ↦ commit_right a here
+    | inl here ↦ commit_right a (act_from b epoch (concat x.transcripts) (all_tried b x is) a here)
     | inr behind ↦ tail_right b epoch b.opening commits_of o.rows o.most (tail_requests b x) latest early a behind
   ]
 
@@ -485,8 +484,16 @@ module _ (b : Beginning) (x : Execution) (is : IsExecution b x) (epoch : ℕ) (d
       nothing_more : (i : ℕ) → i ≡ i + 0
       nothing_more i = omega arith
 
-  pub outcome_serial : OutcomeIsSerial b ds (tail_rows b.procs o.rows (tail_requests b x))
-  outcome_serial =
+  -- the acts in the order of the Dones
+  pub record InOrder : Type 0 where
+    pub items : List Act
+    pub are : dones items ≡ ds
+    pub to : (a : Act) → Among items a → Among whole a
+    pub back : (a : Act) → Among whole a → Among items a
+    pub serial : Serial b.procs b.opening b.opening [] items
+
+  pub in_order : InOrder
+  in_order =
       let given : commits b epoch x ++ tail_dones b.procs epoch o.rows o.most (tail_requests b x) ≡ map (λ (a : Act). a.done) whole =
       ap (λ (zs : List Done). zs ++ tail_dones b.procs epoch o.rows o.most (tail_requests b x)) (sym (acts_dones b epoch (concat x.transcripts) (all_tried b x is)))
       ∙ ap (λ (zs : List Done). dones commits_of ++ zs) (sym (tail_acts_dones b epoch o.rows o.most (tail_requests b x))) ∙ sym (dones_append commits_of tail_of) ∙ dones_map whole in
@@ -500,10 +507,15 @@ module _ (b : Beginning) (x : Execution) (is : IsExecution b x) (epoch : ℕ) (d
       let rise : RiseInTime l.items = rise_of epoch l.items epochs (subst AreInOrder (sym is_ds) o.order) distinct in
       let s : Serial b.procs b.opening b.opening [] l.items = serial b.procs b.opening l.items (λ a among. right_again b.procs b.opening whole l.items back to a (whole_right a (to a among)))
       (λ a c k v w in_a in_c same wa wc. whole_apart a c k v w (to a in_a) (to c in_c) same wa wc) rise in
+      record { items = l.items; are = is_ds; to = to; back = back; serial = s }
+
+  pub outcome_serial : OutcomeIsSerial b ds (tail_rows b.procs o.rows (tail_requests b x))
+  outcome_serial =
+      let l : InOrder = in_order in
       let left : Latest b.procs b.opening whole (tail_rows b.procs o.rows (tail_requests b x)) = latest_all b epoch b.opening commits_of o.rows o.most (tail_requests b x) latest early in
       let rows : (k : RowKey) → value_at (rows_after b.procs b.opening (dones l.items)) k ≡ value_at (tail_rows b.procs o.rows (tail_requests b x)) k =
-      latest_alike b.procs b.opening l.items whole to back (λ a c k v w in_a in_c same wa wc. whole_apart a c k v w (to a in_a) (to c in_c) same wa wc) (rows_after b.procs b.opening (dones l.items)) (tail_rows b.procs o.rows (tail_requests b x)) s.latest left in
-      subst (λ (zs : List Done). OutcomeIsSerial b zs (tail_rows b.procs o.rows (tail_requests b x))) is_ds (record { replies = s.replies; times = timed_all l.items (λ a among. whole_timed a (to a among)); rows = rows })
+      latest_alike b.procs b.opening l.items whole l.to l.back (λ a c k v w in_a in_c same wa wc. whole_apart a c k v w (l.to a in_a) (l.to c in_c) same wa wc) (rows_after b.procs b.opening (dones l.items)) (tail_rows b.procs o.rows (tail_requests b x)) l.serial.latest left in
+      subst (λ (zs : List Done). OutcomeIsSerial b zs (tail_rows b.procs o.rows (tail_requests b x))) l.are (record { replies = l.serial.replies; times = timed_all l.items (λ a among. whole_timed a (l.to a among)); rows = rows })
 
 pub outcomes_are_serial : (b : Beginning) (x : Execution) → IsExecution b x → OutcomesAreSerial b x
 outcomes_are_serial b x is epoch ds o = outcome_serial b x is epoch ds o

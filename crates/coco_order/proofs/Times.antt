@@ -94,7 +94,7 @@ greatest_from n (t ∷ ts) = from (cases t (greatest n ts)) (greatest_from n ts)
 max_of : (p q : ℕ) → (max p q ≡ p) ⊎ (max p q ≡ q)
 max_of p q = grind arith
 
-abbrev RaisedBy : Op → Answer → ℕ → Type 0
+abbrev pub RaisedBy : Op → Answer → ℕ → Type 0
 RaisedBy op answer n = ((v : Option Value) × ((key : RowKey) × (op ≡ Install key n v) × (answer ≡ Installed))) ⊎ ((key : RowKey) × (wts : ℕ) × (op ≡ Extend key wts n))
 
 rts_step : (r : RowState) (by : AttemptId) (answer : Answer) (op : Op) → ((unwrap_or (left_by answer by op r) r).rts ≡ r.rts) ⊎ RaisedBy op answer (unwrap_or (left_by answer by op r) r).rts
@@ -111,7 +111,7 @@ rts_step r by (NotMine mark) op = inl refl
 rts_step r by (Stood value) op = inl refl
 
 -- a read time is that of the first row, or of an install, or of an extension
-rts_from : (row : RowState) (es : List Entry) → ((walk row es).rts ≡ row.rts) ⊎ ((e : Entry) × Among es e × RaisedBy e.ask.op e.answer (walk row es).rts)
+pub rts_from : (row : RowState) (es : List Entry) → ((walk row es).rts ≡ row.rts) ⊎ ((e : Entry) × Among es e × RaisedBy e.ask.op e.answer (walk row es).rts)
 rts_from row [] = inl refl
 rts_from row (d ∷ es) = elim (rts_from (left d row) es) [
   | inr found ↦ inr (found.0, inr found.1, found.2)
@@ -314,6 +314,11 @@ module _ (b : Beginning) (x : Execution) (is : IsExecution b x) where
           let found = map_among (entry_by some.0.by) (keyed k tried.script.asked) e (subst (λ (es : List Entry). Among es e) (some.4 ∙ tried_entries b some.0 tried k) h) in
           subst (λ (p : ℕ). Among ns p) (sym (by_course some.0 tried found.0 found.1 (ap (λ (y : Entry). y.ask.op) found.2 ∙ op) tried.request.call.snapshot tried.script.course)) timed.1
 
+  -- a time that raises a read time is a script's
+  raised_time : (k : RowKey) (e : Entry) (p : ℕ) → Among (on k (journal_on b x k)) e → RaisedBy e.ask.op e.answer p → Among ns p
+  raised_time k e p among (inl wrote) = install_time k e p wrote.0 among wrote.1
+  raised_time k e p among (inr extends) = extend_time k e extends.0 extends.1 p among extends.2
+
   -- a shown time is that of another script
   shown_wts : (t : Tried) (tried : IsTried b t) (f : Found) → Among (concat x.transcripts) t → Among tried.script.asked (read f) → 1 ≤ f.wts → Among ns f.wts
   shown_wts t tried f in_t in_asked one =
@@ -349,12 +354,8 @@ module _ (b : Beginning) (x : Execution) (is : IsExecution b x) where
         | inl first ↦ absurd (let none : row.rts ≡ 0 = first in omega arith)
         | inr found ↦
             let here : Among (on k (journal_on b x k)) found.0 = subst (λ (es : List Entry). Among es found.0) (sym parts.2) (Among-left parts.0 (e ∷ parts.1) found.0 found.1) in
-            subst (λ (p : ℕ). Among ns p) same (raised k found.0 row.rts here found.2)
+            subst (λ (p : ℕ). Among ns p) same (raised_time k found.0 row.rts here found.2)
       ]
-    where
-      raised : (k : RowKey) (e : Entry) (p : ℕ) → Among (on k (journal_on b x k)) e → RaisedBy e.ask.op e.answer p → Among ns p
-      raised k e p among (inl wrote) = install_time k e p wrote.0 among wrote.1
-      raised k e p among (inr extends) = extend_time k e extends.0 extends.1 p among extends.2
 
   shown_locked : (e : Exchange) (n : ℕ) → shown_by e ≡ Some n → (w : ℕ) × (e.answer ≡ Locked w n)
   shown_locked e n h = from e.answer h
@@ -403,12 +404,17 @@ module _ (b : Beginning) (x : Execution) (is : IsExecution b x) where
                 shown_rts t tried e.0 locked.0 m in_t asked locked.1 one
           ]
 
-  few : (t : Tried) → Among (concat x.transcripts) t → (tried : IsTried b t) × (time_by b t tried ≤ length (concat x.transcripts))
-  few t among =
-      let timed = time_to b (concat x.transcripts) all t among in
+  within : (n : ℕ) → Among ns n → n ≤ length (concat x.transcripts)
+  within n among =
       let count : length ns ≡ length (concat x.transcripts) = times_count b (concat x.transcripts) all in
-      let le : time_by b t timed.0 ≤ length ns = enough (time_by b t timed.0) ns (all_below ns down (time_by b t timed.0) timed.1) in
-      (timed.0, omega arith)
+      let le : n ≤ length ns = enough n ns (all_below ns down n among) in
+      omega arith
+
+  few : (t : Tried) → Among (concat x.transcripts) t → (tried : IsTried b t) × (time_by b t tried ≤ length (concat x.transcripts))
+  few t among = let timed = time_to b (concat x.transcripts) all t among in (timed.0, within (time_by b t timed.0) timed.1)
+
+  pub raised_few : (k : RowKey) (e : Entry) (p : ℕ) → Among (on k (journal_on b x k)) e → RaisedBy e.ask.op e.answer p → p ≤ length (concat x.transcripts)
+  raised_few k e p among raised = within p (raised_time k e p among raised)
 
   pub times_are_few : TimesAreFew b x
   times_are_few = record {

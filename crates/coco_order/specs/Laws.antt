@@ -1,23 +1,28 @@
 -- What holds of every execution.
-use Rattle.std.specs.Prelude.{◌≡◌, ℕ, ◌<◌, ◌≤◌, List, length, Option, Some}
-use Rattle.std.specs.List.{slice_get}
+use Rattle.std.specs.Prelude.{◌≡◌, ℕ, suc, ◌+◌, ◌*◌, ◌<◌, ◌≤◌, List, ◌∷◌, ◌++◌, length, map, nat_eq, Option, Some}
+use Rattle.std.specs.List.{IsDistinct, slice_get}
 use Rattle.coco_types.specs.RowKey.{RowKey}
 use Rattle.coco_types.specs.declared.value.Value.{Value}
 use Rattle.coco_types.specs.Limits.{most_time}
 use Rattle.coco_types.specs.declared.call.Done.{Done}
 use Rattle.coco_types.specs.declared.call.Reply.{Reply}
+use Rattle.coco_types.specs.declared.call.Request.{Request}
+use Rattle.coco_types.specs.declared.call.Write.{Write}
 use Rattle.coco_occ.specs.Exchange.{MayAnswer}
+use Rattle.coco_occ.specs.Script.{IsScript}
 use Rattle.coco_occ.specs.declared.outcome.Outcome.TheVariants.{Committed, OverTime}
+use Rattle.coco_ast.specs.Growth.{IsEpochOf}
 use Rattle.coco_ast.specs.History.{RepliesAreRuns, AreTimed, rows_after}
 use Rattle.coco_ast.specs.Keyed.{Rows, value_at}
-use Rattle.coco_shard.specs.Law.{Entry, IsLawful, law_row}
+use Rattle.coco_ast.specs.Meaning.{run}
+use Rattle.coco_shard.specs.Law.{Entry, IsLawful, law_row, read_time}
 use Rattle.coco_shard.specs.RowState.{Holds, ShardState, row_at}
 use Rattle.coco_shard.specs.Table.{after_ask, answer_in}
 use Rattle.coco_journaled.specs.Replay.{Replays}
 use Rattle.coco_order.specs.OneKey.{Among, on, Installs, IsMine}
 use Rattle.coco_occ.specs.declared.outcome.Tried.{Tried}
 use Rattle.coco_order.specs.Execution.{Beginning, Execution, Journal, IsExecution, InEachExecution, journal_on, concat, journal_of, steps_of}
-use Rattle.coco_order.specs.Outcome.{AreCommits, IsOutcome, newest_at_end, tail_requests, tail_rows}
+use Rattle.coco_order.specs.Outcome.{AreCommits, IsOutcome, commit_of, newest_at_end, tail_requests, tail_rows}
 
 -- of the journal of each key, in every execution
 abbrev pub OnEachKeyOfEach : ((RowKey → Option Value) → RowKey → List Entry → Type 0) → Type 0
@@ -62,3 +67,32 @@ ClosedIsLawful = (opening : RowKey → Option Value) (root machine : ShardState)
 -- each answer of a lawful journal is one that some row gives to its ask
 abbrev pub AnswersFit : Type 0
 AnswersFit = (opening : RowKey → Option Value) (journal : List Entry) → IsLawful opening journal → (place : ℕ) (e : Entry) → slice_get journal place ≡ Some e → MayAnswer e.ask e.answer
+
+-- the read time of each key at the journals' ends is at most the number of scripts
+abbrev pub ReadsAreFew : Beginning → Execution → Type 0
+ReadsAreFew b x = (k : RowKey) → read_time k (journal_on b x k) ≤ length (concat x.transcripts)
+
+-- and these are no more than the allowed attempts at all requests
+abbrev pub ScriptsAreFew : Beginning → Execution → Type 0
+ScriptsAreFew b x = length (concat x.transcripts) ≤ b.attempts * length b.requests
+
+-- what a script that committed wrote is what its call's run writes on the map that the Dones before its own leave
+abbrev pub WritesAreRuns : Beginning → Execution → Type 0
+WritesAreRuns b x = (epoch : ℕ) (dones : List Done) → IsOutcome b epoch x dones → IsDistinct nat_eq (map (λ (r : Request). r.id) b.requests)
+    → (before behind : List Done) (d : Done) → dones ≡ before ++ d ∷ behind
+    → (t : Tried) → Among (concat x.transcripts) t → commit_of b epoch t ≡ Some d
+    → (request : Request) (writes : List Write) → slice_get b.requests t.place ≡ Some request → IsScript b.procs request.call t.by b.partitions t.script t.outcome writes
+    → writes ≡ (run b.procs d.call (rows_after b.procs b.opening before)).writes
+
+-- what the tail's run of a request wrote, on the map that the requests of the tail in front of it left, is what its
+-- call's run writes on the map that the Dones before its own leave
+abbrev pub TailWritesAreRuns : Beginning → Execution → Type 0
+TailWritesAreRuns b x = (epoch : ℕ) (dones : List Done) → (o : IsOutcome b epoch x dones) → IsDistinct nat_eq (map (λ (r : Request). r.id) b.requests)
+    → (before behind : List Done) (d : Done) → dones ≡ before ++ d ∷ behind
+    → (first last : List Request) (r : Request) → tail_requests b x ≡ first ++ r ∷ last → d.id ≡ r.id → d.time ≡ suc (o.most + length first)
+    → (run b.procs r.call (tail_rows b.procs o.rows first)).writes ≡ (run b.procs d.call (rows_after b.procs b.opening before)).writes
+
+-- the Dones of the epoch are one for each request, in the order of commit
+abbrev pub OutcomesAreEpochs : Beginning → Execution → Type 0
+OutcomesAreEpochs b x = (epoch : ℕ) (dones : List Done) → IsOutcome b epoch x dones → IsDistinct nat_eq (map (λ (r : Request). r.id) b.requests)
+    → IsEpochOf b.requests (record { number = epoch; dones = dones })

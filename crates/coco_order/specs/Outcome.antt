@@ -13,7 +13,7 @@ use Rattle.coco_shard.specs.Law.{newest_value, read_time}
 use Rattle.coco_occ.specs.declared.outcome.Outcome.{Outcome}
 use Rattle.coco_occ.specs.declared.outcome.Outcome.TheVariants.{Committed, Conflict, OverTime}
 use Rattle.coco_occ.specs.declared.outcome.Tried.{Tried}
-use Rattle.coco_order.specs.Execution.{Beginning, Execution, journal_on, concat}
+use Rattle.coco_order.specs.Execution.{Beginning, Execution, IsExecution, journal_on, concat}
 use Rattle.coco_order.specs.Order.{AreInOrder}
 
 -- ---- commits
@@ -87,3 +87,9 @@ pub record IsOutcome (b : Beginning) (epoch : ℕ) (x : Execution) (dones : List
   pub greatest : IsGreatestRead b x most
   pub same : IsPermutation (commits b epoch x ++ tail_dones b.procs epoch rows most (tail_requests b x)) dones
   pub order : AreInOrder dones
+
+-- the Dones are those of an execution with its tail
+pub record ComeOfExecution (b : Beginning) (epoch : ℕ) (dones : List Done) : Type 0 where
+  pub execution : Execution
+  pub is : IsExecution b execution
+  pub outcome : IsOutcome b epoch execution dones

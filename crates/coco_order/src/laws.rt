@@ -3,7 +3,7 @@
 ghost use Rattle.coco_order.specs.OneKey.{OnEachKey, MarksAreOwn, WriteTimesRise, ValidatedReadsAreLast};
 ghost use Rattle.coco_order.specs.Execution.{InEachExecution};
 ghost use Rattle.coco_order.specs.ExecutionExamples.{ReadIsTriedAgain};
-ghost use Rattle.coco_order.specs.Laws.{OnEachKeyOfEach, StepsAreMine, ApartInTime, TimesAreFew, CommitsAreSerial, OutcomesAreSerial, ClosedIsLawful, AnswersFit};
+ghost use Rattle.coco_order.specs.Laws.{OnEachKeyOfEach, StepsAreMine, ApartInTime, TimesAreFew, CommitsAreSerial, OutcomesAreSerial, ClosedIsLawful, AnswersFit, ReadsAreFew, ScriptsAreFew, WritesAreRuns, TailWritesAreRuns, OutcomesAreEpochs};
 
 /// A journaled shard closes with a journal that is lawful from what the shard held at its start, and with the rows
 /// that the law says; and each answer of a lawful journal fits its ask.
@@ -55,4 +55,31 @@ pub fn outcomes_are_serial()
 /// A read between another attempt's lock and install conflicts and is tried again; the commits are in the order of times.
 pub fn worked_execution()
     ensures { ReadIsTriedAgain }
+{}
+
+/// No read time at the journals' ends is above the number of scripts.
+pub fn reads_are_few()
+    ensures { InEachExecution ReadsAreFew }
+{}
+
+/// The scripts are at most the allowed attempts for each request.
+pub fn scripts_are_few()
+    ensures { InEachExecution ScriptsAreFew }
+{}
+
+/// Where no two requests have one id, what a script that committed wrote is what its call's run writes at the place of
+/// its Done in the serial run.
+pub fn writes_are_runs()
+    ensures { InEachExecution WritesAreRuns }
+{}
+
+/// So is what the tail's run of a request wrote.
+pub fn tail_writes_are_runs()
+    ensures { InEachExecution TailWritesAreRuns }
+{}
+
+/// Where each request has an id of its own, the Dones of an outcome are an epoch of the requests: one for each, with
+/// the epoch's number, rising by time and id.
+pub fn outcomes_are_epochs()
+    ensures { InEachExecution OutcomesAreEpochs }
 {}
