@@ -1,5 +1,5 @@
 -- The Dones of an epoch that was run on a store's map keep the rules of a commit entry.
-use Rattle.std.proofs.Common.{◌≡◌, ℕ, suc, ◌+◌, ◌-◌, ◌<◌, ◌≤◌, Bool, true, false, cond, not, ◌||◌, nat_eq, List, [], ◌∷◌, ◌++◌, length, map, filter, inl, Option, None, Some, refl, sym, ap, ◌∙◌, subst, append_assoc, append-nil, length-append, true≢false, arith}
+use Rattle.std.proofs.Common.{◌≡◌, ℕ, suc, ◌+◌, ◌<◌, ◌≤◌, Bool, true, false, cond, ◌||◌, nat_eq, List, [], ◌∷◌, ◌++◌, length, map, filter, inl, Option, None, Some, refl, sym, ap, ◌∙◌, subst, append_assoc, append-nil, length-append, true≢false, arith}
 use Rattle.std.specs.List.{AllByRecursion, IsDistinct}
 use Rattle.std.specs.Set.{is_member}
 use Rattle.std.specs.Cmp.{nat_eq_equiv}
@@ -14,11 +14,9 @@ use Rattle.coco_types.specs.declared.call.Request.{Request}
 use Rattle.coco_host.specs.Files.{Files}
 use Rattle.coco_ast.specs.Fitting.{Fits}
 use Rattle.coco_ast.specs.Growth.{GrowsBy, IsEpochOf}
-use Rattle.coco_ast.specs.History.{AreAbove, AreTimed, Epoch, HaveTheirNumbers, History, IsBefore, IsOrdered, IsRising, all_dones, dones_in as dones_of_epochs, epoch_dones, followed_by, ids_of, is_timed, last_epoch, last_number, no_base, request_of}
-use Rattle.coco_ast.specs.Schedule.{IsCommitOrder, Timed, at_start, is_snapshot, numbered, timed_of}
+use Rattle.coco_ast.specs.History.{AreAbove, AreTimed, Epoch, HaveTheirNumbers, History, IsBefore, IsOrdered, IsRising, all_dones, dones_in as dones_of_epochs, epoch_dones, followed_by, ids_of, is_timed, last_epoch, last_number, request_of}
 use Rattle.coco_ast.proofs.GrowthLemmas.{dones_behind, dones_in-push, growth_keeps, stays_serial}
 use Rattle.coco_ast.proofs.Lists.{all_append, all_from_map, all_left, all_right, all_weaker}
-use Rattle.coco_ast.proofs.ScheduleLemmas.{scheduled}
 use Rattle.coco_entry.specs.declared.commit.Commit.{Commit}
 use Rattle.coco_store.specs.Contents.{Contents, HoldsBase, IsGoodStore, epoch_of, history_of}
 use Rattle.coco_store.specs.Entries.{BaseEntry}
@@ -99,22 +97,6 @@ kept_below files s entries (Some file) is = kept_of_all s [] entries is.1.each
 
 -- ---- times
 
-start_times : (n : ℕ) (rs : List Request) → AllByRecursion (λ (t : Timed). t.0 ≤ n) (at_start rs)
-start_times n [] = tt
-start_times n (r ∷ rs) = (omega arith, start_times n rs)
-
-numbered_times : (n k : ℕ) (rs : List Request) → k + length rs ≤ n + 1 → AllByRecursion (λ (t : Timed). t.0 ≤ n) (numbered k rs)
-numbered_times n k [] few = tt
-numbered_times n k (r ∷ rs) few = (omega arith, numbered_times n (k + 1) rs (omega arith))
-
-few_times : (requests : List Request) (ds : List Done) → IsCommitOrder requests (map timed_of ds) → AllByRecursion (λ (d : Done). d.time ≤ length requests) ds
-few_times requests ds order =
-    let others : List Request = filter (λ r. not (is_snapshot r)) requests in
-    let few : length others ≤ length requests = few_passing (λ r. not (is_snapshot r)) requests in
-    all_from_map timed_of (λ (t : Timed). t.0 ≤ length requests) ds
-    (subst (AllByRecursion (λ (t : Timed). t.0 ≤ length requests)) (sym order.is)
-    (all_append _ (at_start order.snapshots) (numbered 1 others) (start_times (length requests) order.snapshots) (numbered_times (length requests) 1 others (omega arith))))
-
 timed_is : (snapshot : Bool) (time : ℕ) → is_timed snapshot time ≡ true → time ≤ most_time → IsTime snapshot time
 timed_is true time is few = grind (arith, nat_tests)
 timed_is false time is few = (let lt : 0 < time = ltb-true 0 time is in (omega arith, few))
@@ -149,17 +131,11 @@ module _ (files : Files) (c : Contents) (good : IsGoodStore files c) (requests :
   past_is : all_dones h ≡ past
   past_is = ap (λ l. kept_dones c.base ++ l) (same_dones c.commits)
 
-  abbrev one_epoch : History
-  one_epoch = record { base = record no_base { epoch = epoch - 1 }; epochs = []; keep = None }
-
-  is_epoch : IsEpochOf requests e
-  is_epoch = (scheduled one_epoch requests e (record { number = (let b = may.next.above_base in omega (arith, b)); order = run.order }) run.numbered may.new.distinct).epoch
-
   later : last_epoch h < epoch
   later = last_below s.entry.layout.base_epoch epoch c.commits may.next.above_base may.next.rises
 
   pub grown : GrowsBy h requests (followed_by h e)
-  grown = by requests may.some is_epoch
+  grown = by requests may.some run.each
     where
       by : (rs : List Request) → 0 < length rs → IsEpochOf rs e → GrowsBy h rs (followed_by h e)
       by [] some is = absurd (omega arith)
@@ -169,7 +145,7 @@ module _ (files : Files) (c : Contents) (good : IsGoodStore files c) (requests :
   ordered = (growth_keeps h requests (followed_by h e) grown).ordered good.ordered may.new
 
   count : length dones ≡ length requests
-  count = sym (length-map dones) ∙ length_permutation requests (map request_of dones) is_epoch.each
+  count = sym (length-map dones) ∙ length_permutation requests (map request_of dones) run.each.each
     where
       length-map : (ds : List Done) → length (map request_of ds) ≡ length ds
       length-map [] = refl
@@ -177,7 +153,7 @@ module _ (files : Files) (c : Contents) (good : IsGoodStore files c) (requests :
 
   fit : AllByRecursion (λ (d : Done). Fits s.tree d.call) dones
   fit = all_from_map request_of (λ (r : Request). Fits s.tree r.call) dones
-      (recursion_from_All _ _ (All-permutation (λ (r : Request). Fits s.tree r.call) requests (map request_of dones) is_epoch.each (All-from_recursion _ requests may.fit)))
+      (recursion_from_All _ _ (All-permutation (λ (r : Request). Fits s.tree r.call) requests (map request_of dones) run.each.each (All-from_recursion _ requests may.fit)))
 
   past_below : AllByRecursion (λ (d : Done). d.epoch < epoch) past
   past_below = all_append _ (kept_dones c.base) (dones_in c.commits)
@@ -192,7 +168,7 @@ module _ (files : Files) (c : Contents) (good : IsGoodStore files c) (requests :
     whole_at = whole ∙ ap (λ l. past ++ l) is ∙ sym (append_assoc past ahead (d ∷ behind))
 
     of_epoch : d.epoch ≡ epoch
-    of_epoch = one_of (λ (x : Done). x.epoch ≡ epoch) ahead d behind (subst (AllByRecursion (λ (x : Done). x.epoch ≡ epoch)) is run.numbered)
+    of_epoch = one_of (λ (x : Done). x.epoch ≡ epoch) ahead d behind (subst (AllByRecursion (λ (x : Done). x.epoch ≡ epoch)) is run.each.numbered)
 
     epochs_at : epoch_dones (followed_by h e) ≡ (dones_in c.commits ++ ahead) ++ d ∷ behind
     epochs_at = dones_in-push h.epochs e ∙ ap (λ l. l ++ dones) (same_dones c.commits) ∙ ap (λ l. dones_in c.commits ++ l) is ∙ sym (append_assoc (dones_in c.commits) ahead (d ∷ behind))
@@ -228,8 +204,7 @@ module _ (files : Files) (c : Contents) (good : IsGoodStore files c) (requests :
     time : IsTime d.call.snapshot d.time
     time = timed_is d.call.snapshot d.time
         (one_of (λ (x : Done). is_timed x.call.snapshot x.time ≡ true) ahead d behind (subst AreTimed is run.times))
-        (let t = one_of (λ (x : Done). x.time ≤ length requests) ahead d behind (subst (AllByRecursion (λ (x : Done). x.time ≤ length requests)) is (few_times requests dones run.order)) in
-        let most = may.few in omega (arith, t, most))
+        (one_of (λ (x : Done). x.time ≤ most_time) ahead d behind (subst (AllByRecursion (λ (x : Done). x.time ≤ most_time)) is run.early))
 
     committed : IsCommittedDone s c.base (past ++ ahead) d
     committed = record {

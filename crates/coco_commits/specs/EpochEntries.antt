@@ -1,14 +1,13 @@
 -- An epoch that is run on a store's map, and what its entries keep there.
-use Rattle.std.specs.Prelude.{◌≡◌, ⊤, ℕ, ◌+◌, ◌<◌, ◌≤◌, Bool, true, List, ◌∷◌, ◌++◌, map, length, Option, None, Some}
+use Rattle.std.specs.Prelude.{◌≡◌, ⊤, ℕ, ◌+◌, ◌<◌, ◌≤◌, Bool, true, List, ◌∷◌, ◌++◌, length, Option, None, Some}
 use Rattle.std.specs.List.{AllByRecursion}
-use Rattle.coco_types.specs.Limits.{most_batch_lines, most_kept}
+use Rattle.coco_types.specs.Limits.{most_batch_lines, most_kept, most_time}
 use Rattle.coco_types.specs.declared.call.Done.{Done}
 use Rattle.coco_types.specs.declared.call.Piece.{Piece}
 use Rattle.coco_types.specs.declared.call.Request.{Request}
 use Rattle.coco_ast.specs.Fitting.{Fits}
-use Rattle.coco_ast.specs.Growth.{AreNew, GrowsBy}
+use Rattle.coco_ast.specs.Growth.{AreNew, GrowsBy, IsEpochOf}
 use Rattle.coco_ast.specs.History.{AreTimed, IsOrdered, IsSerial, RepliesAreRuns, all_dones, followed_by}
-use Rattle.coco_ast.specs.Schedule.{IsCommitOrder, timed_of}
 use Rattle.coco_entry.specs.declared.commit.Commit.{Commit}
 use Rattle.coco_entry.specs.declared.layout.Layout.{Layout}
 use Rattle.coco_entry.specs.declared.prepared.Prepared.{Prepared}
@@ -35,10 +34,10 @@ pub record MayRun (c : Contents) (requests : List Request) (epoch : ℕ) : Type 
   pub room : HasRoomFor c.setting.entry.keep (length (all_dones (history_of c)) + length requests)
   pub next : IsNextEpoch c.setting.entry.layout.base_epoch (commit_epochs c.commits) epoch
 
--- their Dones, as one thread runs them on the store's map
+-- their Dones, in the order of commit, as they are serial from the store's map
 pub record AreRun (c : Contents) (requests : List Request) (epoch : ℕ) (dones : List Done) : Type 0 where
-  pub order : IsCommitOrder requests (map timed_of dones)
-  pub numbered : AllByRecursion (λ (d : Done). d.epoch ≡ epoch) dones
+  pub each : IsEpochOf requests (record { number = epoch; dones = dones })
+  pub early : AllByRecursion (λ (d : Done). d.time ≤ most_time) dones
   pub replies : RepliesAreRuns c.setting.tree (map_in c) dones
   pub times : AreTimed dones
 

@@ -3,18 +3,18 @@ use Rattle.std.proofs.Common.{◌≡◌, ℕ, ◌<◌, ◌≤◌, ◌%◌, Bool,
 use Rattle.std.specs.FinMap.{get, insert, empty, get-empty}
 use Rattle.std.specs.Option.{option_map, unwrap_or}
 use Rattle.std.proofs.lemmas.Bool.{eqb-true, eq-eqb, ltb-true, ltb-false}
-use Rattle.std.proofs.lemmas.List.{get_or-set_same, get_or-set_other, get_or_default, same_lists}
+use Rattle.std.proofs.lemmas.List.{get_or-set_same, get_or-set_other}
 use Rattle.std.proofs.lemmas.Option.{slice_get_past, unwrap_or-slice_get}
-use Rattle.std.proofs.Math.ListN.{set, length-set}
+use Rattle.std.proofs.Math.ListN.{length-set}
 use Rattle.coco_types.specs.RowKey.{RowKey, key_cmp}
 use Rattle.coco_types.specs.declared.value.Value.{Value}
 use Rattle.coco_types.proofs.Keys.{is_key, key_swap, one_key}
-use Rattle.coco_types.proofs.KeyMaps.{get_put, same_keyed}
+use Rattle.coco_types.proofs.KeyMaps.{get_put}
 use Rattle.coco_ast.specs.Keyed.{Rows, value_at, write_at}
 use Rattle.coco_ast.proofs.Writing.{value_written}
 use Rattle.coco_shard.specs.RowState.{RowState, ShardState, Holds, IsOfPartition, newest_at, resting, row_at, stable_at}
 use Rattle.coco_shard.proofs.Partitions.{put_of, promoted_of, reverted_of}
-use Rattle.coco_epoch.specs.Shards.{AreOfPartitions, AreQuietAfter, AreSettled, HaveNewest, HaveStable, HoldMap, KeepStable, SettleOn, newest_in, row_in, shard_at, shard_of, stable_in, with_row_in}
+use Rattle.coco_epoch.specs.Shards.{AreOfPartitions, AreQuietAfter, HaveNewest, HaveStable, HoldMap, KeepStable, SettleOn, newest_in, row_in, shard_at, shard_of, stable_in, with_row_in}
 
 two_sides : true ≡ false → ⊥
 two_sides h = cc
@@ -139,9 +139,6 @@ keeps_on first mid last a b = record {
   partitions = b.partitions;
 }
 
-pub stable_kept : (m : Rows) (old new : List ShardState) → KeepStable old new → HaveStable m old → HaveStable m new
-stable_kept m old new kept stable k = ap (λ (n : ℕ). stable_at (shard_at new (k.row % n)) k) kept.count ∙ kept.stable (k.row % length old) k ∙ stable k
-
 -- ---- settled shards
 
 value_held : (opening : RowKey → Option Value) (s : ShardState) → Holds opening s → (k : RowKey) → row_at s k ≡ resting (opening k)
@@ -150,18 +147,6 @@ value_held opening s holds k = ap (λ (o : Option RowState). unwrap_or o (restin
     choose : (o : Option Value) → unwrap_or (option_map (λ value. resting (Some value)) o) (resting None) ≡ resting o
     choose None = refl
     choose (Some v) = refl
-
-settled_row : (shards : List ShardState) → AreSettled shards → (k : RowKey) → row_in shards k ≡ resting (stable_in shards k)
-settled_row shards settled k = value_held (stable_at (shard_of shards k)) (shard_of shards k) (settled (k.row % length shards)) k
-
-pub quiet_settled : (shards : List ShardState) → AreSettled shards → AreQuietAfter 0 shards
-quiet_settled shards settled = record {
-  unmarked = λ k. ap (λ (r : RowState). r.mark) (settled_row shards settled k);
-  until = λ k. subst (λ (r : RowState). r.rts ≤ 0) (sym (settled_row shards settled k)) (omega arith);
-}
-
-pub newest_settled : (m : Rows) (shards : List ShardState) → AreSettled shards → HaveStable m shards → HaveNewest m shards
-newest_settled m shards settled stable k = ap (λ (r : RowState). r.newest) (settled_row shards settled k) ∙ stable k
 
 -- ---- an epoch's end
 
@@ -182,19 +167,6 @@ promoted_map = held_map newest_at promoted_of
 
 pub reverted_map : (m : Rows) (old new : List ShardState) → SettleOn stable_at old new → AreOfPartitions old → HaveStable m old → HoldMap m new
 reverted_map = held_map stable_at reverted_of
-
--- shards that were settled and have kept their stable values are as they were, once they settle on them
-pub reverted_same : (first last back : List ShardState) → AreSettled first → KeepStable first last → SettleOn stable_at last back → back ≡ first
-reverted_same first last back settled kept settle = same_lists _ _ (settle.count ∙ kept.count) (λ k d lt. sym (read back k d lt) ∙ same k ∙ read first k d (within_first k lt))
-  where
-    same : (p : ℕ) → shard_at back p ≡ shard_at first p
-    same p = same_keyed _ _ (λ k. settle.each p k ∙ ap (option_map (λ value. resting (Some value))) (kept.stable p k) ∙ sym (settled p k))
-
-    read : (shards : List ShardState) (p : ℕ) (d : ShardState) → p < length shards → shard_at shards p ≡ get_or shards p d
-    read shards p d lt = at_place shards p ∙ get_or_default shards p empty d lt
-
-    within_first : (p : ℕ) → p < length back → p < length first
-    within_first p lt = let e : length back ≡ length first = settle.count ∙ kept.count in omega arith
 
 -- ---- one shard after another
 

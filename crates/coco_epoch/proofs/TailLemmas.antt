@@ -7,18 +7,25 @@ use Rattle.coco_types.specs.declared.call.Request.{Request}
 use Rattle.coco_ast.specs.Keyed.{Rows, put_over}
 use Rattle.coco_ast.specs.Meaning.{run}
 use Rattle.coco_ast.specs.Tree.{Procedures}
+use Rattle.coco_ast.proofs.RunsPutWrites.{run_puts_writes}
 use Rattle.coco_order.specs.Outcome.{tail_dones, tail_rows}
 use Rattle.coco_shard.specs.RowState.{ShardState}
-use Rattle.coco_epoch.specs.Pieces.{pieces_of}
+use Rattle.coco_epoch.specs.Pieces.{pieces_of, place_of}
 use Rattle.coco_pieces.specs.Pieces.{request_pieces}
 use Rattle.coco_epoch.specs.Running.{AreAtTheirPlaces, requests_of}
 use Rattle.coco_epoch.specs.Shards.{HaveNewest}
 use Rattle.coco_epoch.specs.declared.placed.Placed.{Placed}
-use Rattle.coco_epoch.proofs.EpochLemmas.{pieces_step}
 
 pub no_more : (left : List Placed) → length left ≡ 0 → left ≡ []
 no_more [] h = refl
 no_more (p ∷ left) h = absurd (omega arith)
+
+-- the pieces of the next request, and of those behind it
+pieces_step : (ps : Procedures) (epoch count : ℕ) (all : List Request) (m : Rows) (time : ℕ) (r : Request) (rs : List Request)
+    → pieces_of ps count all m (tail_dones ps epoch m time (r ∷ rs))
+    ≡ request_pieces count (place_of all r.id) (suc time) (run ps r.call m).writes ++ pieces_of ps count all (put_over m (run ps r.call m).writes) (tail_dones ps epoch (put_over m (run ps r.call m).writes) (suc time) rs)
+pieces_step ps epoch count all m time r rs =
+    ap (λ (n : Rows). request_pieces count (place_of all r.id) (suc time) (run ps r.call m).writes ++ pieces_of ps count all n (tail_dones ps epoch (put_over m (run ps r.call m).writes) (suc time) rs)) (run_puts_writes ps r.call m)
 
 -- from a map on, after some Dones and pieces
 module _ (ps : Procedures) (epoch count : ℕ) (m : Rows) (after : ℕ) (all : List Placed) (first : List Done) (parts : List Piece) where

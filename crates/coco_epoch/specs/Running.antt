@@ -1,14 +1,11 @@
 -- What an epoch keeps while it runs: the run of the last call, and requests with their places.
-use Rattle.std.specs.Prelude.{◌≡◌, ⊤, ℕ, suc, Bool, not, List, [], ◌∷◌, map, Option, None, Some}
+use Rattle.std.specs.Prelude.{◌≡◌, ⊤, List, map, Option, None, Some}
 use Rattle.std.specs.List.{AllByRecursion}
-use Rattle.coco_types.specs.declared.call.Done.{Done}
 use Rattle.coco_types.specs.declared.call.Reply.{Reply}
 use Rattle.coco_types.specs.declared.call.Request.{Request}
 use Rattle.coco_types.specs.declared.call.Write.{Write}
 use Rattle.coco_ast.specs.Fitting.{Fits}
-use Rattle.coco_ast.specs.Keyed.{Rows}
-use Rattle.coco_ast.specs.Meaning.{Run, run}
-use Rattle.coco_ast.specs.Schedule.{is_snapshot}
+use Rattle.coco_ast.specs.Meaning.{Run}
 use Rattle.coco_ast.specs.Tree.{Procedures}
 use Rattle.coco_eval.specs.Standing.{Ended, Evaluation}
 use Rattle.coco_epoch.specs.declared.placed.Placed.{Placed}
@@ -47,16 +44,3 @@ FitAll ps = AllByRecursion (λ (r : Request). Fits ps r.call)
 -- each has its place among the requests
 abbrev pub AreAtTheirPlaces : List Request → List Placed → Type 0
 AreAtTheirPlaces requests = AllByRecursion (λ (p : Placed). p.place ≡ place_of requests p.request.id)
-
--- requests with their places, from this place on
-abbrev pub placed_from : ℕ → List Request → List Placed
-placed_from n [] = []
-placed_from n (r ∷ rs) = record { place = n; request = r } ∷ placed_from (suc n) rs
-
--- the Done of a snapshot call on a map
-abbrev pub snapshot_done : Procedures → ℕ → Rows → Request → Done
-snapshot_done ps epoch m r = record { id = r.id; call = r.call; epoch = epoch; time = 0; reply = (run ps r.call m).reply }
-
--- one that isn't a snapshot call
-abbrev pub is_other : Placed → Bool
-is_other p = not (is_snapshot p.request)

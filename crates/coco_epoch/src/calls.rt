@@ -1,14 +1,14 @@
 //! How one call is run on the shards.
 
-ghost use Rattle.std.specs.Prelude.{◌≡◌, ◌<◌, ◌≤◌, [], Some, length, IfOk, OnOk};
+ghost use Rattle.std.specs.Prelude.{◌≡◌, ◌<◌, [], Some, length, OnOk};
 ghost use Rattle.coco_ast.specs.Fitting.{Fits};
 ghost use Rattle.coco_ast.specs.Keyed.{Rows, put_over};
 ghost use Rattle.coco_ast.specs.Meaning.{run};
 ghost use Rattle.coco_eval.specs.Standing.{Ready};
 ghost use Rattle.coco_epoch.specs.Running.{HasEnded, IsOver, IsThere, CameTo};
-ghost use Rattle.coco_epoch.specs.Shards.{AreOfPartitions, AreQuietAfter, HaveNewest, HaveStable, KeepStable};
+ghost use Rattle.coco_epoch.specs.Shards.{AreOfPartitions, AreQuietAfter, HaveNewest, KeepStable};
 
-use crate::shards::{put_key, read_key, stable_key};
+use crate::shards::{put_key, read_key};
 use coco_ast::Checked;
 use coco_eval::Run;
 use coco_shard::Shard;
@@ -42,28 +42,6 @@ pub fn run_newest(
     };
     read_all(running, procs, shards, time)?;
     put_all(shards, running.writes().as_slice(), time)
-}
-
-/// Runs a call on the stable values, which changes nothing.
-pub fn run_stable(
-    alloc: Global,
-    running: &mut Option<Run>,
-    procs: &Checked,
-    call: &Call,
-    shards: &[Shard],
-) -> Result<(), NoMemory>
-    requires fits { Fits procs.now call.now }
-    requires over { IsOver running.old }
-    requires some { 0 < length shards.now }
-    ensures there { OnOk result (IsThere running.new) }
-    ensures run { OnOk result ((m : Rows) → HaveStable m shards.now → CameTo (run procs.now call.now m) running.new) }
-{
-    make_ready(alloc, running, procs, call)?;
-    let Some(running) = running else {
-        unreachable!()
-    };
-    look_all(running, procs, shards);
-    Ok(())
 }
 
 // A fresh run of a call, in the place of the last one.
@@ -110,23 +88,6 @@ fn read_all(
                 running.give_lent(value.as_ref());
             }
             None => return Ok(()),
-        }
-    }
-}
-
-// Runs to the end with the stable values.
-fn look_all(running: &mut Run, procs: &Checked, shards: &[Shard])
-    requires procs { procs.now ≡ running.old.procs }
-    requires ready { running.old.standing ≡ Ready }
-    requires fresh { running.old.given ≡ [] }
-    requires some { 0 < length shards.now }
-    ensures ended { HasEnded running.new }
-    ensures run { (m : Rows) → HaveStable m shards.now → CameTo (run running.old.procs running.old.call m) (Some running.new) }
-{
-    loop {
-        match running.next_key(procs) {
-            Some(key) => running.give_lent(stable_key(shards, key).as_ref()),
-            None => return,
         }
     }
 }

@@ -1,15 +1,15 @@
-//! Epochs: the requests of a batch, run on the shards in hand.
+//! Epochs: the tail of requests that one thread runs on the shards in hand, and the end of an epoch.
 #![tactic(auto)]
 
 mod calls;
 mod ends;
-mod epoch;
 mod placed;
 mod progress;
 mod shards;
 
 pub use ends::{promote_all, revert_all};
-pub use epoch::{EpochDone, run_serially};
+pub use placed::Placed;
+pub use progress::Progress;
 
 #[cfg(test)]
 mod tests;

@@ -1,6 +1,6 @@
-//! An epoch that is run by one thread, call after call.
+//! The tail of an epoch, which one thread runs call after call.
 
-ghost use Rattle.std.specs.Prelude.{◌≡◌, ◌+◌, ◌<◌, ◌≤◌, ◌^◌, ◌++◌, ◌∷◌, [], List, length, map, IfOk, OnOk};
+ghost use Rattle.std.specs.Prelude.{◌≡◌, ◌<◌, ◌≤◌, ◌++◌, ◌∷◌, [], List, length, IfOk, OnOk};
 ghost use Rattle.coco_types.specs.declared.call.Request.{Request as Asked};
 ghost use Rattle.coco_ast.specs.Fitting.{Fits};
 ghost use Rattle.coco_ast.specs.Keyed.{Rows, put_over};
@@ -8,10 +8,10 @@ ghost use Rattle.coco_ast.specs.Meaning.{Run as Ran, run};
 ghost use Rattle.coco_order.specs.Outcome.{tail_dones, tail_rows};
 ghost use Rattle.coco_epoch.specs.Pieces.{pieces_of};
 ghost use Rattle.coco_pieces.specs.Pieces.{request_pieces};
-ghost use Rattle.coco_epoch.specs.Running.{AreAtTheirPlaces, CameTo, FitAll, IsOver, IsThere, requests_of, snapshot_done};
-ghost use Rattle.coco_epoch.specs.Shards.{AreOfPartitions, AreQuietAfter, HaveNewest, HaveStable, KeepStable};
+ghost use Rattle.coco_epoch.specs.Running.{AreAtTheirPlaces, CameTo, FitAll, IsOver, IsThere, requests_of};
+ghost use Rattle.coco_epoch.specs.Shards.{AreOfPartitions, AreQuietAfter, HaveNewest, KeepStable};
 
-use crate::calls::{run_newest, run_stable};
+use crate::calls::run_newest;
 use crate::placed::Placed;
 use coco_ast::Checked;
 use coco_eval::Run;
@@ -46,47 +46,6 @@ impl Progress {
             dones: Vec::with_capacity(alloc, requests)?,
             pieces: Pieces::from_vec(Vec::with_capacity(alloc, requests)?),
         })
-    }
-
-    /// Runs snapshot calls on the stable values, in this order, at time 0.
-    pub fn run_snapshots(
-        &mut self,
-        procs: &Checked,
-        shards: &[Shard],
-        snapshots: Vec<Request>,
-    ) -> Result<(), NoMemory>
-        requires fit { FitAll procs.now snapshots.items }
-        requires over { IsOver self.old.running }
-        requires some { 0 < length shards.now }
-        ensures over { OnOk result (IsOver self.new.running) }
-        ensures dones { OnOk result ((m : Rows) → HaveStable m shards.now →
-            self.new.dones.items ≡ self.old.dones.items ++ map (snapshot_done procs.now self.old.epoch m) snapshots.items) }
-        ensures pieces { self.new.pieces ≡ self.old.pieces }
-        ensures epoch { self.new.epoch ≡ self.old.epoch }
-    {
-        for request in snapshots {
-            self.run_snapshot(procs, shards, request)?;
-        }
-        Ok(())
-    }
-
-    fn run_snapshot(
-        &mut self,
-        procs: &Checked,
-        shards: &[Shard],
-        request: Request,
-    ) -> Result<(), NoMemory>
-        requires fits { Fits procs.now request.call }
-        requires over { IsOver self.old.running }
-        requires some { 0 < length shards.now }
-        ensures over { OnOk result (IsOver self.new.running) }
-        ensures dones { OnOk result ((m : Rows) → HaveStable m shards.now →
-            self.new.dones.items ≡ self.old.dones.items ++ snapshot_done procs.now self.old.epoch m request ∷ []) }
-        ensures pieces { self.new.pieces ≡ self.old.pieces }
-        ensures epoch { self.new.epoch ≡ self.old.epoch }
-    {
-        run_stable(self.alloc, &mut self.running, procs, &request.call, shards)?;
-        self.add_done(request, 0)
     }
 
     /// Runs requests on the newest values, in this order, at the times that follow this one: the tail of an epoch.

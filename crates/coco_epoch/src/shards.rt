@@ -1,8 +1,8 @@
 //! The row of a key, in the shard of its partition.
 
-ghost use Rattle.std.specs.Prelude.{◌≡◌, ◌<◌, ◌≤◌, ◌%◌, None, length, IfOk, OnOk, OnErr};
+ghost use Rattle.std.specs.Prelude.{◌≡◌, ◌<◌, ◌≤◌, None, length, IfOk, OnOk, OnErr};
 ghost use Rattle.coco_shard.specs.Table.{extended, installed};
-ghost use Rattle.coco_epoch.specs.Shards.{newest_in, row_in, stable_in, with_row_in};
+ghost use Rattle.coco_epoch.specs.Shards.{newest_in, row_in, with_row_in};
 
 use coco_pieces::partition_of;
 use coco_shard::Shard;
@@ -31,13 +31,4 @@ pub fn put_key(shards: &mut [Shard], write: &Write, time: u64) -> Result<(), NoM
 {
     let place = partition_of(write.key, shards.len());
     shards[place].put_at(write.key, time, write.value)
-}
-
-/// The value of a key in the last committed epoch.
-pub fn stable_key(shards: &[Shard], key: Key) -> Option<Value>
-    requires { 0 < length shards.now }
-    ensures { result ≡ stable_in shards.now key }
-{
-    let place = partition_of(key, shards.len());
-    shards[place].stable(key)
 }
