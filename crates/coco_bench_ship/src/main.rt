@@ -20,24 +20,34 @@ const RING: Ring = Ring {
     copies: 2,
 };
 
-// A number on the command line says how many pieces there are. Nanoseconds for each are said on the error stream.
+// The first number on the command line says how many pieces there are, the second how many rounds. Nanoseconds for each
+// piece are said on the error stream.
 fn main(rt: HostRuntime) -> io::Result<()> {
-    let count = count(rt)?;
+    let count = number(rt, 1, 9)?;
+    let rounds = number(rt, 2, 1)?;
+    for _round in 0..rounds {
+        round(rt, count)?;
+    }
+    Ok(())
+}
+
+// A number on the command line, or else this one.
+fn number(rt: HostRuntime, place: usize, otherwise: u16) -> io::Result<u16> {
+    match env::args(&rt)?.nth(place) {
+        Some(word) => match word.parse::<u16>() {
+            Ok(number) => Ok(number),
+            Err(_) => Err(io::Error::from(ErrorKind::InvalidInput)),
+        },
+        None => Ok(otherwise),
+    }
+}
+
+// A phase over each net.
+fn round(rt: HostRuntime, count: u16) -> io::Result<()> {
     run(rt, "quiet", &mut QuietNet::new(rt.alloc()), count)?;
     let mut net = SeededNet::new(rt.alloc());
     net.disturb(1);
     run(rt, "seeded", &mut net, count)
-}
-
-// How many pieces there are.
-fn count(rt: HostRuntime) -> io::Result<u16> {
-    match env::args(&rt)?.nth(1) {
-        Some(word) => match word.parse::<u16>() {
-            Ok(count) => Ok(count),
-            Err(_) => Err(io::Error::from(ErrorKind::InvalidInput)),
-        },
-        None => Ok(9),
-    }
 }
 
 // A phase over a new net.

@@ -12,7 +12,7 @@ pub use action::{Action, add, one, two};
 pub use fault::MessageFault;
 pub use message::{Message, Places};
 pub use reading::read_message;
-pub use writing::message_bytes;
+pub use writing::{message_bytes, ship_bytes};
 
 #[cfg(test)]
 mod tests;

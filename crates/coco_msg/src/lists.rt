@@ -1,6 +1,6 @@
 //! Counted writes and places.
 
-ghost use Rattle.std.specs.Prelude.{◌≡◌, None, ◌≤◌, ◌<◌, ◌^◌, ◌++◌, length, IfOk, OnOk};
+ghost use Rattle.std.specs.Prelude.{◌≡◌, [], None, ◌≤◌, ◌<◌, ◌^◌, ◌++◌, length, IfOk, OnOk};
 ghost use Rattle.coco_bytes.specs.Fields.{u32_bytes};
 ghost use Rattle.coco_bytes.specs.Lists.{counted, counted_at, items_at};
 ghost use Rattle.coco_msg.specs.Bytes.{write_bytes};
@@ -48,6 +48,16 @@ fn get_write(from: &[u8], at: usize) -> Result<(Write, usize), MessageFault>
     Ok((Write { key, value }, end))
 }
 
+// The bytes of a write without a value, which is the shortest.
+const SHORTEST: usize = 11;
+
+// No writes yet, with room for so many.
+fn with_room(alloc: Global, count: usize) -> Result<Writes, NoMemory>
+    ensures { IfOk result (λ writes. writes ≡ []) }
+{
+    Ok(Sequence::from_vec(Vec::with_capacity(alloc, count)?))
+}
+
 // So many writes, one behind another.
 fn get_each_write(
     alloc: Global,
@@ -59,7 +69,8 @@ fn get_each_write(
     ensures read { Answers result (items_at (λ _. write_at) None count from.now at) }
     ensures within { IfOk result (λ r. r.1 ≤ length from.now) }
 {
-    let mut writes = Sequence::new(alloc);
+    let most = (from.len() - at) / SHORTEST;
+    let mut writes = with_room(alloc, most.min(count as usize))?;
     let mut end = at;
     for _ in 0..count {
         let (write, after) = get_write(from, end)?;

@@ -2,12 +2,13 @@
 
 ghost use Rattle.std.specs.Prelude.{◌≡◌, ◌∷◌, ◌++◌, ◌<◌, ◌^◌, length, IfOk, OnOk, Bool};
 ghost use Rattle.coco_bytes.specs.Fields.{u64_bytes};
+ghost use Rattle.coco_msg.specs.declared.message.Message.TheVariants.{Ship};
 ghost use Rattle.coco_msg.specs.Bytes.{bytes_of, HasBytes, listed_bytes, piece_bytes, flag_bytes};
 
 use crate::lists::{put_places, put_writes};
 use crate::message::{Message, Places};
 use coco_bytes::{put_u8, put_u32, put_u64};
-use coco_types::{NoMemory, Writes};
+use coco_types::{NoMemory, Piece, Writes};
 use std::alloc::Global;
 
 // Puts a tag and an epoch behind the bytes.
@@ -125,5 +126,22 @@ pub fn message_bytes(alloc: Global, message: &Message) -> Result<Vec<u8>, NoMemo
 {
     let mut out = Vec::with_capacity(alloc, room(message))?;
     put_message(&mut out, message)?;
+    Ok(out)
+}
+
+/// The bytes of the Ship of a piece, whose writes are to be fewer than 2^32.
+pub fn ship_bytes(alloc: Global, epoch: u64, piece: &Piece) -> Result<Vec<u8>, NoMemory>
+    requires { length piece.now.writes < 2 ^ 32 }
+    ensures { IfOk result (λ bytes. bytes.items ≡ bytes_of (Ship epoch piece.now.partition piece.now.place piece.now.time piece.now.writes)) }
+{
+    let mut out = Vec::with_capacity(alloc, FIELDS + WRITE * piece.writes.len())?;
+    put_head(&mut out, 1, epoch)?;
+    put_piece(
+        &mut out,
+        piece.partition,
+        piece.place,
+        piece.time,
+        &piece.writes,
+    )?;
     Ok(out)
 }

@@ -16,7 +16,7 @@ use Rattle.coco_copy.specs.CopyState.{CopyState}
 use Rattle.coco_ship.specs.declared.line.Line.{Line}
 use Rattle.coco_ship.specs.declared.ring.Ring.{Ring}
 use Rattle.coco_ship.specs.Placing.{holder_of, primary_of}
-use Rattle.coco_ship.specs.Sets.{has, is_in}
+use Rattle.coco_ship.specs.Sets.{is_in}
 use Rattle.coco_ship.specs.Pieces.{covers_at}
 use Rattle.coco_net.specs.declared.letter.Posted.{Posted}
 use Rattle.coco_ship.specs.Letters.{letter_of, posted_of, ship_of, Gains}
@@ -150,12 +150,12 @@ pub hears_stay : (ring : Ring) (epoch node : ℕ) (letter : Letter) (p j : ℕ) 
 hears_stay ring epoch node letter p j l t m u same still silent = record {
   grows = λ k time h. ap (λ (s : CopyState). covers_at (get s.pending k) time) still ∙ h;
   all = ap (λ (z : Line). z.all) same;
-  there_stays = λ q h. ap (λ (z : Line). has z.there q) same ∙ h;
-  there = λ q h. inl (ap (λ (z : Line). has z.there q) (sym same) ∙ h);
+  there_stays = λ q h. ap (λ (z : Line). is_in z.there q) same ∙ h;
+  there = λ q h. inl (ap (λ (z : Line). is_in z.there q) (sym same) ∙ h);
   total = inl (ap (λ (z : Line). z.total) same);
-  lacking = λ q h. inl (ap (λ (z : Line). has z.lacking q) (sym same) ∙ h);
+  lacking = λ q h. inl (ap (λ (z : Line). is_in z.lacking q) (sym same) ∙ h);
   done = λ h. inl (ap (λ (z : Line). z.is_done) (sym same) ∙ h);
-  lacking_falls = λ q h. ap (λ (z : Line). has z.lacking q) (sym same) ∙ h;
+  lacking_falls = λ q h. ap (λ (z : Line). is_in z.lacking q) (sym same) ∙ h;
   done_stays = λ h. ap (λ (z : Line). z.is_done) same ∙ h;
   asked_stays = λ h. ap (λ (z : Line). z.is_asked) same ∙ h;
   total_stays = λ h. ap (λ (z : Line). is_some z.total) same ∙ h;
@@ -188,16 +188,16 @@ hears_ship ring epoch from p j place time writes l t m u is takes =
         | inr old ↦ inl old
       ];
       total = inl (ap (λ (z : Line). z.total) takes.rest);
-      lacking = λ q h. inl (sym (ap (λ (z : Line). has z.lacking q) takes.rest) ∙ h);
+      lacking = λ q h. inl (sym (ap (λ (z : Line). is_in z.lacking q) takes.rest) ∙ h);
       done = λ h. inl (sym (ap (λ (z : Line). z.is_done) takes.rest) ∙ h);
-      lacking_falls = λ q h. sym (ap (λ (z : Line). has z.lacking q) takes.rest) ∙ h;
+      lacking_falls = λ q h. sym (ap (λ (z : Line). is_in z.lacking q) takes.rest) ∙ h;
       done_stays = λ h. ap (λ (z : Line). z.is_done) takes.rest ∙ h;
       asked_stays = λ h. ap (λ (z : Line). z.is_asked) takes.rest;
       total_stays = λ h. ap (λ (z : Line). is_some z.total) takes.rest ∙ h;
       ships = λ sender y is_y of heard.
           let one : Ship epoch p place time writes ≡ ship_of epoch y = one_message (bytes_of (Ship epoch p place time writes)) (Ship epoch p place time writes) (ship_of epoch y) is is_y refl (same_bytes (posted (holder_of ring p j) (letter_of from (Ship epoch p place time writes))) (posted_of sender (holder_of ring p j) (ship_of epoch y)) heard) in
           let same : place ≡ y.place = cc in
-          (ap (has m.there) (sym same) ∙ takes.there.there, ap (λ (z : Line). z.is_asked) takes.rest);
+          (ap (is_in m.there) (sym same) ∙ takes.there.there, ap (λ (z : Line). z.is_asked) takes.rest);
       totals = λ sender names is_y heard.
           let one : Ship epoch p place time writes ≡ Total epoch p names = one_message (bytes_of (Ship epoch p place time writes)) (Ship epoch p place time writes) (Total epoch p names) is is_y refl (same_bytes (posted (holder_of ring p j) (letter_of from (Ship epoch p place time writes))) (posted_of sender (holder_of ring p j) (Total epoch p names)) heard) in
           let never : ⊥ = cc in absurd never;
@@ -212,12 +212,12 @@ hears_total ring epoch from p j places l t m u is takes =
     record {
       grows = λ k time h. ap (λ (s : CopyState). covers_at (get s.pending k) time) takes.1 ∙ h;
       all = ap (λ (z : Line). z.all) takes.0;
-      there_stays = λ q h. ap (λ (z : Line). has z.there q) takes.0 ∙ h;
-      there = λ q h. inl (sym (ap (λ (z : Line). has z.there q) takes.0) ∙ h);
+      there_stays = λ q h. ap (λ (z : Line). is_in z.there q) takes.0 ∙ h;
+      there = λ q h. inl (sym (ap (λ (z : Line). is_in z.there q) takes.0) ∙ h);
       total = inr (from, places, first (posted (holder_of ring p j) (letter_of from (Total epoch p places))), ap (λ (z : Line). z.total) takes.0, is);
-      lacking = λ q h. inl (sym (ap (λ (z : Line). has z.lacking q) takes.0) ∙ h);
+      lacking = λ q h. inl (sym (ap (λ (z : Line). is_in z.lacking q) takes.0) ∙ h);
       done = λ h. inl (sym (ap (λ (z : Line). z.is_done) takes.0) ∙ h);
-      lacking_falls = λ q h. sym (ap (λ (z : Line). has z.lacking q) takes.0) ∙ h;
+      lacking_falls = λ q h. sym (ap (λ (z : Line). is_in z.lacking q) takes.0) ∙ h;
       done_stays = λ h. ap (λ (z : Line). z.is_done) takes.0 ∙ h;
       asked_stays = λ h. ap (λ (z : Line). z.is_asked) takes.0;
       total_stays = λ h. ap (λ (z : Line). is_some z.total) takes.0;
@@ -236,10 +236,10 @@ hears_missing ring epoch p j places l t m u is takes =
     record {
       grows = λ k time h. ap (λ (s : CopyState). covers_at (get s.pending k) time) takes.1 ∙ h;
       all = ap (λ (z : Line). z.all) takes.0.rest;
-      there_stays = λ q h. ap (λ (z : Line). has z.there q) takes.0.rest ∙ h;
-      there = λ q h. inl (sym (ap (λ (z : Line). has z.there q) takes.0.rest) ∙ h);
+      there_stays = λ q h. ap (λ (z : Line). is_in z.there q) takes.0.rest ∙ h;
+      there = λ q h. inl (sym (ap (λ (z : Line). is_in z.there q) takes.0.rest) ∙ h);
       total = inl (ap (λ (z : Line). z.total) takes.0.rest);
-      lacking = λ q h. left_out q (has l.lacking q) (is_in places q) refl refl h;
+      lacking = λ q h. left_out q (is_in l.lacking q) (is_in places q) refl refl h;
       done = λ h. inl (sym (ap (λ (z : Line). z.is_done) takes.0.rest) ∙ h);
       lacking_falls = λ q h. (takes.0.lacking.only q h).0;
       done_stays = λ h. ap (λ (z : Line). z.is_done) takes.0.rest ∙ h;
@@ -256,8 +256,8 @@ hears_missing ring epoch p j places l t m u is takes =
           let never : ⊥ = cc in absurd never;
     }
   where
-    left_out : (q : ℕ) (a b : Bool) → has l.lacking q ≡ a → is_in places q ≡ b → has m.lacking q ≡ false
-        → (has l.lacking q ≡ false) ⊎ ((names : List ℕ) × Contains (to_node (primary_of ring p) (letter_of (holder_of ring p j) (Missing epoch p places))) (reply_of ring p j (Missing epoch p names)) × (is_in names q ≡ false) × IsMessage (Missing epoch p names))
+    left_out : (q : ℕ) (a b : Bool) → is_in l.lacking q ≡ a → is_in places q ≡ b → is_in m.lacking q ≡ false
+        → (is_in l.lacking q ≡ false) ⊎ ((names : List ℕ) × Contains (to_node (primary_of ring p) (letter_of (holder_of ring p j) (Missing epoch p places))) (reply_of ring p j (Missing epoch p names)) × (is_in names q ≡ false) × IsMessage (Missing epoch p names))
     left_out q false b lacked named h = inl lacked
     left_out q true false lacked named h = inr (places, first (posted (primary_of ring p) (letter_of (holder_of ring p j) (Missing epoch p places))), named, is)
     left_out q true true lacked named h = absurd (two_sides (sym (takes.0.lacking.both q lacked named) ∙ h))
@@ -268,12 +268,12 @@ hears_all ring epoch p j l t m u is takes =
     record {
       grows = λ k time h. ap (λ (s : CopyState). covers_at (get s.pending k) time) takes.1 ∙ h;
       all = ap (λ (z : Line). z.all) takes.0;
-      there_stays = λ q h. ap (λ (z : Line). has z.there q) takes.0 ∙ h;
-      there = λ q h. inl (sym (ap (λ (z : Line). has z.there q) takes.0) ∙ h);
+      there_stays = λ q h. ap (λ (z : Line). is_in z.there q) takes.0 ∙ h;
+      there = λ q h. inl (sym (ap (λ (z : Line). is_in z.there q) takes.0) ∙ h);
       total = inl (ap (λ (z : Line). z.total) takes.0);
-      lacking = λ q h. inl (sym (ap (λ (z : Line). has z.lacking q) takes.0) ∙ h);
+      lacking = λ q h. inl (sym (ap (λ (z : Line). is_in z.lacking q) takes.0) ∙ h);
       done = λ h. inr (first (posted (primary_of ring p) (letter_of (holder_of ring p j) (All epoch p))), is);
-      lacking_falls = λ q h. sym (ap (λ (z : Line). has z.lacking q) takes.0) ∙ h;
+      lacking_falls = λ q h. sym (ap (λ (z : Line). is_in z.lacking q) takes.0) ∙ h;
       done_stays = λ h. ap (λ (z : Line). z.is_done) takes.0;
       asked_stays = λ h. ap (λ (z : Line). z.is_asked) takes.0 ∙ h;
       total_stays = λ h. ap (λ (z : Line). is_some z.total) takes.0 ∙ h;

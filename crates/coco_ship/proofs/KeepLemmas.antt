@@ -2,7 +2,6 @@
 use Rattle.std.proofs.Common.{◌≡◌, ℕ, true, List, Some, refl, sym, subst, inl, inr}
 use Rattle.std.specs.List.{slice_get}
 use Rattle.std.specs.Option.{MatchOption}
-use Rattle.std.specs.BTreeSet.{BTreeSet}
 use Rattle.coco_types.specs.declared.call.Piece.{Piece}
 use Rattle.coco_msg.specs.declared.message.Message.TheVariants.{Total, Missing, All}
 use Rattle.coco_net.specs.declared.letter.Posted.{Posted}
@@ -35,7 +34,7 @@ line_kept ring epoch pieces lines posts p j l t m u fit copy here honest line he
     | inr by ↦ subst (λ o. MatchOption o (Unit {0}) (ArePlacesOf pieces p)) (sym by.3)
         (honest (posted_of by.0 (holder_of ring p j) (Total epoch p by.1)) (Total epoch p by.1) by.2 by.4 refl refl)
   ];
-  all = subst (λ (s : BTreeSet ℕ). ArePlacesOf pieces p s.keys) (sym hears.all) line.all;
+  all = subst (λ (s : List ℕ). ArePlacesOf pieces p s) (sym hears.all) line.all;
   lacking = λ x of h. hears.there_stays x.place (elim (hears.lacking x.place h) [
     | inl old ↦ line.lacking x of old
     | inr by ↦ honest (reply_of ring p j (Missing epoch p by.0)) (Missing epoch p by.0) by.1 by.3 refl refl j copy refl l here x of by.2

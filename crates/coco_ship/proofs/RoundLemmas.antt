@@ -4,7 +4,6 @@ use Rattle.std.specs.FinMap.{get}
 use Rattle.std.specs.List.{slice_get, All as Each, Contains}
 use Rattle.std.specs.Option.{option_map, IfSome}
 use Rattle.std.specs.Result.{OnOk}
-use Rattle.std.specs.BTreeSet.{BTreeSet}
 use Rattle.std.proofs.lemmas.List.Elements.{All-append, All-contains, Contains-append_cases, Contains-append_left, Contains-append_right, Contains-get_or}
 use Rattle.coco_types.specs.RowKey.{RowKey}
 use Rattle.coco_types.specs.declared.value.Value.{Value}
@@ -19,7 +18,6 @@ use Rattle.coco_copy.specs.CopyState.{CopyState}
 use Rattle.coco_ship.specs.declared.line.Line.{Line}
 use Rattle.coco_ship.specs.declared.ring.Ring.{Ring}
 use Rattle.coco_ship.specs.Placing.{holder_of, primary_of, table_of, IsCopy, IsRing}
-use Rattle.coco_ship.specs.Sets.{has}
 use Rattle.coco_ship.specs.Pieces.{AreShippable, HasPieces, IsOf, IsWritten}
 use Rattle.coco_ship.specs.Letters.{all_of, letter_of, posted_of, ship_of, AreInside, AreOther, Gains, IsInside, IsOther}
 use Rattle.coco_ship.specs.Lines.{answered, AreLines, AreWaiting, IsLine}
@@ -68,7 +66,7 @@ asks_inside ring epoch pieces lines letters fit asks i d h =
     let by = asks.only s (Contains-get_or letters i d h) in
     elim by.3 [
       | inl ships ↦ inside_ask ring by.0 by.1 (ship_of epoch ships.0) s fit ships.2
-      | inr tells ↦ inside_ask ring by.0 by.1 (Total epoch by.0 tells.0.all.keys) s fit tells.2
+      | inr tells ↦ inside_ask ring by.0 by.1 (Total epoch by.0 tells.0.all) s fit tells.2
     ]
 
 pub asks_phase : (ring : Ring) (epoch : ℕ) (pieces : List Piece) (lines : List Line) (letters : List Posted) → AreAsks ring epoch pieces lines letters → ArePhase epoch letters
@@ -77,7 +75,7 @@ asks_phase ring epoch pieces lines letters asks i d h =
     let by = asks.only s (Contains-get_or letters i d h) in
     elim by.3 [
       | inl ships ↦ (ship_of epoch ships.0, refl, ap (λ (z : Posted). z.letter.bytes) ships.2)
-      | inr tells ↦ (Total epoch by.0 tells.0.all.keys, refl, ap (λ (z : Posted). z.letter.bytes) tells.2)
+      | inr tells ↦ (Total epoch by.0 tells.0.all, refl, ap (λ (z : Posted). z.letter.bytes) tells.2)
     ]
 
 pub answers_inside : (ring : Ring) (epoch : ℕ) (lines : List Line) (letters : List Posted) → IsRing ring → AreAnswers ring epoch lines letters → AreInside letters
@@ -94,8 +92,8 @@ answers_phase ring epoch lines letters answers i d h =
     let answer : IsAnswer ring epoch by.0 by.1 by.3.0 s = by.3.2 in
     (answer_of epoch by.0 answer.missing, phase by.0 answer.missing, ap (λ (z : Posted). z.letter.bytes) answer.is)
   where
-    phase : (p : ℕ) (missing : BTreeSet ℕ) → IsPhase epoch (answer_of epoch p missing)
-    phase p missing = elim (length missing.keys == 0) as (λ b. IsPhase epoch (cond b (All epoch p) (Missing epoch p missing.keys))) [ true ↦ refl | false ↦ refl ]
+    phase : (p : ℕ) (missing : List ℕ) → IsPhase epoch (answer_of epoch p missing)
+    phase p missing = elim (length missing == 0) as (λ b. IsPhase epoch (cond b (All epoch p) (Missing epoch p missing))) [ true ↦ refl | false ↦ refl ]
 
 -- ---- what rounds add
 

@@ -9,7 +9,7 @@ use Rattle.coco_net.specs.declared.letter.Posted.{Posted}
 use Rattle.coco_ship.specs.declared.line.Line.{Line}
 use Rattle.coco_ship.specs.declared.ring.Ring.{Ring}
 use Rattle.coco_ship.specs.Placing.{table_of}
-use Rattle.coco_ship.specs.Sets.{has}
+use Rattle.coco_ship.specs.Sets.{is_in}
 use Rattle.coco_ship.specs.Letters.{ship_of}
 use Rattle.coco_ship.specs.Sending.{Adds, ask_of, ShipsPiece}
 use Rattle.coco_ship.proofs.Tables.{one_read}
@@ -50,7 +50,7 @@ ships_more ring epoch x lines n old mid new is ships = record {
 
 -- or it isn't needed there
 pub ships_same : (ring : Ring) (epoch : ℕ) (x : Piece) (lines : List Line) (n : ℕ) (old mid : List Posted) (line : Line) → slice_get lines (table_of ring x.partition n) ≡ Some line
-    → ((line.is_done ≡ false) → (has line.lacking x.place ≡ true) → ⊥) → ShipsPiece ring epoch x lines n old mid → ShipsPiece ring epoch x lines (n + 1) old mid
+    → ((line.is_done ≡ false) → (is_in line.lacking x.place ≡ true) → ⊥) → ShipsPiece ring epoch x lines n old mid → ShipsPiece ring epoch x lines (n + 1) old mid
 ships_same ring epoch x lines n old mid line here needless ships = record {
   readable = ships.readable;
   added = adds_wider old mid (λ s. (j : ℕ) × (j < n) × (s ≡ ask_of ring x.partition j (ship_of epoch x))) (λ s. (j : ℕ) × (j < n + 1) × (s ≡ ask_of ring x.partition j (ship_of epoch x))) (λ s h. (h.0, omega (arith, h.1), h.2)) ships.added;
@@ -59,6 +59,6 @@ ships_same ring epoch x lines n old mid line here needless ships = record {
     | inr last ↦
         let same : j ≡ n = omega (arith, less, last) in
         let one : line ≡ other = one_read (slice_get lines (table_of ring x.partition n)) line other here (sym (ap (λ j. slice_get lines (table_of ring x.partition j)) same) ∙ other_is) in
-        absurd (needless (ap (λ (z : Line). z.is_done) one ∙ waits) (ap (λ (z : Line). has z.lacking x.place) one ∙ lacks))
+        absurd (needless (ap (λ (z : Line). z.is_done) one ∙ waits) (ap (λ (z : Line). is_in z.lacking x.place) one ∙ lacks))
   ];
 }

@@ -10,7 +10,7 @@ use Rattle.coco_copy.specs.CopyState.{CopyState}
 use Rattle.coco_ship.specs.declared.line.Line.{Line}
 use Rattle.coco_ship.specs.declared.ring.Ring.{Ring}
 use Rattle.coco_ship.specs.Placing.{holder_of, table_of, IsCopy}
-use Rattle.coco_ship.specs.Sets.{has, is_in}
+use Rattle.coco_ship.specs.Sets.{is_in}
 use Rattle.coco_ship.specs.Pieces.{AreShippable, IsOf}
 use Rattle.coco_ship.specs.Letters.{all_of}
 use Rattle.coco_ship.specs.Lines.{AreLines, ArePlacesOf}
@@ -20,7 +20,7 @@ use Rattle.coco_ship.specs.Taking.{Brings, OfTables}
 -- All pieces of a partition but those at these places are there.
 abbrev pub AreThere : Ring → List Piece → List Line → ℕ → ℕ → List ℕ → Type 0
 AreThere ring pieces lines from p places = (j : ℕ) → IsCopy ring p j → holder_of ring p j ≡ from → (line : Line) → slice_get lines (table_of ring p j) ≡ Some line
-    → (x : Piece) → IsOf pieces p x → is_in places x.place ≡ false → has line.there x.place ≡ true
+    → (x : Piece) → IsOf pieces p x → is_in places x.place ≡ false → is_in line.there x.place ≡ true
 
 -- what a message of this epoch tells is so
 abbrev pub IsHonest : Ring → ℕ → List Piece → List Line → ℕ → Message → Type 0
@@ -63,7 +63,7 @@ pub record IsDoneBy (ring : Ring) (epoch : ℕ) (given : List Posted) (p j : ℕ
 pub record IsTold (pieces : List Piece) (p : ℕ) (line : Line) : Type 0 where
   pub total : is_some line.total ≡ true
   pub asked : line.is_asked ≡ true
-  pub there : (x : Piece) → IsOf pieces p x → has line.there x.place ≡ true
+  pub there : (x : Piece) → IsOf pieces p x → is_in line.there x.place ≡ true
 
 -- so for each copy whose All the primary hasn't
 abbrev pub AreTold : Ring → List Piece → List Line → Type 0

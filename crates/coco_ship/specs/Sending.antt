@@ -1,7 +1,6 @@
 -- What primaries ask, and what copies answer.
 use Rattle.std.specs.Prelude.{◌≡◌, ℕ, ◌==◌, ◌<◌, true, false, is_some, length, List, [], ◌∷◌, ◌++◌, Contains, Some, ◌⊎◌, if◌then◌else◌}
 use Rattle.std.specs.List.{slice_get}
-use Rattle.std.specs.BTreeSet.{BTreeSet}
 use Rattle.coco_types.specs.declared.call.Piece.{Piece}
 use Rattle.coco_msg.specs.declared.message.Message.{Message}
 use Rattle.coco_msg.specs.declared.message.Message.TheVariants.{Total, Missing, All}
@@ -10,7 +9,7 @@ use Rattle.coco_net.specs.declared.letter.Posted.{Posted}
 use Rattle.coco_ship.specs.declared.line.Line.{Line}
 use Rattle.coco_ship.specs.declared.ring.Ring.{Ring}
 use Rattle.coco_ship.specs.Placing.{holder_of, primary_of, table_of, IsCopy}
-use Rattle.coco_ship.specs.Sets.{has, Misses}
+use Rattle.coco_ship.specs.Sets.{is_in, Misses}
 use Rattle.coco_ship.specs.Pieces.{IsOf}
 use Rattle.coco_ship.specs.Letters.{posted_of, ship_of}
 
@@ -30,33 +29,33 @@ pub record Adds (old new : List Posted) (Kind : Posted → Type 0) : Type 0 wher
 pub record ShipsPiece (ring : Ring) (epoch : ℕ) (x : Piece) (lines : List Line) (count : ℕ) (old new : List Posted) : Type 0 where
   pub readable : IsMessage (ship_of epoch x)
   pub added : Adds old new (λ s. (j : ℕ) × (j < count) × (s ≡ ask_of ring x.partition j (ship_of epoch x)))
-  pub sent : (j : ℕ) → j < count → (line : Line) → slice_get lines (table_of ring x.partition j) ≡ Some line → line.is_done ≡ false → has line.lacking x.place ≡ true
+  pub sent : (j : ℕ) → j < count → (line : Line) → slice_get lines (table_of ring x.partition j) ≡ Some line → line.is_done ≡ false → is_in line.lacking x.place ≡ true
       → Contains new (ask_of ring x.partition j (ship_of epoch x))
 
 -- the first copies of a partition are told the places of its pieces, unless they are done
 pub record TellsTotals (ring : Ring) (epoch p : ℕ) (lines : List Line) (count : ℕ) (old new : List Posted) : Type 0 where
-  pub added : Adds old new (λ s. (j : ℕ) × (j < count) × ((line : Line) × (slice_get lines (table_of ring p j) ≡ Some line) × (s ≡ ask_of ring p j (Total epoch p line.all.keys)) × IsMessage (Total epoch p line.all.keys)))
+  pub added : Adds old new (λ s. (j : ℕ) × (j < count) × ((line : Line) × (slice_get lines (table_of ring p j) ≡ Some line) × (s ≡ ask_of ring p j (Total epoch p line.all)) × IsMessage (Total epoch p line.all)))
   pub sent : (j : ℕ) → j < count → (line : Line) → slice_get lines (table_of ring p j) ≡ Some line → line.is_done ≡ false
-      → Contains new (ask_of ring p j (Total epoch p line.all.keys)) × IsMessage (Total epoch p line.all.keys)
+      → Contains new (ask_of ring p j (Total epoch p line.all)) × IsMessage (Total epoch p line.all)
 
 -- all that is asked in an exchange
 pub record AreAsks (ring : Ring) (epoch : ℕ) (pieces : List Piece) (lines : List Line) (letters : List Posted) : Type 0 where
   pub only : (s : Posted) → Contains letters s → (p : ℕ) × (j : ℕ) × IsCopy ring p j
-      × (((x : Piece) × IsOf pieces p x × (s ≡ ask_of ring p j (ship_of epoch x))) ⊎ ((line : Line) × (slice_get lines (table_of ring p j) ≡ Some line) × (s ≡ ask_of ring p j (Total epoch p line.all.keys)) × IsMessage (Total epoch p line.all.keys)))
+      × (((x : Piece) × IsOf pieces p x × (s ≡ ask_of ring p j (ship_of epoch x))) ⊎ ((line : Line) × (slice_get lines (table_of ring p j) ≡ Some line) × (s ≡ ask_of ring p j (Total epoch p line.all)) × IsMessage (Total epoch p line.all)))
   pub readable : (x : Piece) → Contains pieces x → IsMessage (ship_of epoch x)
   pub ships : (p j : ℕ) → IsCopy ring p j → (line : Line) → slice_get lines (table_of ring p j) ≡ Some line → line.is_done ≡ false
-      → (x : Piece) → IsOf pieces p x → has line.lacking x.place ≡ true → Contains letters (ask_of ring p j (ship_of epoch x))
+      → (x : Piece) → IsOf pieces p x → is_in line.lacking x.place ≡ true → Contains letters (ask_of ring p j (ship_of epoch x))
   pub totals : (p j : ℕ) → IsCopy ring p j → (line : Line) → slice_get lines (table_of ring p j) ≡ Some line → line.is_done ≡ false
-      → Contains letters (ask_of ring p j (Total epoch p line.all.keys)) × IsMessage (Total epoch p line.all.keys)
+      → Contains letters (ask_of ring p j (Total epoch p line.all)) × IsMessage (Total epoch p line.all)
 
 -- All where nothing is missing, else what is missing
-abbrev pub answer_of : ℕ → ℕ → BTreeSet ℕ → Message
-answer_of epoch p missing = if length missing.keys == 0 then All epoch p else Missing epoch p missing.keys
+abbrev pub answer_of : ℕ → ℕ → List ℕ → Message
+answer_of epoch p missing = if length missing == 0 then All epoch p else Missing epoch p missing
 
 -- the message answers for a line that has a Total
 pub record GivesAnswer (epoch p : ℕ) (line : Line) (m : Message) : Type 0 where
   pub total : List ℕ
-  pub missing : BTreeSet ℕ
+  pub missing : List ℕ
   pub has_total : line.total ≡ Some total
   pub misses : Misses line.there total missing
   pub readable : IsMessage (answer_of epoch p missing)
@@ -65,7 +64,7 @@ pub record GivesAnswer (epoch p : ℕ) (line : Line) (m : Message) : Type 0 wher
 -- such an answer in a letter
 pub record IsAnswer (ring : Ring) (epoch p j : ℕ) (line : Line) (s : Posted) : Type 0 where
   pub total : List ℕ
-  pub missing : BTreeSet ℕ
+  pub missing : List ℕ
   pub has_total : line.total ≡ Some total
   pub misses : Misses line.there total missing
   pub readable : IsMessage (answer_of epoch p missing)

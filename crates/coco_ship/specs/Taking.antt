@@ -13,7 +13,7 @@ use Rattle.coco_copy.specs.CopyState.{CopyState}
 use Rattle.coco_ship.specs.declared.line.Line.{Line}
 use Rattle.coco_ship.specs.declared.ring.Ring.{Ring}
 use Rattle.coco_ship.specs.Placing.{holder_of, primary_of, table_of, IsCopy}
-use Rattle.coco_ship.specs.Sets.{has, is_in, Adds, Keeps}
+use Rattle.coco_ship.specs.Sets.{is_in, Adds, Keeps}
 use Rattle.coco_ship.specs.Pieces.{covers, covers_at}
 use Rattle.coco_net.specs.declared.letter.Posted.{Posted}
 use Rattle.coco_net.specs.Mail.{letters_to}
@@ -87,17 +87,17 @@ waiting_below waiting (suc n) = waiting_below waiting n ++ at_node n (waiting n)
 pub record Hears (ring : Ring) (epoch : ℕ) (posts : List Posted) (p j : ℕ) (l : Line) (t : CopyState) (l' : Line) (t' : CopyState) : Type 0 where
   pub grows : Grows t t'
   pub all : l'.all ≡ l.all
-  pub there_stays : (q : ℕ) → has l.there q ≡ true → has l'.there q ≡ true
-  pub there : (q : ℕ) → has l'.there q ≡ true → (has l.there q ≡ true) ⊎ ((from : ℕ) × (x : Piece) × Contains posts (posted_of from (holder_of ring p j) (ship_of epoch x)) × (x.partition ≡ p)
+  pub there_stays : (q : ℕ) → is_in l.there q ≡ true → is_in l'.there q ≡ true
+  pub there : (q : ℕ) → is_in l'.there q ≡ true → (is_in l.there q ≡ true) ⊎ ((from : ℕ) × (x : Piece) × Contains posts (posted_of from (holder_of ring p j) (ship_of epoch x)) × (x.partition ≡ p)
       × (x.place ≡ q) × (covers t' x.time x.writes ≡ true) × IsMessage (ship_of epoch x))
   pub total : (l'.total ≡ l.total) ⊎ ((from : ℕ) × (places : List ℕ) × Contains posts (posted_of from (holder_of ring p j) (Total epoch p places)) × (l'.total ≡ Some places) × IsMessage (Total epoch p places))
-  pub lacking : (q : ℕ) → has l'.lacking q ≡ false → (has l.lacking q ≡ false) ⊎ ((places : List ℕ) × Contains posts (reply_of ring p j (Missing epoch p places)) × (is_in places q ≡ false) × IsMessage (Missing epoch p places))
+  pub lacking : (q : ℕ) → is_in l'.lacking q ≡ false → (is_in l.lacking q ≡ false) ⊎ ((places : List ℕ) × Contains posts (reply_of ring p j (Missing epoch p places)) × (is_in places q ≡ false) × IsMessage (Missing epoch p places))
   pub done : l'.is_done ≡ true → (l.is_done ≡ true) ⊎ (Contains posts (reply_of ring p j (All epoch p)) × IsMessage (All epoch p))
-  pub lacking_falls : (q : ℕ) → has l'.lacking q ≡ true → has l.lacking q ≡ true
+  pub lacking_falls : (q : ℕ) → is_in l'.lacking q ≡ true → is_in l.lacking q ≡ true
   pub done_stays : l.is_done ≡ true → l'.is_done ≡ true
   pub asked_stays : l.is_asked ≡ true → l'.is_asked ≡ true
   pub total_stays : is_some l.total ≡ true → is_some l'.total ≡ true
-  pub ships : (from : ℕ) (x : Piece) → IsMessage (ship_of epoch x) → x.partition ≡ p → Contains posts (posted_of from (holder_of ring p j) (ship_of epoch x)) → (has l'.there x.place ≡ true) × (l'.is_asked ≡ true)
+  pub ships : (from : ℕ) (x : Piece) → IsMessage (ship_of epoch x) → x.partition ≡ p → Contains posts (posted_of from (holder_of ring p j) (ship_of epoch x)) → (is_in l'.there x.place ≡ true) × (l'.is_asked ≡ true)
   pub totals : (from : ℕ) (places : List ℕ) → IsMessage (Total epoch p places) → Contains posts (posted_of from (holder_of ring p j) (Total epoch p places)) → (is_some l'.total ≡ true) × (l'.is_asked ≡ true)
   pub alls : IsMessage (All epoch p) → Contains posts (reply_of ring p j (All epoch p)) → l'.is_done ≡ true
 

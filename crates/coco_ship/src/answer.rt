@@ -11,7 +11,7 @@ ghost use Rattle.coco_ship.specs.Sending.{answer_of, Answers, AnswersOf, AreAnsw
 use crate::Ring;
 use crate::line::Line;
 use crate::mail::write_letter;
-use crate::places::{PlaceSet, listed, missing};
+use crate::places::{PlaceSet, missing};
 use coco_msg::{Message, Places};
 use coco_net::Posted;
 use coco_types::NoMemory;
@@ -26,7 +26,7 @@ fn answer(alloc: Global, epoch: u64, partition: u8, missing: &PlaceSet) -> Resul
     if missing.is_empty() {
         return Ok(Message::All { epoch, partition });
     }
-    let places = Places::from_vec(listed(alloc, missing)?);
+    let places = Places::from_vec(missing.listed(alloc)?);
     Ok(Message::Missing {
         epoch,
         partition,
@@ -46,7 +46,7 @@ fn answer_line(
 {
     match &line.total {
         Some(total) if line.is_asked => {
-            let missing = missing(alloc, &line.there, total.as_slice())?;
+            let missing = missing(alloc, line.there.as_slice(), total.as_slice())?;
             Ok(Some(answer(alloc, epoch, partition, &missing)?))
         }
         _ => Ok(None),

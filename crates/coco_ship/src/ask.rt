@@ -2,7 +2,7 @@
 
 ghost use Rattle.std.specs.Prelude.{◌≡◌, ◌*◌, ◌<◌, ◌^◌, [], ◌∷◌, ◌++◌, All, length, IfOk, OnOk};
 ghost use Rattle.coco_bytes.specs.Values.{IsKey, IsValue};
-ghost use Rattle.coco_msg.specs.Bytes.{epoch_of, AreWrites, IsMessage, IsWrite};
+ghost use Rattle.coco_msg.specs.Bytes.{IsMessage, IsWrite};
 ghost use Rattle.coco_msg.specs.declared.message.Message.TheVariants.{Total as Told};
 ghost use Rattle.coco_ship.specs.Letters.{ship_of};
 ghost use Rattle.coco_ship.specs.Placing.{IsRing};
@@ -10,11 +10,10 @@ ghost use Rattle.coco_ship.specs.Sending.{ask_of, AreAsks, ShipsPiece, TellsTota
 
 use crate::Ring;
 use crate::line::Line;
-use crate::mail::write_letter;
-use crate::places::{has, listed};
-use coco_msg::{Message, Places};
+use crate::mail::{add_letter, write_letter};
+use coco_msg::{Message, Places, ship_bytes};
 use coco_net::Posted;
-use coco_types::{Key, NoMemory, Piece, Sequence, Value, Write, Writes};
+use coco_types::{Key, NoMemory, Piece, Value, Write};
 use std::alloc::Global;
 use std::collections::VecDeque;
 
@@ -41,86 +40,53 @@ fn value_fits(value: &Option<Value>)
     }
 }
 
-// The same write, which can be written into a letter.
-fn copied(write: &Write) -> Write
-    ensures same { result ≡ write.now }
-    ensures readable { IsWrite write.now }
+// A key and a value that fit.
+fn write_fits(write: &Write)
+    ensures { IsWrite write.now }
 {
     key_fits(&write.key);
     value_fits(&write.value);
-    Write {
-        key: write.key,
-        value: write.value,
-    }
 }
 
-// The same writes once more.
-fn all_copied(alloc: Global, writes: &[Write]) -> Result<Writes, NoMemory>
-    ensures same { IfOk result (λ copy. copy ≡ writes.now) }
-    ensures readable { IfOk result (λ copy. AreWrites copy) }
+// Each write fits.
+fn writes_fit(writes: &[Write])
+    ensures { All IsWrite writes.now }
 {
-    if writes.len() > u32::MAX as usize {
-        return Err(NoMemory);
-    }
-    let mut copy = Vec::new(alloc);
     for write in writes {
-        copy.push(copied(write))?;
+        write_fits(write);
     }
-    Ok(Sequence::from_vec(copy))
 }
 
-// A piece's numbers are those of its fields.
+// A piece's numbers are those of its fields, and its writes fit.
 fn piece_fits(piece: &Piece)
     ensures partition { piece.now.partition < 2 ^ 8 }
     ensures place { piece.now.place < 2 ^ 32 }
     ensures time { piece.now.time < 2 ^ 64 }
+    ensures writes { All IsWrite piece.now.writes }
 {
     let _partition = piece.partition;
     let _place = piece.place;
     let _time = piece.time;
+    writes_fit(piece.writes.as_slice());
 }
 
-// The Ship of a piece.
-fn ship(alloc: Global, epoch: u64, piece: &Piece) -> Result<Message, NoMemory>
-    ensures same { IfOk result (λ m. m ≡ ship_of epoch piece.now) }
-    ensures readable { IfOk result (λ m. IsMessage m) }
-{
-    piece_fits(piece);
-    let writes = all_copied(alloc, piece.writes.as_slice())?;
-    Ok(Message::Ship {
-        epoch,
-        partition: piece.partition,
-        place: piece.place,
-        time: piece.time,
-        writes,
-    })
-}
-
-// Ships a piece, as this message, to each copy of which its primary doesn't know that it is there.
-fn ship_to_copies(
+// Ships a piece to a copy.
+fn ship(
     alloc: Global,
     ring: Ring,
+    epoch: u64,
     piece: &Piece,
-    message: &Message,
-    lines: &[Line],
+    copy: u8,
     letters: &mut VecDeque<Posted>,
 ) -> Result<(), NoMemory>
     requires ring { IsRing ring }
-    requires partition { piece.now.partition < ring.partitions }
-    requires lines { length lines.now ≡ ring.partitions * ring.copies }
-    requires message { message.now ≡ ship_of (epoch_of message.now) piece.now }
-    requires readable { IsMessage message.now }
-    ensures { OnOk result (ShipsPiece ring (epoch_of message.now) piece.now lines.now ring.copies letters.old.items letters.new.items) }
+    requires few { length piece.now.writes < 2 ^ 32 }
+    ensures { OnOk result (letters.new.items ≡ letters.old.items ++ ask_of ring piece.now.partition copy (ship_of epoch piece.now) ∷ []) }
 {
-    let partition = piece.partition;
-    for copy in 0..ring.copies {
-        let line = &lines[ring.table(partition, copy)];
-        if !line.is_done && has(&line.lacking, piece.place) {
-            let to = ring.holder(partition, copy);
-            write_letter(alloc, letters, ring.primary(partition), to, message)?;
-        }
-    }
-    Ok(())
+    let bytes = ship_bytes(alloc, epoch, piece)?;
+    let from = ring.primary(piece.partition);
+    let to = ring.holder(piece.partition, copy);
+    add_letter(letters, from, to, bytes)
 }
 
 // Ships a piece to each copy of which its primary doesn't know that it is there.
@@ -137,8 +103,17 @@ fn ship_piece(
     requires lines { length lines.now ≡ ring.partitions * ring.copies }
     ensures { OnOk result (ShipsPiece ring epoch piece.now lines.now ring.copies letters.old.items letters.new.items) }
 {
-    let message = ship(alloc, epoch, piece)?;
-    ship_to_copies(alloc, ring, piece, &message, lines, letters)
+    if piece.writes.len() > u32::MAX as usize {
+        return Err(NoMemory);
+    }
+    piece_fits(piece);
+    for copy in 0..ring.copies {
+        let line = &lines[ring.table(piece.partition, copy)];
+        if !line.is_done && line.lacking.has(piece.place) {
+            ship(alloc, ring, epoch, piece, copy, letters)?;
+        }
+    }
+    Ok(())
 }
 
 // Tells a copy the places of all pieces of its partition.
@@ -152,10 +127,10 @@ fn tell(
     letters: &mut VecDeque<Posted>,
 ) -> Result<(), NoMemory>
     requires { IsRing ring }
-    ensures letters { OnOk result (letters.new.items ≡ letters.old.items ++ ask_of ring partition copy (Told epoch partition line.now.all.keys) ∷ []) }
-    ensures readable { OnOk result (IsMessage (Told epoch partition line.now.all.keys)) }
+    ensures letters { OnOk result (letters.new.items ≡ letters.old.items ++ ask_of ring partition copy (Told epoch partition line.now.all) ∷ []) }
+    ensures readable { OnOk result (IsMessage (Told epoch partition line.now.all)) }
 {
-    let places = Places::from_vec(listed(alloc, &line.all)?);
+    let places = Places::from_vec(line.all.listed(alloc)?);
     let message = Message::Total {
         epoch,
         partition,

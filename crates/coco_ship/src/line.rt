@@ -2,16 +2,15 @@
 
 ghost use Rattle.std.specs.Prelude.{◌≡◌, ◌*◌, ◌<◌, All, length, IfOk, OnOk};
 ghost use Rattle.std.specs.FinMap.{get};
-ghost use Rattle.coco_ship.specs.Lines.{no_line, AreLines, AreWaiting, Notes, NotesPiece};
+ghost use Rattle.coco_ship.specs.Lines.{none_noted, AllBegin, AreLines, AreNoted, AreWaiting, Begins, Notes, NotesPiece};
 ghost use Rattle.coco_ship.specs.Pieces.{covers, covers_at, AreShippable};
 
 use crate::Ring;
-use crate::places::{PlaceSet, add};
+use crate::places::{Arrivals, PlaceSet, add};
 use coco_copy::CopyTable;
 use coco_msg::Places;
 use coco_types::{NoMemory, Piece, Write};
 use std::alloc::Global;
-use std::collections::BTreeSet;
 
 /// Between a primary and a copy.
 #[derive(Drop)]
@@ -23,37 +22,35 @@ pub(crate) struct Line {
     /// Whether the primary was given the copy's All.
     pub is_done: bool,
     /// The places that are there.
-    pub there: PlaceSet,
+    pub there: Arrivals,
     /// The places that a Total told the copy.
     pub total: Option<Places>,
     /// Whether the copy was told anything since its last answer.
     pub is_asked: bool,
 }
 
-// A line of a partition without pieces.
-fn idle(alloc: Global) -> Line
-    ensures { result ≡ no_line }
-{
-    Line {
-        all: BTreeSet::new(alloc),
-        lacking: BTreeSet::new(alloc),
-        is_done: false,
-        there: BTreeSet::new(alloc),
-        total: None,
-        is_asked: false,
-    }
+/// The pieces of a copy's partition, as they are noted one after another.
+#[derive(Drop)]
+struct Noted {
+    /// The places of all.
+    all: Arrivals,
+    /// Those that are there already.
+    there: Arrivals,
 }
 
-// So many of these.
-fn idle_lines(alloc: Global, count: usize) -> Result<Vec<Line>, NoMemory>
-    ensures count { IfOk result (λ lines. length lines.items ≡ count) }
-    ensures idle { IfOk result (λ lines. All (λ line. line ≡ no_line) lines.items) }
+// So many copies without pieces.
+fn unnoted(alloc: Global, count: usize) -> Result<Vec<Noted>, NoMemory>
+    ensures count { IfOk result (λ notes. length notes.items ≡ count) }
+    ensures none { IfOk result (λ notes. All (λ noted. noted ≡ none_noted) notes.items) }
 {
-    let mut lines = Vec::new(alloc);
-    for _line in 0..count {
-        lines.push(idle(alloc))?;
+    let mut notes = Vec::new(alloc);
+    for _copy in 0..count {
+        notes.push(Noted {
+            all: Arrivals::new(alloc),
+            there: Arrivals::new(alloc),
+        })?;
     }
-    Ok(lines)
+    Ok(notes)
 }
 
 // Whether what pends for the write's key has at least this time.
@@ -77,35 +74,82 @@ pub(crate) fn is_there(table: &CopyTable, piece: &Piece) -> bool
         .all(|write| is_covered(table, piece.time, write))
 }
 
-// Notes a piece: its primary doesn't know whether it is there.
-fn note(line: &mut Line, table: &CopyTable, piece: &Piece) -> Result<(), NoMemory>
-    ensures { OnOk result (Notes line.old table.now piece.now line.new) }
+// Notes a piece.
+fn note(noted: &mut Noted, table: &CopyTable, piece: &Piece) -> Result<(), NoMemory>
+    ensures { OnOk result (Notes noted.old table.now piece.now noted.new) }
 {
-    add(&mut line.all, piece.place)?;
-    add(&mut line.lacking, piece.place)?;
+    add(&mut noted.all, piece.place)?;
     if is_there(table, piece) {
-        add(&mut line.there, piece.place)?;
+        add(&mut noted.there, piece.place)?;
     }
     Ok(())
 }
 
-// Notes a piece on the line of each copy of its partition.
+// Notes a piece for each copy of its partition.
 fn note_all(
     ring: Ring,
     piece: &Piece,
-    lines: &mut [Line],
+    notes: &mut [Noted],
     copies: &[CopyTable],
 ) -> Result<(), NoMemory>
     requires partition { piece.now.partition < ring.partitions }
-    requires lines { length lines.old ≡ ring.partitions * ring.copies }
+    requires notes { length notes.old ≡ ring.partitions * ring.copies }
     requires copies { length copies.now ≡ ring.partitions * ring.copies }
-    ensures { OnOk result (NotesPiece ring piece.now ring.copies lines.old copies.now lines.new) }
+    ensures { OnOk result (NotesPiece ring piece.now ring.copies notes.old copies.now notes.new) }
 {
     for copy in 0..ring.copies {
         let table = ring.table(piece.partition, copy);
-        note(&mut lines[table], &copies[table], piece)?;
+        note(&mut notes[table], &copies[table], piece)?;
     }
     Ok(())
+}
+
+// The pieces noted for each copy.
+fn notes_of(
+    alloc: Global,
+    ring: Ring,
+    pieces: &[Piece],
+    copies: &[CopyTable],
+) -> Result<Vec<Noted>, NoMemory>
+    requires pieces { AreShippable ring pieces.now }
+    requires copies { length copies.now ≡ ring.partitions * ring.copies }
+    ensures count { IfOk result (λ notes. length notes.items ≡ ring.partitions * ring.copies) }
+    ensures noted { IfOk result (λ notes. AreNoted ring pieces.now pieces.now notes.items copies.now) }
+{
+    let mut notes = unnoted(alloc, ring.tables())?;
+    for piece in pieces {
+        note_all(ring, piece, &mut notes, copies)?;
+    }
+    Ok(notes)
+}
+
+// The line on which these pieces are to be sent: its primary doesn't know of any that it is there.
+fn line_for(alloc: Global, noted: &Noted) -> Result<Line, NoMemory>
+    ensures { IfOk result (λ line. Begins noted.now line) }
+{
+    let all = PlaceSet::of(noted.all.as_slice().to_vec(alloc)?);
+    let lacking = all.copied(alloc)?;
+    Ok(Line {
+        all,
+        lacking,
+        is_done: false,
+        there: Arrivals::from_vec(noted.there.as_slice().to_vec(alloc)?),
+        total: None,
+        is_asked: false,
+    })
+}
+
+// The lines on which these pieces are to be sent.
+fn lines_for(alloc: Global, notes: &[Noted]) -> Result<Vec<Line>, NoMemory>
+    ensures count { IfOk result (λ lines. length lines.items ≡ length notes.now) }
+    ensures begun { IfOk result (λ lines. AllBegin notes.now lines.items) }
+{
+    let mut lines = Vec::new(alloc);
+    for noted in notes {
+        let line = line_for(alloc, noted)?;
+        lines.push(line)?;
+    }
+    Ok(lines)
 }
 
 // The line of each copy, as the phase begins.
@@ -121,9 +165,7 @@ pub(crate) fn lines_of(
     ensures lines { IfOk result (λ lines. AreLines ring pieces.now lines.items copies.now) }
     ensures waiting { IfOk result (λ lines. AreWaiting ring lines.items) }
 {
-    let mut lines = idle_lines(alloc, ring.tables())?;
-    for piece in pieces {
-        note_all(ring, piece, &mut lines, copies)?;
-    }
+    let notes = notes_of(alloc, ring, pieces, copies)?;
+    let lines = lines_for(alloc, notes.as_slice())?;
     Ok(lines)
 }

@@ -12,6 +12,23 @@ use coco_types::{Bytes, NoMemory};
 use std::alloc::Global;
 use std::collections::VecDeque;
 
+// Adds a letter of these bytes.
+pub(crate) fn add_letter(
+    letters: &mut VecDeque<Posted>,
+    from: u8,
+    to: u8,
+    bytes: Vec<u8>,
+) -> Result<(), NoMemory>
+    ensures { OnOk result (letters.new.items ≡ letters.old.items ++ record { to = to; letter = record { from = from; bytes = bytes.items } } ∷ []) }
+{
+    let bytes = Bytes::from_vec(bytes);
+    letters.push_back(Posted {
+        to,
+        letter: Letter { from, bytes },
+    })?;
+    Ok(())
+}
+
 // Writes a letter.
 pub(crate) fn write_letter(
     alloc: Global,
@@ -23,12 +40,8 @@ pub(crate) fn write_letter(
     requires { IsMessage message.now }
     ensures { OnOk result (letters.new.items ≡ letters.old.items ++ posted_of from to message.now ∷ []) }
 {
-    let bytes = Bytes::from_vec(message_bytes(alloc, message)?);
-    letters.push_back(Posted {
-        to,
-        letter: Letter { from, bytes },
-    })?;
-    Ok(())
+    let bytes = message_bytes(alloc, message)?;
+    add_letter(letters, from, to, bytes)
 }
 
 // Sends letters in order.

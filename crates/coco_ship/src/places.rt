@@ -1,67 +1,109 @@
-//! Sets of places of pieces.
+//! Places of pieces: as they come, and in sets in which they rise.
 
-ghost use Rattle.std.specs.Prelude.{◌≡◌, ◌<◌, IfOk, OnOk};
+ghost use Rattle.std.specs.Prelude.{◌≡◌, ◌==◌, length, IfOk, OnOk};
 ghost use Rattle.coco_msg.specs.Bytes.{ArePlaces};
-ghost use Rattle.coco_ship.specs.Sets.{has, Adds, Keeps, Misses};
+ghost use Rattle.coco_ship.specs.Sets.{is_in, Adds, HasSame, Keeps, Misses};
 
-use coco_types::NoMemory;
+use coco_types::{NoMemory, Sequence};
 use std::alloc::Global;
-use std::collections::BTreeSet;
+use std::marker::Model;
 
-pub(crate) type PlaceSet = BTreeSet<u32>;
+/// Places as they came, in any order and any number of times.
+pub(crate) type Arrivals = Sequence<u32>;
+
+/// Places, each once, rising.
+#[derive(Drop)]
+pub(crate) struct PlaceSet {
+    places: Vec<u32>,
+}
+
+impl Model for PlaceSet {
+    ghost use Rattle.std.specs.Prelude.{ℕ, List};
+    ghost use Rattle.std.specs.List.Sorted.{IsStrictlySortedBy};
+    ghost use Rattle.std.specs.Ordering.{nat_cmp};
+
+    ghost Value = { List ℕ };
+
+    ghost view = { λ s. s.places.items };
+
+    ghost invariant = { λ s. IsStrictlySortedBy nat_cmp s.places.items };
+}
+
+impl PlaceSet {
+    // The set of these places. It takes no memory.
+    pub fn of(mut places: Vec<u32>) -> PlaceSet
+        ensures { HasSame places.items result }
+    {
+        places.sort_unstable();
+        places.dedup();
+        PlaceSet { places }
+    }
+
+    // Whether a place is in it.
+    pub fn has(&self, place: u32) -> bool
+        ensures { result ≡ is_in self.now place }
+    {
+        self.places.binary_search(&place).is_ok()
+    }
+
+    // Whether no place is in it.
+    pub fn is_empty(&self) -> bool
+        ensures { result ≡ (length self.now == 0) }
+    {
+        self.places.is_empty()
+    }
+
+    // The same set once more.
+    pub fn copied(&self, alloc: Global) -> Result<PlaceSet, NoMemory>
+        ensures { IfOk result (λ copy. copy ≡ self.now) }
+    {
+        let places = self.places.as_slice().to_vec(alloc)?;
+        Ok(PlaceSet { places })
+    }
+
+    // Its places, rising.
+    pub fn listed(&self, alloc: Global) -> Result<Vec<u32>, NoMemory>
+        ensures places { IfOk result (λ places. places.items ≡ self.now) }
+        ensures readable { IfOk result (λ places. ArePlaces places.items) }
+    {
+        let places = self.places.as_slice();
+        if places.len() > u32::MAX as usize {
+            return Err(NoMemory);
+        }
+        Ok(places.to_vec(alloc)?)
+    }
+}
 
 // Adds a place.
-pub(crate) fn add(set: &mut PlaceSet, place: u32) -> Result<(), NoMemory>
-    ensures { OnOk result (Adds set.old set.new place) }
+pub(crate) fn add(places: &mut Arrivals, place: u32) -> Result<(), NoMemory>
+    ensures { OnOk result (Adds places.old places.new place) }
 {
-    set.insert(place)?;
-    Ok(())
-}
-
-// Whether a place is in the set.
-pub(crate) fn has(set: &PlaceSet, place: u32) -> bool
-    ensures { result ≡ has set.now place }
-{
-    set.contains(&place)
-}
-
-// All places of the set, rising.
-pub(crate) fn listed(alloc: Global, set: &PlaceSet) -> Result<Vec<u32>, NoMemory>
-    ensures places { IfOk result (λ places. places.items ≡ set.now.keys) }
-    ensures readable { IfOk result (λ places. ArePlaces places.items) }
-{
-    if set.len() > u32::MAX as usize {
-        return Err(NoMemory);
-    }
-    let mut places = Vec::new(alloc);
-    for place in set {
-        places.push(*place)?;
-    }
-    Ok(places)
+    places.push(place)
 }
 
 // Those of the places that are in the set.
 pub(crate) fn kept(alloc: Global, set: &PlaceSet, places: &[u32]) -> Result<PlaceSet, NoMemory>
     ensures { IfOk result (λ still. Keeps set.now places.now still) }
 {
-    let mut still = BTreeSet::new(alloc);
+    let mut still = Arrivals::new(alloc);
     for place in places {
-        if has(set, *place) {
+        if set.has(*place) {
             add(&mut still, *place)?;
         }
     }
-    Ok(still)
+    Ok(PlaceSet::of(still.into_vec()))
 }
 
 // Those of the places that aren't there.
-pub(crate) fn missing(alloc: Global, there: &PlaceSet, places: &[u32]) -> Result<PlaceSet, NoMemory>
+pub(crate) fn missing(alloc: Global, there: &[u32], places: &[u32]) -> Result<PlaceSet, NoMemory>
     ensures { IfOk result (λ missing. Misses there.now places.now missing) }
 {
-    let mut missing = BTreeSet::new(alloc);
+    let had = PlaceSet::of(there.to_vec(alloc)?);
+    let mut missing = Arrivals::new(alloc);
     for place in places {
-        if !has(there, *place) {
+        if !had.has(*place) {
             add(&mut missing, *place)?;
         }
     }
-    Ok(missing)
+    Ok(PlaceSet::of(missing.into_vec()))
 }

@@ -8,7 +8,7 @@ use Rattle.coco_msg.proofs.lists.get_each_write.Goals as goal
 
 pub returns-in_err-write-clause-read : goal.returns-in_err-write-clause-read
 returns-in_err-write-clause-read c =
-    let p = err_from_is_err_and c.from_residual.result c.from_residual.ensures.1 in
+    let p = err_from_is_err_and c.from_residual-in_err-write.result c.from_residual-in_err-write.ensures.1 in
     rw (p.1, p.2) (fails_with (λ _. write_at) c.loop.writes c.args.count c.loop.counter c.args.from.now c.loop.end (items_at (λ _. write_at) None c.args.count c.args.from.now c.args.at) c.in_err-write.field-0.0 c.loop-test.true c.in_err-write.ensures.read c.loop.invariant.so_far)
 
 pub returns-clause-read : goal.returns-clause-read
@@ -16,7 +16,7 @@ returns-clause-read c = sym c.loop.invariant.so_far ∙ rest_ends (λ _. write_a
 
 pub loop-init : goal.loop-init
 loop-init c = record {
-  so_far = rest_begins (λ _. write_at) c.new-writes.result c.args.count c.args.from.now c.args.at c.new-writes.ensures;
+  so_far = rest_begins (λ _. write_at) c.in_ok-writes.writes c.args.count c.args.from.now c.args.at c.in_ok-writes.ensures;
   within = c.requires;
 }
 

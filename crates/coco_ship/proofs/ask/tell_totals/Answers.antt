@@ -23,7 +23,7 @@ loop-copy-preserved c =
     elim c.if-not-line.branch [
       | then-not-line+in_ok-tell w ↦
           let now : c.if-not-line.letters.items ≡ w.tell.new.letters.items = cc in
-          let told : w.tell.new.letters.items ≡ mid ++ ask_of ring p n (Total e p line.all.keys) ∷ [] = w.in_ok-tell.ensures.letters in
+          let told : w.tell.new.letters.items ≡ mid ++ ask_of ring p n (Total e p line.all) ∷ [] = w.in_ok-tell.ensures.letters in
           tells_more ring e p lines n old mid c.if-not-line.letters.items line at (now ∙ told) w.in_ok-tell.ensures.readable c.loop-copy.invariant
       | else-not-line w ↦
           let now : c.if-not-line.letters.items ≡ mid = cc in

@@ -1,5 +1,5 @@
-use Rattle.coco_ship.proofs.SetLemmas.{adds}
+use Rattle.coco_ship.proofs.SetLemmas.{on_ok_adds}
 use Rattle.coco_ship.proofs.places.add.Goals as goal
 
 pub returns : goal.returns
-returns c = adds c.args.set.now c.insert.new.self c.args.place c.in_ok-insert.ensures.updates
+returns c = on_ok_adds c.args.places.now c.push.new.self c.args.place c.push.result c.push.ensures.ok

@@ -4,4 +4,4 @@ use Rattle.coco_ship.proofs.places.missing.Given as goal
 
 -- so for the places so far
 abbrev pub invariant-loop-place : goal.invariant-loop-place
-invariant-loop-place l = Misses l.there (take l.place-index l.places) l.missing
+invariant-loop-place l = Misses l.had-inside.places.items (take l.place-index l.places) l.missing

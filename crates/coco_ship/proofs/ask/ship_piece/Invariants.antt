@@ -1,0 +1,6 @@
+use Rattle.coco_ship.specs.Sending.{ShipsPiece}
+use Rattle.coco_ship.proofs.ask.ship_piece.Given as goal
+
+-- the copies so far
+abbrev pub invariant-loop-copy : goal.invariant-loop-copy
+invariant-loop-copy l = ShipsPiece l.ring l.epoch l.piece l.lines l.copy l.initial.letters.items l.letters.items

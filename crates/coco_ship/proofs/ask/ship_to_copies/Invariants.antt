@@ -1,7 +1,0 @@
-use Rattle.coco_msg.specs.Bytes.{epoch_of}
-use Rattle.coco_ship.specs.Sending.{ShipsPiece}
-use Rattle.coco_ship.proofs.ask.ship_to_copies.Given as goal
-
--- the copies so far
-abbrev pub invariant-loop-copy : goal.invariant-loop-copy
-invariant-loop-copy l = ShipsPiece l.ring (epoch_of l.message) l.piece l.lines l.copy l.initial.letters.items l.letters.items
