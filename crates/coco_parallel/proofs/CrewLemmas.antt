@@ -1,5 +1,5 @@
 -- A crew's stations before and after they ran, and what that comes to.
-use Rattle.std.proofs.Common.{◌≡◌, ℕ, ◌+◌, ◌<◌, Bool, true, List, [], ◌∷◌, ◌++◌, All, Any, IsTrue, map, length, slice_index_or, refl, sym, ap, ◌∙◌, subst, arith}
+use Rattle.std.proofs.Common.{◌≡◌, ℕ, ◌+◌, ◌<◌, Bool, true, List, [], ◌∷◌, All, Any, IsTrue, map, length, slice_index_or, refl, sym, ap, ◌∙◌, subst, arith}
 use Rattle.std.specs.Global.{Vec}
 use Rattle.std.specs.List.{cons_option, slice_get}
 use Rattle.std.proofs.lemmas.List.{get_or-map, length-map}
@@ -68,7 +68,7 @@ module _ (workers : ℕ) (machines : List ShardState) (tables : List CopyState) 
   pub crew_count : length crew ≡ workers
   crew_count = stations_count 0 rows copy_rows (new_seats claims) rows_many copies_many ∙ seats_are
 
-  crew_at : (n : ℕ) (d : Station) → n < workers → slice_index_or crew n d ≡ station_of (0 + n) (slice_index_or rows n d.slot.passes) (slice_index_or copy_rows n d.slot.copy_passes) (slice_index_or (new_seats claims) n d.slot.seat)
+  pub crew_at : (n : ℕ) (d : Station) → n < workers → slice_index_or crew n d ≡ station_of (0 + n) (slice_index_or rows n d.slot.passes) (slice_index_or copy_rows n d.slot.copy_passes) (slice_index_or (new_seats claims) n d.slot.seat)
   crew_at n d lt = station_at 0 rows copy_rows (new_seats claims) rows_many copies_many n d d.slot.passes d.slot.copy_passes d.slot.seat (omega (arith, seats_are, lt))
 
   pub all_manned : All (IsManned locks copy_locks claims) crew
@@ -87,6 +87,8 @@ module _ (workers : ℕ) (machines : List ShardState) (tables : List CopyState) 
         worker_is = (let h : 0 + n ≡ n = omega arith in h);
         passes = dealt.rows_are n d.slot.passes here;
         transcript = refl;
+        pieces = refl;
+        tail = refl;
         drawn = (fresh_seats claims n d.slot.seat (omega (arith, seats_are, here))).drawn;
       })
 

@@ -12,7 +12,7 @@ use Rattle.coco_journaled.specs.Replay.{Replays}
 use Rattle.coco_seen.specs.Notes.{Lock, TableId}
 use Rattle.coco_seen.specs.Rules.{numbers}
 use Rattle.coco_worker.specs.Gains.{AreOf, AreSame, undone}
-use Rattle.coco_worker.proofs.GainLemmas.{as_many, same_count, still_of}
+use Rattle.coco_worker.proofs.GainLemmas.{as_many, still_of}
 use Rattle.coco_parallel.specs.Desks.{AreBackBy, AreDealt, AreEmpty, HasRoom, IsOpen}
 use Rattle.coco_parallel.specs.Locking.{AreBack, AreEnded, AreStarted, IsBack, IsEnded, IsStarted}
 use Rattle.coco_parallel.specs.Rows.{column}

@@ -1,7 +1,6 @@
 -- What stays of shards and tables whose locks are closed, whatever was asked of them.
-use Rattle.std.proofs.Common.{◌≡◌, ◌⊎◌, inl, inr, ℕ, ◌<◌, ◌≤◌, List, [], ◌∷◌, map, length, Some, slice_index_or, refl, sym, ap, ◌∙◌, subst, arith}
+use Rattle.std.proofs.Common.{◌≡◌, ◌⊎◌, inl, inr, ℕ, ◌<◌, ◌≤◌, List, [], ◌∷◌, length, Some, slice_index_or, refl, sym, ap, ◌∙◌, subst, arith}
 use Rattle.std.specs.Global.{Vec}
-use Rattle.std.specs.List.{slice_get}
 use Rattle.std.specs.FinMap.{empty}
 use Rattle.std.specs.Option.{option_map}
 use Rattle.std.proofs.lemmas.List.{get_or-map, length-map, same_lists}
@@ -16,7 +15,7 @@ use Rattle.coco_copy.specs.declared.ops.CopyAnswer.TheVariants.{Applied, Older, 
 use Rattle.coco_copy.specs.declared.ops.CopyAsk.{CopyAsk}
 use Rattle.coco_copy.specs.declared.ops.CopyAsk.TheVariants.{Put}
 use Rattle.coco_epoch.specs.Shards.{AreSettled, SettleOn, shard_at}
-use Rattle.coco_journaled.specs.Replay.{after}
+use Rattle.coco_journaled.specs.Replay.{Replays, after}
 use Rattle.coco_order.specs.Execution.{Journal}
 use Rattle.coco_order.specs.Laws.{ClosedIsLawful}
 use Rattle.coco_seen.specs.Notes.{Lock}
@@ -25,7 +24,7 @@ use Rattle.coco_shard.specs.Table.{after_ask, answer_in}
 use Rattle.coco_worker.specs.Gains.{AreSame, ShardPass}
 use Rattle.coco_parallel.specs.Copies.{CopyPass}
 use Rattle.coco_parallel.specs.Desks.{AreBackBy, AreDealt}
-use Rattle.coco_parallel.specs.Worked.{CopyJournal, KeepValues, begun_all, emptied}
+use Rattle.coco_parallel.specs.Worked.{CopyJournal, KeepValues, begun_all, emptied, table_at}
 use Rattle.coco_parallel.proofs.DeskLemmas.{bears, closed_by, machines_count}
 use Rattle.coco_parallel.proofs.RowLemmas.{any_default}
 use Rattle.coco_parallel.proofs.OutcomeLemmas.{past_end, within_or_past}
@@ -92,6 +91,14 @@ module _ (workers : ℕ) (tables : List CopyState) (locks : List Lock) (rows bac
           let root : CopyState = slice_index_or tables p d in
           let by = closed_by puts.answer_in puts.after_ask back (length tables) cs ks closed p root d lt (let n = dealt.count in omega (arith, n, count, some)) (bears workers tables locks rows back dealt count same p root (slice_get-get_or tables p d lt)) in
           get_or-map empty_of cs p d d (omega (arith, as_many_tables, lt)) ∙ ap empty_of by.replays.machine_is ∙ after_puts root (slice_index_or ks p []) ∙ sym (get_or-map empty_of tables p d d lt)
+
+-- tables whose locks closed have nothing but what pends changed
+pub emptied_copied : (tables copies : List CopyState) (journals : List CopyJournal) → length copies ≡ length tables
+    → ((table : ℕ) → table < length tables → Replays puts.answer_in puts.after_ask (table_at tables table) (slice_index_or journals table []) (table_at copies table)) → emptied copies ≡ emptied tables
+emptied_copied tables copies journals count replays = same_lists (emptied copies) (emptied tables) (length-map copies empty_of ∙ count ∙ sym (length-map tables empty_of)) (λ p d lt. each p d (let n = length-map copies empty_of in omega (arith, n, lt, count)))
+  where
+    each : (p : ℕ) (d : CopyState) → p < length tables → slice_index_or (emptied copies) p d ≡ slice_index_or (emptied tables) p d
+    each p d lt = get_or-map empty_of copies p (begun 0 empty) d (omega (arith, count, lt)) ∙ ap empty_of (replays p lt).machine_is ∙ after_puts (table_at tables p) (slice_index_or journals p []) ∙ sym (get_or-map empty_of tables p (begun 0 empty) d lt)
 
 -- ---- nothing was done
 

@@ -13,3 +13,10 @@ mod CrewLemmas
 mod CrewEndLemmas
 mod KeepingLemmas
 mod RanLemmas
+mod EndsLemmas
+mod TailLemmas
+mod OpeningLemmas
+mod EpochLemmas
+mod PieceOrderLemmas
+mod WholeLemmas
+mod PieceLemmas

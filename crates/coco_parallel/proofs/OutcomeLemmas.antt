@@ -1,5 +1,5 @@
 -- The shards at the end of an epoch are ready for its tail, and its Dones are the outcome of the execution.
-use Rattle.std.proofs.Common.{◌≡◌, ◌⊎◌, inl, inr, ℕ, ◌<◌, ◌≤◌, List, [], ◌∷◌, ◌++◌, length, sym, ap, ◌∙◌, subst, arith}
+use Rattle.std.proofs.Common.{◌≡◌, ◌⊎◌, inl, inr, ℕ, ◌<◌, ◌≤◌, List, [], ◌∷◌, ◌++◌, length, None, sym, ap, ◌∙◌, subst, arith}
 use Rattle.std.specs.Option.{unwrap_or}
 use Rattle.std.specs.FinMap.{empty}
 use Rattle.std.specs.List.{AllByRecursion}
@@ -9,7 +9,7 @@ use Rattle.coco_types.specs.RowKey.{RowKey}
 use Rattle.coco_types.specs.declared.call.Done.{Done}
 use Rattle.coco_ast.specs.History.{rows_after}
 use Rattle.coco_ast.specs.Keyed.{Rows}
-use Rattle.coco_epoch.specs.Shards.{AreOfPartitions, shard_at}
+use Rattle.coco_epoch.specs.Shards.{KeepStable, row_in, shard_at}
 use Rattle.coco_journaled.specs.Replay.{after}
 use Rattle.coco_order.specs.Execution.{Execution, InEachExecution, IsExecution, Journal, journal_of, steps_of}
 use Rattle.coco_order.specs.Laws.{ClosedIsLawful, CommitsAreSerial, OnEachKeyOfEach}
@@ -51,21 +51,28 @@ module _ (law : ClosedIsLawful) (s : Start) (slots : List Slot) (journals : List
   stable_as p k (inr past) =
       ap (λ (m : ShardState). stable_at m k) (past_end machines p (let n : length machines ≡ length s.shards = ended.machines_are in omega arith)) ∙ sym (ap (λ (m : ShardState). stable_at m k) (past_end s.shards p past))
 
-  partitions_are : AreOfPartitions machines
-  partitions_are p = subst (λ n. IsOfPartition n p (shard_at machines p)) (sym ended.machines_are) (partition_at p (within_or_past p (length s.shards)))
+  pub kept : KeepStable s.shards machines
+  kept = record {
+    count = ended.machines_are;
+    stable = λ p k. stable_as p k (within_or_past p (length s.shards));
+    partitions = λ p. subst (λ n. IsOfPartition n p (shard_at machines p)) (sym ended.machines_are) (partition_at p (within_or_past p (length s.shards)));
+  }
+
+  pub unmarked : OnEachKeyOfEach (λ opening k journal. MarksAreOwn k journal) → (k : RowKey) → (row_in machines k).mark ≡ None
+  unmarked own k = ap (λ (row : RowState). row.mark) (shards_have_rows law s slots journals machines start ended k) ∙ (own (beginning_of s) x (are_an_execution law s slots journals machines start ended) k).none_stands
 
   ready : OnEachKeyOfEach (λ opening k journal. MarksAreOwn k journal) → InEachExecution CommitsAreSerial → (dones : List Done) → AreCommits (beginning_of s) s.config.epoch x dones → AreReady s.shards machines (rows_after s.procs s.opening dones)
   ready own serial dones are =
       let is : IsExecution (beginning_of s) x = are_an_execution law s slots journals machines start ended in
       let rows = shards_have_rows law s slots journals machines start ended in
       record {
-        partitions = partitions_are;
+        partitions = kept.partitions;
         newest = λ k. ap (λ (row : RowState). row.newest) (rows k) ∙ sym ((serial (beginning_of s) x is s.config.epoch dones are).newest k);
-        stable = record { count = ended.machines_are; stable = λ p k. stable_as p k (within_or_past p (length s.shards)); partitions = partitions_are };
-        unmarked = λ k. ap (λ (row : RowState). row.mark) (rows k) ∙ (own (beginning_of s) x is k).none_stands;
+        stable = kept;
+        unmarked = unmarked own;
       }
 
-  outcome : InEachExecution CommitsAreSerial → (dones : List Done) → AreAllDones s slots journals machines dones → IsOutcome (beginning_of s) s.config.epoch x dones
+  abbrev pub outcome : InEachExecution CommitsAreSerial → (dones : List Done) → AreAllDones s slots journals machines dones → IsOutcome (beginning_of s) s.config.epoch x dones
   outcome serial dones all =
       let is : IsExecution (beginning_of s) x = are_an_execution law s slots journals machines start ended in
       let rows = shards_have_rows law s slots journals machines start ended in

@@ -1,5 +1,5 @@
 -- A crew that ran, as the calls tell of it: its stations before and after, and what was taken out of them.
-use Rattle.std.proofs.Common.{◌≡◌, ℕ, ◌<◌, Bool, true, List, All, Any, IsTrue, map, length, slice_index_or, vec_len, refl, sym, ap, ◌∙◌, subst, arith}
+use Rattle.std.proofs.Common.{◌≡◌, ℕ, ◌<◌, Bool, true, List, All, Any, IsTrue, map, length, vec_len, sym, ap, ◌∙◌, subst, arith}
 use Rattle.std.specs.Global.{Vec}
 use Rattle.std.proofs.lemmas.List.{length-map}
 use Rattle.coco_types.specs.declared.call.Piece.{Piece}

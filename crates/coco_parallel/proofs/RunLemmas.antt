@@ -67,6 +67,8 @@ module _ (workers worker : ℕ) (lt : worker < workers) where
         );
     count = ap length is.passes ∙ dealt_count shards locks trays are;
     transcript = is.transcript;
+    pieces = is.pieces;
+    tail = is.tail;
     drawn = is.drawn;
   }
 

@@ -1,12 +1,11 @@
 -- Stations that are manned from rows and seats, and taken apart.
-use Rattle.std.proofs.Common.{◌≡◌, ℕ, zero, suc, ◌+◌, ◌<◌, List, [], ◌∷◌, ◌++◌, All, map, length, slice_index_or, append_assoc, refl, sym, ap, ◌∙◌, subst, arith}
+use Rattle.std.proofs.Common.{◌≡◌, ℕ, zero, suc, ◌+◌, ◌<◌, List, [], ◌∷◌, All, length, slice_index_or, refl, ap, ◌∙◌, arith}
 use Rattle.std.specs.Global.{Vec}
-use Rattle.std.specs.List.{cons_option, range_with_len, slice_get}
+use Rattle.std.specs.List.{range_with_len}
 use Rattle.std.proofs.lemmas.List.{length-map}
 use Rattle.std.proofs.lemmas.List.Elements.{All-map}
 use Rattle.coco_claim.specs.Seats.{Drawer, Round, new_seats}
 use Rattle.coco_worker.specs.Gains.{ShardPass}
-use Rattle.coco_worker.specs.declared.slot.Slot.{Slot}
 use Rattle.coco_parallel.specs.Copies.{CopyPass}
 use Rattle.coco_parallel.specs.Stations.{station_of, stations_of}
 use Rattle.coco_parallel.specs.declared.workers.Station.{Station}

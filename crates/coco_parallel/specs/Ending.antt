@@ -50,6 +50,8 @@ pub record IsNew (shards : List ShardState) (slot : Slot) : Type 0 where
   pub passes : (shard : ℕ) → shard < length shards → (lock : TableId) × (slice_get slot.passes.items shard ≡ Some (new_pass lock (shard_at shards shard) slot.worker))
   pub count : length slot.passes.items ≡ length shards
   pub transcript : slot.transcript ≡ []
+  pub pieces : slot.pieces ≡ []
+  pub tail : slot.tail ≡ []
   pub drawn : slot.seat.drawn ≡ []
 
 -- the slot of a worker that has worked off what it drew

@@ -8,3 +8,6 @@ pub mod Running
 pub mod Desks
 pub mod Stations
 pub mod Worked
+pub mod Epochs
+pub mod Ends
+pub mod PieceOrder

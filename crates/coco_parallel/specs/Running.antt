@@ -22,6 +22,8 @@ pub record IsDealt (trays : List (Vec ShardPass)) (worker : ℕ) (slot : Slot) :
   pub worker_is : slot.worker ≡ worker
   pub passes : slot.passes.items ≡ column worker trays
   pub transcript : slot.transcript ≡ []
+  pub pieces : slot.pieces ≡ []
+  pub tail : slot.tail ≡ []
   pub drawn : slot.seat.drawn ≡ []
 
 -- The shards are put behind locks, the passes go to the stations, these run and are done, each request was drawn once,

@@ -1,6 +1,6 @@
 -- What the workers of an epoch came to.
-use Rattle.std.specs.Prelude.{◌≡◌, ℕ, ◌<◌, Bool, List, [], map, length, slice_index_or}
-use Rattle.std.specs.List.{filter_map, slice_get}
+use Rattle.std.specs.Prelude.{◌≡◌, ℕ, ◌<◌, Bool, List, [], All, map, length, slice_index_or}
+use Rattle.std.specs.List.{AllByRecursion, filter_map, flat_map, slice_get}
 use Rattle.std.specs.FinMap.{empty}
 use Rattle.coco_types.specs.RowKey.{RowKey}
 use Rattle.coco_types.specs.declared.call.Piece.{Piece}
@@ -13,15 +13,16 @@ use Rattle.coco_copy.specs.declared.ops.CopyAnswer.{CopyAnswer}
 use Rattle.coco_copy.specs.declared.ops.CopyAsk.{CopyAsk}
 use Rattle.coco_epoch.specs.Shards.{shard_at}
 use Rattle.coco_journaled.specs.declared.entry.Entry.{Entry}
-use Rattle.coco_journaled.specs.Passes.{HasPasses}
+use Rattle.coco_journaled.specs.Passes.{HasPasses, entries_of}
 use Rattle.coco_journaled.specs.Replay.{Replays}
 use Rattle.coco_occ.specs.declared.outcome.Tailed.{Tailed}
 use Rattle.coco_order.specs.Execution.{Journal, Transcript}
 use Rattle.coco_shard.specs.RowState.{ShardState, stable_at}
+use Rattle.coco_worker.specs.Working.{Job, IsWorkedOff, Worked, copied, scripts_of}
 use Rattle.coco_worker.specs.declared.slot.EpochConfig.{EpochConfig}
 use Rattle.coco_worker.specs.declared.slot.Slot.{Slot}
 use Rattle.coco_parallel.specs.Copies.{CopyPass}
-use Rattle.coco_parallel.specs.Ending.{HasEnded, Start}
+use Rattle.coco_parallel.specs.Ending.{HasEnded, Start, job_of}
 
 abbrev pub CopyJournal : Type 0
 CopyJournal = List (Entry CopyAsk CopyAnswer)
@@ -40,6 +41,25 @@ pub record IsCopied (root : CopyState) (passes : List CopyPass) (journal : CopyJ
   pub passes_are : HasPasses passes journal
   pub replays : Replays answer_in after_ask root journal machine
 
+-- what a worker's puts are in the tables' journals: of the requests that it worked off, whose scripts are its transcript,
+-- the writes of the commits on each table's partition, where the net carries them to the table's node, in order
+pub record PutsItsCommits (j : Job) (tables : ℕ) (journals : List CopyJournal) (transcript : Transcript) : Type 0 where
+  pub worked : List Worked
+  pub each : AllByRecursion (IsWorkedOff j) worked
+  pub scripts : transcript ≡ scripts_of worked
+  pub puts : (table : ℕ) → table < tables → map (λ (e : Entry CopyAsk CopyAnswer). e.ask) (entries_of j.worker (slice_index_or journals table [])) ≡ flat_map (copied j table) worked
+
+-- the tables' journals have the puts of the workers' commits, and no others
+pub record HaveCommits (s : Start) (tables : ℕ) (journals : List CopyJournal) (transcripts : List Transcript) : Type 0 where
+  pub count : length journals ≡ tables
+  pub puts : (worker : ℕ) → worker < s.config.workers → PutsItsCommits (job_of s worker) tables journals (slice_index_or transcripts worker [])
+  pub no_other : (table : ℕ) → table < tables → All (λ (e : Entry CopyAsk CopyAnswer). e.pass < s.config.workers) (slice_index_or journals table [])
+
+-- each of these tables is, behind its lock, what its journal makes of it
+pub record AreReplayed (tables : List CopyState) (journals : List CopyJournal) (copies : List CopyState) : Type 0 where
+  pub count : length copies ≡ length tables
+  pub each : (table : ℕ) → table < length tables → Replays answer_in after_ask (table_at tables table) (slice_index_or journals table []) (table_at copies table)
+
 -- ---- all of it
 
 -- The workers have worked off all requests, the shards and the tables are as their locks left them, and what the
@@ -48,7 +68,7 @@ pub record HaveWorked (s : Start) (tables : List CopyState) (shards : List Shard
   pub slots : List Slot
   pub ended : HasEnded s slots journals shards
   pub copies_are : length copies ≡ length tables
-  pub copy_journals_are : length copy_journals ≡ length tables
+  pub commits : HaveCommits s (length tables) copy_journals transcripts
   pub copied : (table : ℕ) → table < length tables → IsCopied (table_at tables table) (copy_passes_at table slots) (slice_index_or copy_journals table []) (table_at copies table)
   pub transcripts_are : transcripts ≡ map (λ (slot : Slot). slot.transcript) slots
   pub pieces_are : pieces ≡ map (λ (slot : Slot). slot.pieces) slots

@@ -2,9 +2,15 @@
 
 ghost use Rattle.coco_parallel.specs.Laws.{AtEachEnd, AreAnExecution, ShardsHaveRows, TailMayRun, DonesAreItsOutcome};
 ghost use Rattle.coco_parallel.specs.Copies.{CopiesAreOfCommits};
+ghost use Rattle.coco_parallel.specs.Ends.{EndsAreSerial, TailMayBegin};
+ghost use Rattle.coco_parallel.specs.PieceOrder.{PiecesAreOfDones};
 ghost use Rattle.coco_parallel.specs.Running.{RunsEnd};
 
-use coco_order::laws::{closed_journals_are_lawful, commits_are_serial, marks_are_own};
+use coco_order::laws::{
+    closed_journals_are_lawful, commits_are_serial, marks_are_own, outcomes_are_epochs,
+    outcomes_are_serial, reads_are_few, scripts_are_few, tail_writes_are_runs, times_are_few,
+    writes_are_runs,
+};
 
 /// What the workers tried and what the locks of the shards closed with is an execution, and the shards have the rows
 /// that its journals say.
@@ -39,3 +45,31 @@ pub fn runs_end()
 pub fn copies_are_of_commits()
     ensures { CopiesAreOfCommits }
 {}
+
+/// Where no two requests have one id, the workers' pieces and the tail's, in order, are those of the Dones.
+pub fn pieces_are_of_dones()
+    ensures { AtEachEnd PiecesAreOfDones }
+{
+    closed_journals_are_lawful();
+    commits_are_serial();
+    outcomes_are_epochs();
+    writes_are_runs();
+    tail_writes_are_runs();
+}
+
+/// When all locks are closed, the tail may begin; and with a tail behind the workers the epoch is an execution with its
+/// outcome, and serial.
+pub fn ends_are_serial()
+    ensures begins { AtEachEnd TailMayBegin }
+    ensures serial { AtEachEnd EndsAreSerial }
+{
+    closed_journals_are_lawful();
+    marks_are_own();
+    commits_are_serial();
+    outcomes_are_serial();
+    times_are_few();
+    reads_are_few();
+    scripts_are_few();
+    outcomes_are_epochs();
+    pieces_are_of_dones();
+}

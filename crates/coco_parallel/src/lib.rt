@@ -2,8 +2,11 @@
 #![tactic(auto)]
 
 pub mod desks;
+mod ends;
+pub mod epoch;
 pub mod laws;
 pub mod locks;
+mod pieces;
 pub mod rows;
 pub mod running;
 pub mod stations;

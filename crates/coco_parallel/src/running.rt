@@ -283,7 +283,7 @@ fn close_unused(desk: Desk<Shard>, rows: Vec<Vec<Pass<Shard>>>) -> Vec<Shard>
 }
 
 // Begins an epoch on each copy.
-fn begin_all(copies: &mut [CopyTable], epoch: u64)
+pub(crate) fn begin_all(copies: &mut [CopyTable], epoch: u64)
     ensures { copies.new ≡ begun_all epoch copies.old }
 {
     for place in 0..copies.len() {
@@ -292,7 +292,7 @@ fn begin_all(copies: &mut [CopyTable], epoch: u64)
 }
 
 // Takes back all that was done to the shards and to the copies.
-fn taken_back(mut shards: Vec<Shard>, mut copies: Vec<CopyTable>) -> EpochRefused
+pub(crate) fn taken_back(mut shards: Vec<Shard>, mut copies: Vec<CopyTable>) -> EpochRefused
     ensures shards { SettleOn stable_at shards.items result.shards.items }
     ensures copies { result.copies.items ≡ emptied copies.items }
 {

@@ -1,18 +1,20 @@
-//! Items that are turned, shards that go behind locks and come back, and two workers side by side.
+//! Items that are turned, shards that go behind locks and come back, and whole epochs.
 
-ghost use Rattle.std.specs.Prelude.{◌≡◌, All, length, IfOk};
+ghost use Rattle.std.specs.Prelude.{◌≡◌, ◌<◌, length, map, nat_eq, IfOk};
+ghost use Rattle.std.specs.List.{IsDistinct};
 ghost use Rattle.coco_ast.specs.Fitting.{Fits};
-ghost use Rattle.coco_epoch.specs.Shards.{AreSettled};
+ghost use Rattle.coco_epoch.specs.Running.{FitAll};
+ghost use Rattle.coco_epoch.specs.Shards.{AreOfPartitions, AreSettled};
 
+use crate::epoch::{EpochDone, run_epoch};
 use crate::locks::{Ended, close_all, start_all};
 use crate::rows::turn;
-use crate::running::{Worked, run_workers};
 use coco_ast::Checked;
 use coco_copy::CopyTable;
 use coco_gate::OpenGate;
 use coco_net::QuietNet;
 use coco_shard::Shard;
-use coco_types::limits::{MOST_ARGUMENTS, MOST_BATCH_LINES};
+use coco_types::limits::MOST_ARGUMENTS;
 use coco_types::{Args, Call, Key, NoMemory, Request, Value};
 use coco_worker::EpochConfig;
 use std::alloc::Global;
@@ -21,14 +23,6 @@ use std::test::Fail;
 use std::thread::Threads;
 
 const KEY: Key = Key { table: 0, row: 4 };
-
-const EPOCH: EpochConfig = EpochConfig {
-    epoch: 7,
-    workers: 2,
-    attempts: 3,
-    nodes: 3,
-    copies: 2,
-};
 
 // A shard with this value.
 fn shard_with(alloc: Global, value: i64) -> Result<Shard, NoMemory> {
@@ -40,6 +34,7 @@ fn shard_with(alloc: Global, value: i64) -> Result<Shard, NoMemory> {
 fn fresh(alloc: Global) -> Result<Vec<Shard>, NoMemory>
     ensures three { IfOk result (λ shards. length shards.items ≡ 3) }
     ensures settled { IfOk result (λ shards. AreSettled shards.items) }
+    ensures partitions { IfOk result (λ shards. AreOfPartitions shards.items) }
 {
     let mut shards = Vec::with_capacity(alloc, 3)?;
     shards.push(Shard::new(alloc))?;
@@ -58,12 +53,13 @@ fn tables(alloc: Global) -> Result<Vec<CopyTable>, NoMemory>
     Ok(tables)
 }
 
-// A put of a number into a row.
-fn put(alloc: Global, procs: &Checked, id: u64, row: i64, number: i64) -> Result<Request, Fail>
-    ensures { IfOk result (λ request. Fits procs.now request.call) }
+// A put of ten times the row's number into a row.
+fn put(alloc: Global, procs: &Checked, id: u64, row: i64) -> Result<Request, Fail>
+    ensures id { IfOk result (λ request. request.id ≡ id) }
+    ensures fits { IfOk result (λ request. Fits procs.now request.call) }
 {
     let mut args = Args::new(alloc);
-    for number in [row, number] {
+    for number in [row, row.saturating_mul(10)] {
         if args.len() < MOST_ARGUMENTS {
             args.push(Some(Value::Int(number)))?;
         }
@@ -81,32 +77,66 @@ fn put(alloc: Global, procs: &Checked, id: u64, row: i64, number: i64) -> Result
     }
 }
 
-// Puts into rows 4 to 7.
+// Puts into rows 4 to 7, of falling ids.
 fn puts(alloc: Global, procs: &Checked) -> Result<Vec<Request>, Fail>
-    ensures { IfOk result (λ requests. All (λ r. Fits procs.now r.call) requests.items) }
+    ensures count { IfOk result (λ requests. length requests.items ≡ 4) }
+    ensures distinct { IfOk result (λ requests. IsDistinct nat_eq (map (λ r. r.id) requests.items)) }
+    ensures fit { IfOk result (λ requests. FitAll procs.now requests.items) }
 {
-    let mut requests = Vec::new(alloc);
-    for (row, number) in [(4u8, 40), (5, 50), (6, 60), (7, 70)] {
-        requests.push(put(alloc, procs, u64::from(row), i64::from(row), number)?)?;
-    }
-    Ok(requests)
+    Ok(vec![in alloc;
+        put(alloc, procs, 9, 4)?,
+        put(alloc, procs, 8, 5)?,
+        put(alloc, procs, 3, 6)?,
+        put(alloc, procs, 2, 7)?,
+    ]?)
 }
 
-fn worked<R: Threads + Wait + Sync>(rt: &R, alloc: Global) -> Result<Worked, Fail> {
+// The puts, run by so many workers.
+fn ran<R: Threads + Wait + Sync>(rt: &R, alloc: Global, workers: u8) -> Result<EpochDone, Fail>
+    requires { 0 < workers }
+{
     let procs = Checked::built_in(alloc)?;
     let requests = puts(alloc, &procs)?;
-    if requests.len() > MOST_BATCH_LINES {
-        return Err("too many".into());
-    }
     let shards = fresh(alloc)?;
     let tables = tables(alloc)?;
     let net = QuietNet::new(alloc);
-    match run_workers(
-        rt, alloc, shards, tables, &procs, &requests, EPOCH, &OpenGate, &net,
+    let config = EpochConfig {
+        epoch: 7,
+        workers,
+        attempts: 3,
+        nodes: 3,
+        copies: 2,
+    };
+    match run_epoch(
+        rt, alloc, shards, tables, &procs, &requests, config, &OpenGate, &net,
     ) {
-        Ok(worked) => Ok(worked),
+        Ok(done) => Ok(done),
         Err(_) => Err("out of memory".into()),
     }
+}
+
+// Whether four puts of different rows stand at time 1, by id, with their pieces and with what copies have of row 5.
+fn stands(alloc: Global, epoch: &EpochDone) -> Result<bool, Fail> {
+    let mut dones = Vec::new(alloc);
+    for done in epoch.dones.as_slice() {
+        dones.push((done.id, done.epoch, done.time))?;
+    }
+    let mut pieces = Vec::new(alloc);
+    for piece in epoch.pieces.as_slice() {
+        pieces.push((piece.place, piece.partition, piece.time))?;
+    }
+    let pending = |table: usize| {
+        let row = Key { table: 0, row: 5 };
+        epoch.copies.get(table).and_then(|table| table.pending(row))
+    };
+    let put = Some((1, Some(Value::Int(50))));
+    Ok(
+        dones.as_slice() == [(2, 7, 1), (3, 7, 1), (8, 7, 1), (9, 7, 1)].as_slice()
+            && pieces.as_slice() == [(3, 1, 1), (2, 0, 1), (1, 2, 1), (0, 1, 1)].as_slice()
+            && pending(3).is_none()
+            && pending(4) == put
+            && pending(5) == put,
+    )
 }
 
 #[test]
@@ -146,26 +176,11 @@ fn shards_come_back_from_their_locks_in_order(rt: HostRuntime) -> Result<(), Fai
 }
 
 #[test]
-fn two_workers_commit_puts_into_four_rows(rt: HostRuntime) -> Result<(), Fail> {
+fn workers_commit_puts_into_four_rows_at_time_1(rt: HostRuntime) -> Result<(), Fail> {
     let alloc = rt.alloc();
-    let worked = worked(&rt, alloc)?;
-    let mut pieces: usize = 0;
-    for list in &worked.pieces {
-        pieces = pieces.saturating_add(list.len());
-    }
-    for tail in &worked.tails {
-        assert_eq!(rt; tail.len(), 0);
-    }
-    assert_eq!(rt; (pieces, worked.transcripts.len()), (4, 2));
-    assert_eq!(rt; worked.copies.len(), 6);
-    let row = Key { table: 0, row: 5 };
-    assert_eq!(rt;
-        worked.copies[4].pending(row),
-        Some((1, Some(Value::Int(50))))
-    );
-    assert_eq!(rt;
-        worked.copies[5].pending(row),
-        Some((1, Some(Value::Int(50))))
-    );
+    let alone = ran(&rt, alloc, 1)?;
+    let both = ran(&rt, alloc, 2)?;
+    assert!(rt; stands(alloc, &alone)? && stands(alloc, &both)?);
+    assert!(rt; alone.transcripts.len() == 1 && both.transcripts.len() == 2);
     Ok(())
 }

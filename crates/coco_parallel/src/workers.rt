@@ -72,7 +72,7 @@ impl Station {
     }
 }
 
-/// Lets each worker run in a thread of its own.
+/// Lets each worker run in a thread of its own; a single one runs on this thread.
 pub fn run_all<R: Threads + Wait + Sync, G: Gate + Sync, N: Net + Sync>(
     rt: &R,
     alloc: Global,
@@ -99,6 +99,12 @@ pub fn run_all<R: Threads + Wait + Sync, G: Gate + Sync, N: Net + Sync>(
     ensures each { LeavesEach procs.now requests.now (length shards.now) config (N.carries net.now) stations.old stations.new }
 {
     let threads = stations.len();
+    if threads == 1 {
+        stations[0].run(
+            rt, alloc, shards, copies, claims, procs, requests, config, gate, net,
+        );
+        return;
+    }
     thread::for_each_mut(
         rt,
         stations,

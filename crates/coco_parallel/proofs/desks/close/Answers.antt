@@ -1,4 +1,4 @@
-use Rattle.std.proofs.Common.{◌≡◌, ◌<◌, [], length, drop, slice_index_or, sym, ap, ◌∙◌, subst, arith}
+use Rattle.std.proofs.Common.{[], length, drop, sym, ap, ◌∙◌, subst, arith}
 use Rattle.coco_parallel.specs.Desks.{AreEmpty}
 use Rattle.coco_parallel.specs.Locking.{AreBack, AreEnded}
 use Rattle.coco_parallel.specs.Rows.{column}

@@ -1,4 +1,4 @@
-use Rattle.std.proofs.Common.{◌≡◌, ◌+◌, ◌≤◌, [], All, length, drop, vec_len, vec_capacity, slice_index_or, sym, ap, ◌∙◌, subst, arith}
+use Rattle.std.proofs.Common.{◌≡◌, ◌≤◌, [], All, length, drop, vec_len, vec_capacity, sym, ap, ◌∙◌, subst, arith}
 use Rattle.std.proofs.lemmas.List.Elements.{All-from_recursion}
 use Rattle.coco_parallel.specs.Locking.{AreStarted}
 use Rattle.coco_parallel.proofs.DeskLemmas.{full_trays, opened, rows_room, written_back}

@@ -1,4 +1,4 @@
-use Rattle.std.proofs.Common.{◌≡◌, ◌≤◌, Bool, true, false, All, List, ◌++◌, length, take, drop, vec_len, vec_capacity, sym, ap, ◌∙◌, subst, arith}
+use Rattle.std.proofs.Common.{◌≡◌, true, false, All, ◌++◌, length, take, drop, sym, ap, ◌∙◌, subst, arith}
 use Rattle.coco_parallel.specs.Desks.{AreEmpty}
 use Rattle.coco_parallel.specs.Worked.{HaveWorked, KeepValues, emptied, start_of}
 use Rattle.coco_parallel.specs.declared.running.Worked.{Worked}

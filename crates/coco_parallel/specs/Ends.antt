@@ -1,0 +1,70 @@
+-- What the end of an epoch makes of its transcripts: the Dones of the commits, and the tail behind them.
+use Rattle.std.specs.Prelude.{ℕ, ◌<◌, ◌≤◌, ◌^◌, Bool, ◌&&◌, nat_eq, List, ◌++◌, map, length}
+use Rattle.std.specs.List.{IsDistinct, filter_map, list_any, slice_get}
+use Rattle.std.specs.List.Sorted.{IsPermutation}
+use Rattle.coco_types.specs.Limits.{most_batch_lines, most_time}
+use Rattle.coco_types.specs.declared.call.Done.{Done}
+use Rattle.coco_types.specs.declared.call.Piece.{Piece}
+use Rattle.coco_types.specs.declared.call.Request.{Request}
+use Rattle.coco_ast.specs.Keyed.{Rows}
+use Rattle.coco_epoch.specs.Pieces.{pieces_of}
+use Rattle.coco_epoch.specs.Shards.{AreQuietAfter, HaveNewest, KeepStable}
+use Rattle.coco_occ.specs.declared.outcome.Tried.{Tried}
+use Rattle.coco_order.specs.Execution.{Beginning, Execution, Journal, concat}
+use Rattle.coco_order.specs.Order.{AreInOrder}
+use Rattle.coco_order.specs.Outcome.{AreCommits, done_of, is_commit, tail_dones, tail_requests, tail_rows}
+use Rattle.coco_shard.specs.RowState.{ShardState}
+use Rattle.coco_worker.specs.declared.slot.Slot.{Slot}
+use Rattle.coco_parallel.specs.Ending.{Start, beginning_of, execution_of}
+use Rattle.coco_parallel.specs.Epochs.{IsWorkedEpoch}
+use Rattle.coco_parallel.specs.Laws.{IsGreatestIn}
+use Rattle.coco_parallel.specs.PieceOrder.{ArePiecesInOrder}
+
+-- the Dones of the scripts that committed
+abbrev pub dones_of : ℕ → List Request → List Tried → List Done
+dones_of epoch requests ts = filter_map (λ (t : Tried). done_of epoch (slice_get requests t.place) t.outcome) ts
+
+-- one of the scripts is of this place and committed
+abbrev pub has_commit : List Tried → ℕ → Bool
+has_commit ts place = list_any (λ (t : Tried). nat_eq t.place place && is_commit t.outcome) ts
+
+-- behind these commits the tail ran from this map on, at the times above this one, and so all Dones came about, and all
+-- pieces behind these lists, and the map that the shards have then
+pub record HasTail (b : Beginning) (epoch : ℕ) (x : Execution) (commits : List Done) (most : ℕ) (lists : List (List Piece)) (rows : Rows) (after : List ShardState) (dones : List Done) (parts : List Piece) : Type 0 where
+  pub same : IsPermutation (commits ++ tail_dones b.procs epoch rows most (tail_requests b x)) dones
+  pub pieces : IsPermutation (concat lists ++ pieces_of b.procs b.partitions b.requests rows (tail_dones b.procs epoch rows most (tail_requests b x))) parts
+  pub newest : HaveNewest (tail_rows b.procs rows (tail_requests b x)) after
+
+-- All Dones of an execution whose shards were so, and all pieces, in the order of commit: the commits with the workers'
+-- pieces, and behind them the tail, whichever map the shards' newest values are.
+pub record IsEnd (b : Beginning) (epoch : ℕ) (x : Execution) (lists : List (List Piece)) (before after : List ShardState) (dones : List Done) (parts : List Piece) : Type 0 where
+  pub commits : List Done
+  pub most : ℕ
+  pub commits_are : AreCommits b epoch x commits
+  pub greatest : IsGreatestIn before most
+  pub tail : (rows : Rows) → HaveNewest rows before → HasTail b epoch x commits most lists rows after dones parts
+  pub order : AreInOrder dones
+  pub pieces_order : ArePiecesInOrder b.requests parts
+
+-- ---- of every end of the workers
+
+-- each request has an id of its own, there are no more of them than an epoch may have, and the attempts at each fit a byte
+pub record IsSmall (s : Start) : Type 0 where
+  pub distinct : IsDistinct nat_eq (map (λ (r : Request). r.id) s.requests)
+  pub few : length s.requests ≤ most_batch_lines
+  pub attempts : s.config.attempts < 2 ^ 8
+
+-- the shards have their partitions and the stable values of their start, no mark stands, and no read time is too great
+-- for a tail
+pub record MayBeginTail (first machines : List ShardState) : Type 0 where
+  pub kept : KeepStable first machines
+  pub quiet : AreQuietAfter most_time machines
+
+abbrev pub TailMayBegin : Start → List Slot → List Journal → List ShardState → Type 0
+TailMayBegin s slots journals machines = IsSmall s → MayBeginTail s.shards machines
+
+-- with the tail behind it the epoch is an execution with its outcome, and serial
+abbrev pub EndsAreSerial : Start → List Slot → List Journal → List ShardState → Type 0
+EndsAreSerial s slots journals machines = IsSmall s → (after : List ShardState) (dones : List Done) (parts : List Piece)
+    → KeepStable machines after → IsEnd (beginning_of s) s.config.epoch (execution_of slots journals) (map (λ (slot : Slot). slot.pieces) slots) machines after dones parts
+    → IsWorkedEpoch (beginning_of s) s.config.epoch journals (execution_of slots journals).transcripts after dones parts

@@ -1,0 +1,109 @@
+//! An epoch: its workers side by side, and behind them the tail.
+
+ghost use Rattle.std.specs.Prelude.{◌≡◌, ◌*◌, ◌<◌, ◌≤◌, length, map, nat_eq, IfOk, IfErr};
+ghost use Rattle.std.specs.List.{IsDistinct};
+ghost use Rattle.coco_ast.specs.Keyed.{Rows};
+ghost use Rattle.coco_epoch.specs.Running.{FitAll};
+ghost use Rattle.coco_epoch.specs.Shards.{HoldMap, AreOfPartitions, AreSettled};
+ghost use Rattle.coco_parallel.specs.Epochs.{IsWorkedEpoch, beginning_with};
+ghost use Rattle.coco_parallel.specs.Worked.{AreReplayed, HaveCommits, begun_all, start_of};
+
+use crate::ends::end_epoch;
+use crate::laws::ends_are_serial;
+use crate::running::{EpochRefused, Worked, run_workers, taken_back};
+use coco_ast::Checked;
+use coco_copy::CopyTable;
+use coco_gate::Gate;
+use coco_journaled::Journal;
+use coco_net::Net;
+use coco_occ::Transcript;
+use coco_shard::Shard;
+use coco_types::limits::{MOST_BATCH_LINES, MOST_PARTITIONS};
+use coco_types::{Dones, Pieces, Request};
+use coco_worker::{EpochConfig, Tail};
+use std::alloc::Global;
+use std::sync::Wait;
+use std::thread::Threads;
+
+/// What an epoch came to: its Dones in the order of commit and what they wrote, the shards and the copies with the
+/// journals of their locks, each worker's transcript, and the requests that each worker left to the tail.
+#[derive(Drop)]
+pub struct EpochDone {
+    pub shards: Vec<Shard>,
+    pub copies: Vec<CopyTable>,
+    pub dones: Dones,
+    pub pieces: Pieces,
+    pub journals: Vec<Journal<Shard>>,
+    pub copy_journals: Vec<Journal<CopyTable>>,
+    pub transcripts: Vec<Transcript>,
+    pub tails: Vec<Tail>,
+}
+
+/// Runs the requests of an epoch: workers side by side, and then on one thread, as a tail, those that no worker
+/// committed. The copies begin the epoch. Out of memory, the shards are as they were handed in, and so are the copies
+/// but for what pended in them. `promote_all` of `coco_epoch` commits what it leaves in the shards.
+pub fn run_epoch<R: Threads + Wait + Sync, G: Gate + Sync, N: Net + Sync>(
+    rt: &R,
+    alloc: Global,
+    shards: Vec<Shard>,
+    copies: Vec<CopyTable>,
+    procs: &Checked,
+    requests: &[Request],
+    config: EpochConfig,
+    gate: &G,
+    net: &N,
+) -> Result<EpochDone, EpochRefused>
+    requires some { 0 < length shards.items }
+    requires most { length shards.items ≤ MOST_PARTITIONS }
+    requires partitions { AreOfPartitions shards.items }
+    requires settled { AreSettled shards.items }
+    requires tables { length copies.items ≡ length shards.items * config.copies }
+    requires workers { 0 < config.workers }
+    requires attempts { 0 < config.attempts }
+    requires nodes { 0 < config.nodes }
+    requires few { length requests.now ≤ MOST_BATCH_LINES }
+    requires fit { FitAll procs.now requests.now }
+    requires distinct { IsDistinct nat_eq (map (λ r. r.id) requests.now) }
+    ensures epoch { IfOk result (λ done. (m : Rows) → HoldMap m shards.items →
+        IsWorkedEpoch (beginning_with procs.now m requests.now shards.items config) config.epoch done.journals.items done.transcripts.items done.shards.items done.dones done.pieces) }
+    ensures count { IfOk result (λ done. length done.shards.items ≡ length shards.items) }
+    ensures commits { IfOk result (λ done. (m : Rows) →
+        HaveCommits (start_of procs.now m requests.now shards.items config (N.carries net.now)) (length copies.items) done.copy_journals.items done.transcripts.items) }
+    ensures replayed { IfOk result (λ done. AreReplayed (begun_all config.epoch copies.items) done.copy_journals.items done.copies.items) }
+    ensures shards { IfErr result (λ refused. refused.shards.items ≡ shards.items) }
+    ensures copies { IfErr result (λ refused. refused.copies.items ≡ begun_all config.epoch copies.items) }
+{
+    let Worked {
+        mut shards,
+        journals,
+        copies,
+        copy_journals,
+        transcripts,
+        pieces,
+        tails,
+    } = run_workers(
+        rt, alloc, shards, copies, procs, requests, config, gate, net,
+    )?;
+    ends_are_serial();
+    let Ok((dones, pieces)) = end_epoch(
+        alloc,
+        shards.as_mut_slice(),
+        procs,
+        requests,
+        config,
+        &transcripts,
+        pieces,
+    ) else {
+        return Err(taken_back(shards, copies));
+    };
+    Ok(EpochDone {
+        shards,
+        copies,
+        dones,
+        pieces,
+        journals,
+        copy_journals,
+        transcripts,
+        tails,
+    })
+}
