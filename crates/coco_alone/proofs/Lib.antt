@@ -1,0 +1,14 @@
+mod AskLemmas
+mod Leads
+mod Locking
+mod Extending
+mod Installing
+mod Reading
+mod Scripts
+mod Trying
+mod Finishing
+mod Ordering
+mod Serving
+mod Settling
+mod Executing
+mod Serial

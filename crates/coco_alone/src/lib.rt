@@ -1,0 +1,14 @@
+//! An epoch whose requests one worker runs alone: what it leaves is an execution, of which it keeps no journal.
+#![tactic(auto)]
+
+mod asks;
+mod attempt;
+mod calls;
+mod epoch;
+pub mod laws;
+mod progress;
+
+pub use epoch::{Ran, run_alone};
+
+#[cfg(test)]
+mod tests;
