@@ -2,11 +2,14 @@
 //! that are cut.
 
 use crate::top::coco;
+use coco_gate::{Gate, HoldGate, OpenGate};
 use coco_host::{FuseHost, Host, MemoryHost};
 use coco_io::{MemorySink, MemorySource};
 use coco_types::NoMemory;
 use std::alloc::Global;
+use std::sync::Wait;
 use std::test::Fail;
+use std::thread::Threads;
 
 // The status of a call, and its line on the error stream.
 #[derive(Drop)]
@@ -16,12 +19,26 @@ struct Left {
 }
 
 // A call on these words and this text, whose read of this number fails.
-fn call<H: Host>(
+fn call<R: Threads + Wait + Sync, H: Host>(
+    rt: &R,
     alloc: Global,
     host: &mut H,
     words: &str,
     text: &str,
     failing_read: u64,
+) -> Result<Left, NoMemory> {
+    call_by(rt, alloc, host, words, text, failing_read, &OpenGate)
+}
+
+// The same with workers that pass a gate.
+fn call_by<R: Threads + Wait + Sync, H: Host, G: Gate + Sync>(
+    rt: &R,
+    alloc: Global,
+    host: &mut H,
+    words: &str,
+    text: &str,
+    failing_read: u64,
+    gate: &G,
 ) -> Result<Left, NoMemory> {
     let mut all = Vec::new(alloc);
     for word in words.split_whitespace() {
@@ -32,7 +49,8 @@ fn call<H: Host>(
     let mut input = MemorySource::new(bytes, fails);
     input.short_reads(40);
     let mut line = MemorySink::new(alloc, Vec::new(alloc));
-    let status = coco(&(), alloc, all.as_slice(), host, &mut input, &mut line);
+    let words = all.as_slice();
+    let status = coco(rt, alloc, words, host, &mut input, &mut line, gate);
     Ok(Left { status, line })
 }
 
@@ -91,10 +109,31 @@ fn worked_calls_follow_one_another(rt: HostRuntime) -> Result<(), Fail> {
     let mut host = new_host(rt.alloc(), NEVER)?;
     for (words, text, status, said, line) in CALLS {
         let before = host.said().len();
-        let left = call(rt.alloc(), &mut host, words, text, NEVER)?;
+        let left = call(&rt, rt.alloc(), &mut host, words, text, NEVER)?;
         let is_said = host.said().get(before..) == Some(said.as_bytes());
         assert!(rt; is_said && ended(&left, status, line), "{words}");
     }
+    Ok(())
+}
+
+const TWO_PUTS: &str = r#"{"args":[5,70],"call":"put","id":1}
+{"args":[6,1],"call":"put","id":2}
+"#;
+
+const AT_ONE_TIME: &str = r#"{"epoch":1,"id":1,"ok":70,"time":1}
+{"epoch":1,"id":2,"ok":1,"time":1}
+"#;
+
+// Each of two workers waits at its first attempt until the other has begun one.
+#[test]
+fn two_workers_run_side_by_side(rt: HostRuntime) -> Result<(), Fail> {
+    let mut host = new_host(rt.alloc(), NEVER)?;
+    call(&rt, rt.alloc(), &mut host, "init", "", NEVER)?;
+    let gate = HoldGate::new(10_000_000);
+    let words = "run --epoch 2 --workers 2";
+    let left = call_by(&rt, rt.alloc(), &mut host, words, TWO_PUTS, NEVER, &gate)?;
+    let is_said = host.said() == AT_ONE_TIME.as_bytes();
+    assert!(rt; is_said && ended(&left, 0, "") && gate.met());
     Ok(())
 }
 
@@ -103,8 +142,8 @@ fn worked_calls_follow_one_another(rt: HostRuntime) -> Result<(), Fail> {
 fn a_failing_read_leaves_whole_batches(rt: HostRuntime) -> Result<(), Fail> {
     for (words, said) in [("run --epoch 1", &ANSWERS[..36]), ("run --epoch 2", "")] {
         let mut host = new_host(rt.alloc(), NEVER)?;
-        call(rt.alloc(), &mut host, "init", "", NEVER)?;
-        let left = call(rt.alloc(), &mut host, words, LINES, 1)?;
+        call(&rt, rt.alloc(), &mut host, "init", "", NEVER)?;
+        let left = call(&rt, rt.alloc(), &mut host, words, LINES, 1)?;
         let is_said = host.said() == said.as_bytes();
         assert!(rt; is_said && ended(&left, 2, "coco: read fault\n"), "{words}");
     }
@@ -112,12 +151,17 @@ fn a_failing_read_leaves_whole_batches(rt: HostRuntime) -> Result<(), Fail> {
 }
 
 // After a crash by this pick the same lines are answered, each once.
-fn goes_on(alloc: Global, host: MemoryHost, pick: u64) -> Result<bool, NoMemory> {
+fn goes_on<R: Threads + Wait + Sync>(
+    rt: &R,
+    alloc: Global,
+    host: MemoryHost,
+    pick: u64,
+) -> Result<bool, NoMemory> {
     let mut host = host.crash(pick)?;
-    let left = call(alloc, &mut host, "run --epoch 1", LINES, NEVER)?;
+    let left = call(rt, alloc, &mut host, "run --epoch 1", LINES, NEVER)?;
     let answered = host.said().len();
     let seventies = text_of(host.said()).matches("\"ok\":70,").count();
-    let verdict = call(alloc, &mut host, "verify", "", NEVER)?;
+    let verdict = call(rt, alloc, &mut host, "verify", "", NEVER)?;
     Ok(
         left.status == 0
             && seventies == 2
@@ -137,15 +181,15 @@ fn a_failing_call_loses_nothing(rt: HostRuntime) -> Result<(), Fail> {
         let mut last = 0;
         for failing in 0..1000 {
             let mut host = new_host(rt.alloc(), failing)?;
-            if call(rt.alloc(), &mut host, "init", "", NEVER)?.status != 0 {
+            if call(&rt, rt.alloc(), &mut host, "init", "", NEVER)?.status != 0 {
                 continue;
             }
-            let left = call(rt.alloc(), &mut host, "run --epoch 1", LINES, NEVER)?;
+            let left = call(&rt, rt.alloc(), &mut host, "run --epoch 1", LINES, NEVER)?;
             if left.status == 0 {
                 break;
             }
             let fault = if host.say_faults() > 0 { 3 } else { 4 };
-            let is_well = left.status == fault && goes_on(rt.alloc(), host, pick)?;
+            let is_well = left.status == fault && goes_on(&rt, rt.alloc(), host, pick)?;
             assert!(rt; is_well, "call {failing} fails");
             last = failing;
         }
@@ -161,13 +205,14 @@ fn a_fuse_loses_nothing(rt: HostRuntime) -> Result<(), Fail> {
         let mut last = 0;
         for passes in 0..1000 {
             let mut host = new_host(rt.alloc(), NEVER)?;
-            call(rt.alloc(), &mut host, "init", "", NEVER)?;
+            call(&rt, rt.alloc(), &mut host, "init", "", NEVER)?;
             let mut host = FuseHost::new(host, passes);
-            let left = call(rt.alloc(), &mut host, "run --epoch 1", LINES, NEVER)?;
+            let left = call(&rt, rt.alloc(), &mut host, "run --epoch 1", LINES, NEVER)?;
             if left.status == 0 {
                 break;
             }
-            let is_well = matches!(left.status, 3 | 4) && goes_on(rt.alloc(), host.inner(), pick)?;
+            let is_well = matches!(left.status, 3 | 4)
+                && goes_on(&rt, rt.alloc(), host.inner(), pick)?;
             assert!(rt; is_well, "{passes} passes");
             last = passes;
         }
@@ -185,10 +230,10 @@ fn a_cut_file_is_refused_at_its_place(rt: HostRuntime) -> Result<(), Fail> {
                 continue;
             }
             let mut host = new_host(rt.alloc(), NEVER)?;
-            call(rt.alloc(), &mut host, "init", "", NEVER)?;
-            call(rt.alloc(), &mut host, "run", FIRST, NEVER)?;
+            call(&rt, rt.alloc(), &mut host, "init", "", NEVER)?;
+            call(&rt, rt.alloc(), &mut host, "run", FIRST, NEVER)?;
             host.cut(file, len);
-            let left = call(rt.alloc(), &mut host, "run", LINES, NEVER)?;
+            let left = call(&rt, rt.alloc(), &mut host, "run", LINES, NEVER)?;
             let line = format!(in rt.alloc(); "coco: not a store: file {file} at byte {at}\n")?;
             assert!(rt;
                 ended(&left, 7, line.as_str()),

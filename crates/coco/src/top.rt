@@ -7,29 +7,33 @@ ghost use Rattle.coco_ending.specs.Endings.{line_of, status_of};
 ghost use Rattle.coco_ending.specs.declared.ending.Ending.{Ending as CallEnding};
 ghost use Rattle.coco_words.specs.Commands.{numbers_of, options_of};
 ghost use Rattle.coco_words.specs.Options.{AreInRange};
-ghost use Rattle.coco.specs.Commands.{Does, Inits, Obeys};
+ghost use Rattle.coco.specs.Commands.{Does, Inits, Obeys, plan_of};
 
 use coco_ending::Ending;
+use coco_gate::Gate;
 use coco_host::Host;
 use coco_init::init;
 use coco_io::{Sink, Source};
 use coco_migrate::migrate;
 use coco_run::run;
+use coco_serve::Plan;
 use coco_tell::{dump, verify};
-use coco_words::{Command, WordsFault, words as command_of};
+use coco_words::{Command, RunOptions, WordsFault, words as command_of};
 use std::alloc::Global;
+use std::sync::Wait;
+use std::thread::Threads;
 
 /// Does what the words ask of the store in the host's files, and answers the program's status. A status other than 0
-/// has its line on the error stream, whose faults change nothing.
-///
-/// The runtime is what workers will be started with.
-pub fn coco<R, H: Host, I: Source, E: Sink>(
-    _rt: &R,
+/// has its line on the error stream, whose faults change nothing. The workers of `run` pass the gate before and after
+/// each attempt.
+pub fn coco<R: Threads + Wait + Sync, H: Host, I: Source, E: Sink, G: Gate + Sync>(
+    rt: &R,
     alloc: Global,
     words: &[String],
     host: &mut H,
     input: &mut I,
     errs: &mut E,
+    gate: &G,
 ) -> u8
     // The status and the line on the error stream are those of one ending, in which the words were obeyed.
     ensures obeys { (ending : CallEnding) × (result ≡ status_of ending)
@@ -40,7 +44,7 @@ pub fn coco<R, H: Host, I: Source, E: Sink>(
         × ((count : ℕ) × (E.contents errs.new ≡ append_known (E.contents errs.old) (take count (line_of ending)))) }
     ensures untouched { result ≡ 1 → (host.new ≡ host.old) × (input.new ≡ input.old) }
 {
-    let ending = obey(alloc, words, host, input);
+    let ending = obey(rt, alloc, words, host, input, gate);
     complain(alloc, &ending, errs);
     ending.status()
 }
@@ -53,7 +57,14 @@ fn complain<E: Sink>(alloc: Global, ending: &Ending, errs: &mut E)
 }
 
 // The same but for the error stream.
-fn obey<H: Host, I: Source>(alloc: Global, words: &[String], host: &mut H, input: &mut I) -> Ending
+fn obey<R: Threads + Wait + Sync, H: Host, I: Source, G: Gate + Sync>(
+    rt: &R,
+    alloc: Global,
+    words: &[String],
+    host: &mut H,
+    input: &mut I,
+    gate: &G,
+) -> Ending
     ensures obeys { Obeys H.moment H.observed H.said H.reads H.may_leave (map string_bytes words.now) result
         (record { source = record { given = I.given input.old; left = I.remaining input.old; at_end = I.at_end input.old }; source_faults = I.faults input.old; say_faults = H.say_faults host.old; disk_faults = H.disk_faults host.old })
         (record { source = record { given = I.given input.new; left = I.remaining input.new; at_end = I.at_end input.new }; source_faults = I.faults input.new; say_faults = H.say_faults host.new; disk_faults = H.disk_faults host.new })
@@ -61,18 +72,20 @@ fn obey<H: Host, I: Source>(alloc: Global, words: &[String], host: &mut H, input
     ensures untouched { result ≡ CallEnding.BadCommandLine → (host.new ≡ host.old) × (input.new ≡ input.old) }
 {
     match command_of(alloc, words) {
-        Ok(command) => execute(alloc, command, host, input),
+        Ok(command) => execute(rt, alloc, command, host, input, gate),
         Err(WordsFault::Usage) => Ending::BadCommandLine,
         Err(WordsFault::NoMemory) => Ending::NoMemory,
     }
 }
 
 // Does what a command asks.
-fn execute<H: Host, I: Source>(
+fn execute<R: Threads + Wait + Sync, H: Host, I: Source, G: Gate + Sync>(
+    rt: &R,
     alloc: Global,
     command: Command,
     host: &mut H,
     input: &mut I,
+    gate: &G,
 ) -> Ending
     requires { AreInRange (options_of command) (numbers_of command) }
     ensures { Does H.moment H.observed H.said H.reads H.may_leave command result
@@ -89,9 +102,20 @@ fn execute<H: Host, I: Source>(
             Ok(()) => Ending::Finished,
             Err(ending) => ending,
         },
-        Command::Run(options) => run(alloc, host, input, options.epoch),
+        Command::Run(options) => run(rt, alloc, host, input, plan_of(options), gate),
         Command::Dump => dump(alloc, host),
         Command::Verify => verify(alloc, host),
         Command::Migrate { keep } => migrate(alloc, host, keep),
+    }
+}
+
+// How `run` works its lines off, by its options.
+fn plan_of(options: RunOptions) -> Plan
+    ensures { result ≡ plan_of options }
+{
+    Plan {
+        size: options.epoch,
+        workers: options.workers,
+        attempts: options.attempts,
     }
 }

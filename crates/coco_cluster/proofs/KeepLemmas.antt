@@ -1,5 +1,5 @@
 -- The kept Dones, before and after those of one epoch more.
-use Rattle.std.proofs.Common.{◌≡◌, ℕ, suc, ◌+◌, ◌-◌, ◌<◌, ◌≤◌, Bool, true, false, cond, nat_eq, List, [], ◌∷◌, ◌++◌, filter, length, map, Option, None, IsPermutation, refl, sym, ap, ◌∙◌, subst, arith}
+use Rattle.std.proofs.Common.{◌≡◌, ℕ, suc, ◌+◌, ◌<◌, ◌≤◌, Bool, true, false, cond, nat_eq, List, [], ◌∷◌, ◌++◌, filter, length, map, Option, None, IsPermutation, refl, sym, ap, ◌∙◌, subst, arith}
 use Rattle.std.specs.List.{AllByRecursion, IsDistinct}
 use Rattle.std.specs.Cmp.{nat_eq_equiv}
 use Rattle.std.proofs.lemmas.List.{map-append}
@@ -9,12 +9,10 @@ use Rattle.std.proofs.lemmas.Map.Keys.{IsDistinct-IsPermutation}
 use Rattle.coco_types.specs.declared.call.Done.{Done}
 use Rattle.coco_types.specs.declared.call.Request.{Request}
 use Rattle.coco_ast.specs.Growth.{IsEpochOf}
-use Rattle.coco_ast.specs.History.{Epoch, History, done_of, floor_of, ids_of, is_held, kept_of, no_base, request_of}
-use Rattle.coco_ast.specs.Schedule.{IsCommitOrder, timed_of}
+use Rattle.coco_ast.specs.History.{done_of, floor_of, ids_of, is_held, kept_of, request_of}
 use Rattle.coco_ast.proofs.GrowthLemmas.{no_ids}
 use Rattle.coco_ast.proofs.KeptLemmas.{floor_behind, kept_behind}
 use Rattle.coco_ast.proofs.Lists.{all_append, all_from_map, all_map, all_swap, all_weaker, distinct_append}
-use Rattle.coco_ast.proofs.ScheduleLemmas.{scheduled}
 use Rattle.coco_kept.specs.Holding.{NeverFall}
 use Rattle.coco_kept.specs.Keeping.{HasDistinctIds, HoldsKept, Keeping}
 use Rattle.coco_load.specs.Keeping.{MayFollow}
@@ -72,17 +70,7 @@ never_fall-append n (x ∷ xs) ys rising below all =
 
 -- ---- the Dones of new requests
 
-module _ (requests : List Request) (epoch : ℕ) (dones : List Done) (some : 0 < epoch) (order : IsCommitOrder requests (map timed_of dones))
-    (numbered : AllByRecursion (λ (d : Done). d.epoch ≡ epoch) dones) (distinct : IsDistinct nat_eq (map (λ (r : Request). r.id) requests)) where
-  abbrev before_it : History
-  before_it = record { base = record no_base { epoch = epoch - 1 }; epochs = []; keep = None }
-
-  abbrev e : Epoch
-  e = record { number = epoch; dones = dones }
-
-  is_epoch : IsEpochOf requests e
-  is_epoch = (scheduled before_it requests e (record { number = omega (arith, some); order = order }) numbered distinct).epoch
-
+module _ (requests : List Request) (epoch : ℕ) (dones : List Done) (is_epoch : IsEpochOf requests (record { number = epoch; dones = dones })) (distinct : IsDistinct nat_eq (map (λ (r : Request). r.id) requests)) where
   -- there are as many as requests
   pub as_many : length dones ≡ length requests
   as_many = sym (length-map dones) ∙ length_permutation requests (map request_of dones) is_epoch.each
@@ -107,7 +95,7 @@ module _ (requests : List Request) (epoch : ℕ) (dones : List Done) (some : 0 <
         (all_weaker (λ id. done_of id k.dones ≡ None) (λ id. AllByRecursion (λ x. nat_eq x id ≡ false) (ids_of k.dones)) (λ id none. no_ids id k.dones none) (ids_of dones) new)
 
     rising : NeverFall (keeps.added ++ dones)
-    rising = never_fall-append epoch keeps.added dones keeps.rising keeps.below numbered
+    rising = never_fall-append epoch keeps.added dones keeps.rising keeps.below is_epoch.numbered
 
     kept_below : AllByRecursion (λ (d : Done). d.epoch < epoch) k.dones
     kept_below = subst (AllByRecursion (λ (d : Done). d.epoch < epoch)) (sym keeps.holds.kept) (all_filter (λ (d : Done). d.epoch < epoch) (is_held k.keep keeps.added) keeps.added keeps.below)
@@ -120,7 +108,7 @@ module _ (requests : List Request) (epoch : ℕ) (dones : List Done) (some : 0 <
     may_follow unkept = record {
       once = subst (IsDistinct nat_eq) (sym (map-append (λ (d : Done). d.id) k.dones dones))
           (distinct_append (ids_of k.dones) (ids_of dones) keeps.once (IsDistinct-IsPermutation nat_eq nat_eq_equiv.symm _ _ ids_moved distinct) (apart unkept));
-      rising = never_fall-append epoch k.dones dones kept_rise kept_below numbered;
+      rising = never_fall-append epoch k.dones dones kept_rise kept_below is_epoch.numbered;
     }
 
     module _ (now : Keeping) (keep : now.keep ≡ k.keep) (more : (before : Option ℕ) (added : List Done) → HoldsKept k before added → NeverFall (added ++ dones) → HoldsKept now before (added ++ dones)) where
@@ -143,7 +131,7 @@ module _ (requests : List Request) (epoch : ℕ) (dones : List Done) (some : 0 <
         holds = holds;
         rising = rising;
         below = all_append (λ (d : Done). d.epoch < epoch + 1) keeps.added dones (all_weaker (λ (d : Done). d.epoch < epoch) _ (λ d less. omega (arith, less)) keeps.added keeps.below)
-            (all_weaker (λ (d : Done). d.epoch ≡ epoch) _ (λ d is. omega (arith, is)) dones numbered);
+            (all_weaker (λ (d : Done). d.epoch ≡ epoch) _ (λ d is. omega (arith, is)) dones is_epoch.numbered);
         once = subst HasDistinctIds (sym kept_now) (once-filter (is_held k.keep (k.dones ++ dones)) (k.dones ++ dones) (may_follow unkept).once);
       }
 

@@ -1,4 +1,3 @@
-pub mod Joining
 pub mod KeepLemmas
 pub mod StoreLemmas
 pub mod TurnLemmas

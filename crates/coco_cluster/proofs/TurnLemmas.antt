@@ -26,19 +26,23 @@ use Rattle.coco_entry.specs.declared.commit.Commit.{Commit}
 use Rattle.coco_entry.specs.declared.prepared.Prepared.{Prepared}
 use Rattle.coco_entry.specs.declared.prepared.Row.{Row}
 use Rattle.coco_epoch.specs.Pieces.{pieces_of}
-use Rattle.coco_epoch.specs.Shards.{AreOfPartitions, HaveNewest, HaveStable, HoldMap}
+use Rattle.coco_epoch.specs.Shards.{AreOfPartitions, HaveNewest, HoldMap}
 use Rattle.coco_kept.specs.Holding.{NeverFall}
 use Rattle.coco_kept.specs.Keeping.{HoldsKept, Keeping}
 use Rattle.coco_load.specs.Keeping.{MayFollow}
 use Rattle.coco_log.specs.LogState.{LogState}
 use Rattle.coco_log.specs.declared.fault.LogFault.{LogFault}
+use Rattle.coco_order.specs.Execution.{Beginning}
+use Rattle.coco_order.specs.Outcome.{ComeOfExecution}
+use Rattle.coco_parallel.specs.Epochs.{beginning_with}
 use Rattle.coco_prepared.specs.LastWrites.{AreLastWrites}
 use Rattle.coco_shard.specs.RowState.{ShardState}
 use Rattle.coco_store.specs.Contents.{Contents, IsGoodStore, epoch_of, history_of, map_in}
 use Rattle.coco_store.specs.Laws.{HasReady, MayCommit, MayPrepare, with_commit}
+use Rattle.coco_worker.specs.declared.slot.EpochConfig.{EpochConfig}
 use Rattle.coco_cluster.specs.Standing.{ClusterState, IsSound, KeepsBelow, StandsAt}
 use Rattle.coco_cluster.specs.Storing.{AreEntries, IsOneOf, MayStore, ShowsOneOf, Stores, commit_of, prepared_of, with_epoch, with_rows}
-use Rattle.coco_cluster.specs.Turning.{Grown, HasRoom, IsStoreOf, MayTurn, RanOn, ShowsStore, Turns}
+use Rattle.coco_cluster.specs.Turning.{Grown, beginning_on, HasRoom, IsStoreOf, MayTurn, RanOn, ShowsStore, Turns}
 use Rattle.coco_cluster.specs.declared.fault.TurnFault.{TurnFault}
 use Rattle.coco_cluster.proofs.KeepLemmas.{as_many, floor_now, keeps_on, kept_now, may_follow, same_kept}
 use Rattle.coco_cluster.proofs.StoreLemmas.{at_ok, no_ok}
@@ -66,32 +70,41 @@ zero_alone n less = omega (arith, less)
 
 -- ---- a run on a cluster's shards
 
+-- what it begins with, if they hold this map
+abbrev pub begins : ClusterState → Rows → List Request → ℕ → ℕ → Beginning
+begins k m requests workers attempts =
+    record { procs = k.procs; opening = m; requests = requests; partitions = length k.shards; workers = workers; attempts = attempts }
+
 -- a cluster ran new requests: its shards, kept Dones, and what is to be written
-pub record HasRun (k : ClusterState) (requests : List Request) (shards : List ShardState) (now : Keeping) (dones : List Done) (rows : List Row) : Type 0 where
+pub record HasRun (k : ClusterState) (requests : List Request) (workers attempts : ℕ) (shards : List ShardState) (now : Keeping) (dones : List Done) (rows : List Row) : Type 0 where
   pub sound : IsSound k.kept k.shards k.chief k.node k.next_epoch k.spent
   pub unspent : k.spent ≡ false
   pub may : MayTurn k requests
   pub below : k.next_epoch < epochs_end
   pub some : 0 < length requests
   pub count : length shards ≡ length k.shards
-  pub ran : (m : Rows) → HaveStable m k.shards → RanOn k.procs requests k.next_epoch k.held m shards dones rows
+  pub ran : (m : Rows) → HoldMap m k.shards → RanOn (begins k m requests workers attempts) k.next_epoch k.held shards dones rows
   pub few : length rows < 2 ^ 32
   pub same : now ≡ record k.kept { room = now.room }
 
 some_of : (n : ℕ) → (n == 0) ≡ false → 0 < n
 some_of n not_none = grind (arith, nat_tests)
 
-pub has_run : (k seen : ClusterState) (requests : List Request) (shards old : List ShardState) (held : List Bool) (now : Keeping) (dones : List Done) (rows : List Row) → k ≡ seen → seen.spent ≡ false
-    → IsSound k.kept k.shards k.chief k.node k.next_epoch k.spent → MayTurn seen requests → k.next_epoch < epochs_end → (n : ℕ) → (n == 0) ≡ false → n ≡ length requests → old ≡ k.shards → length shards ≡ length old → held ≡ k.held
-    → ((m : Rows) → HaveStable m old → RanOn k.procs requests k.next_epoch held m shards dones rows) → length rows < 2 ^ 32 → now ≡ record k.kept { room = now.room } → HasRun k requests shards now dones rows
-has_run k seen requests shards old held now dones rows is unspent sound may below n not_none len same count same_held ran few kept = record {
+pub has_run : (k seen : ClusterState) (requests given : List Request) (workers attempts : ℕ) (config : EpochConfig) (shards : List ShardState) (held : List Bool) (now : Keeping) (dones : List Done) (rows : List Row)
+    → k ≡ seen → seen.spent ≡ false → IsSound k.kept k.shards k.chief k.node k.next_epoch k.spent → MayTurn seen requests → k.next_epoch < epochs_end
+    → (n : ℕ) → (n == 0) ≡ false → n ≡ length requests → config ≡ record { epoch = k.next_epoch; workers = workers; attempts = attempts; nodes = 1; copies = 0 } → given ≡ requests → length shards ≡ length k.shards → held ≡ k.held
+    → ((m : Rows) → HoldMap m k.shards → RanOn (beginning_with k.procs m given k.shards config) config.epoch held shards dones rows) → length rows < 2 ^ 32 → now ≡ record k.kept { room = now.room }
+    → HasRun k requests workers attempts shards now dones rows
+has_run k seen requests given workers attempts config shards held now dones rows is unspent sound may below n not_none len one_node same count same_held ran few kept = record {
   sound = sound;
   unspent = ap (λ (s : ClusterState). s.spent) is ∙ unspent;
   may = subst (λ (s : ClusterState). MayTurn s requests) (sym is) may;
   below = below;
   some = (let s = some_of n not_none in omega (arith, s, len));
-  count = count ∙ ap length same;
-  ran = λ m stable. subst (λ hs. RanOn k.procs requests k.next_epoch hs m shards dones rows) same_held (ran m (subst (HaveStable m) (sym same) stable));
+  count = count;
+  ran = λ m holds. subst (λ rs. RanOn (begins k m rs workers attempts) k.next_epoch k.held shards dones rows) same
+      (subst (λ hs. RanOn (begins k m given workers attempts) k.next_epoch hs shards dones rows) same_held
+      (subst (λ (told : EpochConfig). RanOn (beginning_with k.procs m given k.shards told) told.epoch held shards dones rows) one_node (ran m holds)));
   few = few;
   same = kept;
 }
@@ -117,12 +130,12 @@ fit_all : (epoch : ℕ) (before : Option Done) (ds : List Done) → AllByRecursi
 fit_all epoch before [] all = tt
 fit_all epoch before (d ∷ ds) all = (all.0, fit_all epoch (Some d) ds all.1)
 
-module _ (k : ClusterState) (requests : List Request) (shards : List ShardState) (now : Keeping) (dones : List Done) (rows : List Row) (run : HasRun k requests shards now dones rows) where
+module _ (k : ClusterState) (requests : List Request) (workers attempts : ℕ) (shards : List ShardState) (now : Keeping) (dones : List Done) (rows : List Row) (run : HasRun k requests workers attempts shards now dones rows) where
   abbrev m : Rows
   m = (run.sound.holds run.unspent).0
 
-  ran : RanOn k.procs requests k.next_epoch k.held m shards dones rows
-  ran = run.ran m (run.sound.holds run.unspent).1.values
+  ran : RanOn (begins k m requests workers attempts) k.next_epoch k.held shards dones rows
+  ran = run.ran m (run.sound.holds run.unspent).1
 
   keeps : KeepsBelow now k.next_epoch
   keeps = same_kept k.kept now k.next_epoch (ap (λ (n : Keeping). n.dones) run.same) (ap (λ (n : Keeping). n.floor) run.same) (ap (λ (n : Keeping). n.keep) run.same) run.sound.keeps
@@ -131,14 +144,14 @@ module _ (k : ClusterState) (requests : List Request) (shards : List ShardState)
   unkept = subst (λ ds. AllByRecursion (λ (r : Request). done_of r.id ds ≡ None) requests) (sym (ap (λ (n : Keeping). n.dones) run.same)) run.may.unkept
 
   pub follow : MayFollow now dones
-  follow = may_follow requests k.next_epoch dones run.sound.first ran.serial.order ran.serial.numbered run.may.distinct now keeps unkept
+  follow = may_follow requests k.next_epoch dones ran.serial.each run.may.distinct now keeps unkept
 
   pub entries : AreEntries k.next_epoch rows dones
   entries = record {
     few_rows = run.few;
-    few_dones = (let same = as_many requests k.next_epoch dones run.sound.first ran.serial.order ran.serial.numbered run.may.distinct in let few = run.may.few in omega (arith, same, few));
+    few_dones = (let same = as_many requests k.next_epoch dones ran.serial.each run.may.distinct in let few = run.may.few in omega (arith, same, few));
     rise = ran.last.rising;
-    numbered = fit_all k.next_epoch None dones ran.serial.numbered;
+    numbered = fit_all k.next_epoch None dones ran.serial.each.numbered;
   }
 
   -- the epoch is over
@@ -148,7 +161,7 @@ module _ (k : ClusterState) (requests : List Request) (shards : List ShardState)
     sound_then tables same chief node chief_file node_file unspent = subst (λ ts. IsSound end ts chief node (k.next_epoch + 1) false) (sym same) (record {
       some = (let s = run.sound.some in omega (arith, s, over.count, run.count));
       most = (let s = run.sound.most in omega (arith, s, over.count, run.count));
-      keeps = keeps_on requests k.next_epoch dones run.sound.first ran.serial.order ran.serial.numbered run.may.distinct now keeps end over.keep over.more unkept;
+      keeps = keeps_on requests k.next_epoch dones ran.serial.each run.may.distinct now keeps end over.keep over.more unkept;
       first = omega arith;
       end = (let b = run.below in omega (arith, b));
       holds = λ _. (rows_after k.procs m dones, over.ends (rows_after k.procs m dones) ran.serial.partitions ran.serial.newest);
@@ -157,25 +170,26 @@ module _ (k : ClusterState) (requests : List Request) (shards : List ShardState)
     })
 
     kept_then : end.dones ≡ kept_of k.kept.keep (k.kept.dones ++ dones)
-    kept_then = kept_now requests k.next_epoch dones run.sound.first ran.serial.order ran.serial.numbered run.may.distinct now keeps end over.keep over.more
+    kept_then = kept_now requests k.next_epoch dones ran.serial.each run.may.distinct now keeps end over.keep over.more
         ∙ ap (λ (n : Keeping). kept_of n.keep (n.dones ++ dones)) run.same
 
     -- no more are kept than were, and those of the epoch
     pub few_then : length end.dones ≤ length k.kept.dones + length requests
     few_then =
-        let same = as_many requests k.next_epoch dones run.sound.first ran.serial.order ran.serial.numbered run.may.distinct in
+        let same = as_many requests k.next_epoch dones ran.serial.each run.may.distinct in
         let passed = few_pass (is_held k.kept.keep (k.kept.dones ++ dones)) (k.kept.dones ++ dones) in
         omega (arith, same, passed, ap (length {A = Done}) kept_then, length-append k.kept.dones dones)
 
     floor_then : end.floor ≡ floor_of k.kept.keep k.kept.floor (k.kept.dones ++ dones)
-    floor_then = floor_now requests k.next_epoch dones run.sound.first ran.serial.order ran.serial.numbered run.may.distinct now keeps end over.keep over.more
+    floor_then = floor_now requests k.next_epoch dones ran.serial.each run.may.distinct now keeps end over.keep over.more
         ∙ ap (λ (n : Keeping). floor_of n.keep n.floor (n.dones ++ dones)) run.same
 
 -- ---- on a host that rests on the store
 
 module _ {H : Type 0} (moment : H → ℕ) (observed : H → ℕ → Observation → Type 0) (said : H → Option (List ℕ)) (reads : H → Option Files) (may_leave : H → Files → Type 0) (old : H)
     (commits : RunsAreCommits) (prepares : RunsArePrepared)
-    (k : ClusterState) (requests : List Request) (shards : List ShardState) (now : Keeping) (dones : List Done) (rows : List Row) (run : HasRun k requests shards now dones rows)
+    (k : ClusterState) (requests : List Request) (workers attempts : ℕ) (shards : List ShardState) (now : Keeping) (dones : List Done) (rows : List Row)
+    (run : HasRun k requests workers attempts shards now dones rows)
     (seen_as : ClusterState) (view_is : k ≡ seen_as) (c : Contents) (rests : RestsOn c (reads old) (may_leave old)) (stands_so : StandsAt c seen_as) (room : HasRoom c requests) where
   stands : StandsAt c k
   stands = subst (StandsAt c) (sym view_is) stands_so
@@ -192,8 +206,8 @@ module _ {H : Type 0} (moment : H → ℕ) (observed : H → ℕ → Observation
   abbrev d : Contents
   d = with_epoch epoch rows dones c
 
-  ran_here : RanOn k.procs requests epoch k.held (map_in c) shards dones rows
-  ran_here = run.ran (map_in c) stands.map.values
+  ran_here : RanOn (begins k (map_in c) requests workers attempts) epoch k.held shards dones rows
+  ran_here = run.ran (map_in c) stands.map
 
   may_run : MayRun c requests epoch
   may_run = record {
@@ -215,8 +229,8 @@ module _ {H : Type 0} (moment : H → ℕ) (observed : H → ℕ → Observation
 
   is_next : IsNextIn c requests (commit_of epoch dones)
   is_next = commits rests.files c rests.good requests epoch may_run dones (record {
-    order = ran_here.serial.order;
-    numbered = ran_here.serial.numbered;
+    each = ran_here.serial.each;
+    early = ran_here.serial.early;
     replies = subst (λ ps. RepliesAreRuns ps (map_in c) dones) stands.procs ran_here.serial.replies;
     times = ran_here.serial.times;
   })
@@ -254,13 +268,18 @@ module _ {H : Type 0} (moment : H → ℕ) (observed : H → ℕ → Observation
   history_is : history_of d ≡ followed_by h e
   history_is = history_grows (with_rows epoch rows c) (commit_of epoch dones)
 
-  grown : Grown requests epoch c d
+  begins_there : begins k (map_in c) requests workers attempts ≡ beginning_on c requests workers attempts
+  begins_there =
+      ap (λ ps. record (begins k (map_in c) requests workers attempts) { procs = ps }) stands.procs
+      ∙ ap (λ n. record (beginning_on c requests workers attempts) { partitions = n }) stands.partitions
+
+  grown : Grown requests workers attempts epoch c d
   grown = record {
     setting = refl;
     base = refl;
     e = e;
     number = refl;
-    order = ran_here.serial.order;
+    come = subst (λ b. ComeOfExecution b epoch dones) begins_there ran_here.come;
     history = history_is;
     grows = subst (GrowsBy h requests) (sym history_is) is_next.grown;
   }
@@ -285,8 +304,8 @@ module _ {H : Type 0} (moment : H → ℕ) (observed : H → ℕ → Observation
     are_stored = subst (λ rs. Storing rs dones) same_rows (subst (λ ds. Storing given_rows ds) same_dones stores) may_store
 
     turned : (result : Result (Unit {0}) TurnFault) (after : ClusterState) → OnOk result (RestsOn d (reads new) (may_leave new) × StandsAt d after)
-        → Turns moment observed said reads may_leave result requests c seen_as after old new
-    turned result after ok = subst (λ (s : ClusterState). Turns moment observed said reads may_leave result requests c s after old new) view_is (record {
+        → Turns moment observed said reads may_leave result requests workers attempts c seen_as after old new
+    turned result after ok = subst (λ (s : ClusterState). Turns moment observed said reads may_leave result requests workers attempts c s after old new) view_is (record {
       d = d;
       grown = grown;
       ok = ok;
@@ -294,7 +313,7 @@ module _ {H : Type 0} (moment : H → ℕ) (observed : H → ℕ → Observation
       left = λ bytes spoke image leaves. store_of image (are_stored.left bytes spoke image leaves);
     })
 
-    pub failed : (result : Result (Unit {0}) TurnFault) (fault : TurnFault) (after : ClusterState) → result ≡ Err fault → Turns moment observed said reads may_leave result requests c seen_as after old new
+    pub failed : (result : Result (Unit {0}) TurnFault) (fault : TurnFault) (after : ClusterState) → result ≡ Err fault → Turns moment observed said reads may_leave result requests workers attempts c seen_as after old new
     failed result fault after is = turned result after (no_ok result fault _ is)
 
     module _ (last : List ShardState) (end : Keeping) (over : HasEnded shards now dones last end) where
@@ -306,9 +325,9 @@ module _ {H : Type 0} (moment : H → ℕ) (observed : H → ℕ → Observation
         stands_then = record {
           one = stands.one;
           procs = stands.procs;
-          dones = kept_then k requests shards now dones rows run last end over ∙ ap (λ n. kept_of n (k.kept.dones ++ dones)) stands.keep ∙ ap (λ ds. kept_of h.keep (ds ++ dones)) stands.dones
+          dones = kept_then k requests workers attempts shards now dones rows run last end over ∙ ap (λ n. kept_of n (k.kept.dones ++ dones)) stands.keep ∙ ap (λ ds. kept_of h.keep (ds ++ dones)) stands.dones
               ∙ sym (follows c.setting.tree h e).held ∙ ap kept (sym history_is);
-          floor = floor_then k requests shards now dones rows run last end over ∙ ap (λ n. floor_of n k.kept.floor (k.kept.dones ++ dones)) stands.keep
+          floor = floor_then k requests workers attempts shards now dones rows run last end over ∙ ap (λ n. floor_of n k.kept.floor (k.kept.dones ++ dones)) stands.keep
               ∙ ap (λ f. floor_of h.keep f (k.kept.dones ++ dones)) stands.floor
               ∙ ap (λ ds. floor_of h.keep (floor h) (ds ++ dones)) stands.dones ∙ sym (follows c.setting.tree h e).forgotten ∙ ap floor (sym history_is);
           keep = over.keep ∙ ap (λ (n : Keeping). n.keep) run.same ∙ stands.keep;
@@ -328,5 +347,5 @@ module _ {H : Type 0} (moment : H → ℕ) (observed : H → ℕ → Observation
           };
         }
 
-        pub succeeded : (tables : List ShardState) → tables ≡ last → stored ≡ Ok tt → Turns moment observed said reads may_leave (Ok tt) requests c seen_as (after tables) old new
+        pub succeeded : (tables : List ShardState) → tables ≡ last → stored ≡ Ok tt → Turns moment observed said reads may_leave (Ok tt) requests workers attempts c seen_as (after tables) old new
         succeeded tables same is = turned (Ok tt) (after tables) (at_ok stored tt (RestsOn d (reads new) (may_leave new)) is are_stored.ok, subst (λ ts. StandsAt d (after ts)) (sym same) stands_then)

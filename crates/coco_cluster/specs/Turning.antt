@@ -11,15 +11,14 @@ use Rattle.coco_append.specs.Gaining.{RestsOn}
 use Rattle.coco_ast.specs.Fitting.{Fits}
 use Rattle.coco_ast.specs.Growth.{GrowsBy}
 use Rattle.coco_ast.specs.History.{AreAbove, Epoch, History, all_dones, done_of, followed_by}
-use Rattle.coco_ast.specs.Keyed.{Rows}
-use Rattle.coco_ast.specs.Schedule.{IsCommitOrder, timed_of}
-use Rattle.coco_ast.specs.Tree.{Procedures}
 use Rattle.coco_commits.specs.EpochEntries.{HasRoomFor}
 use Rattle.coco_entry.specs.declared.prepared.Row.{Row}
 use Rattle.coco_epoch.specs.SerialEpoch.{IsSerialEpoch}
+use Rattle.coco_order.specs.Execution.{Beginning}
+use Rattle.coco_order.specs.Outcome.{ComeOfExecution}
 use Rattle.coco_prepared.specs.LastWrites.{AreLastWrites}
 use Rattle.coco_shard.specs.RowState.{ShardState}
-use Rattle.coco_store.specs.Contents.{Contents, IsGoodStore, history_of}
+use Rattle.coco_store.specs.Contents.{Contents, IsGoodStore, history_of, map_in}
 use Rattle.coco_store.specs.Rules.{Setting}
 use Rattle.coco_cluster.specs.Standing.{ClusterState, StandsAt}
 use Rattle.coco_cluster.specs.declared.fault.TurnFault.{TurnFault}
@@ -36,19 +35,30 @@ pub record MayTurn (k : ClusterState) (requests : List Request) : Type 0 where
 abbrev pub HasRoom : Contents → List Request → Type 0
 HasRoom c requests = HasRoomFor c.setting.entry.keep (length (all_dones (history_of c)) + length requests)
 
--- the pieces, Dones and rows of an epoch that was run on shards
-pub record RanOn (ps : Procedures) (requests : List Request) (epoch : ℕ) (held : List Bool) (m : Rows) (shards : List ShardState) (dones : List Done) (rows : List Row) : Type 0 where
+-- the Dones and pieces of an epoch that workers ran on shards
+pub record HasWorked (b : Beginning) (epoch : ℕ) (shards : List ShardState) (dones : List Done) (pieces : List Piece) : Type 0 where
+  pub serial : IsSerialEpoch b.procs b.requests epoch b.opening shards dones pieces
+  pub come : ComeOfExecution b epoch dones
+
+-- the same with the rows of its prepared entry
+pub record RanOn (b : Beginning) (epoch : ℕ) (held : List Bool) (shards : List ShardState) (dones : List Done) (rows : List Row) : Type 0 where
   pub pieces : List Piece
-  pub serial : IsSerialEpoch ps requests epoch m shards dones pieces
+  pub serial : IsSerialEpoch b.procs b.requests epoch b.opening shards dones pieces
+  pub come : ComeOfExecution b epoch dones
   pub last : AreLastWrites held pieces rows
 
--- the contents have grown by an epoch of this number: one Done for each request, in the order of commit
-pub record Grown (requests : List Request) (epoch : ℕ) (c d : Contents) : Type 0 where
+-- what an epoch of these requests begins with on contents, with so many workers and attempts at each request
+abbrev pub beginning_on : Contents → List Request → ℕ → ℕ → Beginning
+beginning_on c requests workers attempts =
+    record { procs = c.setting.tree; opening = map_in c; requests = requests; partitions = c.setting.entry.layout.partitions; workers = workers; attempts = attempts }
+
+-- the contents have grown by an epoch of this number: one Done for each request, in the order of commit, as an execution from the map before has them
+pub record Grown (requests : List Request) (workers attempts epoch : ℕ) (c d : Contents) : Type 0 where
   pub setting : d.setting ≡ c.setting
   pub base : d.base ≡ c.base
   pub e : Epoch
   pub number : e.number ≡ epoch
-  pub order : IsCommitOrder requests (map timed_of e.dones)
+  pub come : ComeOfExecution (beginning_on c requests workers attempts) epoch e.dones
   pub history : history_of d ≡ followed_by (history_of c) e
   pub grows : GrowsBy (history_of c) requests (history_of d)
 
@@ -67,9 +77,9 @@ pub record ShowsStore (s : Setting) (before after : History) (bytes : Option (Li
 -- the store has grown by an epoch, where the turn succeeded. At each moment of it, and behind it whatever it answered, all that a crash may leave is a
 -- good store with the history of before or the grown one
 pub record Turns {H : Type 0} (moment : H → ℕ) (observed : H → ℕ → Observation → Type 0) (said : H → Option (List ℕ)) (reads : H → Option Files) (may_leave : H → Files → Type 0)
-    (result : Result (Unit {0}) TurnFault) (requests : List Request) (c : Contents) (before after : ClusterState) (old new : H) : Type 0 where
+    (result : Result (Unit {0}) TurnFault) (requests : List Request) (workers attempts : ℕ) (c : Contents) (before after : ClusterState) (old new : H) : Type 0 where
   pub d : Contents
-  pub grown : Grown requests before.next_epoch c d
+  pub grown : Grown requests workers attempts before.next_epoch c d
   pub ok : OnOk result (RestsOn d (reads new) (may_leave new) × StandsAt d after)
   pub moments : SeesOnly moment observed old new (ShowsStore c.setting (history_of c) (history_of d) (said old))
   pub left : (bytes : List ℕ) → said old ≡ Some bytes → (image : Files) → may_leave new image → IsStoreOf c.setting (history_of c) image ⊎ IsStoreOf c.setting (history_of d) image

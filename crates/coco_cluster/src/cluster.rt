@@ -8,10 +8,11 @@ ghost use Rattle.coco_cluster.specs.Turning.{HasRoom, IsUntouched, MayTurn, Turn
 ghost use Rattle.coco_cluster.specs.declared.fault.TurnFault.TheVariants as fault;
 
 use crate::TurnFault;
-use crate::running::{Ran, end_epoch, run_epoch};
+use crate::running::{Ran, end_epoch, on_one_node, run_epoch};
 use crate::storing::store_epoch;
 use coco_ast::Checked;
 use coco_commits::{a_run_is_the_next_commit, a_run_may_be_prepared};
+use coco_gate::Gate;
 use coco_host::Host;
 use coco_kept::Kept;
 use coco_log::Log;
@@ -20,6 +21,8 @@ use coco_types::Request;
 use coco_types::limits::EPOCHS_END;
 use std::alloc::Global;
 use std::marker::Model;
+use std::sync::Wait;
+use std::thread::Threads;
 
 /// What an opened store of one node has in memory: its procedures, kept replies and rows, the logs that it is written
 /// to, the partitions that the node holds, and the number of the next epoch.
@@ -80,22 +83,28 @@ impl Cluster {
         }
     }
 
-    /// Runs new requests as one epoch, and commits it: its prepared entry, then its commit entry, and then the shards
-    /// are promoted and its Dones are kept. Whatever it answers, at each moment what a crash may leave is a good store,
-    /// without the epoch or with it. Without requests there is nothing to do. After a fault the cluster is spent, and
-    /// the store has to be opened again.
-    pub fn turn<H: Host>(
+    /// Runs new requests as one epoch, by so many workers with so many attempts at each, and commits it: its prepared
+    /// entry, then its commit entry, and then the shards are promoted and its Dones are kept. Whatever it answers, at
+    /// each moment what a crash may leave is a good store, without the epoch or with it. Without requests there is
+    /// nothing to do. After a fault the cluster is spent, and the store has to be opened again.
+    pub fn turn<R: Threads + Wait + Sync, H: Host, G: Gate + Sync>(
         &mut self,
+        rt: &R,
         alloc: Global,
         host: &mut H,
         requests: Vec<Request>,
+        workers: u8,
+        attempts: u8,
+        gate: &G,
     ) -> Result<(), TurnFault>
         requires unspent { self.old.spent ≡ false }
+        requires workers { 0 < workers }
+        requires attempts { 0 < attempts }
         requires may { MayTurn self.old requests.items }
         requires stand { Stands self.old.node (H.reads host.old) (H.may_leave host.old) × Stands self.old.chief (H.reads host.old) (H.may_leave host.old) }
         ensures turns { (c : Contents) → RestsOn c (H.reads host.old) (H.may_leave host.old) → StandsAt c self.old → HasRoom c requests.items
             → IsUntouched result requests.items self.old self.new host.old host.new
-            ⊎ Turns H.moment H.observed H.said H.reads H.may_leave result requests.items c self.old self.new host.old host.new }
+            ⊎ Turns H.moment H.observed H.said H.reads H.may_leave result requests.items workers attempts c self.old self.new host.old host.new }
         ensures nothing { requests.items ≡ [] → IsOk result × (host.new ≡ host.old) × (self.new ≡ self.old) }
         ensures stand { OnOk result (Stands self.new.node (H.reads host.new) (H.may_leave host.new) × Stands self.new.chief (H.reads host.new) (H.may_leave host.new)) }
         ensures unspent { OnOk result (self.new.spent ≡ false) }
@@ -117,14 +126,17 @@ impl Cluster {
             return Err(TurnFault::EpochsUsedUp);
         }
         let epoch = self.next_epoch;
+        let config = on_one_node(epoch, workers, attempts);
         let Ran { dones, rows } = run_epoch(
+            rt,
             alloc,
             &mut self.shards,
             &mut self.kept,
             &self.procs,
             self.held.as_slice(),
             requests,
-            epoch,
+            config,
+            gate,
         )?;
         // The laws by which its entries may be appended; the calls do nothing.
         a_run_is_the_next_commit();

@@ -4,22 +4,30 @@ ghost use Rattle.std.specs.List.{IsDistinct};
 ghost use Rattle.coco_types.specs.declared.call.Done.{Done};
 ghost use Rattle.coco_ast.specs.Keyed.{Rows};
 ghost use Rattle.coco_epoch.specs.Running.{FitAll};
-ghost use Rattle.coco_epoch.specs.Shards.{AreOfPartitions, AreSettled, HaveNewest, HaveStable, HoldMap};
+ghost use Rattle.coco_epoch.specs.Shards.{AreOfPartitions, AreSettled, HaveNewest, HoldMap};
 ghost use Rattle.coco_kept.specs.Holding.{NeverFall};
 ghost use Rattle.coco_kept.specs.Keeping.{HoldsKept};
 ghost use Rattle.coco_load.specs.Keeping.{MayFollow};
-ghost use Rattle.coco_cluster.specs.Turning.{RanOn};
+ghost use Rattle.coco_parallel.specs.Epochs.{beginning_with};
+ghost use Rattle.coco_cluster.specs.Turning.{HasWorked, RanOn};
 
+use coco_alone::run_alone;
 use coco_ast::Checked;
 use coco_entry::Row;
-use coco_epoch::{promote_all, run_serially};
+use coco_epoch::promote_all;
+use coco_gate::Gate;
 use coco_kept::Kept;
 use coco_load::{add_dones, make_room};
+use coco_net::QuietNet;
 use coco_prepared::prepared_rows;
 use coco_shard::Shard;
 use coco_types::limits::{MOST_BATCH_LINES, MOST_PARTITIONS};
-use coco_types::{Dones, NoMemory, Request};
+use coco_types::{Dones, NoMemory, Pieces, Request};
+use coco_worker::EpochConfig;
 use std::alloc::Global;
+use std::mem;
+use std::sync::Wait;
+use std::thread::Threads;
 
 /// What an epoch came to, and what a node that holds some partitions writes of it.
 #[derive(Drop)]
@@ -28,36 +36,144 @@ pub struct Ran {
     pub rows: Vec<Row>,
 }
 
+// What workers came to in an epoch: its Dones in the order of commit, and what they wrote, in that order.
+#[derive(Drop)]
+struct Worked {
+    dones: Dones,
+    pieces: Pieces,
+}
+
+/// What the workers of an epoch are told at a store of one node, which has no copies.
+pub fn on_one_node(epoch: u64, workers: u8, attempts: u8) -> EpochConfig
+    ensures { result ≡ record { epoch = epoch; workers = workers; attempts = attempts; nodes = 1; copies = 0 } }
+{
+    EpochConfig {
+        epoch,
+        workers,
+        attempts,
+        nodes: 1,
+        copies: 0,
+    }
+}
+
 /// Runs the requests of an epoch on shards at rest, and makes the rows of its prepared entry, and room for its Dones
 /// among the kept ones.
-pub fn run_epoch(
+pub fn run_epoch<R: Threads + Wait + Sync, G: Gate + Sync>(
+    rt: &R,
     alloc: Global,
-    shards: &mut [Shard],
+    shards: &mut Vec<Shard>,
     kept: &mut Kept,
     procs: &Checked,
     held: &[bool],
     requests: Vec<Request>,
-    epoch: u64,
+    config: EpochConfig,
+    gate: &G,
 ) -> Result<Ran, NoMemory>
-    requires some { 0 < length shards.old }
-    requires most { length shards.old ≤ MOST_PARTITIONS }
-    requires partitions { AreOfPartitions shards.old }
-    requires settled { AreSettled shards.old }
+    requires some { 0 < length shards.old.items }
+    requires most { length shards.old.items ≤ MOST_PARTITIONS }
+    requires partitions { AreOfPartitions shards.old.items }
+    requires settled { AreSettled shards.old.items }
     requires fit { FitAll procs.now requests.items }
     requires few { length requests.items ≤ MOST_BATCH_LINES }
     requires distinct { IsDistinct nat_eq (map (λ r. r.id) requests.items) }
-    ensures ran { IfOk result (λ ran. (m : Rows) → HaveStable m shards.old → RanOn procs.now requests.items epoch held.now m shards.new ran.dones ran.rows.items) }
+    requires workers { 0 < config.workers }
+    requires attempts { 0 < config.attempts }
+    requires nodes { 0 < config.nodes }
+    requires alone { config.copies ≡ 0 }
+    ensures ran { IfOk result (λ ran. (m : Rows) → HoldMap m shards.old.items → RanOn (beginning_with procs.now m requests.items shards.old.items config) config.epoch held.now shards.new.items ran.dones ran.rows.items) }
+    ensures count { length shards.new.items ≡ length shards.old.items }
     ensures few { IfOk result (λ ran. length ran.rows.items < 2 ^ 32) }
     ensures room { IfOk result (λ ran. length ran.dones ≤ kept.new.room) }
     ensures kept { kept.new ≡ record kept.old { room = kept.new.room } }
 {
-    let done = run_serially(alloc, shards, procs, requests, epoch)?;
-    let rows = prepared_rows(alloc, done.pieces.as_slice(), held)?;
-    make_room(alloc, kept, done.dones.as_slice())?;
-    Ok(Ran {
-        dones: done.dones,
-        rows,
+    let Worked { dones, pieces } = work(rt, alloc, shards, procs, requests, config, gate)?;
+    let rows = prepared_rows(alloc, pieces.as_slice(), held)?;
+    make_room(alloc, kept, dones.as_slice())?;
+    Ok(Ran { dones, rows })
+}
+
+// What workers came to in an epoch. One worker goes alone, without the locks that several need.
+fn work<R: Threads + Wait + Sync, G: Gate + Sync>(
+    rt: &R,
+    alloc: Global,
+    shards: &mut Vec<Shard>,
+    procs: &Checked,
+    requests: Vec<Request>,
+    config: EpochConfig,
+    gate: &G,
+) -> Result<Worked, NoMemory>
+    requires some { 0 < length shards.old.items }
+    requires most { length shards.old.items ≤ MOST_PARTITIONS }
+    requires partitions { AreOfPartitions shards.old.items }
+    requires settled { AreSettled shards.old.items }
+    requires fit { FitAll procs.now requests.items }
+    requires few { length requests.items ≤ MOST_BATCH_LINES }
+    requires distinct { IsDistinct nat_eq (map (λ r. r.id) requests.items) }
+    requires workers { 0 < config.workers }
+    requires attempts { 0 < config.attempts }
+    requires nodes { 0 < config.nodes }
+    requires alone { config.copies ≡ 0 }
+    ensures worked { IfOk result (λ w. (m : Rows) → HoldMap m shards.old.items → HasWorked (beginning_with procs.now m requests.items shards.old.items config) config.epoch shards.new.items w.dones w.pieces) }
+    ensures count { length shards.new.items ≡ length shards.old.items }
+{
+    if config.workers > 1 {
+        return work_side_by_side(rt, alloc, shards, procs, requests.as_slice(), config, gate);
+    }
+    let ran = run_alone(alloc, shards.as_mut_slice(), procs, requests, config.epoch)?;
+    Ok(Worked {
+        dones: ran.dones,
+        pieces: ran.pieces,
     })
+}
+
+// What several workers came to, side by side.
+fn work_side_by_side<R: Threads + Wait + Sync, G: Gate + Sync>(
+    rt: &R,
+    alloc: Global,
+    shards: &mut Vec<Shard>,
+    procs: &Checked,
+    requests: &[Request],
+    config: EpochConfig,
+    gate: &G,
+) -> Result<Worked, NoMemory>
+    requires some { 0 < length shards.old.items }
+    requires most { length shards.old.items ≤ MOST_PARTITIONS }
+    requires partitions { AreOfPartitions shards.old.items }
+    requires settled { AreSettled shards.old.items }
+    requires fit { FitAll procs.now requests.now }
+    requires few { length requests.now ≤ MOST_BATCH_LINES }
+    requires distinct { IsDistinct nat_eq (map (λ r. r.id) requests.now) }
+    requires workers { 0 < config.workers }
+    requires attempts { 0 < config.attempts }
+    requires nodes { 0 < config.nodes }
+    requires alone { config.copies ≡ 0 }
+    ensures worked { IfOk result (λ w. (m : Rows) → HoldMap m shards.old.items → HasWorked (beginning_with procs.now m requests.now shards.old.items config) config.epoch shards.new.items w.dones w.pieces) }
+    ensures count { length shards.new.items ≡ length shards.old.items }
+{
+    let in_hand = mem::replace(shards, Vec::new(alloc));
+    match coco_parallel::epoch::run_epoch(
+        rt,
+        alloc,
+        in_hand,
+        Vec::new(alloc),
+        procs,
+        requests,
+        config,
+        gate,
+        &QuietNet::new(alloc),
+    ) {
+        Ok(done) => {
+            *shards = done.shards;
+            Ok(Worked {
+                dones: done.dones,
+                pieces: done.pieces,
+            })
+        }
+        Err(refused) => {
+            *shards = refused.shards;
+            Err(NoMemory)
+        }
+    }
 }
 
 /// Ends an epoch that is committed: the shards are promoted, and its Dones are kept. It takes no memory.

@@ -9,13 +9,16 @@ ghost use Rattle.coco_cluster.specs.Turning.{MayTurn};
 
 use crate::{Cluster, Opened};
 use coco_ast::Checked;
+use coco_gate::OpenGate;
 use coco_host::{Host, MemoryHost};
 use coco_kept::Kept;
 use coco_log::{Log, LogFault};
 use coco_shard::Shard;
 use coco_types::{Args, Call, NoMemory, Request, Value};
 use std::alloc::Global;
+use std::sync::Wait;
 use std::test::Fail;
+use std::thread::Threads;
 
 const COMMITS: [u8; 75] = [
     b'C', b'O', b'C', b'O', b'L', b'O', b'G', 1, 1, 0, 0, 0, 61, 2, 0, 0, 0, 0, 0, 0, 0, 1, 0, 0,
@@ -81,11 +84,15 @@ fn put_of_seventy(alloc: Global) -> Result<Vec<Request>, NoMemory>
     Ok(requests)
 }
 
-fn put_once<H: Host>(alloc: Global, host: &mut H) -> Result<Cluster, Fail> {
+fn put_once<R: Threads + Wait + Sync, H: Host>(
+    rt: &R,
+    alloc: Global,
+    host: &mut H,
+) -> Result<Cluster, Fail> {
     let (chief, node) = new_logs(alloc, host)?;
     let mut cluster = new_cluster(alloc, chief, node)?;
     let requests = put_of_seventy(alloc)?;
-    cluster.turn(alloc, host, requests)?;
+    cluster.turn(rt, alloc, host, requests, 1, 3, &OpenGate)?;
     Ok(cluster)
 }
 
@@ -93,7 +100,7 @@ fn put_once<H: Host>(alloc: Global, host: &mut H) -> Result<Cluster, Fail> {
 fn a_put_of_seventy_is_committed(rt: HostRuntime) -> Result<(), Fail> {
     let alloc = rt.alloc();
     let mut host = MemoryHost::new(alloc, Vec::new(alloc));
-    let cluster = put_once(alloc, &mut host)?;
+    let cluster = put_once(&rt, alloc, &mut host)?;
     assert_eq!(rt; cluster.next_epoch(), 2);
     assert_eq!(rt; cluster.kept().nth(0).map(|done| done.id), Some(1));
     let mut bytes = [0; 80];

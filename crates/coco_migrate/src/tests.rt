@@ -4,12 +4,16 @@ ghost use Rattle.std.specs.Prelude.{◌<◌, ◌≤◌};
 
 use crate::migrate;
 use coco_ending::Ending;
+use coco_gate::OpenGate;
 use coco_host::{FuseHost, Host, MemoryHost};
 use coco_io::MemorySource;
 use coco_recover::recover;
 use coco_run::run;
+use coco_serve::Plan;
 use std::alloc::Global;
+use std::sync::Wait;
 use std::test::Fail;
+use std::thread::Threads;
 
 // One node, one partition, no copies, and an empty text: without a keep number, with 1, and with 2 behind that.
 const LAYOUTS: [u8; 103] =
@@ -51,13 +55,24 @@ const ONE_BATCH: &str = r#"{"error":"old","line":1}
 "#;
 
 // Runs lines on the store, so many in a batch.
-fn run_lines(alloc: Global, host: &mut MemoryHost, lines: &str, size: u32) -> Result<Ending, Fail>
+fn run_lines<R: Threads + Wait + Sync>(
+    rt: &R,
+    alloc: Global,
+    host: &mut MemoryHost,
+    lines: &str,
+    size: u32,
+) -> Result<Ending, Fail>
     requires some { 0 < size }
     requires few { size ≤ 1024 }
 {
     let bytes = Vec::from_slice(alloc, lines.as_bytes())?;
     let mut input = MemorySource::new(bytes, Vec::new(alloc));
-    Ok(run(alloc, host, &mut input, size))
+    let plan = Plan {
+        size,
+        workers: 1,
+        attempts: 1,
+    };
+    Ok(run(rt, alloc, host, &mut input, plan, &OpenGate))
 }
 
 // A store with these bytes in its layouts' file, and without epochs.
@@ -71,18 +86,18 @@ fn new_store(alloc: Global, layouts: &[u8]) -> Result<MemoryHost, Fail> {
 }
 
 // The store of two epochs, without a keep number.
-fn worked_store(alloc: Global) -> Result<MemoryHost, Fail> {
+fn worked_store<R: Threads + Wait + Sync>(rt: &R, alloc: Global) -> Result<MemoryHost, Fail> {
     let mut first = LAYOUTS;
     first[38] = 0;
     let mut host = new_store(alloc, &first[..39])?;
-    run_lines(alloc, &mut host, TWO_LINES, 1)?;
+    run_lines(rt, alloc, &mut host, TWO_LINES, 1)?;
     Ok(host)
 }
 
 #[test]
 fn each_keep_number_is_one_layout_more(rt: HostRuntime) -> Result<(), Fail> {
     let alloc = rt.alloc();
-    let mut host = worked_store(alloc)?;
+    let mut host = worked_store(&rt, alloc)?;
     let mut once = LAYOUTS;
     once[70] = 0;
     let once = &once[..71];
@@ -110,14 +125,14 @@ fn a_base_file_stays(rt: HostRuntime) -> Result<(), Fail> {
 }
 
 // What the store with the keep number 1 answers, for so many lines in a batch.
-fn answers(alloc: Global, size: u32) -> Result<Vec<u8>, Fail>
+fn answers<R: Threads + Wait + Sync>(rt: &R, alloc: Global, size: u32) -> Result<Vec<u8>, Fail>
     requires some { 0 < size }
     requires few { size ≤ 1024 }
 {
-    let mut host = worked_store(alloc)?;
+    let mut host = worked_store(rt, alloc)?;
     let before = host.said().len();
     let _ = migrate(alloc, &mut host, 1);
-    run_lines(alloc, &mut host, FOUR_LINES, size)?;
+    run_lines(rt, alloc, &mut host, FOUR_LINES, size)?;
     match host.said().get(before..) {
         Some(said) => Ok(Vec::from_slice(alloc, said)?),
         None => Ok(Vec::new(alloc)),
@@ -127,8 +142,8 @@ fn answers(alloc: Global, size: u32) -> Result<Vec<u8>, Fail>
 #[test]
 fn what_is_forgotten_is_old(rt: HostRuntime) -> Result<(), Fail> {
     let alloc = rt.alloc();
-    assert_eq!(rt; answers(alloc, 1)?.as_slice(), FOUR_ANSWERS.as_bytes());
-    assert_eq!(rt; answers(alloc, 4)?.as_slice(), ONE_BATCH.as_bytes());
+    assert_eq!(rt; answers(&rt, alloc, 1)?.as_slice(), FOUR_ANSWERS.as_bytes());
+    assert_eq!(rt; answers(&rt, alloc, 4)?.as_slice(), ONE_BATCH.as_bytes());
     Ok(())
 }
 
@@ -137,7 +152,7 @@ fn what_is_forgotten_is_old(rt: HostRuntime) -> Result<(), Fail> {
 fn a_crash_within_the_first_write_leaves_no_keep_number(rt: HostRuntime) -> Result<(), Fail> {
     let alloc = rt.alloc();
     for pick in [0, 1, 2, 3, 7] {
-        let mut host = FuseHost::new(worked_store(alloc)?, 3);
+        let mut host = FuseHost::new(worked_store(&rt, alloc)?, 3);
         assert_eq!(rt; migrate(alloc, &mut host, 1), Ending::DiskFault);
         let mut host = host.inner().crash(pick)?;
         let store = recover(alloc, &mut host)?;

@@ -6,22 +6,42 @@ ghost use Rattle.coco_run.specs.Running.{RunsOn, ending_of_run};
 
 use crate::opening::open_cluster;
 use coco_ending::Ending;
+use coco_gate::Gate;
 use coco_host::Host;
 use coco_io::Source;
-use coco_serve::{Ending as Served, answer_lines};
+use coco_serve::{Ending as Served, Plan, answer_lines};
 use std::alloc::Global;
+use std::sync::Wait;
+use std::thread::Threads;
 
-/// Opens the store, and answers request lines on it to the end of the input, so many in a batch.
-pub fn run<H: Host, S: Source>(alloc: Global, host: &mut H, input: &mut S, size: u32) -> Ending
-    requires some { 0 < size }
-    requires few { size ≤ most_batch_lines }
-    ensures { RunsOn H.moment H.observed H.said H.reads H.may_leave size result
+/// Opens the store, and answers request lines on it to the end of the input, as the plan has it.
+pub fn run<R: Threads + Wait + Sync, H: Host, S: Source, G: Gate + Sync>(
+    rt: &R,
+    alloc: Global,
+    host: &mut H,
+    input: &mut S,
+    plan: Plan,
+    gate: &G,
+) -> Ending
+    requires some { 0 < plan.size }
+    requires few { plan.size ≤ most_batch_lines }
+    requires workers { 0 < plan.workers }
+    requires attempts { 0 < plan.attempts }
+    ensures { RunsOn H.moment H.observed H.said H.reads H.may_leave plan result
         (record { source = record { given = S.given input.old; left = S.remaining input.old; at_end = S.at_end input.old }; source_faults = S.faults input.old; say_faults = H.say_faults host.old; disk_faults = H.disk_faults host.old })
         (record { source = record { given = S.given input.new; left = S.remaining input.new; at_end = S.at_end input.new }; source_faults = S.faults input.new; say_faults = H.say_faults host.new; disk_faults = H.disk_faults host.new })
         host.old host.new }
 {
     match open_cluster(alloc, host) {
-        Ok(mut cluster) => ending_of_run(answer_lines(alloc, host, &mut cluster, input, size)),
+        Ok(mut cluster) => ending_of_run(answer_lines(
+            rt,
+            alloc,
+            host,
+            &mut cluster,
+            input,
+            plan,
+            gate,
+        )),
         Err(ending) => ending,
     }
 }

@@ -31,11 +31,12 @@ use Rattle.coco_lines.specs.ReaderState.{ReaderState}
 use Rattle.coco_lines.specs.Reads.{SourceMoment}
 use Rattle.coco_lines.specs.declared.class.Class.{Class}
 use Rattle.coco_store.specs.Contents.{Contents, history_of}
-use Rattle.coco_serve.specs.Growth.{AddsFrom, AreFirstBatches, GrowsInOrder, HaveSize, IsGrown, answers_of, epochs_of}
+use Rattle.coco_serve.specs.Growth.{AddsFrom, AreFirstBatches, GrowsByExecution, HaveSize, IsGrown, Manner, answers_of, epochs_of, manner_of}
 use Rattle.coco_serve.specs.Seen.{IsServed, LeavesEither}
 use Rattle.coco_serve.specs.Serving.{LeavesLast, Progress, RestsAt, RunEnds, SaysAll, SaysUpTo, Serves}
 use Rattle.coco_serve.specs.declared.ending.Ending.{Ending}
 use Rattle.coco_serve.specs.declared.ending.Ending.TheVariants as ending
+use Rattle.coco_serve.specs.declared.plan.Plan.{Plan}
 use Rattle.coco_serve.proofs.NumberLemmas.{adds_none}
 
 -- ---- lists of batches
@@ -55,9 +56,10 @@ batches_more procs h [] cs g b c k all one =
 batches_more procs h (x ∷ bs) [] g b c k all one = absurd all
 batches_more procs h (x ∷ bs) (y ∷ cs) g b c k all one = (all.0, all.1, batches_more procs all.0 bs cs g b c k all.2 one)
 
-pub turns_more : (h : History) (xs : List (List Request)) (g : History) (ys : List Request) (k : History) → GrowsInTurn GrowsInOrder h xs g → GrowsInOrder g ys k → GrowsInTurn GrowsInOrder h (xs ++ ys ∷ []) k
-turns_more h [] g ys k all one = (k, subst (λ x. GrowsInOrder x ys k) all one, refl)
-turns_more h (x ∷ xs) g ys k all one = (all.0, all.1, turns_more all.0 xs g ys k all.2 one)
+pub turns_more : (m : Manner) (h : History) (xs : List (List Request)) (g : History) (ys : List Request) (k : History) → GrowsInTurn (GrowsByExecution m) h xs g → GrowsByExecution m g ys k
+    → GrowsInTurn (GrowsByExecution m) h (xs ++ ys ∷ []) k
+turns_more m h [] g ys k all one = (k, subst (λ x. GrowsByExecution m x ys k) all one, refl)
+turns_more m h (x ∷ xs) g ys k all one = (all.0, all.1, turns_more m all.0 xs g ys k all.2 one)
 
 pub paired : (procs : Procedures) (h : History) (bs : List Lines) (cs : List (List Class)) (g : History) → GrowsByBatches procs h bs cs g → length cs ≡ length bs
 paired procs h [] cs g all = ap (length {A = List Class}) all.0
@@ -144,10 +146,10 @@ begins_itself h = (refl, refl, ([], sym (append-nil h.epochs)))
 pub moved : (s t : Setting) (h : History) (files : Files) → s ≡ t → IsStoreOf s h files → IsStoreOf t h files
 moved s t h files same store = record { contents = store.contents; setting = store.setting ∙ same; good = store.good; history = store.history }
 
-module _ (in_setting : Setting) (opening : History) (batches : List Lines) (classes : List (List Class)) (whole : History) (said : Option (List ℕ)) where
+module _ (in_setting : Setting) (plan : Plan) (opening : History) (batches : List Lines) (classes : List (List Class)) (whole : History) (said : Option (List ℕ)) where
   -- the whole history, and a front of all answers
-  pub all_served : IsGrown in_setting.tree opening batches classes whole → (seen : Observation) → IsStoreOf in_setting whole seen.image → (part : ℕ) → Some seen.said ≡ append_known said (take part (answers_of whole classes))
-      → IsServed in_setting opening batches classes whole said seen
+  pub all_served : IsGrown (manner_of in_setting plan) opening batches classes whole → (seen : Observation) → IsStoreOf in_setting whole seen.image → (part : ℕ) → Some seen.said ≡ append_known said (take part (answers_of whole classes))
+      → IsServed in_setting plan opening batches classes whole said seen
   all_served grown seen store part says =
       let all_batches : batches ≡ take (length batches) batches = sym (take-length batches) in
       let as_many : length classes ≡ length batches = paired in_setting.tree opening batches classes whole grown.grown in
@@ -157,15 +159,15 @@ module _ (in_setting : Setting) (opening : History) (batches : List Lines) (clas
         within = omega arith;
         history = whole;
         store = store;
-        grown = subst (λ bs. IsGrown in_setting.tree opening bs (take (length batches) classes) whole) all_batches (subst (λ cs. IsGrown in_setting.tree opening batches cs whole) all_classes grown);
+        grown = subst (λ bs. IsGrown (manner_of in_setting plan) opening bs (take (length batches) classes) whole) all_batches (subst (λ cs. IsGrown (manner_of in_setting plan) opening batches cs whole) all_classes grown);
         begins = begins_itself whole;
         part = part;
         says = says ∙ ap (λ cs. append_known said (take part (answers_of whole cs))) all_classes;
       }
 
   -- with a batch more
-  pub more_served : length classes ≡ length batches → (b : Lines) (c : List Class) (g : History) → IsPrefixOf whole g → (seen : Observation) → IsServed in_setting opening batches classes whole said seen
-      → IsServed in_setting opening (batches ++ b ∷ []) (classes ++ c ∷ []) g said seen
+  pub more_served : length classes ≡ length batches → (b : Lines) (c : List Class) (g : History) → IsPrefixOf whole g → (seen : Observation) → IsServed in_setting plan opening batches classes whole said seen
+      → IsServed in_setting plan opening (batches ++ b ∷ []) (classes ++ c ∷ []) g said seen
   more_served as_many b c g begins seen s =
       let same_batches : take s.count batches ≡ take s.count (batches ++ b ∷ []) = sym (take-append-le s.count batches (b ∷ []) s.within) in
       let same_classes : take s.count classes ≡ take s.count (classes ++ c ∷ []) = (let w = s.within in sym (take-append-le s.count classes (c ∷ []) (omega (arith, w, as_many)))) in
@@ -174,8 +176,8 @@ module _ (in_setting : Setting) (opening : History) (batches : List Lines) (clas
         within = (let w = s.within in let l = length-append batches (b ∷ []) in omega (arith, w, l));
         history = s.history;
         store = s.store;
-        grown = subst (λ bs. IsGrown in_setting.tree opening bs (take s.count (classes ++ c ∷ [])) s.history) same_batches
-            (subst (λ cs. IsGrown in_setting.tree opening (take s.count batches) cs s.history) same_classes s.grown);
+        grown = subst (λ bs. IsGrown (manner_of in_setting plan) opening bs (take s.count (classes ++ c ∷ [])) s.history) same_batches
+            (subst (λ cs. IsGrown (manner_of in_setting plan) opening (take s.count batches) cs s.history) same_classes s.grown);
         begins = prefix_trans s.history whole g s.begins begins;
         part = s.part;
         says = s.says ∙ ap (λ cs. append_known said (take s.part (answers_of s.history cs))) same_classes;
@@ -195,19 +197,19 @@ pub record AreTaken (next : ℕ) (reader : ReaderState) (before now : SourceMome
 
 module _ {H : Type 0} (moment : H → ℕ) (observed : H → ℕ → Observation → Type 0) (said : H → Option (List ℕ)) (reads : H → Option Files) (may_leave : H → Files → Type 0) where
   -- the lines so far are whole batches, a host rests on the store that they make, and all their answers are said
-  pub record AreServed (c : Contents) (next size : ℕ) (lines : List Line) (k : ClusterState) (first host : H) : Type 0 where
+  pub record AreServed (c : Contents) (next : ℕ) (plan : Plan) (lines : List Line) (k : ClusterState) (first host : H) : Type 0 where
     pub batches : List Lines
     pub classes : List (List Class)
     pub d : Contents
     pub setting : d.setting ≡ c.setting
     pub lines_are : lines ≡ joined batches
-    pub grown : IsGrown c.setting.tree (history_of c) batches classes (history_of d)
-    pub whole : HaveSize size batches
+    pub grown : IsGrown (manner_of c.setting plan) (history_of c) batches classes (history_of d)
+    pub whole : HaveSize plan.size batches
     pub many : length (joined classes) ≡ length lines
     pub rests : RestsOn d (reads host) (may_leave host)
     pub stands : StandsAt d k
     pub says : said host ≡ append_known (said first) (answers_of (history_of d) classes)
-    pub moments : SeesOnly moment observed first host (IsServed c.setting (history_of c) batches classes (history_of d) (said first))
+    pub moments : SeesOnly moment observed first host (IsServed c.setting plan (history_of c) batches classes (history_of d) (said first))
     pub numbers : AddsFrom next (history_of c) (history_of d)
     pub reached : k.next_epoch ≡ next + length numbers.added
 
@@ -217,30 +219,26 @@ module _ {H : Type 0} (moment : H → ℕ) (observed : H → ℕ → Observation
   abbrev pub SeenNow : Type 0
   SeenNow = (host : H) (t : ℕ) (seen : Observation) → t ≤ moment host → may_leave host seen.image → said host ≡ Some seen.said → observed host t seen
 
-  pub served_new : OnlyNow → (c : Contents) (next size : ℕ) (k : ClusterState) (host : H) → k.next_epoch ≡ next → RestsOn c (reads host) (may_leave host) → StandsAt c k → AreServed c next size [] k host host
-  served_new only_now c next size k host same rests stands = record {
+  pub served_new : OnlyNow → (c : Contents) (next : ℕ) (plan : Plan) (k : ClusterState) (host : H) → k.next_epoch ≡ next → RestsOn c (reads host) (may_leave host) → StandsAt c k → AreServed c next plan [] k host host
+  served_new only_now c next plan k host same rests stands = record {
     batches = [];
     classes = [];
     d = c;
     setting = refl;
     lines_are = refl;
-    grown = record { grown = (refl, refl); in_order = refl };
+    grown = record { grown = (refl, refl); executed = refl };
     whole = tt;
     many = refl;
     rests = rests;
     stands = stands;
     says = sym (append_known-nil (said host));
-    moments = started moment observed host (IsServed c.setting (history_of c) [] [] (history_of c) (said host)) (λ seen since.
+    moments = started moment observed host (IsServed c.setting plan (history_of c) [] [] (history_of c) (said host)) (λ seen since.
         let now = only_now host seen since in
-        all_served c.setting (history_of c) [] [] (history_of c) (said host) (record { grown = (refl, refl); in_order = refl }) seen
+        all_served c.setting plan (history_of c) [] [] (history_of c) (said host) (record { grown = (refl, refl); executed = refl }) seen
         (record { contents = c; setting = refl; good = rests.left seen.image now.0; history = refl }) 0 (sym now.1 ∙ sym (append_known-nil (said host))));
     numbers = adds_none next (history_of c);
     reached = omega (arith, same);
   }
-
-  abbrev Left : (c : Contents) (batches : List Lines) (classes : List (List Class)) (whole : History) → H → H → Type 0
-  Left c batches classes whole first host =
-      (seen : Observation) → said host ≡ Some seen.said → may_leave host seen.image → IsServed c.setting (history_of c) batches classes whole (said first) seen
 
   -- what is left at exit was seen
   pub left_by : SeenNow → (first host : H) (P : Observation → Type 0) → SeesOnly moment observed first host P → (seen : Observation) → said host ≡ Some seen.said → may_leave host seen.image → P seen
@@ -248,15 +246,18 @@ module _ {H : Type 0} (moment : H → ℕ) (observed : H → ℕ → Observation
 
   -- ---- where a run ends between two batches
 
-  module _ (seen_now : SeenNow) (c : Contents) (next size : ℕ) (lines : List Line) (k : ClusterState) (first host : H) (a : AreServed c next size lines k first host) (bytes : List ℕ) (others : List Line)
+  module _ (seen_now : SeenNow) (c : Contents) (next : ℕ) (plan : Plan) (lines : List Line) (k : ClusterState) (first host : H) (a : AreServed c next plan lines k first host) (bytes : List ℕ) (others : List Line)
       (all : lines_of bytes ≡ lines ++ others) where
     abbrev tree : Procedures
     tree = c.setting.tree
 
+    abbrev manner : Manner
+    manner = manner_of c.setting plan
+
     abbrev h : History
     h = history_of a.d
 
-    abbrev still : Progress tree (history_of c) next size bytes
+    abbrev still : Progress manner (history_of c) next plan.size bytes
     still = record {
       batches = a.batches;
       classes = a.classes;
@@ -266,11 +267,11 @@ module _ {H : Type 0} (moment : H → ℕ) (observed : H → ℕ → Observation
       first = record { others = others; lines = all ∙ ap (λ ls. ls ++ others) a.lines_are; cut = inl a.whole };
     }
 
-    ended_so : (e : Ending) → RunEnds c next size bytes still (said first) (said host) (reads host) (may_leave host) e → Serves moment observed said reads may_leave c next size bytes e first host
+    ended_so : (e : Ending) → RunEnds c next plan bytes still (said first) (said host) (reads host) (may_leave host) e → Serves moment observed said reads may_leave c next plan bytes e first host
     ended_so e ends = record {
       progress = still;
       moments = a.moments;
-      left = left_by seen_now first host (IsServed c.setting (history_of c) a.batches a.classes h (said first)) a.moments;
+      left = left_by seen_now first host (IsServed c.setting plan (history_of c) a.batches a.classes h (said first)) a.moments;
       ends = ends;
     }
 
@@ -280,16 +281,16 @@ module _ {H : Type 0} (moment : H → ℕ) (observed : H → ℕ → Observation
     leaves_one : LeavesEither c.setting h h (said host) (may_leave host)
     leaves_one bytes spoke image leaves = inl (record { contents = a.d; setting = a.setting; good = a.rests.left image leaves; history = refl })
 
-    all_batches : IsGrown tree (history_of c) (take (length a.batches) a.batches) (take (length a.batches) a.classes) h
+    all_batches : IsGrown manner (history_of c) (take (length a.batches) a.batches) (take (length a.batches) a.classes) h
     all_batches =
         let as_many : length a.classes ≡ length a.batches = paired tree (history_of c) a.batches a.classes h a.grown.grown in
-        subst (λ bs. IsGrown tree (history_of c) bs (take (length a.batches) a.classes) h) (sym (take-length a.batches))
-        (subst (λ cs. IsGrown tree (history_of c) a.batches cs h) (sym (ap (λ n. take n a.classes) (sym as_many) ∙ take-length a.classes)) a.grown)
+        subst (λ bs. IsGrown manner (history_of c) bs (take (length a.batches) a.classes) h) (sym (take-length a.batches))
+        (subst (λ cs. IsGrown manner (history_of c) a.batches cs h) (sym (ap (λ n. take n a.classes) (sym as_many) ∙ take-length a.classes)) a.grown)
 
     all_classes : take (length a.batches) a.classes ≡ a.classes
     all_classes = ap (λ n. take n a.classes) (sym (paired tree (history_of c) a.batches a.classes h a.grown.grown)) ∙ take-length a.classes
 
-    leaves_by : (Says : History → List (List Class) → Type 0) → Says h a.classes → LeavesLast c.setting (history_of c) a.batches a.classes h Says (said host) (may_leave host)
+    leaves_by : (Says : History → List (List Class) → Type 0) → Says h a.classes → LeavesLast c.setting plan (history_of c) a.batches a.classes h Says (said host) (may_leave host)
     leaves_by Says says = record {
       count = length a.batches;
       last = inl refl;
@@ -310,30 +311,30 @@ module _ {H : Type 0} (moment : H → ℕ) (observed : H → ℕ → Observation
           most = omega arith;
         }
 
-    pub memory_ran_out : Serves moment observed said reads may_leave c next size bytes ending.NoMemory first host
+    pub memory_ran_out : Serves moment observed said reads may_leave c next plan bytes ending.NoMemory first host
     memory_ran_out = ended_so ending.NoMemory (leaves_by (SaysUpTo (said first) (said host)) says_whole)
 
-    pub disk_failed : Serves moment observed said reads may_leave c next size bytes ending.DiskFault first host
+    pub disk_failed : Serves moment observed said reads may_leave c next plan bytes ending.DiskFault first host
     disk_failed = ended_so ending.DiskFault (leaves_by (SaysAll (said first) (said host)) a.says)
 
-    pub epochs_used_up : epochs_end ≤ k.next_epoch → (more : Lines) (cs : List Class) → AreFirstBatches size bytes (a.batches ++ more ∷ []) → AreClasses tree (known_in h) more cs → 0 < length (new_of cs)
-        → Serves moment observed said reads may_leave c next size bytes ending.EpochsUsedUp first host
+    pub epochs_used_up : epochs_end ≤ k.next_epoch → (more : Lines) (cs : List Class) → AreFirstBatches plan.size bytes (a.batches ++ more ∷ []) → AreClasses tree (known_in h) more cs → 0 < length (new_of cs)
+        → Serves moment observed said reads may_leave c next plan bytes ending.EpochsUsedUp first host
     epochs_used_up end more cs so are some = ended_so ending.EpochsUsedUp (
       rests_at,
       a.says,
       record { end = (let n = a.reached in omega (arith, n, end)); batch = more; classes = cs; first = so; are = are; some = some },
     )
 
-    pub read_failed : (rest : List Line) → ended_lines_of bytes ≡ lines ++ rest → length rest < size → Serves moment observed said reads may_leave c next size bytes ending.ReadFault first host
+    pub read_failed : (rest : List Line) → ended_lines_of bytes ≡ lines ++ rest → length rest < plan.size → Serves moment observed said reads may_leave c next plan bytes ending.ReadFault first host
     read_failed rest ended few = ended_so ending.ReadFault (
       record { whole = a.whole; others = rest; lines = ended ∙ ap (λ ls. ls ++ rest) a.lines_are; few = few },
       rests_at,
       a.says,
     )
 
-    pub finished : others ≡ [] → 0 < size → Serves moment observed said reads may_leave c next size bytes ending.Finished first host
+    pub finished : others ≡ [] → 0 < plan.size → Serves moment observed said reads may_leave c next plan bytes ending.Finished first host
     finished none some = ended_so ending.Finished (
-      (all ∙ ap (λ ls. lines ++ ls) none ∙ append-nil lines ∙ a.lines_are, cut_full size a.batches a.whole some),
+      (all ∙ ap (λ ls. lines ++ ls) none ∙ append-nil lines ∙ a.lines_are, cut_full plan.size a.batches a.whole some),
       rests_at,
       a.says,
     )

@@ -3,8 +3,7 @@ use Rattle.std.specs.Prelude.{◌≡◌, ◌⊎◌, ⊤, ℕ, List, [], ◌∷�
 use Rattle.std.specs.List.{AllByRecursion, range_with_len}
 use Rattle.coco_types.specs.declared.call.Request.{Request}
 use Rattle.coco_ast.specs.Growth.{GrowsBy, GrowsInTurn}
-use Rattle.coco_ast.specs.History.{Epoch, History, followed_by}
-use Rattle.coco_ast.specs.Schedule.{IsCommitOrder, timed_of}
+use Rattle.coco_ast.specs.History.{Epoch, History, followed_by, map_of}
 use Rattle.coco_ast.specs.Tree.{Procedures}
 use Rattle.coco_lines.specs.Answers.{answers_in}
 use Rattle.coco_lines.specs.Batches.{AreBatches, Batch, joined}
@@ -12,15 +11,34 @@ use Rattle.coco_lines.specs.Classes.{new_of}
 use Rattle.coco_lines.specs.Growing.{GrowsByBatches}
 use Rattle.coco_lines.specs.Lines.{Line, lines_of}
 use Rattle.coco_lines.specs.declared.class.Class.{Class}
+use Rattle.coco_order.specs.Execution.{Beginning}
+use Rattle.coco_order.specs.Outcome.{ComeOfExecution}
+use Rattle.coco_store.specs.Rules.{Setting}
+use Rattle.coco_serve.specs.declared.plan.Plan.{Plan}
 
--- the Dones of an epoch have the times of their places: snapshot calls stand at 0, by id, and the others at 1 and so on
-abbrev pub HasPlaces : History → List Request → History → Type 0
-HasPlaces h [] g = ⊤
-HasPlaces h (r ∷ rs) g = (e : Epoch) × IsCommitOrder (r ∷ rs) (map timed_of e.dones) × (g ≡ followed_by h e)
+-- how epochs are run: on which procedures, over how many partitions, by how many workers, and with how many attempts at each request
+pub record Manner : Type 0 where
+  pub procs : Procedures
+  pub partitions : ℕ
+  pub workers : ℕ
+  pub attempts : ℕ
 
--- grown by one epoch of these requests, in their order of commit. Nothing is said here of its number but that it is greater
-abbrev pub GrowsInOrder : History → List Request → History → Type 0
-GrowsInOrder h requests g = GrowsBy h requests g × HasPlaces h requests g
+abbrev pub manner_of : Setting → Plan → Manner
+manner_of s plan = record { procs = s.tree; partitions = s.entry.layout.partitions; workers = plan.workers; attempts = plan.attempts }
+
+-- what an epoch of these requests begins with behind a history
+abbrev pub beginning_behind : Manner → History → List Request → Beginning
+beginning_behind m h requests =
+    record { procs = m.procs; opening = map_of m.procs h; requests = requests; partitions = m.partitions; workers = m.workers; attempts = m.attempts }
+
+-- the Dones of an epoch are those of an execution from the map of the history before it
+abbrev pub HasExecution : Manner → History → List Request → History → Type 0
+HasExecution m h [] g = ⊤
+HasExecution m h (r ∷ rs) g = (e : Epoch) × ComeOfExecution (beginning_behind m h (r ∷ rs)) e.number e.dones × (g ≡ followed_by h e)
+
+-- grown by one epoch of these requests, as an execution has their Dones. Nothing is said here of its number but that it is greater
+abbrev pub GrowsByExecution : Manner → History → List Request → History → Type 0
+GrowsByExecution m h requests g = GrowsBy h requests g × HasExecution m h requests g
 
 -- these epochs are numbered next, next + 1 and so on, without a gap
 abbrev pub AreNumberedFrom : ℕ → List Epoch → Type 0
@@ -38,9 +56,9 @@ epochs_of [] = 0
 epochs_of (r ∷ rs) = 1
 
 -- the history that the opening one has grown to by these batches, whose lines have these classes
-pub record IsGrown (procs : Procedures) (opening : History) (batches : List Batch) (classes : List (List Class)) (history : History) : Type 0 where
-  pub grown : GrowsByBatches procs opening batches classes history
-  pub in_order : GrowsInTurn GrowsInOrder opening (map new_of classes) history
+pub record IsGrown (m : Manner) (opening : History) (batches : List Batch) (classes : List (List Class)) (history : History) : Type 0 where
+  pub grown : GrowsByBatches m.procs opening batches classes history
+  pub executed : GrowsInTurn (GrowsByExecution m) opening (map new_of classes) history
 
 -- what the lines of these batches are answered in a history, from line 1 on
 abbrev pub answers_of : History → List (List Class) → List ℕ

@@ -4,7 +4,6 @@ use Rattle.std.specs.Io.KnownBytes.{append_known}
 use Rattle.coco_types.specs.Limits.{epochs_end}
 use Rattle.coco_append.specs.Gaining.{RestsOn}
 use Rattle.coco_ast.specs.History.{History}
-use Rattle.coco_ast.specs.Tree.{Procedures}
 use Rattle.coco_cluster.specs.Standing.{ClusterState, StandsAt}
 use Rattle.coco_host.specs.Files.{Files}
 use Rattle.coco_host.specs.Moments.{Observation, SeesOnly}
@@ -16,9 +15,10 @@ use Rattle.coco_lines.specs.Reads.{Gives, IsSpent, SourceMoment}
 use Rattle.coco_lines.specs.declared.class.Class.{Class}
 use Rattle.coco_store.specs.Contents.{Contents, history_of}
 use Rattle.coco_store.specs.Rules.{Setting}
-use Rattle.coco_serve.specs.Growth.{AddsFrom, AreFirstBatches, HaveSize, IsGrown, answers_of}
+use Rattle.coco_serve.specs.Growth.{AddsFrom, AreFirstBatches, HaveSize, IsGrown, Manner, answers_of, manner_of}
 use Rattle.coco_serve.specs.Seen.{IsServed, LeavesEither}
 use Rattle.coco_serve.specs.declared.ending.Ending.{Ending}
+use Rattle.coco_serve.specs.declared.plan.Plan.{Plan}
 use Rattle.coco_serve.specs.declared.ending.Ending.TheVariants.{Finished, ReadFault, SayFault, DiskFault, EpochsUsedUp, NoMemory}
 
 -- ---- causes
@@ -43,11 +43,11 @@ HasCause next bytes before after NoMemory = ⊤
 -- ---- batches and answers
 
 -- a history grown by the first batches of these bytes, the epochs that it has more numbered from `next` on
-pub record Progress (procs : Procedures) (opening : History) (next size : ℕ) (bytes : List ℕ) : Type 0 where
+pub record Progress (m : Manner) (opening : History) (next size : ℕ) (bytes : List ℕ) : Type 0 where
   pub batches : List Batch
   pub classes : List (List Class)
   pub history : History
-  pub grown : IsGrown procs opening batches classes history
+  pub grown : IsGrown m opening batches classes history
   pub numbers : AddsFrom next opening history
   pub first : AreFirstBatches size bytes batches
 
@@ -79,52 +79,52 @@ abbrev pub RestsAt : Setting → History → Option Files → (Files → Type 0)
 RestsAt s h reads may_leave = (d : Contents) × (d.setting ≡ s) × (history_of d ≡ h) × RestsOn d reads may_leave
 
 -- some first batches are said, all of them or all but one; what a crash may leave is a store of their history or of the whole one
-pub record LeavesLast (s : Setting) (opening : History) (batches : List Batch) (classes : List (List Class)) (whole : History) (Says : History → List (List Class) → Type 0)
+pub record LeavesLast (s : Setting) (plan : Plan) (opening : History) (batches : List Batch) (classes : List (List Class)) (whole : History) (Says : History → List (List Class) → Type 0)
     (now : Option (List ℕ)) (may_leave : Files → Type 0) : Type 0 where
   pub count : ℕ
   pub last : (length batches ≡ count) ⊎ (length batches ≡ count + 1)
   pub history : History
-  pub grown : IsGrown s.tree opening (take count batches) (take count classes) history
+  pub grown : IsGrown (manner_of s plan) opening (take count batches) (take count classes) history
   pub says : Says history (take count classes)
   pub left : LeavesEither s history whole now may_leave
 
 -- as many epochs were added as there were numbers for, and the next batch has a new request
-pub record AreUsedUp (procs : Procedures) (opening : History) (next size : ℕ) (bytes : List ℕ) (p : Progress procs opening next size bytes) : Type 0 where
+pub record AreUsedUp (m : Manner) (opening : History) (next size : ℕ) (bytes : List ℕ) (p : Progress m opening next size bytes) : Type 0 where
   pub end : epochs_end ≤ next + length p.numbers.added
   pub batch : Batch
   pub classes : List Class
   pub first : AreFirstBatches size bytes (p.batches ++ batch ∷ [])
-  pub are : AreClasses procs (known_in p.history) batch classes
+  pub are : AreClasses m.procs (known_in p.history) batch classes
   pub some : 0 < length (new_of classes)
 
 -- ---- how a run ends
 
 -- by its ending: an input that was read to its end is committed and answered whole; after a fault of reading so are all whole batches; a fault of saying
 -- leaves all batches committed, the last one said in part; and after a fault of the disk, or out of memory, one batch more may be committed than is said
-abbrev pub RunEnds : (c : Contents) → (next size : ℕ) → (bytes : List ℕ) → Progress c.setting.tree (history_of c) next size bytes → Option (List ℕ) → Option (List ℕ) → Option Files → (Files → Type 0) → Ending → Type 0
-RunEnds c next size bytes p before now reads may_leave Finished = AreAll size bytes p.batches × RestsAt c.setting p.history reads may_leave × SaysAll before now p.history p.classes
-RunEnds c next size bytes p before now reads may_leave ReadFault = AreAllWhole size bytes p.batches × RestsAt c.setting p.history reads may_leave × SaysAll before now p.history p.classes
-RunEnds c next size bytes p before now reads may_leave SayFault = RestsAt c.setting p.history reads may_leave × SaysUpTo before now p.history p.classes
-RunEnds c next size bytes p before now reads may_leave DiskFault =
-    LeavesLast c.setting (history_of c) p.batches p.classes p.history (SaysAll before now) now may_leave
-RunEnds c next size bytes p before now reads may_leave EpochsUsedUp =
-    RestsAt c.setting p.history reads may_leave × SaysAll before now p.history p.classes × AreUsedUp c.setting.tree (history_of c) next size bytes p
-RunEnds c next size bytes p before now reads may_leave NoMemory =
-    LeavesLast c.setting (history_of c) p.batches p.classes p.history (SaysUpTo before now) now may_leave
+abbrev pub RunEnds : (c : Contents) → (next : ℕ) → (plan : Plan) → (bytes : List ℕ) → Progress (manner_of c.setting plan) (history_of c) next plan.size bytes → Option (List ℕ) → Option (List ℕ) → Option Files → (Files → Type 0) → Ending → Type 0
+RunEnds c next plan bytes p before now reads may_leave Finished = AreAll plan.size bytes p.batches × RestsAt c.setting p.history reads may_leave × SaysAll before now p.history p.classes
+RunEnds c next plan bytes p before now reads may_leave ReadFault = AreAllWhole plan.size bytes p.batches × RestsAt c.setting p.history reads may_leave × SaysAll before now p.history p.classes
+RunEnds c next plan bytes p before now reads may_leave SayFault = RestsAt c.setting p.history reads may_leave × SaysUpTo before now p.history p.classes
+RunEnds c next plan bytes p before now reads may_leave DiskFault =
+    LeavesLast c.setting plan (history_of c) p.batches p.classes p.history (SaysAll before now) now may_leave
+RunEnds c next plan bytes p before now reads may_leave EpochsUsedUp =
+    RestsAt c.setting p.history reads may_leave × SaysAll before now p.history p.classes × AreUsedUp (manner_of c.setting plan) (history_of c) next plan.size bytes p
+RunEnds c next plan bytes p before now reads may_leave NoMemory =
+    LeavesLast c.setting plan (history_of c) p.batches p.classes p.history (SaysUpTo before now) now may_leave
 
 -- of a host that rested on these contents: what was seen in the run and is left behind it, and how it ended. Each history seen begins the whole one, so its
 -- epochs are numbered from `next` on too
 pub record Serves {H : Type 0} (moment : H → ℕ) (observed : H → ℕ → Observation → Type 0) (said : H → Option (List ℕ)) (reads : H → Option Files) (may_leave : H → Files → Type 0)
-    (c : Contents) (next size : ℕ) (bytes : List ℕ) (ending : Ending) (old new : H) : Type 0 where
-  pub progress : Progress c.setting.tree (history_of c) next size bytes
-  pub moments : SeesOnly moment observed old new (IsServed c.setting (history_of c) progress.batches progress.classes progress.history (said old))
-  pub left : (seen : Observation) → said new ≡ Some seen.said → may_leave new seen.image → IsServed c.setting (history_of c) progress.batches progress.classes progress.history (said old) seen
-  pub ends : RunEnds c next size bytes progress (said old) (said new) (reads new) (may_leave new) ending
+    (c : Contents) (next : ℕ) (plan : Plan) (bytes : List ℕ) (ending : Ending) (old new : H) : Type 0 where
+  pub progress : Progress (manner_of c.setting plan) (history_of c) next plan.size bytes
+  pub moments : SeesOnly moment observed old new (IsServed c.setting plan (history_of c) progress.batches progress.classes progress.history (said old))
+  pub left : (seen : Observation) → said new ≡ Some seen.said → may_leave new seen.image → IsServed c.setting plan (history_of c) progress.batches progress.classes progress.history (said old) seen
+  pub ends : RunEnds c next plan bytes progress (said old) (said new) (reads new) (may_leave new) ending
 
 -- the bytes that the source gave, why the run ended so, and what it made of each store that the cluster stood at
 pub record Runs {H : Type 0} (moment : H → ℕ) (observed : H → ℕ → Observation → Type 0) (said : H → Option (List ℕ)) (reads : H → Option Files) (may_leave : H → Files → Type 0)
-    (cluster : ClusterState) (size : ℕ) (before after : Outside) (ending : Ending) (old new : H) : Type 0 where
+    (cluster : ClusterState) (plan : Plan) (before after : Outside) (ending : Ending) (old new : H) : Type 0 where
   pub bytes : List ℕ
   pub gives : Gives before.source after.source bytes
   pub cause : HasCause cluster.next_epoch bytes before after ending
-  pub serves : (c : Contents) → RestsOn c (reads old) (may_leave old) → StandsAt c cluster → Serves moment observed said reads may_leave c cluster.next_epoch size bytes ending old new
+  pub serves : (c : Contents) → RestsOn c (reads old) (may_leave old) → StandsAt c cluster → Serves moment observed said reads may_leave c cluster.next_epoch plan bytes ending old new

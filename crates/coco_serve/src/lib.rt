@@ -4,6 +4,7 @@
 mod ending;
 mod fault;
 mod one_batch;
+mod plan;
 mod serving;
 #[cfg(test)]
 mod tests;
@@ -11,4 +12,5 @@ mod texts;
 
 pub use ending::Ending;
 pub use fault::BatchFault;
+pub use plan::Plan;
 pub use serving::answer_lines;

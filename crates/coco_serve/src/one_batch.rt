@@ -10,25 +10,35 @@ ghost use Rattle.coco_serve.specs.Growth.{epochs_of};
 ghost use Rattle.coco_serve.specs.OneBatch.{Answers, IsRefused};
 
 use crate::fault::BatchFault;
+use crate::plan::Plan;
 use crate::texts::{early_texts, late_texts};
 use coco_batches::Batch;
 use coco_cluster::Cluster;
+use coco_gate::Gate;
 use coco_host::{Host, say_all};
 use std::alloc::Global;
+use std::sync::Wait;
+use std::thread::Threads;
 
-/// Commits the new requests of a batch, and then says its answers. After a fault the cluster is of no further use.
-pub fn turn_and_say<H: Host>(
+/// Commits the new requests of a batch as the plan has it, and then says its answers. After a fault the cluster is of
+/// no further use.
+pub fn turn_and_say<R: Threads + Wait + Sync, H: Host, G: Gate + Sync>(
+    rt: &R,
     alloc: Global,
     host: &mut H,
     cluster: &mut Cluster,
     batch: Batch,
+    plan: Plan,
+    gate: &G,
 ) -> Result<(), BatchFault>
     requires unspent { cluster.old.spent ≡ false }
+    requires workers { 0 < plan.workers }
+    requires attempts { 0 < plan.attempts }
     requires may { MayCommit cluster.old.procs cluster.old.kept batch.fresh }
     requires few { length batch.fresh ≤ most_batch_lines }
     requires stand { Stands cluster.old.node (H.reads host.old) (H.may_leave host.old) × Stands cluster.old.chief (H.reads host.old) (H.may_leave host.old) }
     ensures answers { (c : Contents) → RestsOn c (H.reads host.old) (H.may_leave host.old) → StandsAt c cluster.old
-        → IsRefused result host.old host.new ⊎ Answers H.moment H.observed H.said H.reads H.may_leave result batch c cluster.old.next_epoch cluster.new host.old host.new }
+        → IsRefused result host.old host.new ⊎ Answers H.moment H.observed H.said H.reads H.may_leave result batch plan c cluster.old.next_epoch cluster.new host.old host.new }
     ensures stand { OnOk result (Stands cluster.new.node (H.reads host.new) (H.may_leave host.new) × Stands cluster.new.chief (H.reads host.new) (H.may_leave host.new)) }
     ensures unspent { OnOk result (cluster.new.spent ≡ false) }
     ensures few { OnOk result (length cluster.new.kept.dones ≤ most_kept) }
@@ -41,7 +51,7 @@ pub fn turn_and_say<H: Host>(
     let Batch { answers, fresh } = batch;
     let early = early_texts(alloc, cluster.kept(), answers.as_slice())?;
     let requests = fresh.into_requests(alloc)?;
-    cluster.turn(alloc, host, requests)?;
+    cluster.turn(rt, alloc, host, requests, plan.workers, plan.attempts, gate)?;
     let texts = late_texts(alloc, cluster.kept(), answers.as_slice(), early)?;
     say_all(host, texts.as_slice())?;
     Ok(())

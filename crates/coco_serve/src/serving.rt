@@ -6,28 +6,36 @@ ghost use Rattle.coco_serve.specs.Serving.{Runs};
 
 use crate::ending::Ending;
 use crate::one_batch::turn_and_say;
+use crate::plan::Plan;
 use coco_batches::read_batch;
 use coco_cluster::Cluster;
+use coco_gate::Gate;
 use coco_host::Host;
 use coco_io::Source;
 use coco_lines::{LineFault, Reader, Scratch};
 use std::alloc::Global;
+use std::sync::Wait;
+use std::thread::Threads;
 
-/// Reads request lines to the end of the input, so many in a batch. The new requests of a batch are committed to the
-/// files before its answers are said.
-pub fn answer_lines<H: Host, S: Source>(
+/// Reads request lines to the end of the input, and works them off as the plan has it. The new requests of a batch are
+/// committed to the files before its answers are said.
+pub fn answer_lines<R: Threads + Wait + Sync, H: Host, S: Source, G: Gate + Sync>(
+    rt: &R,
     alloc: Global,
     host: &mut H,
     cluster: &mut Cluster,
     input: &mut S,
-    size: u32,
+    plan: Plan,
+    gate: &G,
 ) -> Ending
-    requires some { 0 < size }
-    requires few { size ≤ most_batch_lines }
+    requires some { 0 < plan.size }
+    requires few { plan.size ≤ most_batch_lines }
+    requires workers { 0 < plan.workers }
+    requires attempts { 0 < plan.attempts }
     requires unspent { cluster.old.spent ≡ false }
     requires room { length cluster.old.kept.dones ≤ most_kept }
     requires stand { Stands cluster.old.node (H.reads host.old) (H.may_leave host.old) × Stands cluster.old.chief (H.reads host.old) (H.may_leave host.old) }
-    ensures { Runs H.moment H.observed H.said H.reads H.may_leave cluster.old size
+    ensures { Runs H.moment H.observed H.said H.reads H.may_leave cluster.old plan
         (record { source = record { given = S.given input.old; left = S.remaining input.old; at_end = S.at_end input.old }; source_faults = S.faults input.old; say_faults = H.say_faults host.old; disk_faults = H.disk_faults host.old })
         (record { source = record { given = S.given input.new; left = S.remaining input.new; at_end = S.at_end input.new }; source_faults = S.faults input.new; say_faults = H.say_faults host.new; disk_faults = H.disk_faults host.new })
         result host.old host.new }
@@ -42,7 +50,7 @@ pub fn answer_lines<H: Host, S: Source>(
             &mut reader,
             input,
             cluster.kept(),
-            size,
+            plan.size,
         ) {
             Ok(batch) => batch,
             Err(LineFault::NoMemory) => return Ending::NoMemory,
@@ -53,11 +61,11 @@ pub fn answer_lines<H: Host, S: Source>(
         if count == 0 {
             return Ending::Finished;
         }
-        match turn_and_say(alloc, host, cluster, batch) {
+        match turn_and_say(rt, alloc, host, cluster, batch, plan, gate) {
             Ok(()) => {}
             Err(fault) => return Ending::from(fault),
         }
-        if count < size as usize {
+        if count < plan.size as usize {
             return Ending::Finished;
         }
     }

@@ -5,9 +5,10 @@ ghost use Rattle.coco_append.specs.Gaining.{Stands};
 ghost use Rattle.coco_log.specs.LogState.{without_entries};
 ghost use Rattle.coco_types.specs.Limits.{most_batch_lines};
 
-use crate::{Ending, answer_lines};
+use crate::{Ending, Plan, answer_lines};
 use coco_ast::Checked;
 use coco_cluster::{Cluster, Opened};
+use coco_gate::OpenGate;
 use coco_host::{Host, MemoryHost};
 use coco_io::MemorySource;
 use coco_kept::Kept;
@@ -15,7 +16,9 @@ use coco_log::{Log, LogFault};
 use coco_shard::Shard;
 use coco_types::NoMemory;
 use std::alloc::Global;
+use std::sync::Wait;
 use std::test::Fail;
+use std::thread::Threads;
 
 // The logs of a new store, the coordinator's and the node's.
 fn new_logs<H: Host>(alloc: Global, host: &mut H) -> Result<(Log, Log), LogFault>
@@ -55,7 +58,8 @@ fn new_cluster(alloc: Global, chief: Log, node: Log, keep: Option<u16>) -> Resul
 }
 
 // Answers these lines, so many in a batch, on a new store that keeps the replies of so many epochs.
-fn answer<H: Host>(
+fn answer<R: Threads + Wait + Sync, H: Host>(
+    rt: &R,
     alloc: Global,
     host: &mut H,
     keep: Option<u16>,
@@ -70,7 +74,12 @@ fn answer<H: Host>(
     let mut cluster = new_cluster(alloc, chief, node, keep)?;
     let bytes = Vec::from_slice(alloc, text.as_bytes())?;
     let mut input = MemorySource::new(bytes, Vec::new(alloc));
-    Ok(answer_lines(alloc, host, &mut cluster, &mut input, size))
+    let plan = Plan {
+        size,
+        workers: 1,
+        attempts: 3,
+    };
+    Ok(answer_lines(rt, alloc, host, &mut cluster, &mut input, plan, &OpenGate))
 }
 
 const LINES: &str = r#"{"args":[5,70],"call":"put","id":1}
@@ -98,15 +107,25 @@ const IN_PAIRS: &str = r#"{"epoch":1,"id":1,"ok":70,"time":1}
 {"epoch":1,"id":2,"ok":70,"time":2}
 "#;
 
+// Of different rows, so neither has to come behind the other.
+const TWO_PUTS: &str = r#"{"args":[5,1],"call":"put","id":1}
+{"args":[6,2],"call":"put","id":2}
+"#;
+
+const AT_ONE_TIME: &str = r#"{"epoch":1,"id":1,"ok":1,"time":1}
+{"epoch":1,"id":2,"ok":2,"time":1}
+"#;
+
 #[test]
 fn lines_are_answered(rt: HostRuntime) -> Result<(), Fail> {
-    for (keep, size, said) in [
-        (None, 1u32, FOUR),
-        (Some(1), 1, FORGOTTEN),
-        (Some(1), 2, IN_PAIRS),
+    for (keep, size, lines, said) in [
+        (None, 1u32, LINES, FOUR),
+        (Some(1), 1, LINES, FORGOTTEN),
+        (Some(1), 2, LINES, IN_PAIRS),
+        (None, 2, TWO_PUTS, AT_ONE_TIME),
     ] {
         let mut host = MemoryHost::new(rt.alloc(), Vec::new(rt.alloc()));
-        let ending = answer(rt.alloc(), &mut host, keep, size, LINES)?;
+        let ending = answer(&rt, rt.alloc(), &mut host, keep, size, lines)?;
         assert_eq!(rt; ending, Ending::Finished);
         assert_eq!(rt; host.said(), said.as_bytes());
     }
@@ -120,7 +139,7 @@ fn a_failing_call_leaves_the_answers_before_it(rt: HostRuntime) -> Result<(), Fa
         let mut fails = Vec::new(rt.alloc());
         fails.push(call)?;
         let mut host = MemoryHost::new(rt.alloc(), fails);
-        let ending = answer(rt.alloc(), &mut host, None, 1, LINES)?;
+        let ending = answer(&rt, rt.alloc(), &mut host, None, 1, LINES)?;
         let expected = match call {
             12 | 21 | 30 | 31 => Ending::SayFault,
             32.. => Ending::Finished,

@@ -124,13 +124,21 @@ spells-epoch : Spells (codes "epoch")
 spells-epoch None = refl
 spells-epoch (Some v) = refl
 
+spells-workers : Spells (codes "workers")
+spells-workers None = refl
+spells-workers (Some v) = refl
+
+spells-attempts : Spells (codes "attempts")
+spells-attempts None = refl
+spells-attempts (Some v) = refl
+
 spells-keep : Spells (codes "keep")
 spells-keep None = refl
 spells-keep (Some v) = refl
 
 spells : (k : Kind) → AllByRecursion Spells (names_for k)
 spells kind.Init = (spells-nodes, (spells-partitions, (spells-copies, tt)))
-spells kind.Run = (spells-epoch, tt)
+spells kind.Run = (spells-epoch, (spells-workers, (spells-attempts, tt)))
 spells kind.Dump = tt
 spells kind.Verify = tt
 spells kind.Migrate = (spells-keep, tt)
@@ -184,7 +192,7 @@ module _ {W : Type 0} (text : W → Text) where
 -- the command of a kind with these numbers
 made : Kind → List ℕ → Command
 made kind.Init (n ∷ p ∷ c ∷ []) = Init n p c
-made kind.Run (e ∷ []) = Run (record { epoch = e })
+made kind.Run (e ∷ w ∷ a ∷ []) = Run (record { epoch = e; workers = w; attempts = a })
 made kind.Dump ns = Dump
 made kind.Verify ns = Verify
 made kind.Migrate (n ∷ []) = Migrate n

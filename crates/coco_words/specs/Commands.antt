@@ -32,7 +32,7 @@ wanted name least most = record { name = name; default = None; least = least; mo
 -- the options of a command. A store has one node and no copies until there can be several
 abbrev pub options_for : Kind → List NumberOption
 options_for kind.Init = optional (codes "nodes") 1 1 1 ∷ optional (codes "partitions") 1 1 64 ∷ optional (codes "copies") 0 0 0 ∷ []
-options_for kind.Run = optional (codes "epoch") 100 1 1024 ∷ []
+options_for kind.Run = optional (codes "epoch") 100 1 1024 ∷ optional (codes "workers") 1 1 16 ∷ optional (codes "attempts") 3 1 8 ∷ []
 options_for kind.Dump = []
 options_for kind.Verify = []
 options_for kind.Migrate = wanted (codes "keep") 1 1000 ∷ []
@@ -43,7 +43,7 @@ options_of command = options_for (kind_of command)
 -- the numbers of its options
 abbrev pub numbers_of : Command → List ℕ
 numbers_of (Init nodes partitions copies) = nodes ∷ partitions ∷ copies ∷ []
-numbers_of (Run run) = run.epoch ∷ []
+numbers_of (Run run) = run.epoch ∷ run.workers ∷ run.attempts ∷ []
 numbers_of Dump = []
 numbers_of Verify = []
 numbers_of (Migrate keep) = keep ∷ []

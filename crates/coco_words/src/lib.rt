@@ -46,6 +46,10 @@ pub enum Command {
 pub struct RunOptions {
     /// How many lines make an epoch, 1 to 1,024.
     pub epoch: u32,
+    /// How many workers run an epoch side by side, 1 to 16.
+    pub workers: u8,
+    /// How often the workers try a request, 1 to 8.
+    pub attempts: u8,
 }
 
 /// Why words are no command.
@@ -109,10 +113,7 @@ fn command_with(kind: Kind, matches: &ArgMatches<'_>) -> Option<Command>
 {
     match kind {
         Kind::Init => store_to_make(matches),
-        Kind::Run => {
-            let epoch = number_of(matches, "epoch", Some(100), 1, 1_024)?;
-            Some(Command::Run(RunOptions { epoch }))
-        }
+        Kind::Run => lines_to_run(matches),
         Kind::Dump => Some(Command::Dump),
         Kind::Verify => Some(Command::Verify),
         Kind::Migrate => {
@@ -120,6 +121,23 @@ fn command_with(kind: Kind, matches: &ArgMatches<'_>) -> Option<Command>
             Some(Command::Migrate { keep: keep as u16 })
         }
     }
+}
+
+// The command `run` whose options have these values.
+fn lines_to_run(matches: &ArgMatches<'_>) -> Option<Command>
+    ensures { MatchOption result
+        ((numbers : List ℕ) → AreNumbersOf (first_value (found_of matches.now)) (options_for Kind.Run) numbers → ⊥)
+        (λ command. (kind_of command ≡ Kind.Run) × AreNumbersOf (first_value (found_of matches.now)) (options_for Kind.Run) (numbers_of command)
+        × AreInRange (options_for Kind.Run) (numbers_of command)) }
+{
+    let epoch = number_of(matches, "epoch", Some(100), 1, 1_024)?;
+    let workers = number_of(matches, "workers", Some(1), 1, 16)?;
+    let attempts = number_of(matches, "attempts", Some(3), 1, 8)?;
+    Some(Command::Run(RunOptions {
+        epoch,
+        workers: workers as u8,
+        attempts: attempts as u8,
+    }))
 }
 
 // The command `init` whose options have these values. A store has one node and no copies until there can be several.

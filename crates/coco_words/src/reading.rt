@@ -53,7 +53,11 @@ fn parser_for<'a>(alloc: Global, kind: Kind) -> Result<Command<'a>, AllocError>
             let partitions = with_option(alloc, nodes, "partitions")?;
             with_option(alloc, partitions, "copies")
         }
-        Kind::Run => with_option(alloc, none, "epoch"),
+        Kind::Run => {
+            let epoch = with_option(alloc, none, "epoch")?;
+            let workers = with_option(alloc, epoch, "workers")?;
+            with_option(alloc, workers, "attempts")
+        }
         Kind::Dump => Ok(none),
         Kind::Verify => Ok(none),
         Kind::Migrate => with_option(alloc, none, "keep"),

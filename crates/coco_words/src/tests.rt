@@ -14,17 +14,22 @@ fn asked(alloc: Global, line: &str) -> Result<Command, WordsFault> {
 }
 
 #[test]
-fn run_has_the_epoch_that_is_given_or_100(rt: HostRuntime) -> Result<(), Fail> {
+fn run_has_the_numbers_that_are_given_or_its_own(rt: HostRuntime) -> Result<(), Fail> {
     let cases = [
-        ("run", 100),
-        ("run --epoch 7", 7),
-        ("run --epoch=007", 7),
-        ("run --epoch 1024", 1024),
-        ("run --epoch=1", 1),
-        ("run --epoch 0000000000000000001", 1),
+        ("run", (100, 1, 3)),
+        ("run --epoch 7", (7, 1, 3)),
+        ("run --epoch=007", (7, 1, 3)),
+        ("run --epoch 1024 --workers 16", (1024, 16, 3)),
+        ("run --attempts=8 --epoch=1", (1, 1, 8)),
+        ("run --attempts 1 --workers 2", (100, 2, 1)),
+        ("run --epoch 0000000000000000001", (1, 1, 3)),
     ];
-    for (line, epoch) in cases {
-        let command = Command::Run(RunOptions { epoch });
+    for (line, (epoch, workers, attempts)) in cases {
+        let command = Command::Run(RunOptions {
+            epoch,
+            workers,
+            attempts,
+        });
         assert_eq!(rt; asked(rt.alloc(), line), Ok(command), "{line}");
     }
     Ok(())
@@ -77,6 +82,10 @@ fn other_words_are_no_command(rt: HostRuntime) -> Result<(), Fail> {
         "run --epoch 5 5",
         "run --epo 5",
         "run --partitions 5",
+        "run --workers 0",
+        "run --workers 17",
+        "run --attempts 9",
+        "run --workers 2 --workers 2",
         "init --epoch 5",
         "init --nodes 2",
         "init --nodes 0",

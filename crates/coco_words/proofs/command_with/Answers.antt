@@ -10,3 +10,9 @@ returns-in-Init c =
     subst (λ (k : Kind). MatchOption c.store_to_make.result ((numbers : List ℕ) → AreNumbersOf (first_value (found_of c.args.matches.now)) (options_for k) numbers → ⊥)
     (λ command. (kind_of command ≡ k) × AreNumbersOf (first_value (found_of c.args.matches.now)) (options_for k) (numbers_of command) × AreInRange (options_for k) (numbers_of command)))
     (sym c.in-Init.is) c.store_to_make.ensures
+
+pub returns-in-Run : goal.returns-in-Run
+returns-in-Run c =
+    subst (λ (k : Kind). MatchOption c.lines_to_run.result ((numbers : List ℕ) → AreNumbersOf (first_value (found_of c.args.matches.now)) (options_for k) numbers → ⊥)
+    (λ command. (kind_of command ≡ k) × AreNumbersOf (first_value (found_of c.args.matches.now)) (options_for k) (numbers_of command) × AreInRange (options_for k) (numbers_of command)))
+    (sym c.in-Run.is) c.lines_to_run.ensures
