@@ -11,7 +11,7 @@ use Rattle.coco_log.specs.Faults.{CountsFault}
 use Rattle.coco_log.specs.LogState.{IsOnlyRead, SameBut}
 use Rattle.coco_run.specs.Opening.{FailsToOpen}
 use Rattle.coco_serve.specs.Faults.{Counts}
-use Rattle.coco_store.specs.Contents.{Contents, IsGoodStore}
+use Rattle.coco_store.specs.Contents.{Contents, Holds, IsGoodStore}
 use Rattle.coco_store.specs.Refusals.{IsFirstRefusal}
 use Rattle.coco_migrate.specs.Keeping.{contents_keeping, layouts_file}
 
@@ -29,13 +29,15 @@ module _ {H : Type 0} (moment : H → ℕ) (observed : H → ℕ → Observation
     pub stream : after.say ≡ before.say
     pub cause : FailsToOpen IsFirstRefusal how (reads old) before.disk after.disk
 
-  -- the store is opened, and its layout is added once more, with the keep number. Until it is opened, all that a crash may leave it might have left at
-  -- entry; from then on no file changes but that of the layouts. Where the files read at entry as a good store, each moment since the opening shows it as it
-  -- was or with the keep number, and so does what is left. Where the ending is `Finished`, the files read as that store with the keep number, and a crash
-  -- leaves no other
+  -- the store is opened, and its layout is added once more, with the keep number. Only files that are a store are opened, and such files are never refused
+  -- (`a_refused_store_is_none`): so `NotAStore` comes exactly where the files are none, at the first place, and neither a fault of the disk nor want of
+  -- memory ended the opening. Until it is opened, all that a crash may leave it might have left at entry; from then on no file changes but that of the
+  -- layouts. Where the files read at entry as a good store, each moment since the opening shows it as it was or with the keep number, and so does what is
+  -- left. Where the ending is `Finished`, the files read as that store with the keep number, and a crash leaves no other
   pub record SetsKeep (keep : ℕ) (how : Ending) (before after : Counts) (old new : H) : Type 0 where
     pub opened : H
     pub opening : IsOnlyRead moment observed said reads may_leave old opened
+    pub holds : (files : Files) → reads old ≡ Some files → (c : Contents) × Holds files c
     pub added : Result (Unit {0}) LogFault
     pub ends : how ≡ ending_of_adding added
     pub cause : CountsFault added before.disk after.disk

@@ -22,7 +22,7 @@ module _ {H : Type 0} (moment : H → ℕ) (observed : H → ℕ → Observation
   counts host = record { say = say_faults host; disk = disk_faults host }
 
   module _ (old opened : H) (opening : IsOnlyRead moment observed said reads may_leave old opened) (stream : say_faults opened ≡ say_faults old) (disk : disk_faults opened ≡ disk_faults old)
-      (text : List ℕ) (own : Ending) (ends : MayEnd own) (of_store : (files : Files) (c : Contents) → reads old ≡ Some files → Holds files c → May c → IsText c text own) where
+      (holds : (files : Files) → reads old ≡ Some files → (c : Contents) × Holds files c) (text : List ℕ) (own : Ending) (ends : MayEnd own) (of_store : (files : Files) (c : Contents) → reads old ≡ Some files → Holds files c → May c → IsText c text own) where
     -- a text of the opened store is said
     pub tells : (how : Ending) (new : H) → SaysText text own how (said opened) (said new) (counts opened) (counts new) → reads new ≡ reads opened → NoMore (may_leave opened) (may_leave new)
         → SeesOnly moment observed opened new (IsNew (may_leave opened) (said opened) (said new)) → disk_faults new ≡ disk_faults opened
@@ -30,6 +30,7 @@ module _ {H : Type 0} (moment : H → ℕ) (observed : H → ℕ → Observation
     tells how new says same crash sees still = record {
       opened = opened;
       opening = opening;
+      holds = holds;
       same = same ∙ opening.same;
       crash = crash;
       sees = sees;

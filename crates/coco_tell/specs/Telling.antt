@@ -57,11 +57,13 @@ module _ {H : Type 0} (moment : H → ℕ) (observed : H → ℕ → Observation
     pub stream : after.say ≡ before.say
     pub cause : FailsToOpen IsFirstRefusal ending (reads old) before.disk after.disk
 
-  -- the store is opened, and then this text is said of it. No file changes, and what is seen is what a crash might have left at entry, with a front of the
-  -- text said
+  -- the store is opened, and then this text is said of it. Only files that are a store are opened, and such files are never refused
+  -- (`a_refused_store_is_none`): so `NotAStore` comes exactly where the files are none, at the first place, and neither a fault of the disk nor want of
+  -- memory ended the opening. No file changes, and what is seen is what a crash might have left at entry, with a front of the text said
   pub record Tells (May : Contents → Type 0) (IsText : Contents → List ℕ → Ending → Type 0) (MayEnd : Ending → Type 0) (ending : Ending) (before after : Counts) (old new : H) : Type 0 where
     pub opened : H
     pub opening : IsOnlyRead moment observed said reads may_leave old opened
+    pub holds : (files : Files) → reads old ≡ Some files → (c : Contents) × Holds files c
     pub same : reads new ≡ reads old
     pub crash : NoMore (may_leave opened) (may_leave new)
     pub sees : SeesOnly moment observed opened new (IsNew (may_leave opened) (said opened) (said new))

@@ -4,6 +4,8 @@
 
 mod dumping;
 mod saying;
+#[cfg(test)]
+mod tests;
 mod verifying;
 
 pub use dumping::dump;

@@ -8,6 +8,7 @@ returns g c =
     inr (record {
       opened = c.recover.new.host;
       opening = c.in-Ok.ensures.read;
+      holds = λ files are. (let opening = c.in-Ok.ensures.ok files are in (opening.contents, opening.holds));
       added = c.add_layout.result;
       ends = c.ending_of_adding.ensures;
       cause = subst (λ (n : ℕ). CountsFault c.add_layout.result n (g.H.Host.disk_faults c.add_layout.new.host)) c.in-Ok.ensures.counts c.add_layout.ensures.counts;
