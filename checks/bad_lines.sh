@@ -36,14 +36,15 @@ refused() {
     done
 }
 
-# fresh ID VALUE TEXT: a new request, whose reply must be the value.
+# fresh ID VALUE TEXT ROW: a new request on a row that its epoch has only written so far, whose reply must be the value.
+# Its logical time is the next one of the row.
 fresh() {
     local batch=$((number / size))
     if [ "$batch" -ne "$last" ]; then
-        epoch=$((epoch + 1)) time=0 last=$batch
+        epoch=$((epoch + 1)) times_of=() last=$batch
     fi
-    time=$((time + 1))
-    text_of[$1]="{\"epoch\":$epoch,\"id\":$1,\"ok\":$2,\"time\":$time}"
+    times_of[$4]=$((${times_of[$4]-0} + 1))
+    text_of[$1]="{\"epoch\":$epoch,\"id\":$1,\"ok\":$2,\"time\":${times_of[$4]}}"
     line "${text_of[$1]}" "$3"
 }
 
@@ -104,15 +105,15 @@ no_call() {
 for size in 1 2 7 100; do
     begin "$size"
     no_json
-    fresh 1 70 '{"args":[5,70],"call":"put","id":1}'
+    fresh 1 70 '{"args":[5,70],"call":"put","id":1}' 5
     no_request
-    fresh 18446744073709551615 70 '{"args":[5],"call":"get","id":18446744073709551615}'
+    fresh 18446744073709551615 70 '{"args":[5],"call":"get","id":18446744073709551615}' 5
     no_call
     refused reused '{"args":[5,71],"call":"put","id":1}' '{"args":[5],"call":"get","id":1}'
     line "${text_of[1]}" ' {"id":1 ,"snapshot":false,"call":"\u0070ut","args":[7],"args":[5, 70]} '
     times 256 x
-    fresh 9 "\"$repeated\"" "{\"args\":[6,\"$repeated\"],\"call\":\"put\",\"id\":9}"
-    fresh 0 '"\"\\/\b\f\n\r\t\u0000é😀"' '{"args":[7,"\u0022\u005c\/\u0008\u000c\u000a\u000d\u0009\u0000\u00e9\ud83d\ude00"],"call":"put","id":0}'
+    fresh 9 "\"$repeated\"" "{\"args\":[6,\"$repeated\"],\"call\":\"put\",\"id\":9}" 6
+    fresh 0 '"\"\\/\b\f\n\r\t\u0000é😀"' '{"args":[7,"\u0022\u005c\/\u0008\u000c\u000a\u000d\u0009\u0000\u00e9\ud83d\ude00"],"call":"put","id":0}' 7
     compare 'bad lines'
 done
 
@@ -121,7 +122,7 @@ request='{"args":[5],"call":"get","id":1}'
 for size in 1 100; do
     begin "$size"
     times $((65536 - ${#request})) ' '
-    fresh 1 null "$request$repeated"
+    fresh 1 null "$request$repeated" 5
     refused long "$request$repeated "
     line "${text_of[1]}" "$request"$'\r'
     times 65536 x
@@ -134,7 +135,7 @@ done
 begin 1
 compare 'an empty input'
 begin 1
-fresh 1 null "$request"
+fresh 1 null "$request" 5
 printf '%s' "$request" >"$work/lines"
 compare 'a last request without its line feed'
 begin 1

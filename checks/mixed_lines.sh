@@ -89,21 +89,37 @@ execute() {
     [ "$1" = get ] || [ -n "$cause" ] || rows[$2]=$ok
 }
 
-# commit TIME ID: runs a new request, and keeps the text of its answer.
-commit() {
-    local name row value snapshot
-    IFS=' ' read -r name row snapshot value <<<"${call_of[$2]}"
-    execute "$name" "$row" "$value"
-    if [ -n "$cause" ]; then
-        text_of[$2]="{\"epoch\":$epoch,\"id\":$2,\"refused\":\"$cause\",\"time\":$1}"
+# stamp NAME ROW: the logical time of the call that was run last, in $time: above the last write of a row that it read,
+# and above the last read of a row that it wrote.
+stamp() {
+    time=1
+    case $2 in *word* | -*) return ;; esac
+    if [ "$1" = get ] || [ -n "$cause" ]; then
+        time=$((${written[$2]-0} + 1))
+        [ "${valid[$2]-0}" -ge "$time" ] || valid[$2]=$time
     else
-        text_of[$2]="{\"epoch\":$epoch,\"id\":$2,\"ok\":$ok,\"time\":$1}"
+        time=$((${valid[$2]-0} + 1))
+        written[$2]=$time valid[$2]=$time
+    fi
+}
+
+# commit ID: runs a new request, and keeps the text of its answer.
+commit() {
+    local name row value snapshot time=0
+    IFS=' ' read -r name row snapshot value <<<"${call_of[$1]}"
+    execute "$name" "$row" "$value"
+    [ "$snapshot" = true ] || stamp "$name" "$row"
+    if [ -n "$cause" ]; then
+        text_of[$1]="{\"epoch\":$epoch,\"id\":$1,\"refused\":\"$cause\",\"time\":$time}"
+    else
+        text_of[$1]="{\"epoch\":$epoch,\"id\":$1,\"ok\":$ok,\"time\":$time}"
     fi
 }
 
 # Draws a batch of lines, and puts them and their answers behind the others.
 batch() {
-    local answers=() snapshots=() others=() time=0 answer
+    local answers=() snapshots=() others=() answer
+    local -A written=() valid=()
     for ((i = 0; i < size; i++)); do
         draw
         number=$((number + 1))
@@ -125,11 +141,7 @@ batch() {
         esac
     done
     [ $((${#snapshots[@]} + ${#others[@]})) -gt 0 ] && epoch=$((epoch + 1))
-    for id in "${snapshots[@]}"; do commit 0 "$id"; done
-    for id in "${others[@]}"; do
-        time=$((time + 1))
-        commit "$time" "$id"
-    done
+    for id in "${snapshots[@]}" "${others[@]}"; do commit "$id"; done
     for answer in "${answers[@]}"; do
         case $answer in
         \{*) printf '%s\n' "$answer" >&4 ;;

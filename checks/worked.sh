@@ -81,6 +81,14 @@ IN
 {"error":"reused","line":3}
 OUT
 
+answers 'puts into two rows at one time' 2 3<<'IN' 4<<'OUT'
+{"args":[5,1],"call":"put","id":1}
+{"args":[6,2],"call":"put","id":2}
+IN
+{"epoch":1,"id":1,"ok":1,"time":1}
+{"epoch":1,"id":2,"ok":2,"time":1}
+OUT
+
 answers 'snapshot calls read the epoch before' 4 3<<'IN' 4<<'OUT'
 {"args":[5],"call":"get","id":9,"snapshot":true}
 {"args":[5,1],"call":"add","id":3}

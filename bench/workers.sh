@@ -1,0 +1,63 @@
+#!/usr/bin/env bash
+# Epochs of 1,000 lines run by 1, 2 and 4 workers over 16 partitions, on a RAM disk: bank transfers among many accounts and
+# among few, reads and writes of single rows, and a procedure of 1,024 loop turns. Each figure is of the best of so many
+# runs, each on a new store.
+# Words: how many lines (of the last one a hundredth), how many runs. COCO is the program, RAM the folder.
+set -euo pipefail
+cd "$(dirname "$0")/.."
+lines=${1:-300000}
+runs=${2:-3}
+program=${COCO:-$PWD/crates/coco/out/coco}
+ram=$(mktemp -d -p "${RAM:-/dev/shm}")
+trap 'rm -rf "$ram"' EXIT
+. bench/measure.bash
+
+# moves COUNT ACCOUNTS: accounts are opened, and then money moves among them.
+moves() {
+    awk -v count="$1" -v accounts="$2" 'BEGIN {
+        srand(1)
+        for (id = 1; id <= count; id++) {
+            if (id <= accounts) { printf "{\"args\":[%d,1000000],\"call\":\"open\",\"id\":%d}\n", id, id; continue }
+            from = int(rand() * accounts) + 1
+            to = (from + int(rand() * (accounts - 1))) % accounts + 1
+            printf "{\"args\":[%d,%d,%d],\"call\":\"move\",\"id\":%d}\n", from, to, int(rand() * 100) + 1, id
+        }
+    }'
+}
+
+# rows COUNT: every other line reads one of 10,000 rows, and the others write one.
+rows() {
+    awk -v count="$1" 'BEGIN {
+        srand(1)
+        for (id = 1; id <= count; id++) {
+            at = int(rand() * 10000)
+            if (id % 2) printf "{\"args\":[%d,%d],\"call\":\"put\",\"id\":%d}\n", at, id, id
+            else printf "{\"args\":[%d],\"call\":\"get\",\"id\":%d}\n", at, id
+        }
+    }'
+}
+
+# long COUNT: each line turns 1,024 times on a row of its own.
+long() {
+    awk -v count="$1" 'BEGIN { for (id = 1; id <= count; id++) printf "{\"args\":[%d],\"call\":\"turns\",\"id\":%d}\n", id % 997, id }'
+}
+
+# by NAME COUNT PROCEDURES: the lines of $ram/input by each number of workers.
+by() {
+    local workers clock processor memory
+    for workers in 1 2 4; do
+        read -r clock processor memory < <(measured "$runs" bash -c "$fresh" - "$ram/store" "$program" "$3" --partitions 16 \
+            -- "$program" "$ram/store" run --epoch 1000 --workers "$workers")
+        row "$1, $workers workers" "$2" "$clock" "$processor" "$memory"
+    done
+}
+
+printf '%-34s %9s %10s %10s %9s\n' '' requests 'a second' 'us each' MiB
+moves "$lines" 1000 >"$ram/input"
+by 'transfers' "$lines" bench/bank.coco
+moves "$lines" 8 >"$ram/input"
+by 'transfers among 8' "$lines" bench/bank.coco
+rows "$lines" >"$ram/input"
+by 'reads and writes' "$lines" /dev/null
+long $((lines / 100)) >"$ram/input"
+by '1,024 turns' $((lines / 100)) bench/turns.coco

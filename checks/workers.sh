@@ -1,0 +1,90 @@
+#!/usr/bin/env bash
+# Epochs run by several workers over several partitions, killed at random moments and run again on the same lines: however
+# the workers interleave, the history is serial, what was answered stands, and no money and no piece is lost or made.
+. "$(dirname "$0")/store.bash"
+
+count=10000
+
+# bank ACCOUNTS: accounts are opened with 1,000 each, and then money moves among them.
+bank() {
+    awk -v accounts="$1" -v count="$count" 'BEGIN {
+        srand(accounts)
+        for (id = 1; id <= count; id++) {
+            if (id <= accounts) { printf "{\"args\":[%d,1000],\"call\":\"open\",\"id\":%d}\n", id, id; continue }
+            from = int(rand() * accounts) + 1
+            to = (from + int(rand() * (accounts - 1))) % accounts + 1
+            printf "{\"args\":[%d,%d,%d],\"call\":\"move\",\"id\":%d}\n", from, to, int(rand() * 30) + 1, id
+        }
+    }'
+    wanted=$(($1 * 1000))
+}
+
+# shop ARTICLES: every third line lays a piece of an article on a shelf, and the others order some pieces of one.
+shop() {
+    awk -v articles="$1" -v count="$count" 'BEGIN {
+        srand(articles)
+        for (id = 1; id <= count; id++) {
+            article = int(rand() * articles)
+            if (id % 3 == 1) printf "{\"args\":[%d,%d,5],\"call\":\"stock\",\"id\":%d}\n", article, int(rand() * 4), id
+            else printf "{\"args\":[%d,%d,%d],\"call\":\"order\",\"id\":%d}\n", id, article, int(rand() * 6) + 1, id
+        }
+    }'
+    wanted=$(((count + 2) / 3 * 5))
+}
+
+# sum: of all rows' values in the dump that was said last.
+sum() {
+    sed -n 's/^{"row":.*,"value":\(-\{0,1\}[0-9]*\)}$/\1/p' "$work/said" | awk '{ all += $1 } END { print all + 0 }'
+}
+
+# kept: what an earlier run answered is answered again, to the byte.
+kept() {
+    local whole
+    whole=$(wc -l <"$work/told")
+    cmp -s <(head -n "$whole" "$work/said") "$work/told" || wrong "$name: other answers behind a kill"
+}
+
+# killed: a run that is killed after up to a third of a second, if it hasn't ended.
+killed() {
+    "$program" "$work/store" run "${options[@]}" <"$input" >"$work/said" 2>"$work/errors" &
+    local victim=$!
+    sleep "0.$(printf '%03d' $((RANDOM % 300)))"
+    kill -9 "$victim" 2>/dev/null
+    wait "$victim" 2>/dev/null
+    sed -n '/}$/p' "$work/said" >"$work/whole"
+    mv "$work/whole" "$work/said"
+    if [ "$(wc -l <"$work/said")" -ge "$(wc -l <"$work/told")" ]; then
+        kept
+        cp "$work/said" "$work/told"
+    fi
+}
+
+# one EXAMPLE ROWS WORKERS PARTITIONS ATTEMPTS SIZE: so many lines of the example on so many of its rows.
+one() {
+    name="$*"
+    input=$work/lines
+    "$1" "$2" >"$input"
+    options=(--workers "$3" --attempts "$5" --epoch "$6")
+    rm -rf "$work/store"
+    "$program" "$work/store" init --partitions "$4" <"examples/$1/procedures.coco" || wrong "$name: init"
+    : >"$work/told"
+    for _ in 1 2 3; do killed; done
+    on "$work/store" run "${options[@]}"
+    ends "$name" 0
+    kept
+    [ "$(wc -l <"$work/said")" -eq "$count" ] || wrong "$name: the number of answers"
+    on "$work/store" verify
+    [ "$(<"$work/said")" = "serial $count" ] || wrong "$name: $(head -c 200 "$work/said")"
+    on "$work/store" dump
+    [ "$(sum)" -eq "$wanted" ] || wrong "$name: $(sum) in place of $wanted"
+}
+
+one bank 1000 1 1 3 100
+one bank 2 2 16 1 50
+one bank 50 4 4 3 1000
+one bank 3 16 2 8 1000
+one shop 40 1 7 1 200
+one shop 1 2 1 3 25
+one shop 8 4 16 2 1000
+one shop 300 16 5 8 500
+ended
