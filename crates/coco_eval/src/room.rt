@@ -16,6 +16,7 @@ use coco_types::{Args, NoMemory};
 
 /// Sets a state to the start of a procedure, with room for all that it may do. Out of memory, what
 /// was given is as before.
+#[inline(always)]
 pub fn prepare(
     machine: &mut Machine,
     spare: &mut Vec<Frame>,

@@ -35,6 +35,7 @@ impl Machine {
 
     // Goes on within a statement of a block, and then with those behind it.
     #[cycle(run)]
+    #[inline(always)]
     fn within(&mut self, tables: &[Name], block: &[Stmt], frame: Frame, inner: &[Frame]) -> Stop
         requires tables { length tables.now < 2 ^ 16 }
         requires bounded { are_bounded (statements_of block.now) ≡ true }

@@ -19,8 +19,23 @@ pub fn value<'a>(expr: &'a Expr, variables: &'a [Variable]) -> Result<Operand<'a
 {
     match plain(expr, variables) {
         Some(value) => Ok(value),
-        None => computed(expr, variables),
+        None => paired(expr, variables),
     }
+}
+
+// Two names or numbers with an operator between them are read in place, too.
+#[inline(always)]
+fn paired<'a>(expr: &'a Expr, variables: &'a [Variable]) -> Result<Operand<'a>, Cause>
+    ensures { computed_of result ≡ value_of (variables_of variables.now) (expression_of expr.now) }
+{
+    if let Expr::Two { op, left, right } = expr {
+        if let Some(left) = plain(left, variables) {
+            if let Some(right) = plain(right, variables) {
+                return whole(combination(*op, &left, &right));
+            }
+        }
+    }
+    computed(expr, variables)
 }
 
 // The value of a name, a number or `none`, and None for any other expression.
@@ -104,6 +119,7 @@ fn negated(operand: &Operand<'_>) -> Result<i64, Cause>
 }
 
 // What an operator makes of its two operands.
+#[inline(always)]
 fn combination(op: TwoOp, left: &Operand<'_>, right: &Operand<'_>) -> Result<i64, Cause>
     ensures { whole_of result ≡ combined (sign_of op) (datum_of left.now) (datum_of right.now) }
 {
@@ -117,6 +133,7 @@ fn combination(op: TwoOp, left: &Operand<'_>, right: &Operand<'_>) -> Result<i64
     }
 }
 
+#[inline(always)]
 fn of_numbers(op: TwoOp, left: i64, right: i64) -> Result<i64, Cause>
     ensures { whole_of result ≡ numbers (sign_of op) left right }
 {
