@@ -52,3 +52,7 @@ module _ {X : Type 0} where
 pub on_ok : {T E : Type 0} (r : Result T E) (P : Type 0) → IsOk r → OnOk r P → P
 on_ok (Ok x) P is h = h
 on_ok (Err e) P is h = let f : false ≡ true = is in cc
+
+pub ok_more : {T E : Type 0} (r : Result T E) (P Q : Type 0) → (P → Q) → OnOk r P → OnOk r Q
+ok_more (Ok x) P Q f h = f h
+ok_more (Err e) P Q f h = tt

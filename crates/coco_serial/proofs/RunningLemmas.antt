@@ -62,3 +62,7 @@ applied_same m n vs ws a b i = record { rows = a i; writes = b i }
 pub on_err : {T E : Type 0} (r : Result T E) (P : Type 0) → P → OnErr r P
 on_err (Ok x) P p = tt
 on_err (Err e) P p = p
+
+pub err_more : {T E : Type 0} (r : Result T E) (P Q : Type 0) → (P → Q) → OnErr r P → OnErr r Q
+err_more (Ok x) P Q f h = tt
+err_more (Err e) P Q f h = f h

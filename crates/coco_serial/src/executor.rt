@@ -1,9 +1,12 @@
 //! A map of rows, and the calls that are run on it.
-ghost use Rattle.std.specs.Prelude.{◌≡◌, [], Some, IfOk, OnOk, OnErr};
+ghost use Rattle.std.specs.Prelude.{◌≡◌, ◌≤◌, [], Some, IfOk, OnOk, OnErr};
 ghost use Rattle.std.specs.FinMap.{empty};
+ghost use Rattle.std.specs.HashMap.{spare};
 ghost use Rattle.coco_ast.specs.Fitting.{Fits};
 ghost use Rattle.coco_ast.specs.Keyed.{write_at, value_at};
 ghost use Rattle.coco_ast.specs.Meaning.{run};
+ghost use Rattle.coco_eval.specs.Standing.{Evaluation, Ended};
+ghost use Rattle.coco_serial.specs.Applied.{HasEnded, rows_of};
 
 use crate::running::{Rows, finish, value_in};
 use coco_ast::Checked;
@@ -66,13 +69,7 @@ impl Executor {
                 finish(last, procs, &mut self.rows);
                 Ok(*last.reply())
             }
-            None => {
-                let mut running = Run::start(self.alloc, procs, call)?;
-                finish(&mut running, procs, &mut self.rows);
-                let reply = *running.reply();
-                self.last = Some(running);
-                Ok(reply)
-            }
+            None => first_reply(self.alloc, procs, call, &mut self.last, &mut self.rows),
         }
     }
 
@@ -101,4 +98,30 @@ impl Executor {
             Some(last) => last.writes(),
         }
     }
+}
+
+// The first call makes the run whose place later ones take. It stands apart, so that they have no room for a
+// run of their own to clear.
+#[inline(never)]
+fn first_reply(
+    alloc: Global,
+    procs: &Checked,
+    call: &Call,
+    last: &mut Option<Run>,
+    rows: &mut Rows,
+) -> Result<Reply, NoMemory>
+    requires fits { Fits procs.now call.now }
+    requires room { MOST_KEYS ≤ spare rows.old }
+    ensures reply { IfOk result (λ reply. reply ≡ (run procs.now call.now (rows_of rows.old)).reply) }
+    ensures rows { OnOk result (rows_of rows.new ≡ (run procs.now call.now (rows_of rows.old)).rows) }
+    ensures last { OnOk result ((e : Evaluation) × (last.new ≡ Some e)
+        × (e.standing ≡ Ended (run procs.now call.now (rows_of rows.old)).reply (run procs.now call.now (rows_of rows.old)).writes)) }
+    ensures ended { HasEnded last.old → HasEnded last.new }
+    ensures err { OnErr result ((last.new ≡ last.old) × (rows.new ≡ rows.old)) }
+{
+    let mut running = Run::start(alloc, procs, call)?;
+    finish(&mut running, procs, rows);
+    let reply = *running.reply();
+    *last = Some(running);
+    Ok(reply)
 }
