@@ -8,7 +8,7 @@ ghost use Rattle.coco_eval.specs.Places.{written_at, given_at};
 ghost use Rattle.coco_eval.specs.Slots.{variables_of};
 
 use crate::machine::Given;
-use crate::names::are_same_bytes;
+use crate::names::are_same_names;
 use crate::operand::{Operand, owned};
 use crate::values::value;
 use crate::variables::Variable;
@@ -32,9 +32,8 @@ fn table_number(tables: &[Name], name: &Name) -> u16
     requires { length tables.now < 2 ^ 16 }
     ensures { result ≡ table_number tables.now name.now }
 {
-    let bytes = name.as_bytes();
     for (i, table) in tables.iter().enumerate() {
-        if are_same_bytes(table.as_bytes(), bytes) {
+        if are_same_names(table, name) {
             return i as u16;
         }
     }

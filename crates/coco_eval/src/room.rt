@@ -7,7 +7,7 @@ ghost use Rattle.coco_eval.specs.Preparing.{IsPrepared};
 ghost use Rattle.coco_eval.specs.Slots.{variables_of, has_slot, has_slots, has_slots_in, IsGrown};
 
 use crate::machine::{Frame, Machine};
-use crate::names::are_same_bytes;
+use crate::names::are_same_names;
 use crate::operand::{Operand, lend};
 use crate::variables::{Slots, Variable};
 use coco_ast::{Name, Proc, Stmt};
@@ -54,17 +54,27 @@ fn bind(slots: &mut Slots, params: &[Name], args: &Args) -> Result<(), NoMemory>
     Ok(())
 }
 
-// A text is copied out of the arguments, a number isn't.
+// A number is set without a copy.
+#[inline(always)]
 fn bind_one(slots: &mut Slots, name: &Name, args: &Args, i: usize) -> Result<(), NoMemory>
     requires { i < length args.now }
     ensures { OnOk result ((d : Datum) → slice_get args.now i ≡ Some d → slots.new ≡ slots.old ++ record { name = name.now; value = d } ∷ []) }
 {
     match args.int(i) {
         Some(number) => slots.push(name, &Operand::Int(number)),
-        None => match args.get(i) {
-            Some(value) => slots.push(name, &lend(&value)),
-            None => unreachable!(),
-        },
+        None => bind_copied(slots, name, args, i),
+    }
+}
+
+// A text is copied out of the arguments. It stands apart, so that numbers have no room for a copy to clear.
+#[inline(never)]
+fn bind_copied(slots: &mut Slots, name: &Name, args: &Args, i: usize) -> Result<(), NoMemory>
+    requires { i < length args.now }
+    ensures { OnOk result ((d : Datum) → slice_get args.now i ≡ Some d → slots.new ≡ slots.old ++ record { name = name.now; value = d } ∷ []) }
+{
+    match args.get(i) {
+        Some(value) => slots.push(name, &lend(&value)),
+        None => unreachable!(),
     }
 }
 
@@ -138,10 +148,9 @@ fn add(slots: &mut Slots, name: &Name) -> Result<(), NoMemory>
 fn has(variables: &[Variable], name: &Name) -> bool
     ensures { result ≡ has_slot (variables_of variables.now) name.now }
 {
-    let bytes = name.as_bytes();
     let mut rest = variables;
     while let Some((variable, others)) = rest.split_first() {
-        if are_same_bytes(variable.name.as_bytes(), bytes) {
+        if are_same_names(&variable.name, name) {
             return true;
         }
         rest = others;

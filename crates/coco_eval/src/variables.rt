@@ -1,10 +1,10 @@
 //! The variables of a run.
-ghost use Rattle.std.specs.Prelude.{◌≡◌, ◌<◌, ◌∷◌, ◌++◌, [], length, slice_set, slice_index_or, OnOk, MatchOption};
+ghost use Rattle.std.specs.Prelude.{◌≡◌, ◌<◌, ◌∷◌, ◌++◌, [], length, slice_set, slice_index_or, OnOk, OnErr, MatchOption};
 ghost use Rattle.coco_ast.specs.Meaning.{Datum, variable_at};
 ghost use Rattle.coco_eval.specs.Lending.{datum_of};
 ghost use Rattle.coco_eval.specs.Slots.{variables_of, set_at};
 
-use crate::names::{are_same_bytes, are_same_names};
+use crate::names::are_same_names;
 use crate::operand::{Operand, lend, owned, store};
 use coco_ast::Name;
 use coco_types::{NoMemory, Value};
@@ -71,10 +71,7 @@ impl Slots {
             variable.name = *name;
             store(&mut variable.value, value);
         } else {
-            self.list.push(Variable {
-                name: *name,
-                value: owned(value),
-            })?;
+            push_new(&mut self.list, name, value)?;
         }
         self.used += 1;
         Ok(())
@@ -91,15 +88,28 @@ impl Slots {
     }
 }
 
+// Makes the list longer. It stands apart, so that a variable in the place of an earlier one has no room of
+// its own to clear.
+#[inline(never)]
+fn push_new(list: &mut Vec<Variable>, name: &Name, value: &Operand<'_>) -> Result<(), NoMemory>
+    ensures ok { OnOk result (list.new.items ≡ list.old.items ++ record { name = name.now; value = datum_of value.now } ∷ []) }
+    ensures err { OnErr result (list.new.items ≡ list.old.items) }
+{
+    list.push(Variable {
+        name: *name,
+        value: owned(value),
+    })?;
+    Ok(())
+}
+
 /// The value of the variable of a name.
 #[inline(always)]
 pub fn value_at<'a>(variables: &'a [Variable], name: &Name) -> Operand<'a>
     ensures { datum_of result ≡ variable_at (variables_of variables.now) name.now }
 {
-    let bytes = name.as_bytes();
     let mut rest = variables;
     while let Some((variable, others)) = rest.split_first() {
-        if are_same_bytes(variable.name.as_bytes(), bytes) {
+        if are_same_names(&variable.name, name) {
             return lend(&variable.value);
         }
         rest = others;
