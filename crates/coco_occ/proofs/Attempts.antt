@@ -14,9 +14,9 @@ use Rattle.coco_shard.specs.Table.{key_of}
 use Rattle.coco_shard.specs.declared.ops.Ask.{Ask}
 use Rattle.coco_shard.specs.declared.ops.Op.{Op}
 use Rattle.coco_shard.specs.declared.ops.Answer.{Answer}
-use Rattle.coco_occ.specs.Course.{IsFresh, HasEnded, StandsIn, exchange, outcome_by}
+use Rattle.coco_occ.specs.Course.{IsFresh, HasEnded, StandsIn, due_of, exchange, outcome_by}
 use Rattle.coco_occ.specs.Exchange.{Exchange, step_of, shard_of, MayAnswer}
-use Rattle.coco_occ.specs.Keeping.{IsBehind, GoesIn, Goes, due_of, writes_in, rests_in, standing_of, IsAttempt}
+use Rattle.coco_occ.specs.Keeping.{IsBehind, GoesIn, Goes, writes_in, rests_in, standing_of, IsAttempt}
 use Rattle.coco_occ.specs.Script.{IsBegun}
 use Rattle.coco_occ.specs.Steps.{AreBy}
 use Rattle.coco_occ.specs.Trying.{Standing, Ready, Waits, Ended, Trying, IsSound, IsSoundAt, answered}
@@ -109,10 +109,10 @@ starts ps call e script by partitions c reply op is empty parted fresh =
     }))
 
 -- an answer is one more step
-pub took : (e d : eval.Evaluation) (old new : List Step) (by : AttemptId) (partitions : ℕ) (snapshot : Bool) (b c : Course) (reply : Reply) (op : Op) (answer : Answer) (waits : Bool) (a : IsAttempt e old by partitions snapshot b reply op waits) →
-    new ≡ old ++ step_of by partitions (exchange op answer) ∷ [] → MayAnswer (record { by = by; op = op }) answer → d.call ≡ e.call → Goes snapshot d (a.asked ++ exchange op answer ∷ []) c reply None →
-    IsAttempt d new by partitions snapshot c reply op false
-took e d old new by partitions snapshot b c reply op answer waits a is may call goes = record {
+pub took : (e d : eval.Evaluation) (old new : List Step) (by : AttemptId) (partitions : ℕ) (snapshot : Bool) (b c : Course) (reply told : Reply) (op : Op) (answer : Answer) (waits : Bool) (a : IsAttempt e old by partitions snapshot b reply op waits) →
+    new ≡ old ++ step_of by partitions (exchange op answer) ∷ [] → MayAnswer (record { by = by; op = op }) answer → d.call ≡ e.call → Goes snapshot d (a.asked ++ exchange op answer ∷ []) c told None →
+    IsAttempt d new by partitions snapshot c told op false
+took e d old new by partitions snapshot b c reply told op answer waits a is may call goes = record {
   asked = a.asked ++ exchange op answer ∷ [];
   steps = is ∙ ap (λ l. l ++ step_of by partitions (exchange op answer) ∷ []) a.steps ∙ sym (map-append (step_of by partitions) a.asked (exchange op answer ∷ []));
   answered = subst (AllByRecursion (λ (s : Step). MayAnswer s.ask s.answer)) (sym is) (all_append (λ (s : Step). MayAnswer s.ask s.answer) old (step_of by partitions (exchange op answer) ∷ []) a.answered (may, tt));
@@ -150,28 +150,28 @@ never_ended false e asked b reply op s is =
     let g : Some op ≡ None = h.nothing in cc
 
 -- behind an answer it hasn't ended
-rests_at : (at : Stage) (snapshot : Bool) (e : eval.Evaluation) (asked : List Exchange) (b c : Course) (reply : Reply) (op : Op) (ws : List Write) → GoesIn at snapshot e asked b reply (Some op) → b.stage ≡ at → rests_in at c reply ws ≡ Ready
-rests_at stage.Reading snapshot e asked b c reply op ws goes is = refl
-rests_at stage.Locking snapshot e asked b c reply op ws goes is = refl
-rests_at stage.Extending snapshot e asked b c reply op ws goes is = refl
-rests_at stage.Installing snapshot e asked b c reply op ws goes is = refl
-rests_at stage.Releasing snapshot e asked b c reply op ws goes is = refl
-rests_at stage.Ended snapshot e asked b c reply op ws goes is = absurd (never_ended snapshot e asked b reply op goes is)
+rests_at : (at : Stage) (snapshot : Bool) (e : eval.Evaluation) (asked : List Exchange) (b c : Course) (reply told : Reply) (op : Op) (ws : List Write) → GoesIn at snapshot e asked b reply (Some op) → b.stage ≡ at → rests_in at c told ws ≡ Ready
+rests_at stage.Reading snapshot e asked b c reply told op ws goes is = refl
+rests_at stage.Locking snapshot e asked b c reply told op ws goes is = refl
+rests_at stage.Extending snapshot e asked b c reply told op ws goes is = refl
+rests_at stage.Installing snapshot e asked b c reply told op ws goes is = refl
+rests_at stage.Releasing snapshot e asked b c reply told op ws goes is = refl
+rests_at stage.Ended snapshot e asked b c reply told op ws goes is = absurd (never_ended snapshot e asked b reply op goes is)
 
-pub rests_behind : (snapshot : Bool) (e : eval.Evaluation) (asked : List Exchange) (b c : Course) (reply : Reply) (op : Op) (ws : List Write) → Goes snapshot e asked b reply (Some op) → (c.stage ≡ b.stage) ⊎ (c.stage ≡ stage.Releasing) → rests_in c.stage c reply ws ≡ Ready
-rests_behind snapshot e asked b c reply op ws goes how =
+pub rests_behind : (snapshot : Bool) (e : eval.Evaluation) (asked : List Exchange) (b c : Course) (reply told : Reply) (op : Op) (ws : List Write) → Goes snapshot e asked b reply (Some op) → (c.stage ≡ b.stage) ⊎ (c.stage ≡ stage.Releasing) → rests_in c.stage c told ws ≡ Ready
+rests_behind snapshot e asked b c reply told op ws goes how =
     elim how [
-      | inl same ↦ subst (λ (a : Stage). rests_in a c reply ws ≡ Ready) (sym same) (rests_at b.stage snapshot e asked b c reply op ws goes refl)
-      | inr releasing ↦ subst (λ (a : Stage). rests_in a c reply ws ≡ Ready) (sym releasing) refl
+      | inl same ↦ subst (λ (a : Stage). rests_in a c told ws ≡ Ready) (sym same) (rests_at b.stage snapshot e asked b c reply told op ws goes refl)
+      | inr releasing ↦ subst (λ (a : Stage). rests_in a c told ws ≡ Ready) (sym releasing) refl
     ]
 
 -- behind an answer it is the attempt with one more step, and ready
-pub took_one : (e d : eval.Evaluation) (old new : List Step) (by : AttemptId) (partitions : ℕ) (snapshot : Bool) (b c : Course) (reply : Reply) (op : Op) (answer : Answer) (waits : Bool) (t : Trying) → IsAttempt e old by partitions snapshot b reply op waits →
+pub took_one : (e d : eval.Evaluation) (old new : List Step) (by : AttemptId) (partitions : ℕ) (snapshot : Bool) (b c : Course) (reply told : Reply) (op : Op) (answer : Answer) (waits : Bool) (t : Trying) → IsAttempt e old by partitions snapshot b reply op waits →
     seen_as e old by partitions (standing_of waits by partitions op b reply e.standing) ≡ t → new ≡ old ++ step_of by partitions (exchange op answer) ∷ [] → d.procs ≡ e.procs → d.call ≡ e.call → (c.stage ≡ b.stage) ⊎ (c.stage ≡ stage.Releasing) →
-    (shard : ℕ) (ask : Ask) → t.standing ≡ Waits shard ask → seen_as d new by partitions (standing_of false by partitions op c reply d.standing) ≡ record t { script = answered t shard ask answer; standing = Ready }
-took_one e d old new by partitions snapshot b c reply op answer waits t a view is procs call how shard ask standing =
+    (shard : ℕ) (ask : Ask) → t.standing ≡ Waits shard ask → seen_as d new by partitions (standing_of false by partitions op c told d.standing) ≡ record t { script = answered t shard ask answer; standing = Ready }
+took_one e d old new by partitions snapshot b c reply told op answer waits t a view is procs call how shard ask standing =
     let w = waits_for waits by partitions op b reply e.standing shard ask (ap (λ (u : Trying). u.standing) view ∙ standing) in
-    let ready : rests_in c.stage c reply (writes_in d.standing) ≡ Ready = rests_behind snapshot e a.asked b c reply op (writes_in d.standing) (waiting_goes e old by partitions snapshot b reply op waits a w.0) how in
+    let ready : rests_in c.stage c told (writes_in d.standing) ≡ Ready = rests_behind snapshot e a.asked b c reply told op (writes_in d.standing) (waiting_goes e old by partitions snapshot b reply op waits a w.0) how in
     ap (λ (s : Standing). seen_as d new by partitions s) ready
     ∙ ap (λ (l : List Step). seen_as d l by partitions Ready) is
     ∙ ap (λ (n : ℕ). seen_as d (old ++ record { shard = n; ask = record { by = by; op = op }; answer = answer } ∷ []) by partitions Ready) w.1

@@ -1,5 +1,5 @@
 -- One turn of an attempt.
-use Rattle.std.proofs.Common.{◌≡◌, ℕ, ◌<◌, ◌≤◌, inr, true, false, List, [], ◌∷◌, ◌++◌, map, length, Some, Result, Ok, Err, OnOk, OnErr, refl, sym, ap, ◌∙◌, subst, arith, slice_index_or, slice_set}
+use Rattle.std.proofs.Common.{◌≡◌, ℕ, ◌<◌, ◌≤◌, inr, true, false, List, [], ◌∷◌, ◌++◌, map, length, Some, Result, Ok, Err, IfOk, OnOk, OnErr, refl, sym, ap, ◌∙◌, subst, arith, slice_index_or, slice_set}
 use Rattle.std.specs.List.{AllByRecursion, slice_get}
 use Rattle.std.proofs.lemmas.List.{append-nil}
 use Rattle.std.proofs.lemmas.Option.{slice_get-get_or}
@@ -12,7 +12,7 @@ use Rattle.coco_shard.specs.Table.{after_ask, answer_in, key_of}
 use Rattle.coco_shard.specs.declared.ops.Ask.{Ask}
 use Rattle.coco_shard.specs.declared.ops.Answer.{Answer}
 use Rattle.coco_occ.specs.Exchange.{Exchange, shard_of, step_of}
-use Rattle.coco_occ.specs.Interleaving.{Act, Steps, Ends, Rests, move_in, standing_behind, standing_after, Plays, IsBrought, MayBeAsked, TakesTurn, WaitsForNone, MayPlay}
+use Rattle.coco_occ.specs.Interleaving.{Act, Steps, Ends, Rests, end_move, move_in, standing_behind, standing_after, Plays, IsBrought, MayBeAsked, TakesTurn, WaitsForNone, MayPlay}
 use Rattle.coco_occ.specs.Trying.{Standing, Ready, Waits, Ended, Trying, IsSound, IsSoundAt, IsMoveOf, answered, has_ended}
 use Rattle.coco_occ.specs.declared.outcome.Move.{Move}
 use Rattle.coco_occ.specs.declared.outcome.Move.TheVariants as move
@@ -45,6 +45,24 @@ asks_below procs count a b shard ask may others sound waits =
     let some : 1 ≤ count = may.some_shards in
     let at : shard ≡ shard_of count (key_of ask.op) = is ∙ ap (λ (n : ℕ). shard_of n (key_of ask.op)) same in
     omega arith
+
+-- what lends the shard and what lends the ask say the same
+pub one_ask : (s : Standing) (shard : ℕ) (ask : Ask) → ((a : Ask) × (s ≡ Waits shard a)) → ((n : ℕ) × (s ≡ Waits n ask)) → s ≡ Waits shard ask
+one_ask s shard ask p q =
+    let same : p.0 ≡ ask = (let g : Waits shard p.0 ≡ Waits q.0 ask = sym p.1 ∙ q.1 in cc) in
+    p.1 ∙ ap (λ (a : Ask). Waits shard a) same
+
+-- the last move tells the end
+pub end_told : (outcome : Outcome) (writes : List Write) → IsMoveOf (Ended outcome writes) (end_move outcome)
+end_told (Committed time reply) writes = (writes, refl)
+end_told (Conflict why) writes = (writes, refl)
+end_told OverTime writes = (writes, refl)
+
+-- and it is no ask
+pub end_asks_not : (s : Standing) (made : Move) → has_ended s ≡ true → IsMoveOf s made → (shard : ℕ) (ask : Ask) → made ≡ move.Ask shard ask → ⊥
+end_asks_not s made ended told shard ask is =
+    let waits : s ≡ Waits shard ask = subst (IsMoveOf s) is told in
+    let g : false ≡ true = sym (ap has_ended waits) ∙ ended in cc
 
 -- ---- the three kinds of turn
 
@@ -105,6 +123,9 @@ plays_on procs count a b acts may plays = record {
 }
 
 -- ---- an answer that is brought
+
+pub if_ok_at : {E X : Type 0} (P : X → Type 0) (r : Result X E) (x : X) → r ≡ Ok x → IfOk r P → P x
+if_ok_at P r x is holds = subst (λ s. IfOk s P) is holds
 
 pub on_ok_both : {E X A B C : Type 0} (r : Result X E) → (A → B → C) → OnOk r A → OnOk r B → OnOk r C
 on_ok_both (Ok x) f a b = f a b

@@ -12,7 +12,7 @@ use Rattle.coco_shard.specs.declared.ops.Op.TheVariants.{Read, Past}
 use Rattle.coco_shard.specs.declared.ops.Answer.{Answer}
 use Rattle.coco_occ.specs.Course.{exchange, outcome_by, Stands, StandsIn}
 use Rattle.coco_occ.specs.Exchange.{Exchange}
-use Rattle.coco_occ.specs.Keeping.{reading, IsReading, IsBehind, GoesIn, Goes, rests_in}
+use Rattle.coco_occ.specs.Keeping.{reading, reply_in, IsReading, IsBehind, GoesIn, Goes, rests_in}
 use Rattle.coco_occ.specs.Trying.{Ready, Ended}
 use Rattle.coco_occ.specs.declared.course.Course.{Course}
 use Rattle.coco_occ.specs.declared.course.Stage.{Stage}
@@ -21,6 +21,21 @@ use Rattle.coco_occ.proofs.AttemptLemmas.{asks, read_due, ended, snapshot_ends, 
 
 pub goes_at : (snapshot : Bool) (e : eval.Evaluation) (asked : List Exchange) (c : Course) (reply : Reply) (due : Option Op) (at : Stage) → c.stage ≡ at → GoesIn at snapshot e asked c reply due → Goes snapshot e asked c reply due
 goes_at snapshot e asked c reply due at is goes = subst (λ (a : Stage). GoesIn a snapshot e asked c reply due) (sym is) goes
+
+behind_told : (snapshot : Bool) (e : eval.Evaluation) (asked : List Exchange) (c : Course) (reply : Reply) (due : Option Op) → IsBehind snapshot e asked c reply due → IsBehind snapshot e asked c (reply_in e.standing) due
+behind_told snapshot e asked c reply due s = subst (λ (y : Reply). IsBehind snapshot e asked c y due) (sym (ap reply_in s.standing)) s
+
+told_in : (at : Stage) (snapshot : Bool) (e : eval.Evaluation) (asked : List Exchange) (c : Course) (reply : Reply) (due : Option Op) → GoesIn at snapshot e asked c reply due → GoesIn at snapshot e asked c (reply_in e.standing) due
+told_in stage.Reading snapshot e asked c reply due s = s
+told_in stage.Locking snapshot e asked c reply due s = behind_told snapshot e asked c reply due s
+told_in stage.Extending snapshot e asked c reply due s = behind_told snapshot e asked c reply due s
+told_in stage.Installing snapshot e asked c reply due s = behind_told snapshot e asked c reply due s
+told_in stage.Releasing snapshot e asked c reply due s = behind_told snapshot e asked c reply due s
+told_in stage.Ended snapshot e asked c reply due s = behind_told snapshot e asked c reply due s
+
+-- the reply is that of the run
+pub goes_told : (snapshot : Bool) (e : eval.Evaluation) (asked : List Exchange) (c : Course) (reply : Reply) (due : Option Op) → Goes snapshot e asked c reply due → Goes snapshot e asked c (reply_in e.standing) due
+goes_told snapshot e asked c reply due s = told_in c.stage snapshot e asked c reply due s
 
 -- behind its reads the stage is another one
 pub behind_goes : (at : Stage) (e : eval.Evaluation) (asked : List Exchange) (c : Course) (reply : Reply) (due : Option Op) → c.stage ≡ at → IsBehind false e asked c reply due → GoesIn at false e asked c reply due

@@ -7,9 +7,9 @@ use Rattle.coco_ast.specs.Keyed.{Rows}
 use Rattle.coco_ast.specs.Meaning.{Run, run}
 use Rattle.coco_eval.specs.Standing as eval
 use Rattle.coco_shard.specs.declared.ops.Op.{Op}
-use Rattle.coco_occ.specs.Course.{outcome_by, is_ended, IsEnding, HasEnded, StandsIn}
+use Rattle.coco_occ.specs.Course.{due_of, outcome_by, is_ended, IsEnding, HasEnded, StandsIn}
 use Rattle.coco_occ.specs.Exchange.{Exchange}
-use Rattle.coco_occ.specs.Keeping.{IsBehind, StandsBehind, Goes, GoesIn, IsAttempt, due_of, rests_in, standing_of, writes_in}
+use Rattle.coco_occ.specs.Keeping.{IsBehind, StandsBehind, Goes, GoesIn, IsAttempt, rests_in, standing_of, writes_in}
 use Rattle.coco_occ.specs.Trying.{has_ended}
 use Rattle.coco_occ.specs.declared.course.Course.{Course}
 use Rattle.coco_occ.specs.declared.course.Stage.{Stage}

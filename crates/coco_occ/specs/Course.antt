@@ -11,7 +11,7 @@ use Rattle.coco_ast.specs.Keyed.{Rows}
 use Rattle.coco_ast.specs.Meaning.{Run, is_key}
 use Rattle.coco_shard.specs.Law.{greatest}
 use Rattle.coco_shard.specs.declared.ops.Op.{Op}
-use Rattle.coco_shard.specs.declared.ops.Op.TheVariants.{Lock, Install, Release}
+use Rattle.coco_shard.specs.declared.ops.Op.TheVariants.{Lock, Extend, Install, Release}
 use Rattle.coco_shard.specs.declared.ops.Answer.{Answer}
 use Rattle.coco_occ.specs.Exchange.{Exchange, Found, ops_of, read, conflict_of, shown_by, locked_by}
 use Rattle.coco_occ.specs.Script.{AskedAll, Reads, Locks, Extends, time_of, needs_extension, extension, outcome_of, ends_of}
@@ -57,6 +57,15 @@ exchange op answer = record { op = op; answer = answer }
 -- at the first key of a stage
 abbrev pub entered : Stage → Course → Course
 entered s c = record c { stage = s; place = 0 }
+
+-- the operation that is asked, where one is
+abbrev pub due_of : Bool → Op → Option Op
+due_of true op = Some op
+due_of false op = None
+
+-- makes the version that was read valid until the time
+abbrev pub extension_of : Seen × ℕ → Op
+extension_of p = Extend p.0.key p.0.wts p.1
 
 -- the operation that an answer is awaited for, if there is one, is the first of those left
 abbrev pub IsDue : Option Op → List Op → Type 0

@@ -4,6 +4,7 @@ use Rattle.std.specs.List.{AllByRecursion}
 use Rattle.coco_types.specs.RowKey.{RowKey}
 use Rattle.coco_types.specs.declared.call.AttemptId.{AttemptId}
 use Rattle.coco_types.specs.declared.call.Reply.{Reply}
+use Rattle.coco_types.specs.declared.call.Reply.TheVariants.{Ok}
 use Rattle.coco_types.specs.declared.call.Write.{Write}
 use Rattle.coco_ast.specs.Keyed.{Rows}
 use Rattle.coco_ast.specs.Meaning.{Run, run}
@@ -13,7 +14,7 @@ use Rattle.coco_shard.specs.Law.{greatest}
 use Rattle.coco_shard.specs.Table.{key_of}
 use Rattle.coco_shard.specs.declared.ops.Op.{Op}
 use Rattle.coco_shard.specs.declared.ops.Op.TheVariants.{Read, Past}
-use Rattle.coco_occ.specs.Course.{seen_of, outcome_by, Stands}
+use Rattle.coco_occ.specs.Course.{seen_of, outcome_by, due_of, Stands}
 use Rattle.coco_occ.specs.Exchange.{Exchange, Found, read, step_of, shard_of, MayAnswer}
 use Rattle.coco_occ.specs.Script.{IsSnapshot, past}
 use Rattle.coco_occ.specs.Trying.{Standing, Ready, Waits, Ended}
@@ -95,9 +96,11 @@ Goes snapshot e asked c reply due = GoesIn c.stage snapshot e asked c reply due
 
 -- ---- an attempt
 
-abbrev pub due_of : Bool → Op → Option Op
-due_of true op = Some op
-due_of false op = None
+-- the reply of a run that has ended
+abbrev pub reply_in : eval.Standing → Reply
+reply_in eval.Ready = Ok None
+reply_in (eval.Asks key) = Ok None
+reply_in (eval.Ended reply writes) = reply
 
 abbrev pub writes_in : eval.Standing → List Write
 writes_in eval.Ready = []

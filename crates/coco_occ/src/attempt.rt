@@ -1,5 +1,5 @@
 //! An attempt at a call: it asks shards, takes their answers, and ends by a commit or a conflict.
-ghost use Rattle.std.specs.Prelude.{◌≡◌, ◌≤◌, ℕ, true, [], IfOk, OnOk, OnErr, List};
+ghost use Rattle.std.specs.Prelude.{◌≡◌, ◌≤◌, ℕ, true, false, [], IfOk, OnOk, OnErr, List};
 ghost use Rattle.coco_ast.specs.Fitting.{Fits};
 ghost use Rattle.coco_shard.specs.declared.ops.Ask.{Ask as Asked};
 ghost use Rattle.coco_types.specs.declared.call.Write.{Write as Written};
@@ -8,14 +8,14 @@ ghost use Rattle.coco_occ.specs.declared.outcome.Outcome.{Outcome as End};
 ghost use Rattle.coco_occ.specs.Trying.{Ready, Waits, Ended, IsSound, IsMoveOf, answered, has_ended};
 
 use crate::course::Course;
-use crate::outcome::{Move, Outcome};
+use crate::outcome::Move;
 use crate::progress::{accept, proceed};
 use crate::script::Script;
 use coco_ast::Checked;
 use coco_eval::Run;
 use coco_shard::{Answer, Ask, Op};
 use coco_types::limits::MOST_KEYS;
-use coco_types::{AttemptId, Key, NoMemory, Reply, Request, Writes};
+use coco_types::{AttemptId, Key, NoMemory, Request, Writes};
 use std::alloc::Global;
 use std::marker::Model;
 
@@ -25,12 +25,10 @@ use std::marker::Model;
 pub struct Attempt {
     run: Run,
     script: Script,
-    by: AttemptId,
     partitions: u8,
     snapshot: bool,
     course: Course,
-    reply: Reply,
-    asked: Op,
+    asked: Ask,
     waits: bool,
 }
 
@@ -42,18 +40,18 @@ impl Model for Attempt {
 
     ghost coded = { trying_code };
 
-    ghost use Rattle.coco_occ.specs.Keeping.{IsAttempt, standing_of};
+    ghost use Rattle.coco_occ.specs.Keeping.{IsAttempt, reply_in, standing_of};
 
     ghost view = { λ a. record {
       procs = a.run.procs;
       call = a.run.call;
-      by = a.by;
+      by = a.asked.by;
       partitions = a.partitions;
       script = a.script;
-      standing = standing_of a.waits a.by a.partitions a.asked a.course a.reply a.run.standing;
+      standing = standing_of a.waits a.asked.by a.partitions a.asked.op a.course (reply_in a.run.standing) a.run.standing;
     } };
 
-    ghost invariant = { λ a. IsAttempt a.run a.script a.by a.partitions a.snapshot a.course a.reply a.asked a.waits };
+    ghost invariant = { λ a. IsAttempt a.run a.script a.asked.by a.partitions a.snapshot a.course (reply_in a.run.standing) a.asked.op a.waits };
 }
 
 impl Attempt {
@@ -75,12 +73,10 @@ impl Attempt {
         Ok(Attempt {
             run,
             script,
-            by,
             partitions,
             snapshot: request.call.snapshot,
             course,
-            reply: Reply::Ok(None),
-            asked: NOTHING,
+            asked: Ask { by, op: NOTHING },
             waits: false,
         })
     }
@@ -103,7 +99,7 @@ impl Attempt {
         self.run.restart(procs, &request.call)?;
         self.course.restart();
         self.script.clear();
-        self.by = by;
+        self.asked.by = by;
         self.partitions = partitions;
         self.snapshot = request.call.snapshot;
         self.waits = false;
@@ -118,24 +114,59 @@ impl Attempt {
         ensures others { self.new ≡ record self.old { standing = self.new.standing } }
         ensures sound { IsSound self.new }
     {
-        let due = proceed(
+        if self.go_on(procs) {
+            Move::Ask {
+                shard: self.shard(),
+                ask: *self.ask(),
+            }
+        } else {
+            self.last_move()
+        }
+    }
+
+    /// Goes on to what it does next, and says whether that is an ask: `shard` and `ask` lend it. Else it has ended,
+    /// as `last_move` tells. It takes no memory.
+    pub fn go_on(&mut self, procs: &Checked) -> bool
+        requires procs { procs.now ≡ self.old.procs }
+        requires ready { self.old.standing ≡ Ready }
+        ensures asks { result ≡ true → (shard : ℕ) × (ask : Asked) × (self.new.standing ≡ Waits shard ask) }
+        ensures ended { result ≡ false → has_ended self.new.standing ≡ true }
+        ensures others { self.new ≡ record self.old { standing = self.new.standing } }
+        ensures sound { IsSound self.new }
+    {
+        let asks = proceed(
             &mut self.run,
             &mut self.course,
-            &mut self.reply,
             self.snapshot,
             procs,
+            &mut self.asked.op,
         );
-        match due {
-            Some(op) => {
-                self.asked = op;
-                self.waits = true;
-                Move::Ask {
-                    shard: shard_of(op.key(), self.partitions),
-                    ask: Ask { by: self.by, op },
-                }
-            }
-            None => last_move(self.course.outcome(&self.reply)),
-        }
+        self.waits = asks;
+        asks
+    }
+
+    /// The shard that it asks.
+    pub fn shard(&self) -> u8
+        requires { (shard : ℕ) × (ask : Asked) × (self.now.standing ≡ Waits shard ask) }
+        ensures { (ask : Asked) × (self.now.standing ≡ Waits result ask) }
+    {
+        shard_of(self.asked.op.key(), self.partitions)
+    }
+
+    /// What it asks.
+    pub fn ask(&self) -> &Ask
+        requires { (shard : ℕ) × (ask : Asked) × (self.now.standing ≡ Waits shard ask) }
+        ensures { (shard : ℕ) × (self.now.standing ≡ Waits shard result.now) }
+    {
+        &self.asked
+    }
+
+    /// How it has ended.
+    pub fn last_move(&self) -> Move
+        requires { has_ended self.now.standing ≡ true }
+        ensures { IsMoveOf self.now.standing result }
+    {
+        self.course.last_move(self.run.reply())
     }
 
     /// Takes the answer to what it asked last. Out of memory, nothing has changed.
@@ -146,10 +177,22 @@ impl Attempt {
         ensures sound { OnOk result (IsSound self.new) }
         ensures err { OnErr result (self.new ≡ self.old) }
     {
-        let shard = shard_of(self.asked.key(), self.partitions);
-        self.script.push(self.by, shard, &self.asked, &answer)?;
+        self.take_lent(&answer)
+    }
+
+    /// The same, where the answer stays where it is.
+    pub fn take_lent(&mut self, answer: &Answer) -> Result<(), NoMemory>
+        requires { (shard : ℕ) × (ask : Asked) × (self.old.standing ≡ Waits shard ask) × MayAnswer ask answer.now }
+        ensures ok { OnOk result ((shard : ℕ) (ask : Asked) → self.old.standing ≡ Waits shard ask →
+            self.new ≡ record self.old { script = answered self.old shard ask answer.now; standing = Ready }) }
+        ensures sound { OnOk result (IsSound self.new) }
+        ensures err { OnErr result (self.new ≡ self.old) }
+    {
+        let Ask { by, op } = &self.asked;
+        let shard = shard_of(op.key(), self.partitions);
+        self.script.push(*by, shard, op, answer)?;
         self.waits = false;
-        accept(&mut self.run, &mut self.course, &self.asked, &answer);
+        accept(&mut self.run, &mut self.course, op, answer);
         Ok(())
     }
 
@@ -182,17 +225,6 @@ fn shard_of(key: Key, partitions: u8) -> u8
     ensures { result ≡ shard_of partitions key }
 {
     (key.row % u64::from(partitions)) as u8
-}
-
-// The move that an attempt ends with.
-fn last_move(outcome: Outcome) -> Move
-    ensures { (writes : List Written) → IsMoveOf (Ended outcome writes) result }
-{
-    match outcome {
-        Outcome::Committed { time, reply } => Move::Committed { time, reply },
-        Outcome::Conflict(why) => Move::Conflict(why),
-        Outcome::OverTime => Move::OverTime,
-    }
 }
 
 // What is asked before the first ask.

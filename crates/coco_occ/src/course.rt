@@ -8,9 +8,11 @@ ghost use Rattle.coco_shard.specs.declared.ops.Op.TheVariants.{Lock, Extend};
 ghost use Rattle.coco_shard.specs.declared.ops.Answer.TheVariants.{Locked};
 ghost use Rattle.coco_occ.specs.Exchange.{Exchange, MayAnswer};
 ghost use Rattle.coco_occ.specs.declared.course.Stage.TheVariants as stage;
-ghost use Rattle.coco_occ.specs.Course.{wts_in, needs_seen, Rise, HasRoom, IsFresh, entered, outcome_by, is_ended, exchange, IsLocking, IsExtending, IsEnding, Closes, Stands};
+ghost use Rattle.std.specs.Option.{option_map};
+ghost use Rattle.coco_occ.specs.Course.{wts_in, needs_seen, Rise, HasRoom, IsFresh, entered, outcome_by, is_ended, exchange, due_of, extension_of, IsLocking, IsExtending, IsEnding, Closes, Stands};
+ghost use Rattle.coco_occ.specs.Interleaving.{end_move};
 
-use crate::outcome::{Outcome, Why};
+use crate::outcome::{Move, Why};
 use coco_shard::{Answer, Op};
 use coco_types::limits::{MOST_KEYS, MOST_TIME};
 use coco_types::{Key, NoMemory, Reply, Write};
@@ -129,76 +131,81 @@ impl Course {
         self.enter(Stage::Locking);
     }
 
-    /// What is asked next, none where the attempt has ended.
-    pub fn next(&mut self, writes: &[Write]) -> Option<Op>
-        ensures stands { (r : Run) (m : Rows) (asked : List Exchange) → r.writes ≡ writes.now → Stands r m asked self.old None → Stands r m asked self.new result }
-        ensures ended { IfNone result (self.new.stage ≡ stage.Ended) }
+    /// Puts what is asked next in its place, and says whether something is: else the attempt has ended.
+    pub fn next(&mut self, writes: &[Write], op: &mut Op) -> bool
+        ensures stands { (r : Run) (m : Rows) (asked : List Exchange) → r.writes ≡ writes.now → Stands r m asked self.old None → Stands r m asked self.new (due_of result op.new) }
+        ensures ended { result ≡ false → self.new.stage ≡ stage.Ended }
     {
         match self.stage {
-            Stage::Locking => self.next_lock(writes),
-            Stage::Extending => self.next_extension(writes),
-            _ => self.next_end(writes),
+            Stage::Locking => self.next_lock(writes, op),
+            Stage::Extending => self.next_extension(writes, op),
+            _ => self.next_end(writes, op),
         }
     }
 
     // The next lock. Behind all locks the time is chosen.
-    fn next_lock(&mut self, writes: &[Write]) -> Option<Op>
+    fn next_lock(&mut self, writes: &[Write], op: &mut Op) -> bool
         requires { self.old.stage ≡ stage.Locking }
-        ensures stands { (r : Run) (m : Rows) (asked : List Exchange) → r.writes ≡ writes.now → IsLocking r m asked self.old None → Stands r m asked self.new result }
-        ensures ended { IfNone result (self.new.stage ≡ stage.Ended) }
+        ensures stands { (r : Run) (m : Rows) (asked : List Exchange) → r.writes ≡ writes.now → IsLocking r m asked self.old None → Stands r m asked self.new (due_of result op.new) }
+        ensures ended { result ≡ false → self.new.stage ≡ stage.Ended }
     {
         match writes.get(self.place) {
-            Some(write) => Some(Op::Lock(write.key)),
-            None => self.choose_time(writes),
+            Some(write) => {
+                *op = Op::Lock(write.key);
+                true
+            }
+            None => self.choose_time(writes, op),
         }
     }
 
     // Chooses the time, behind all locks.
-    fn choose_time(&mut self, writes: &[Write]) -> Option<Op>
+    fn choose_time(&mut self, writes: &[Write], op: &mut Op) -> bool
         requires { self.old.stage ≡ stage.Locking }
-        ensures stands { (r : Run) (m : Rows) (asked : List Exchange) → r.writes ≡ writes.now → IsLocking r m asked self.old None → slice_get r.writes self.old.place ≡ None → Stands r m asked self.new result }
-        ensures ended { IfNone result (self.new.stage ≡ stage.Ended) }
+        ensures stands { (r : Run) (m : Rows) (asked : List Exchange) → r.writes ≡ writes.now → IsLocking r m asked self.old None → slice_get r.writes self.old.place ≡ None → Stands r m asked self.new (due_of result op.new) }
+        ensures ended { result ≡ false → self.new.stage ≡ stage.Ended }
     {
         if self.greatest < MOST_TIME {
             self.time = Some(self.greatest + 1);
             self.enter(Stage::Extending);
-            self.next_extension(writes)
+            self.next_extension(writes, op)
         } else {
             self.enter(Stage::Releasing);
-            self.next_end(writes)
+            self.next_end(writes, op)
         }
     }
 
-    fn next_extension(&mut self, writes: &[Write]) -> Option<Op>
+    fn next_extension(&mut self, writes: &[Write], op: &mut Op) -> bool
         requires { self.old.stage ≡ stage.Extending }
-        ensures stands { (r : Run) (m : Rows) (asked : List Exchange) → r.writes ≡ writes.now → IsExtending r m asked self.old None → Stands r m asked self.new result }
-        ensures ended { IfNone result (self.new.stage ≡ stage.Ended) }
+        ensures stands { (r : Run) (m : Rows) (asked : List Exchange) → r.writes ≡ writes.now → IsExtending r m asked self.old None → Stands r m asked self.new (due_of result op.new) }
+        ensures ended { result ≡ false → self.new.stage ≡ stage.Ended }
     {
         match self.extension(writes) {
-            Some(op) => Some(op),
+            Some((seen, time)) => {
+                let Seen { key, wts, .. } = seen;
+                *op = Op::Extend { key, wts, time };
+                true
+            }
             None => {
                 self.enter(Stage::Installing);
-                self.next_end(writes)
+                self.next_end(writes, op)
             }
         }
     }
 
-    fn next_end(&mut self, writes: &[Write]) -> Option<Op>
-        ensures stands { (r : Run) (m : Rows) (asked : List Exchange) → r.writes ≡ writes.now → Closes self.old.stage r m asked self.old None → Stands r m asked self.new result }
-        ensures ended { IfNone result (self.new.stage ≡ stage.Ended) }
+    fn next_end(&mut self, writes: &[Write], op: &mut Op) -> bool
+        ensures stands { (r : Run) (m : Rows) (asked : List Exchange) → r.writes ≡ writes.now → Closes self.old.stage r m asked self.old None → Stands r m asked self.new (due_of result op.new) }
+        ensures ended { result ≡ false → self.new.stage ≡ stage.Ended }
     {
-        match self.ending(writes) {
-            Some(op) => Some(op),
-            None => {
-                self.stage = Stage::Ended;
-                None
-            }
+        if self.ending(writes, op) {
+            return true;
         }
+        self.stage = Stage::Ended;
+        false
     }
 
-    // Goes on to the next key that isn't valid up to the time.
-    fn extension(&mut self, writes: &[Write]) -> Option<Op>
-        ensures due { (r : Run) (m : Rows) (asked : List Exchange) → r.writes ≡ writes.now → IsExtending r m asked self.old None → IsExtending r m asked self.new result }
+    // Goes on to the next key that isn't valid up to the time, and answers that with the time.
+    fn extension(&mut self, writes: &[Write]) -> Option<(Seen, u64)>
+        ensures due { (r : Run) (m : Rows) (asked : List Exchange) → r.writes ≡ writes.now → IsExtending r m asked self.old None → IsExtending r m asked self.new (option_map extension_of result) }
         ensures all { IfNone result (self.new.time ≡ None ⊎ (length self.new.seen.items ≤ self.new.place)) }
         ensures stage { self.new.stage ≡ self.old.stage }
     {
@@ -206,28 +213,41 @@ impl Course {
         while self.place < self.seen.len() {
             let seen = self.seen[self.place];
             if needs_extension(&seen, time, writes) {
-                let Seen { key, wts, .. } = seen;
-                return Some(Op::Extend { key, wts, time });
+                return Some((seen, time));
             }
             self.place += 1;
         }
         None
     }
 
-    fn ending(&self, writes: &[Write]) -> Option<Op>
+    // Puts the next install or release in its place, if one is left.
+    fn ending(&self, writes: &[Write], op: &mut Op) -> bool
         ensures { (r : Run) (m : Rows) (asked : List Exchange) → r.writes ≡ writes.now → Closes self.now.stage r m asked self.now None →
-            MatchOption result (IsEnding r m asked (outcome_by self.now.conflict self.now.time r.reply) []) (λ op. Closes self.now.stage r m asked self.now (Some op)) }
+            MatchOption (due_of result op.new) (IsEnding r m asked (outcome_by self.now.conflict self.now.time r.reply) []) (λ op. Closes self.now.stage r m asked self.now (Some op)) }
     {
         match self.stage {
             Stage::Installing => {
-                let time = self.time?;
-                let Write { key, value } = *writes.get(self.place)?;
-                Some(Op::Install { key, time, value })
+                let Some(time) = self.time else {
+                    return false;
+                };
+                let Some(write) = writes.get(self.place) else {
+                    return false;
+                };
+                *op = Op::Install {
+                    key: write.key,
+                    time,
+                    value: write.value,
+                };
+                true
             }
             Stage::Releasing if self.place < self.locked => {
-                Some(Op::Release(writes.get(self.place)?.key))
+                let Some(write) = writes.get(self.place) else {
+                    return false;
+                };
+                *op = Op::Release(write.key);
+                true
             }
-            _ => None,
+            _ => false,
         }
     }
 
@@ -328,17 +348,17 @@ impl Course {
         matches!(self.stage, Stage::Ended)
     }
 
-    /// How an attempt ends that stands here, where its run replies so.
-    pub fn outcome(&self, reply: &Reply) -> Outcome
-        ensures { result ≡ outcome_by self.now.conflict self.now.time reply.now }
+    /// The move that an attempt ends with that stands here, where its run replies so.
+    pub fn last_move(&self, reply: &Reply) -> Move
+        ensures { result ≡ end_move (outcome_by self.now.conflict self.now.time reply.now) }
     {
         match (self.conflict, self.time) {
-            (Some(why), _) => Outcome::Conflict(why),
-            (None, Some(time)) => Outcome::Committed {
+            (Some(why), _) => Move::Conflict(why),
+            (None, Some(time)) => Move::Committed {
                 time,
                 reply: *reply,
             },
-            (None, None) => Outcome::OverTime,
+            (None, None) => Move::OverTime,
         }
     }
 }

@@ -3,78 +3,74 @@ ghost use Rattle.std.specs.Prelude.{◌≡◌, ◌⊎◌, ◌++◌, ◌∷◌, [
 ghost use Rattle.coco_types.specs.declared.call.Reply.{Reply as Replied};
 ghost use Rattle.coco_types.specs.declared.call.AttemptId.{AttemptId};
 ghost use Rattle.coco_shard.specs.declared.ops.Op.TheVariants.{Read, Past};
-ghost use Rattle.coco_occ.specs.Course.{exchange};
+ghost use Rattle.coco_occ.specs.Course.{due_of, exchange};
 ghost use Rattle.coco_occ.specs.Exchange.{Exchange, MayAnswer};
-ghost use Rattle.coco_occ.specs.Keeping.{reading, Goes, IsReading, rests_in};
+ghost use Rattle.coco_occ.specs.Keeping.{reading, reply_in, Goes, IsReading, rests_in};
 ghost use Rattle.coco_occ.specs.Trying.{Ready};
 ghost use Rattle.coco_occ.specs.declared.course.Stage.TheVariants as stage;
 
 use crate::course::{Course, Stage};
 use coco_ast::Checked;
-use coco_eval::{Need, Run};
+use coco_eval::Run;
 use coco_shard::{Answer, Op};
-use coco_types::{Key, Reply};
+use coco_types::Key;
 
-/// What is asked next, none where the attempt has ended.
+/// Puts what is asked next in its place, and says whether something is: else the attempt has ended.
 pub fn proceed(
     run: &mut Run,
     course: &mut Course,
-    reply: &mut Reply,
     snapshot: bool,
     procs: &Checked,
-) -> Option<Op>
+    op: &mut Op,
+) -> bool
     requires procs { procs.now ≡ run.old.procs }
-    requires ready { rests_in course.old.stage course.old reply.old [] ≡ Ready }
-    requires goes { (asked : List Exchange) × Goes snapshot run.old asked course.old reply.old None }
-    ensures goes { (asked : List Exchange) → Goes snapshot run.old asked course.old reply.old None → Goes snapshot run.new asked course.new reply.new result }
+    requires ready { rests_in course.old.stage course.old (reply_in run.old.standing) [] ≡ Ready }
+    requires goes { (asked : List Exchange) × Goes snapshot run.old asked course.old (reply_in run.old.standing) None }
+    ensures goes { (asked : List Exchange) → Goes snapshot run.old asked course.old (reply_in run.old.standing) None → Goes snapshot run.new asked course.new (reply_in run.new.standing) (due_of result op.new) }
     ensures run { run.new ≡ record run.old { standing = run.new.standing } }
-    ensures ended { result ≡ None → course.new.stage ≡ stage.Ended }
+    ensures ended { result ≡ false → course.new.stage ≡ stage.Ended }
 {
     if let Stage::Reading = course.stage {
-        read_on(run, course, reply, snapshot, procs)
+        read_on(run, course, snapshot, procs, op)
     } else {
-        course.next(run.writes().as_slice())
+        course.next(run.writes().as_slice(), op)
     }
 }
 
 // Goes on to the next key that is read, or behind the reads.
-fn read_on(
-    run: &mut Run,
-    course: &mut Course,
-    reply: &mut Reply,
-    snapshot: bool,
-    procs: &Checked,
-) -> Option<Op>
+fn read_on(run: &mut Run, course: &mut Course, snapshot: bool, procs: &Checked, op: &mut Op) -> bool
     requires procs { procs.now ≡ run.old.procs }
     requires stage { course.old.stage ≡ stage.Reading }
     requires goes { (asked : List Exchange) × IsReading snapshot run.old asked course.old None }
-    ensures goes { (asked : List Exchange) → IsReading snapshot run.old asked course.old None → Goes snapshot run.new asked course.new reply.new result }
+    ensures goes { (asked : List Exchange) → IsReading snapshot run.old asked course.old None → Goes snapshot run.new asked course.new (reply_in run.new.standing) (due_of result op.new) }
     ensures run { run.new ≡ record run.old { standing = run.new.standing } }
-    ensures ended { result ≡ None → course.new.stage ≡ stage.Ended }
+    ensures ended { result ≡ false → course.new.stage ≡ stage.Ended }
 {
-    match run.step(procs) {
-        Need::Read(key) => Some(reading(snapshot, key)),
-        Need::Ended(ended) => {
-            *reply = ended;
+    match run.next_key(procs) {
+        Some(key) => {
+            set_reading(snapshot, key, op);
+            true
+        }
+        None => {
             if snapshot {
                 course.finish();
-                None
+                false
             } else {
                 let writes = run.writes().as_slice();
                 course.settle(writes);
-                course.next(writes)
+                course.next(writes, op)
             }
         }
     }
 }
 
-fn reading(snapshot: bool, key: Key) -> Op
-    ensures { result ≡ reading snapshot key }
+fn set_reading(snapshot: bool, key: Key, op: &mut Op)
+    ensures { op.new ≡ reading snapshot key }
 {
     if snapshot {
-        Op::Past(key)
+        *op = Op::Past(key);
     } else {
-        Op::Read(key)
+        *op = Op::Read(key);
     }
 }
 
@@ -105,7 +101,7 @@ fn accept_read(run: &mut Run, course: &mut Course, key: Key, answer: &Answer)
         unreachable!()
     };
     course.got(key, *wts, *rts);
-    run.give(*value);
+    run.give_lent(value.as_ref());
 }
 
 // The course of a snapshot call stays.
@@ -118,5 +114,5 @@ fn accept_past(run: &mut Run, course: &Course, key: Key, answer: &Answer)
     let Answer::Stood(value) = answer else {
         unreachable!()
     };
-    run.give(*value);
+    run.give_lent(value.as_ref());
 }

@@ -51,12 +51,14 @@ pub fn take_turn(
     if attempt.has_ended() {
         return Ok(None);
     }
-    let made = attempt.next(procs);
-    match &made {
-        Move::Ask { shard, ask } => bring_answer(shards, attempt, *shard, *ask)?,
-        _ => {}
+    if attempt.go_on(procs) {
+        let shard = attempt.shard();
+        let ask = *attempt.ask();
+        bring_answer(shards, attempt, shard, &ask)?;
+        Ok(Some(Move::Ask { shard, ask }))
+    } else {
+        Ok(Some(attempt.last_move()))
     }
-    Ok(Some(made))
 }
 
 // Takes an ask to its shard, and the answer to the attempt.
@@ -64,15 +66,17 @@ fn bring_answer(
     shards: &mut [Shard],
     attempt: &mut Attempt,
     shard: u8,
-    ask: Ask,
+    ask: &Ask,
 ) -> Result<(), NoMemory>
     requires below { shard < length shards.old }
-    requires waits { attempt.old.standing ≡ Waits shard ask }
-    ensures ok { OnOk result (IsBrought shards.old shards.new attempt.old attempt.new shard ask) }
+    requires waits { attempt.old.standing ≡ Waits shard ask.now }
+    ensures ok { OnOk result (IsBrought shards.old shards.new attempt.old attempt.new shard ask.now) }
     ensures attempt { OnErr result (attempt.new ≡ attempt.old) }
-    ensures shards { OnErr result (MayBeAsked shards.old shards.new shard ask) }
+    ensures shards { OnErr result (MayBeAsked shards.old shards.new shard ask.now) }
 {
     let _value: Option<Value> = None;
-    let answer = shards[usize::from(shard)].apply(ask)?;
-    attempt.take(answer)
+    match &shards[usize::from(shard)].apply(*ask) {
+        Ok(answer) => attempt.take_lent(answer),
+        Err(NoMemory) => Err(NoMemory),
+    }
 }

@@ -1,5 +1,6 @@
 use Rattle.std.proofs.Common.{◌≡◌, true, [], ◌∷◌, ◌++◌, None, refl, sym, ap, ◌∙◌, subst}
 use Rattle.coco_types.specs.RowKey.{RowKey}
+use Rattle.coco_ast.specs.Meaning.{Datum}
 use Rattle.coco_eval.specs.Standing as eval
 use Rattle.coco_shard.specs.declared.ops.Answer.{Answer}
 use Rattle.coco_shard.specs.declared.ops.Answer.TheVariants.{Stood}
@@ -16,13 +17,13 @@ returns-clause-goes c before s =
     let same : w.0 ≡ key = (let g : Past key ≡ Past w.0 = w.2 in cc) in
     let e = c.args.run.now in
     let value = c.in-Stood.value in
-    let is : c.give.new.self ≡ gave e key value = c.give.ensures w.0 w.1 ∙ ap (λ (k : RowKey). gave e k value) same in
-    subst (λ (a : Answer). IsReading true c.give.new.self (before ++ exchange (Past key) a ∷ []) c.args.course.now None) (sym c.in-Stood.is)
+    let is : c.give_lent.new.self ≡ gave e key value = c.give_lent.ensures w.0 w.1 ∙ ap (λ (v : Datum). gave e w.0 v) c.as_ref.ensures.value ∙ ap (λ (k : RowKey). gave e k value) same in
+    subst (λ (a : Answer). IsReading true c.give_lent.new.self (before ++ exchange (Past key) a ∷ []) c.args.course.now None) (sym c.in-Stood.is)
     (subst (λ (x : eval.Evaluation). IsReading true x (before ++ exchange (Past key) (Stood value) ∷ []) c.args.course.now None) (sym is)
     (stood_read e before c.args.course.now (Past key) key value s refl))
 
 pub returns-clause-procs : goal.returns-clause-procs
-returns-clause-procs c = let w = c.requires.2.waits in ap (λ (e : eval.Evaluation). e.procs) (c.give.ensures w.0 w.1)
+returns-clause-procs c = let w = c.requires.2.waits in ap (λ (e : eval.Evaluation). e.procs) (c.give_lent.ensures w.0 w.1)
 
 pub returns-clause-call : goal.returns-clause-call
-returns-clause-call c = let w = c.requires.2.waits in ap (λ (e : eval.Evaluation). e.call) (c.give.ensures w.0 w.1)
+returns-clause-call c = let w = c.requires.2.waits in ap (λ (e : eval.Evaluation). e.call) (c.give_lent.ensures w.0 w.1)

@@ -1,5 +1,6 @@
 use Rattle.std.proofs.Common.{◌≡◌, false, [], ◌∷◌, ◌++◌, None, refl, sym, ap, ◌∙◌, subst}
 use Rattle.coco_types.specs.RowKey.{RowKey}
+use Rattle.coco_ast.specs.Meaning.{Datum}
 use Rattle.coco_eval.specs.Standing as eval
 use Rattle.coco_shard.specs.declared.ops.Answer.{Answer}
 use Rattle.coco_shard.specs.declared.ops.Answer.TheVariants.{Got}
@@ -17,14 +18,14 @@ returns-clause-goes c before s =
     let e = c.args.run.now in
     let value = c.in-Got.value in
     let answer = Got c.in-Got.wts c.in-Got.rts value in
-    let is : c.give.new.self ≡ gave e key value = c.give.ensures w.0 w.1 ∙ ap (λ (k : RowKey). gave e k value) same in
-    subst (λ (a : Answer). IsReading false c.give.new.self (before ++ exchange (Read key) a ∷ []) c.got.new.self None) (sym c.in-Got.is)
+    let is : c.give_lent.new.self ≡ gave e key value = c.give_lent.ensures w.0 w.1 ∙ ap (λ (v : Datum). gave e w.0 v) c.as_ref.ensures.value ∙ ap (λ (k : RowKey). gave e k value) same in
+    subst (λ (a : Answer). IsReading false c.give_lent.new.self (before ++ exchange (Read key) a ∷ []) c.got.new.self None) (sym c.in-Got.is)
     (subst (λ (x : eval.Evaluation). IsReading false x (before ++ exchange (Read key) answer ∷ []) c.got.new.self None) (sym is)
     (got_read e before c.args.course.now c.got.new.self (Read key) key c.in-Got.wts c.in-Got.rts value s refl
     (record { seen = c.got.ensures.seen; room = c.got.ensures.room; others = c.got.ensures.others })))
 
 pub returns-clause-procs : goal.returns-clause-procs
-returns-clause-procs c = let w = c.requires.2.waits in ap (λ (e : eval.Evaluation). e.procs) (c.give.ensures w.0 w.1)
+returns-clause-procs c = let w = c.requires.2.waits in ap (λ (e : eval.Evaluation). e.procs) (c.give_lent.ensures w.0 w.1)
 
 pub returns-clause-call : goal.returns-clause-call
-returns-clause-call c = let w = c.requires.2.waits in ap (λ (e : eval.Evaluation). e.call) (c.give.ensures w.0 w.1)
+returns-clause-call c = let w = c.requires.2.waits in ap (λ (e : eval.Evaluation). e.call) (c.give_lent.ensures w.0 w.1)

@@ -1,26 +1,30 @@
-use Rattle.std.proofs.Common.{◌≡◌, List, map, sym, ap, ◌∙◌, subst}
+use Rattle.std.proofs.Common.{◌≡◌, List, None, map, sym, ap, ◌∙◌, subst}
 use Rattle.coco_types.specs.declared.call.Write.{Write}
 use Rattle.coco_eval.specs.Standing as eval
-use Rattle.coco_occ.specs.Course.{wts_in, Rise}
-use Rattle.coco_occ.proofs.ProgressLemmas.{reads_next, snapshot_next, course_next}
+use Rattle.coco_occ.specs.Course.{due_of, wts_in, Rise}
+use Rattle.coco_occ.specs.Keeping.{reply_in}
+use Rattle.coco_occ.proofs.ProgressLemmas.{goes_told, reads_next, snapshot_next, course_next}
 use Rattle.coco_occ.proofs.progress.read_on.Goals as goal
 
-pub returns-in-Read-clause-goes : goal.returns-in-Read-clause-goes
-returns-in-Read-clause-goes c asked s =
-    let is = c.in-Read.ensures.others ∙ ap (λ (x : eval.Standing). record c.args.run.now { standing = x }) c.in-Read.ensures.need in
-    reads_next c.args.snapshot c.args.run.now c.step.new.self asked c.args.course.now c.args.reply.now c.in-Read.key c.reading.result c.requires.stage is c.reading.ensures s c.in-Read.ensures.sound c.in-Read.ensures.few
+pub returns-in-Some-clause-goes : goal.returns-in-Some-clause-goes
+returns-in-Some-clause-goes c asked s =
+    let is = c.in-Some.ensures.others ∙ ap (λ (x : eval.Standing). record c.args.run.now { standing = x }) c.in-Some.ensures.key in
+    reads_next c.args.snapshot c.args.run.now c.next_key.new.self asked c.args.course.now (reply_in c.next_key.new.self.standing) c.in-Some.key c.set_reading.new.op c.requires.stage is c.set_reading.ensures s c.in-Some.ensures.sound c.in-Some.ensures.few
 
 pub returns-then-snapshot-clause-goes : goal.returns-then-snapshot-clause-goes
 returns-then-snapshot-clause-goes c asked s =
-    let need = c.in-Ended.ensures.need in
-    let is = c.in-Ended.ensures.others ∙ ap (λ (x : eval.Standing). record c.args.run.now { standing = x }) need.1 in
-    snapshot_next c.args.snapshot c.args.run.now c.step.new.self asked c.args.course.now c.finish.new.self c.in-Ended.ended need.0 c.if-snapshot.true is c.finish.ensures s c.in-Ended.ensures.sound
+    let next = c.in-None.ensures.key in
+    let is = c.in-None.ensures.others ∙ ap (λ (x : eval.Standing). record c.args.run.now { standing = x }) next.2 in
+    goes_told c.args.snapshot c.next_key.new.self asked c.finish.new.self next.0 None
+    (snapshot_next c.args.snapshot c.args.run.now c.next_key.new.self asked c.args.course.now c.finish.new.self next.0 next.1 c.if-snapshot.true is c.finish.ensures s c.in-None.ensures.sound)
 
 pub returns-else-snapshot-clause-goes : goal.returns-else-snapshot-clause-goes
 returns-else-snapshot-clause-goes c asked s =
-    let need = c.in-Ended.ensures.need in
-    let is = c.in-Ended.ensures.others ∙ ap (λ (x : eval.Standing). record c.args.run.now { standing = x }) need.1 in
-    let written : c.as_slice-writes.result.now ≡ need.0 = c.as_slice-writes.ensures ∙ (let g : eval.Ended c.writes.ensures.0 c.writes.result.now ≡ eval.Ended c.in-Ended.ended need.0 = sym c.writes.ensures.1 ∙ need.1 in cc) in
-    course_next c.args.snapshot c.args.run.now c.step.new.self asked c.args.course.now c.settle.new.self c.next.new.self c.in-Ended.ended need.0 c.next.result c.if-snapshot.false is
+    let next = c.in-None.ensures.key in
+    let is = c.in-None.ensures.others ∙ ap (λ (x : eval.Standing). record c.args.run.now { standing = x }) next.2 in
+    let due = due_of c.next.result c.next.new.op in
+    let written : c.as_slice-writes.result.now ≡ next.1 = c.as_slice-writes.ensures ∙ (let g : eval.Ended c.writes.ensures.0 c.writes.result.now ≡ eval.Ended next.0 next.1 = sym c.writes.ensures.1 ∙ next.2 in cc) in
+    goes_told c.args.snapshot c.next_key.new.self asked c.next.new.self next.0 due
+    (course_next c.args.snapshot c.args.run.now c.next_key.new.self asked c.args.course.now c.settle.new.self c.next.new.self next.0 next.1 due c.if-snapshot.false is
     (record { expected = λ rising. c.settle.ensures.expected (subst Rise (sym written) rising) ∙ ap (λ (ws : List Write). map (λ w. wts_in c.args.course.now.seen.items w.key) ws) written; others = c.settle.ensures.others })
-    s c.in-Ended.ensures.sound c.in-Ended.ensures.few (λ r m w. c.next.ensures.stands r m asked (w ∙ sym written))
+    s c.in-None.ensures.sound c.in-None.ensures.few (λ r m w. c.next.ensures.stands r m asked (w ∙ sym written)))

@@ -1,25 +1,37 @@
-use Rattle.std.proofs.Common.{◌∙◌, List, sym, subst}
-use Rattle.coco_shard.specs.RowState.{ShardState}
-use Rattle.coco_occ.specs.Trying.{Trying, IsMoveOf}
-use Rattle.coco_occ.proofs.OneTurn.{ActOf, asks_below, asked_act, ended_act, ready_to_move}
+use Rattle.std.proofs.Common.{◌∙◌, ◌∷◌, [], length, refl, sym}
+use Rattle.coco_occ.specs.declared.outcome.Move.TheVariants as move
+use Rattle.coco_occ.proofs.OneTurn.{asks_below, asked_act, end_asks_not, ended_act, one_ask, plays_on, ready_to_move}
 use Rattle.coco_occ.proofs.turns.take_turn.Goals as goal
-use Rattle.coco_occ.proofs.turns.take_turn.Goals.{in-Ask+in_ok-bring_answer-in-Ask, in_default}
 
 pub bring_answer-requires-clause-below : goal.bring_answer-requires-clause-below
 bring_answer-requires-clause-below c =
-    asks_below c.args.procs.now _ c.args.attempt.now c.next-made.new.self c.in-Ask.shard c.in-Ask.ask c.requires c.next-made.ensures.others c.next-made.ensures.sound
-    (subst (IsMoveOf c.next-made.new.self.standing) c.in-Ask.is c.next-made.ensures.told)
+    asks_below c.args.procs.now _ c.args.attempt.now c.go_on.new.self c.shard-shard.result c.ask.result.now c.requires c.go_on.ensures.others c.go_on.ensures.sound
+    (one_ask c.go_on.new.self.standing c.shard-shard.result c.ask.result.now c.shard-shard.ensures c.ask.ensures)
 
-pub returns-clause-ok : goal.returns-clause-ok
-returns-clause-ok c =
+pub bring_answer-requires-clause-waits : goal.bring_answer-requires-clause-waits
+bring_answer-requires-clause-waits c =
+    one_ask c.go_on.new.self.standing c.shard-shard.result c.ask.result.now c.shard-shard.ensures c.ask.ensures
+
+pub returns-in_ok-bring_answer-clause-ok : goal.returns-in_ok-bring_answer-clause-ok
+returns-in_ok-bring_answer-clause-ok c =
     let ready = ready_to_move c.args.attempt.now.standing c.requires.free (sym c.has_ended.ensures ∙ c.if-has_ended.false) in
-    elim c.match-made.branch [
-      | in-Ask+in_ok-bring_answer-in-Ask w ↦
-          subst (λ (s : List ShardState). ActOf c.next-made.result c.args.shards.now s c.args.attempt.now c.match-made.attempt) (sym w.shards-is)
-          (subst (λ (t : Trying). ActOf c.next-made.result c.args.shards.now w.bring_answer.new.shards c.args.attempt.now t) (sym w.attempt-is)
-          (asked_act c.args.shards.now w.bring_answer.new.shards c.args.attempt.now c.next-made.new.self w.bring_answer.new.attempt c.next-made.result w.in-Ask.shard w.in-Ask.ask w.in-Ask.is ready c.next-made.ensures.others w.in_ok-bring_answer-in-Ask.ensures.ok))
-      | in_default w ↦
-          subst (λ (s : List ShardState). ActOf c.next-made.result c.args.shards.now s c.args.attempt.now c.match-made.attempt) (sym w.shards-is)
-          (subst (λ (t : Trying). ActOf c.next-made.result c.args.shards.now c.args.shards.now c.args.attempt.now t) (sym w.attempt-is)
-          (ended_act c.args.shards.now c.args.attempt.now c.next-made.new.self c.next-made.result w.in_default.not-Ask c.next-made.ensures.told ready c.next-made.ensures.others c.next-made.ensures.sound))
-    ]
+    asked_act c.args.shards.now c.bring_answer.new.shards c.args.attempt.now c.go_on.new.self c.bring_answer.new.attempt (move.Ask c.shard-shard.result c.ask.result.now) c.shard-shard.result c.ask.result.now refl ready c.go_on.ensures.others c.in_ok-bring_answer.ensures.ok
+
+pub returns-in_ok-bring_answer-clause-free : goal.returns-in_ok-bring_answer-clause-free
+returns-in_ok-bring_answer-clause-free c =
+    let ready = ready_to_move c.args.attempt.now.standing c.requires.free (sym c.has_ended.ensures ∙ c.if-has_ended.false) in
+    let made = asked_act c.args.shards.now c.bring_answer.new.shards c.args.attempt.now c.go_on.new.self c.bring_answer.new.attempt (move.Ask c.shard-shard.result c.ask.result.now) c.shard-shard.result c.ask.result.now refl ready c.go_on.ensures.others c.in_ok-bring_answer.ensures.ok in
+    plays_on c.args.procs.now (length c.args.shards.now) c.args.attempt.now c.bring_answer.new.attempt (made.0 ∷ []) c.requires made.2.plays
+
+pub returns-else-go_on-clause-ok : goal.returns-else-go_on-clause-ok
+returns-else-go_on-clause-ok c =
+    let ready = ready_to_move c.args.attempt.now.standing c.requires.free (sym c.has_ended.ensures ∙ c.if-has_ended.false) in
+    let b = c.go_on.new.self in
+    ended_act c.args.shards.now c.args.attempt.now b c.last_move.result (end_asks_not b.standing c.last_move.result (c.go_on.ensures.ended c.if-go_on.false) c.last_move.ensures) c.last_move.ensures ready c.go_on.ensures.others c.go_on.ensures.sound
+
+pub returns-else-go_on-clause-free : goal.returns-else-go_on-clause-free
+returns-else-go_on-clause-free c =
+    let ready = ready_to_move c.args.attempt.now.standing c.requires.free (sym c.has_ended.ensures ∙ c.if-has_ended.false) in
+    let b = c.go_on.new.self in
+    let made = ended_act c.args.shards.now c.args.attempt.now b c.last_move.result (end_asks_not b.standing c.last_move.result (c.go_on.ensures.ended c.if-go_on.false) c.last_move.ensures) c.last_move.ensures ready c.go_on.ensures.others c.go_on.ensures.sound in
+    plays_on c.args.procs.now (length c.args.shards.now) c.args.attempt.now b (made.0 ∷ []) c.requires made.2.plays
