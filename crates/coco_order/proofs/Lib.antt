@@ -24,3 +24,5 @@ mod WorkedExecutions
 mod Closed
 mod WritesThere
 mod Epochs
+mod Shown
+mod TailConflicts

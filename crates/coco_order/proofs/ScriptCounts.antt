@@ -18,11 +18,11 @@ tries_append : (rs qs : List Tries) → concat_tries (rs ++ qs) ≡ concat_tries
 tries_append [] qs = refl
 tries_append (r ∷ rs) qs = ap (λ (ts : List Tried). all_tries r ++ ts) (tries_append rs qs) ∙ sym (append_assoc (all_tries r) (concat_tries rs) (concat_tries qs))
 
-tries_joined : (rss : List (List Tries)) → concat (map concat_tries rss) ≡ concat_tries (concat rss)
+pub tries_joined : (rss : List (List Tries)) → concat (map concat_tries rss) ≡ concat_tries (concat rss)
 tries_joined [] = refl
 tries_joined (rs ∷ rss) = ap (λ (ts : List Tried). concat_tries rs ++ ts) (tries_joined rss) ∙ sym (tries_append rs (concat rss))
 
-all_joined : (P : Tries → Type 0) (rss : List (List Tries)) → AllByRecursion (AllByRecursion P) rss → AllByRecursion P (concat rss)
+pub all_joined : (P : Tries → Type 0) (rss : List (List Tries)) → AllByRecursion (AllByRecursion P) rss → AllByRecursion P (concat rss)
 all_joined P [] all = tt
 all_joined P (rs ∷ rss) all = all_append P rs (concat rss) all.0 (all_joined P rss all.1)
 

@@ -116,7 +116,7 @@ module _ (b : Beginning) (epoch : ℕ) where
   request_of rows time (r ∷ rs) c (inl same) = (r, inl refl, ap (λ (z : Act). z.done.id) same)
   request_of rows time (r ∷ rs) c (inr more) = let rest = request_of (after_request b epoch rows r) (suc time) rs c more in (rest.0, inr rest.1, rest.2)
 
-uncommitted_at : (x : Execution) (place : ℕ) (rs : List Request) (r : Request) → Among (uncommitted x place rs) r → (i : ℕ) × (slice_get rs i ≡ Some r) × (is_committed x (i + place) ≡ false)
+pub uncommitted_at : (x : Execution) (place : ℕ) (rs : List Request) (r : Request) → Among (uncommitted x place rs) r → (i : ℕ) × (slice_get rs i ≡ Some r) × (is_committed x (i + place) ≡ false)
 uncommitted_at x place [] r h = absurd h
 uncommitted_at x place (q ∷ rs) r h =
     by_bool (λ z. is_committed x place ≡ z → Among (cond z (uncommitted x (suc place) rs) (q ∷ uncommitted x (suc place) rs)) r → (i : ℕ) × (slice_get (q ∷ rs) i ≡ Some r) × (is_committed x (i + place) ≡ false)) (is_committed x place)

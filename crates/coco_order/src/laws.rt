@@ -1,6 +1,7 @@
 //! What holds of every execution, and before that of every journal on each key by itself.
 
 ghost use Rattle.coco_order.specs.OneKey.{OnEachKey, MarksAreOwn, WriteTimesRise, ValidatedReadsAreLast};
+ghost use Rattle.coco_order.specs.Conflicts.{TailsConflicted};
 ghost use Rattle.coco_order.specs.Execution.{InEachExecution};
 ghost use Rattle.coco_order.specs.ExecutionExamples.{ReadIsTriedAgain};
 ghost use Rattle.coco_order.specs.Laws.{OnEachKeyOfEach, StepsAreMine, ApartInTime, TimesAreFew, CommitsAreSerial, OutcomesAreSerial, ClosedIsLawful, AnswersFit, ReadsAreFew, ScriptsAreFew, WritesAreRuns, TailWritesAreRuns, OutcomesAreEpochs};
@@ -82,4 +83,10 @@ pub fn tail_writes_are_runs()
 /// the epoch's number, rising by time and id.
 pub fn outcomes_are_epochs()
     ensures { InEachExecution OutcomesAreEpochs }
+{}
+
+/// Each request of the tail was tried as often as attempts are allowed, and each of these attempts ended in a conflict
+/// that a journal shows: another attempt's mark on the key, or another write time than the attempt read.
+pub fn tails_conflicted()
+    ensures { InEachExecution TailsConflicted }
 {}
