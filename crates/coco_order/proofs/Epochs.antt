@@ -148,7 +148,7 @@ committed_has (t ∷ ts) place =
     (λ _. ap (λ z. z || list_any (λ u. eqb u.place place && is_commit u.outcome) ts) (and-true (eqb t.place place)) ∙ ap (λ z. eqb t.place place || z) (committed_has ts place))
     (λ _. ap (λ z. z || list_any (λ u. eqb u.place place && is_commit u.outcome) ts) (and-false (eqb t.place place)) ∙ committed_has ts place)
 
-no_commit : (o : Outcome) → is_conflict o ≡ true → is_commit o ≡ false
+pub no_commit : (o : Outcome) → is_conflict o ≡ true → is_commit o ≡ false
 no_commit (Committed time reply) conflict = let apart : false ≡ true = conflict in cc
 no_commit (Conflict why) conflict = refl
 no_commit OverTime conflict = refl

@@ -26,3 +26,4 @@ mod WritesThere
 mod Epochs
 mod Shown
 mod TailConflicts
+mod WorkedTails

@@ -32,7 +32,7 @@ allowed : (attempts : ℕ) (rs : List Tries) → AllByRecursion (AreTries attemp
 allowed attempts [] all = omega arith
 allowed attempts (r ∷ rs) all = omega (arith, length-append (all_tries r) (concat_tries rs), all.0.allowed, allowed attempts rs all.1, mul-suc attempts (length rs))
 
-placed : (b : Beginning) (rs : List Tries) → AllByRecursion (AreTries b.attempts) rs → ((t : Tried) → Among (concat_tries rs) t → IsTried b t) → AllByRecursion (λ r. r.place < length b.requests) rs
+pub placed : (b : Beginning) (rs : List Tries) → AllByRecursion (AreTries b.attempts) rs → ((t : Tried) → Among (concat_tries rs) t → IsTried b t) → AllByRecursion (λ r. r.place < length b.requests) rs
 placed b [] all tried = tt
 placed b (r ∷ rs) all tried = (
   subst (λ (place : ℕ). place < length b.requests) (all_among (λ (t : Tried). t.place ≡ r.place) (all_tries r) r.last all.0.placed last) (slice_get_within b.requests r.last.place script.request script.placed),

@@ -35,7 +35,7 @@ row wts rts value mark = record { newest = value; wts = wts; rts = rts; mark = m
 abbrev found : ℕ → ℕ → Datum → Found
 found wts rts value = record { key = x; wts = wts; rts = rts; value = value }
 
-none_at : value_at empty x ≡ None
+pub none_at : value_at empty x ≡ None
 none_at = get-empty key_cmp x
 
 abbrev written : Rows
@@ -44,7 +44,7 @@ written = write_at empty x seven
 seven_at : value_at written x ≡ seven
 seven_at = value_written empty x seven x ∙ ap (λ b. cond b seven (value_at empty x)) (key_itself x)
 
-conflicts_tried : IsTried beginning reader_conflicts
+pub conflicts_tried : IsTried beginning reader_conflicts
 unfolding run
 conflicts_tried = record {
   request = record { id = 1; call = gets };
@@ -102,7 +102,7 @@ reader_tried = record {
   };
 }
 
-writer_tried : IsTried beginning writer_commits
+pub writer_tried : IsTried beginning writer_commits
 unfolding run
 writer_tried = record {
   request = record { id = 2; call = puts };
@@ -134,13 +134,13 @@ writer_tried = record {
 lawful : IsLawful (value_at empty) (steps_of (journal_of execution 0))
 lawful = told_lawful (value_at empty) [] (steps_of (journal_of execution 0)) (ap (Got 0 0) (sym none_at), (refl, (refl, (refl, (refl, (refl, tt))))))
 
-below_one : (n : ℕ) → suc n < 1 → ⊥
+pub below_one : (n : ℕ) → suc n < 1 → ⊥
 below_one n h = omega arith
 
-below_two : (n : ℕ) → suc (suc n) < 2 → ⊥
+pub below_two : (n : ℕ) → suc (suc n) < 2 → ⊥
 below_two n h = omega arith
 
-no_conflict : {n m : ℕ} → false ≡ true → n ≡ m
+pub no_conflict : {n m : ℕ} → false ≡ true → n ≡ m
 no_conflict h = absurd (apart h)
   where
     apart : false ≡ true → ⊥

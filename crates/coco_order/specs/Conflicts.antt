@@ -15,8 +15,8 @@ use Rattle.coco_occ.specs.declared.outcome.Tried.{Tried}
 use Rattle.coco_occ.specs.declared.outcome.Why.{Why}
 use Rattle.coco_occ.specs.declared.outcome.Why.TheVariants as why
 use Rattle.coco_order.specs.OneKey.{Among, step}
-use Rattle.coco_order.specs.Execution.{Beginning, Execution, concat, journal_on}
-use Rattle.coco_order.specs.Outcome.{is_committed, tail_requests}
+use Rattle.coco_order.specs.Execution.{AreWorkedOff, Beginning, Execution, Tries, all_tries, concat, journal_on}
+use Rattle.coco_order.specs.Outcome.{is_commit, is_committed, tail_requests}
 
 -- ---- conflicts
 
@@ -80,3 +80,13 @@ pub record HaveConflicted (b : Beginning) (x : Execution) : Type 0 where
 
 abbrev pub TailsConflicted : Beginning → Execution → Type 0
 TailsConflicted b x = length (concat x.transcripts) ≤ most_time → HaveConflicted b x
+
+-- whichever tries work the requests off, those of a request are the scripts of its place, and one of these committed
+-- exactly where the last one did
+pub record AreItsScripts (b : Beginning) (x : Execution) (r : Tries) : Type 0 where
+  pub within : r.place < length b.requests
+  pub scripts : tried_at x r.place ≡ all_tries r
+  pub committed : is_committed x r.place ≡ is_commit r.last.outcome
+
+abbrev pub TriesAreScripts : Beginning → Execution → Type 0
+TriesAreScripts b x = (worked : AreWorkedOff b x.transcripts) (r : Tries) → Among (concat worked.tries) r → AreItsScripts b x r

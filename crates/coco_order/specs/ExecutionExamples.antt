@@ -1,5 +1,5 @@
 -- A small execution with its outcome: a read between another attempt's lock and install conflicts, and is tried again.
-use Rattle.std.specs.Prelude.{ℕ, false, List, [], ◌∷◌, Option, None, Some, pos}
+use Rattle.std.specs.Prelude.{◌≡◌, ℕ, false, List, [], ◌∷◌, Option, None, Some, pos}
 use Rattle.std.specs.FinMap.{empty}
 use Rattle.coco_types.specs.RowKey.{RowKey}
 use Rattle.coco_types.specs.declared.value.Value.TheVariants.{Int}
@@ -20,7 +20,8 @@ use Rattle.coco_occ.specs.declared.outcome.Outcome.TheVariants.{Committed, Confl
 use Rattle.coco_occ.specs.declared.outcome.Tried.{Tried}
 use Rattle.coco_occ.specs.declared.outcome.Why.TheVariants as why
 use Rattle.coco_order.specs.Execution.{Beginning, Execution, IsExecution}
-use Rattle.coco_order.specs.Outcome.{AreCommits}
+use Rattle.coco_order.specs.Conflicts.{HasConflicted, ShowsMark}
+use Rattle.coco_order.specs.Outcome.{AreCommits, tail_requests}
 
 -- row 1 of main
 abbrev pub x : RowKey
@@ -100,3 +101,30 @@ done id call time = record { id = id; call = call; epoch = 5; time = time; reply
 pub record ReadIsTriedAgain : Type 0 where
   pub is : IsExecution beginning execution
   pub commits : AreCommits beginning 5 execution (done 2 puts 1 ∷ done 1 gets 2 ∷ [])
+
+-- ---- the same with one attempt allowed
+
+abbrev pub one_attempt_each : Beginning
+one_attempt_each = record {
+  procs = builtins;
+  opening = empty;
+  requests = record { id = 1; call = gets } ∷ record { id = 2; call = puts } ∷ [];
+  partitions = 1;
+  workers = 2;
+  attempts = 1;
+}
+
+abbrev pub reader_left : Execution
+reader_left = record {
+  journals =
+      (entry first_reader (Read x) (Got 0 0 None) ∷ entry writer (Lock x) (Locked 0 0) ∷ entry first_reader (Extend x 0 1) (Marked writer)
+      ∷ entry writer (Install x 1 seven) Installed ∷ []) ∷ [];
+  transcripts = (reader_conflicts ∷ []) ∷ (writer_commits ∷ []) ∷ [];
+}
+
+-- it is an execution whose tail is the reader's request, and the journal shows the writer's mark
+pub record ReadIsLeftToTheTail : Type 0 where
+  pub is : IsExecution one_attempt_each reader_left
+  pub tail : tail_requests one_attempt_each reader_left ≡ record { id = 1; call = gets } ∷ []
+  pub conflicted : HasConflicted one_attempt_each reader_left 0
+  pub shown : ShowsMark one_attempt_each reader_left first_reader x writer

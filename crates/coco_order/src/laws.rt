@@ -1,9 +1,9 @@
 //! What holds of every execution, and before that of every journal on each key by itself.
 
 ghost use Rattle.coco_order.specs.OneKey.{OnEachKey, MarksAreOwn, WriteTimesRise, ValidatedReadsAreLast};
-ghost use Rattle.coco_order.specs.Conflicts.{TailsConflicted};
+ghost use Rattle.coco_order.specs.Conflicts.{TailsConflicted, TriesAreScripts};
 ghost use Rattle.coco_order.specs.Execution.{InEachExecution};
-ghost use Rattle.coco_order.specs.ExecutionExamples.{ReadIsTriedAgain};
+ghost use Rattle.coco_order.specs.ExecutionExamples.{ReadIsLeftToTheTail, ReadIsTriedAgain};
 ghost use Rattle.coco_order.specs.Laws.{OnEachKeyOfEach, StepsAreMine, ApartInTime, TimesAreFew, CommitsAreSerial, OutcomesAreSerial, ClosedIsLawful, AnswersFit, ReadsAreFew, ScriptsAreFew, WritesAreRuns, TailWritesAreRuns, OutcomesAreEpochs};
 
 /// A journaled shard closes with a journal that is lawful from what the shard held at its start, and with the rows
@@ -89,4 +89,14 @@ pub fn outcomes_are_epochs()
 /// that a journal shows: another attempt's mark on the key, or another write time than the attempt read.
 pub fn tails_conflicted()
     ensures { InEachExecution TailsConflicted }
+{}
+
+/// The tries of a request are the scripts of its place, and one of these committed exactly where the last one did.
+pub fn tries_are_scripts()
+    ensures { InEachExecution TriesAreScripts }
+{}
+
+/// With one attempt allowed, a read between another attempt's lock and install is left to the tail.
+pub fn worked_tail()
+    ensures { ReadIsLeftToTheTail }
 {}
