@@ -14,4 +14,5 @@ pub mod TakeLemmas
 pub mod DeliverLemmas
 pub mod GoingLemmas
 pub mod RoundLemmas
+pub mod ThereLemmas
 pub mod ExampleLemmas

@@ -15,7 +15,7 @@ use Rattle.coco_ship.specs.declared.ring.Ring.{Ring}
 use Rattle.coco_ship.specs.Placing.{table_of, IsCopy}
 use Rattle.coco_ship.specs.Sets.{is_in}
 use Rattle.coco_ship.specs.Pieces.{covers, AreShippable, IsOf}
-use Rattle.coco_ship.specs.Lines.{none_noted, AllBegin, AreLines, AreNoted, ArePlacesOf, AreWaiting, Begins, IsLine, IsNoted, Notes, NotesPiece}
+use Rattle.coco_ship.specs.Lines.{none_noted, AllBegin, AreCounted, AreLines, AreNoted, ArePlacesOf, AreWaiting, Begins, IsLine, IsNoted, Notes, NotesPiece}
 use Rattle.coco_ship.proofs.Tables.{below_all, one_read, set_other, set_same, tables_apart}
 
 pub read_at : {X : Type 0} (xs : List X) (i : ℕ) (x : X) → i < length xs → x ≡ get_or xs i x → slice_get xs i ≡ Some x
@@ -64,6 +64,7 @@ two_sides h = cc
 unnoted_at : (pieces : List Piece) (p : ℕ) (noted : Noted) (table : CopyState) → noted ≡ none_noted → IsNoted pieces [] p noted table
 unnoted_at pieces p noted table is = record {
   there = λ x of h. absurd (two_sides (sym h ∙ ap (λ (z : Noted). is_in z.there x.place) is));
+  counts = λ x of h. absurd (omega (arith, of.among.1));
   all = record { each = λ x of. absurd (omega (arith, of.among.1)); only = λ q h. absurd (two_sides (sym h ∙ ap (λ (z : Noted). is_in z.all q) is)) };
 }
 
@@ -85,6 +86,10 @@ more_here ring pieces so_far x noted after table fit among notes before = record
     | inl old ↦ before.there y of old
     | inr new ↦ subst (λ (z : Piece). covers table z.time z.writes ≡ true) (sym (fit.one_piece x.partition y x of (record { among = among; partition = refl }) new.0)) new.1
   ];
+  counts = λ y of h. elim (Contains-push_cases so_far x y of.among) [
+    | inl old ↦ notes.there_stays y.place (before.counts y (record { among = old; partition = of.partition }) h)
+    | inr new ↦ ap (λ (z : Piece). is_in after.there z.place) (sym new) ∙ notes.counts (subst (λ (z : Piece). covers table z.time z.writes ≡ true) (sym new) h)
+  ];
   all = record {
     each = λ y of. elim (Contains-push_cases so_far x y of.among) [
       | inl old ↦ notes.all.stay y.place (before.all.each y (record { among = old; partition = of.partition }))
@@ -101,6 +106,10 @@ more_here ring pieces so_far x noted after table fit among notes before = record
 more_there : (pieces so_far : List Piece) (x : Piece) (p : ℕ) (noted : Noted) (table : CopyState) → (p ≡ x.partition → ⊥) → IsNoted pieces so_far p noted table → IsNoted pieces (so_far ++ x ∷ []) p noted table
 more_there pieces so_far x p noted table apart before = record {
   there = before.there;
+  counts = λ y of h. elim (Contains-push_cases so_far x y of.among) [
+    | inl old ↦ before.counts y (record { among = old; partition = of.partition }) h
+    | inr new ↦ absurd (apart (sym of.partition ∙ ap (λ (z : Piece). z.partition) (sym new)))
+  ];
   all = record {
     each = λ y of. elim (Contains-push_cases so_far x y of.among) [
       | inl old ↦ before.all.each y (record { among = old; partition = of.partition })
@@ -175,6 +184,12 @@ pub begun_lines : (ring : Ring) (pieces : List Piece) (notes : List Noted) (line
 begun_lines ring pieces notes lines tables count same begun noted p j copy line table line_is table_is =
     let at = begun_at ring notes lines p j line copy count same begun line_is in
     begun_line pieces p at.0 line table (noted p j copy at.0 table at.1 table_is) at.2
+
+pub begun_counted : (ring : Ring) (pieces : List Piece) (notes : List Noted) (lines : List Line) (tables : List CopyState) → length notes ≡ ring.partitions * ring.copies → length lines ≡ ring.partitions * ring.copies
+    → AllBegin notes lines → AreNoted ring pieces pieces notes tables → AreCounted ring pieces lines tables
+begun_counted ring pieces notes lines tables count same begun noted p j copy line table line_is table_is x of h =
+    let at = begun_at ring notes lines p j line copy count same begun line_is in
+    ap (λ ps. is_in ps x.place) at.2.there ∙ (noted p j copy at.0 table at.1 table_is).counts x of h
 
 pub begun_waiting : (ring : Ring) (notes : List Noted) (lines : List Line) → length notes ≡ ring.partitions * ring.copies → length lines ≡ ring.partitions * ring.copies → AllBegin notes lines → AreWaiting ring lines
 begun_waiting ring notes lines count same begun p j copy line line_is = (begun_at ring notes lines p j line copy count same begun line_is).2.is_done

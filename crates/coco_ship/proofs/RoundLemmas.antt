@@ -140,6 +140,12 @@ pub phase_front : (epoch : ℕ) (xs ys zs : List Posted) → xs ++ ys ≡ zs →
 phase_front epoch xs ys zs is phase i d h =
     All-contains (λ (s : Posted). (m : Message) × IsPhase epoch m × (s.letter.bytes ≡ bytes_of m)) zs (get_or xs i d) phase (subst (λ (ps : List Posted). Contains ps (get_or xs i d)) is (Contains-append_left xs ys (get_or xs i d) (Contains-get_or xs i d h)))
 
+-- what was sent anew is among these letters
+pub all_among : (sent sent' xs ys letters : List Posted) → sent' ≡ sent ++ xs → xs ++ ys ≡ letters → Each (Contains letters) (news sent sent')
+all_among sent sent' xs ys letters sends is =
+    subst (Each (Contains letters)) (sym (news_is sent sent' xs sends))
+    (λ i d h. subst (λ (ps : List Posted). Contains ps (get_or xs i d)) is (Contains-append_left xs ys (get_or xs i d) (Contains-get_or xs i d h)))
+
 -- what came has all that was sent in the round
 pub all_came : (fresh letters posts : List Posted) → Each (Contains posts) (fresh ++ letters) → Each (Contains posts) letters
 all_came fresh letters posts all i d h = All-contains (Contains posts) (fresh ++ letters) (get_or letters i d) all (Contains-append_right fresh letters (get_or letters i d) (Contains-get_or letters i d h))

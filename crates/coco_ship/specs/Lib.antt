@@ -8,3 +8,4 @@ pub mod Sending
 pub mod Taking
 pub mod Going
 pub mod Examples
+pub mod There

@@ -34,6 +34,13 @@ OfEach {X} ring R xs tables = (p j : ℕ) → IsCopy ring p j → (x : X) (table
 abbrev pub AreLines : Ring → List Piece → List Line → List CopyState → Type 0
 AreLines ring pieces lines tables = OfEach ring (λ p j. IsLine pieces p) lines tables
 
+-- every piece of which the writes pend is there
+abbrev pub IsCounted : List Piece → ℕ → Line → CopyState → Type 0
+IsCounted pieces p line table = (x : Piece) → IsOf pieces p x → covers table x.time x.writes ≡ true → is_in line.there x.place ≡ true
+
+abbrev pub AreCounted : Ring → List Piece → List Line → List CopyState → Type 0
+AreCounted ring pieces lines tables = OfEach ring (λ p j. IsCounted pieces p) lines tables
+
 -- no primary has an All
 abbrev pub AreWaiting : Ring → List Line → Type 0
 AreWaiting ring lines = (p j : ℕ) → IsCopy ring p j → (line : Line) → slice_get lines (table_of ring p j) ≡ Some line → line.is_done ≡ false
@@ -42,6 +49,8 @@ AreWaiting ring lines = (p j : ℕ) → IsCopy ring p j → (line : Line) → sl
 pub record Notes (old : Noted) (table : CopyState) (x : Piece) (new : Noted) : Type 0 where
   pub all : Adds old.all new.all x.place
   pub there : (q : ℕ) → is_in new.there q ≡ true → (is_in old.there q ≡ true) ⊎ ((q ≡ x.place) × (covers table x.time x.writes ≡ true))
+  pub there_stays : (q : ℕ) → is_in old.there q ≡ true → is_in new.there q ≡ true
+  pub counts : covers table x.time x.writes ≡ true → is_in new.there x.place ≡ true
 
 -- It is noted for the first copies of its partition; what is noted for others is as before.
 pub record NotesPiece (ring : Ring) (x : Piece) (count : ℕ) (old : List Noted) (tables : List CopyState) (new : List Noted) : Type 0 where
@@ -53,6 +62,7 @@ pub record NotesPiece (ring : Ring) (x : Piece) (count : ℕ) (old : List Noted)
 -- The places of the pieces so far are noted, and those of which the writes pend.
 pub record IsNoted (pieces so_far : List Piece) (p : ℕ) (noted : Noted) (table : CopyState) : Type 0 where
   pub there : (x : Piece) → IsOf pieces p x → is_in noted.there x.place ≡ true → covers table x.time x.writes ≡ true
+  pub counts : (x : Piece) → IsOf so_far p x → covers table x.time x.writes ≡ true → is_in noted.there x.place ≡ true
   pub all : ArePlacesOf so_far p noted.all
 
 abbrev pub AreNoted : Ring → List Piece → List Piece → List Noted → List CopyState → Type 0

@@ -9,6 +9,7 @@ ghost use Rattle.coco_ship.specs.Letters.{AreInside, AreOther};
 ghost use Rattle.coco_ship.specs.Lines.{AreWaiting};
 ghost use Rattle.coco_ship.specs.Pieces.{AreShippable};
 ghost use Rattle.coco_ship.specs.Placing.{IsRing};
+ghost use Rattle.coco_ship.specs.There.{AddsRight, AreAllThere, AreRight, HaveCome, KeepsExact, KeepsRight, StaysExact};
 ghost use Rattle.coco_ship.specs.Shipping.{news, AreBegun, ArePhase, AreWhole, AreWritten, GainOnly, HaveAnswered, OnSilent};
 
 use crate::Ring;
@@ -113,6 +114,7 @@ fn carry<N: Net>(
     requires phase { ArePhase epoch letters.items }
     ensures passes { Passes ring epoch (N.sent net.old) (N.given net.old) copies.old (N.sent net.new) (N.given net.new) copies.new }
     ensures sent { OnOk result (N.sent net.new ≡ N.sent net.old ++ letters.items) }
+    ensures only { All (Contains letters.items) (news (N.sent net.old) (N.sent net.new)) }
     ensures were_sent { All (Contains (N.sent net.old ++ letters.items)) (news (N.given net.old) (N.given net.new)) }
     ensures heard { OnOk result (OfBoth ring (Hears ring epoch (news (N.given net.old) (N.given net.new))) lines.old copies.old lines.new copies.new) }
     ensures came { OnOk result (Unless (N.faults net.old) (N.faults net.new) (All (Contains (news (N.given net.old) (N.given net.new))) letters.items)) }
@@ -140,6 +142,8 @@ fn ask_round<N: Net>(
     ensures passes { Passes ring epoch (N.sent net.old) (N.given net.old) copies.old (N.sent net.new) (N.given net.new) copies.new }
     ensures going { OnOk result (IsGoing ring epoch pieces.now (N.sent net.new) lines.new copies.new) }
     ensures written { AreWritten ring pieces.now copies.new }
+    ensures exact { OnOk result (StaysExact ring epoch pieces.now (N.given net.old) lines.old (N.given net.new) lines.new) }
+    ensures right { AddsRight ring epoch pieces.now (N.sent net.old) (N.given net.old) lines.old (N.sent net.new) (N.given net.new) }
     ensures done { OnOk result (OfBoth ring (IsDoneBy ring epoch (news (N.given net.old) (N.given net.new))) lines.old copies.old lines.new copies.new) }
     ensures told { OnOk result (Unless (N.faults net.old) (N.faults net.new) (AreTold ring pieces.now lines.new)) }
 {
@@ -163,6 +167,8 @@ fn answer_round<N: Net>(
     ensures passes { Passes ring epoch (N.sent net.old) (N.given net.old) copies.old (N.sent net.new) (N.given net.new) copies.new }
     ensures going { OnOk result (GoesOn ring epoch (N.sent net.old) lines.old copies.old (N.sent net.new) lines.new copies.new) }
     ensures written { StaysWritten ring epoch (N.sent net.old) lines.old copies.old copies.new }
+    ensures exact { OnOk result (KeepsExact ring epoch (N.sent net.old) (N.given net.old) lines.old copies.old (N.given net.new) lines.new) }
+    ensures right { KeepsRight ring epoch (N.sent net.old) (N.given net.old) lines.old copies.old (N.sent net.new) (N.given net.new) }
     ensures done { OnOk result (OfBoth ring (IsDoneBy ring epoch (news (N.given net.old) (N.given net.new))) lines.old copies.old lines.new copies.new) }
     ensures answered { OnOk result (Unless (N.faults net.old) (N.faults net.new) (Answered ring lines.old copies.old lines.new)) }
 {
@@ -189,6 +195,8 @@ fn exchange<N: Net>(
     ensures passes { Passes ring epoch (N.sent net.old) (N.given net.old) copies.old (N.sent net.new) (N.given net.new) copies.new }
     ensures going { OnOk result (IsGoing ring epoch pieces.now (N.sent net.new) lines.new copies.new) }
     ensures written { AreWritten ring pieces.now copies.new }
+    ensures exact { OnOk result (StaysExact ring epoch pieces.now (N.given net.old) lines.old (N.given net.new) lines.new) }
+    ensures right { AddsRight ring epoch pieces.now (N.sent net.old) (N.given net.old) lines.old (N.sent net.new) (N.given net.new) }
     ensures done { OnOk result (OfBoth ring (IsDoneBy ring epoch (news (N.given net.old) (N.given net.new))) lines.old copies.old lines.new copies.new) }
     // An exchange without a fault ends the phase.
     ensures faults { OnOk result (Unless (N.faults net.old) (N.faults net.new) ((node : ℕ) → HasAnswered ring lines.new node)) }
@@ -247,6 +255,8 @@ fn exchanges<N: Net>(
     ensures passes { Passes ring epoch (N.sent net.old) (N.given net.old) copies.old (N.sent net.new) (N.given net.new) copies.new }
     ensures written { AreWritten ring pieces.now copies.new }
     ensures whole { OnOk result (AreWhole ring epoch pieces.now copies.new) }
+    ensures there { OnOk result (HaveCome ring epoch pieces.now (N.given net.old) lines.old (N.given net.new)) }
+    ensures right { AddsRight ring epoch pieces.now (N.sent net.old) (N.given net.old) lines.old (N.sent net.new) (N.given net.new) }
     ensures answered { OnOk result (HaveAnswered ring epoch (news (N.given net.old) (N.given net.new))) }
     ensures alone { ring.copies ≡ 0 → N.sent net.new ≡ N.sent net.old }
     ensures silent { IfErr result (OnSilent ring epoch (news (N.given net.old) (N.given net.new)) (N.faults net.old) (N.faults net.new)) }
@@ -279,6 +289,11 @@ pub fn ship_epoch<N: Net>(
     requires fresh { AreOther epoch (N.sent net.old) }
     ensures whole { OnOk result (AreWhole ring epoch pieces.now copies.new) }
     ensures answered { OnOk result (HaveAnswered ring epoch (news (N.given net.old) (N.given net.new))) }
+    // After Ok each piece is there: it came early, or was given in this call.
+    ensures there { OnOk result (AreAllThere ring epoch pieces.now copies.old (news (N.given net.old) (N.given net.new))) }
+    // Whatever the answer, each letter says what is so, and a copy's answer names the pieces that aren't there when it
+    // is sent, neither those that came early nor those that were given.
+    ensures right { AreRight ring epoch pieces.now copies.old (news (N.given net.old) (N.given net.new)) (news (N.sent net.old) (N.sent net.new)) }
     // Whatever the answer, the copies have some of the pieces' rows and no others.
     ensures tables { AreBegun ring epoch pieces.now copies.new }
     ensures gains { GainOnly ring epoch (news (N.given net.old) (N.given net.new)) copies.old copies.new }

@@ -1,9 +1,10 @@
-use Rattle.std.proofs.Common.{◌≡◌, ◌*◌, arith, length}
+use Rattle.std.proofs.Common.{◌≡◌, ◌*◌, arith, length, refl}
 use Rattle.std.specs.List.{All, Contains}
 use Rattle.std.proofs.lemmas.Result.{on_ok_weaker}
 use Rattle.coco_ship.specs.Going.{AreTold}
 use Rattle.coco_ship.specs.Shipping.{news}
 use Rattle.coco_ship.proofs.RoundLemmas.{ask_going, ask_written, asks_inside, asks_phase, done_by, on_ok_two, passes_none, told_after, unless_then}
+use Rattle.coco_ship.proofs.ThereLemmas.{asked_exact, asked_right, right_none}
 use Rattle.coco_ship.proofs.ship.ask_round.Goals as goal
 
 pub carry-requires-clause-inside : goal.carry-requires-clause-inside
@@ -49,3 +50,21 @@ pub returns-clause-written : goal.returns-clause-written
 returns-clause-written g c =
     ask_written c.args.ring c.args.epoch c.args.pieces.now (news (g.N.Net.given c.args.net.now) (g.N.Net.given c.carry.new.net)) (g.N.Net.sent c.args.net.now) c.in_ok-letters.letters.items c.args.lines.now c.args.copies.now c.carry.new.copies
     c.requires.copies c.in_ok-letters.ensures c.requires.going c.carry.ensures.were_sent c.carry.ensures.passes.gains
+
+pub returns-clause-exact : goal.returns-clause-exact
+returns-clause-exact g c =
+    let ring = c.args.ring in
+    let after : length c.carry.new.copies ≡ ring.partitions * ring.copies = omega arith in
+    on_ok_weaker c.carry.result
+    (λ heard. asked_exact ring c.args.epoch c.args.pieces.now (g.N.Net.sent c.args.net.now) c.in_ok-letters.letters.items (g.N.Net.given c.args.net.now) (g.N.Net.given c.carry.new.net) c.args.lines.now c.args.copies.now c.carry.new.lines c.carry.new.copies c.requires.pieces
+    c.requires.lines c.requires.copies after c.in_ok-letters.ensures c.requires.going c.carry.ensures.were_sent heard)
+    c.carry.ensures.heard
+
+pub returns-clause-right : goal.returns-clause-right
+returns-clause-right g c =
+    asked_right c.args.ring c.args.epoch c.args.pieces.now (g.N.Net.sent c.args.net.now) c.in_ok-letters.letters.items (g.N.Net.sent c.carry.new.net) (g.N.Net.given c.args.net.now) (g.N.Net.given c.carry.new.net) c.args.lines.now c.args.copies.now
+    c.requires.copies c.in_ok-letters.ensures c.requires.going c.carry.ensures.only
+
+pub returns-in_err-letters-clause-right : goal.returns-in_err-letters-clause-right
+returns-in_err-letters-clause-right g c =
+    right_none c.args.ring c.args.epoch c.args.pieces.now (g.N.Net.sent c.args.net.now) (g.N.Net.sent c.args.net.now) (g.N.Net.given c.args.net.now) c.args.lines.now (g.N.Net.given c.args.net.now) refl

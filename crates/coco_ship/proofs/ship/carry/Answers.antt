@@ -1,10 +1,10 @@
-use Rattle.std.proofs.Common.{◌≡◌, ◌∙◌, ◌++◌, List, subst}
+use Rattle.std.proofs.Common.{◌≡◌, ◌∙◌, ◌++◌, [], List, append-nil, subst}
 use Rattle.std.specs.List.{All, Contains}
 use Rattle.std.proofs.lemmas.Result.{on_ok_weaker}
 use Rattle.coco_net.specs.declared.letter.Posted.{Posted}
 use Rattle.coco_ship.specs.Shipping.{news}
 use Rattle.coco_ship.specs.Taking.{Brings, Hears, OfBoth, OfTables}
-use Rattle.coco_ship.proofs.RoundLemmas.{carry_came, none_given, on_ok_two, passes_given, passes_sent, phase_front}
+use Rattle.coco_ship.proofs.RoundLemmas.{all_among, carry_came, none_given, on_ok_two, passes_given, passes_sent, phase_front}
 use Rattle.coco_ship.proofs.ship.carry.Goals as goal
 
 pub returns-in_err-send_all-clause-passes : goal.returns-in_err-send_all-clause-passes
@@ -44,3 +44,13 @@ pub returns-clause-came : goal.returns-clause-came
 returns-clause-came g c =
     on_ok_two c.deliver.result (λ new_ones faults. carry_came (g.N.Net.faults c.args.net.now) (g.N.Net.faults c.send_all.new.net) (g.N.Net.faults c.deliver.new.net) (g.N.Net.fresh c.args.net.now) (g.N.Net.fresh c.send_all.new.net) c.args.letters.items
     (g.N.Net.given c.args.net.now) (g.N.Net.given c.send_all.new.net) (g.N.Net.given c.deliver.new.net) c.send_all.ensures.faults c.in_ok-send_all.ensures.fresh c.send_all.ensures.given new_ones faults) c.deliver.ensures.new_ones c.deliver.ensures.faults
+
+pub returns-in_err-send_all-clause-only : goal.returns-in_err-send_all-clause-only
+returns-in_err-send_all-clause-only g c =
+    let some = c.send_all.ensures.some in
+    all_among (g.N.Net.sent c.args.net.now) (g.N.Net.sent c.send_all.new.net) some.0 some.1 c.args.letters.items some.2 some.3
+
+pub returns-clause-only : goal.returns-clause-only
+returns-clause-only g c =
+    let sent : g.N.Net.sent c.deliver.new.net ≡ g.N.Net.sent c.args.net.now ++ c.args.letters.items = c.deliver.ensures.sent ∙ c.in_ok-send_all.ensures.sent in
+    all_among (g.N.Net.sent c.args.net.now) (g.N.Net.sent c.deliver.new.net) c.args.letters.items [] c.args.letters.items sent (append-nil c.args.letters.items)

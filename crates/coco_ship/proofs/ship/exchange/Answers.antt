@@ -2,6 +2,7 @@ use Rattle.std.proofs.Common.{◌≡◌, ◌*◌, ℕ, arith, length}
 use Rattle.std.proofs.lemmas.Result.{on_ok_weaker}
 use Rattle.coco_ship.specs.Going.{Answered, AreTold, HasAnswered}
 use Rattle.coco_ship.proofs.RoundLemmas.{done_then, exchange_faults, passes_then}
+use Rattle.coco_ship.proofs.ThereLemmas.{exact_then, right_then}
 use Rattle.coco_ship.proofs.ship.exchange.Goals as goal
 
 pub answer_round-requires-clause-begun : goal.answer_round-requires-clause-begun
@@ -34,3 +35,17 @@ returns-clause-faults g c =
 
 pub returns-clause-written : goal.returns-clause-written
 returns-clause-written g c = c.answer_round.ensures.written c.args.pieces.now c.in_ok-ask_round.ensures.going
+
+pub returns-clause-exact : goal.returns-clause-exact
+returns-clause-exact g c =
+    let ring = c.args.ring in
+    on_ok_weaker c.answer_round.result
+    (λ second. exact_then ring c.args.epoch c.args.pieces.now (g.N.Net.given c.args.net.now) c.args.lines.now (g.N.Net.given c.ask_round.new.net) c.ask_round.new.lines (g.N.Net.given c.answer_round.new.net) c.answer_round.new.lines
+    c.ask_round.ensures.passes.gives c.answer_round.ensures.passes.gives c.in_ok-ask_round.ensures.exact (second c.args.pieces.now c.requires.pieces c.in_ok-ask_round.ensures.going))
+    c.answer_round.ensures.exact
+
+pub returns-clause-right : goal.returns-clause-right
+returns-clause-right g c =
+    right_then c.args.ring c.args.epoch c.args.pieces.now (g.N.Net.sent c.args.net.now) (g.N.Net.given c.args.net.now) c.args.lines.now (g.N.Net.sent c.ask_round.new.net) (g.N.Net.given c.ask_round.new.net) c.ask_round.new.lines (g.N.Net.sent c.answer_round.new.net) (g.N.Net.given c.answer_round.new.net)
+    c.ask_round.ensures.passes.sends c.answer_round.ensures.passes.sends c.ask_round.ensures.passes.gives c.answer_round.ensures.passes.gives c.ask_round.ensures.right c.in_ok-ask_round.ensures.exact
+    (c.answer_round.ensures.right c.args.pieces.now c.in_ok-ask_round.ensures.going)

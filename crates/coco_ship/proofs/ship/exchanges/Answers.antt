@@ -1,8 +1,9 @@
-use Rattle.std.proofs.Common.{◌≡◌, ◌+◌, ◌*◌, ◌<◌, ◌≤◌, ℕ, arith, inl, inr, length}
+use Rattle.std.proofs.Common.{◌≡◌, ◌+◌, ◌++◌, ◌*◌, ◌<◌, ◌≤◌, ℕ, arith, inl, inr, length, refl}
 use Rattle.coco_ship.specs.Going.{HasAnswered}
 use Rattle.coco_ship.specs.Placing.{holder_of}
 use Rattle.coco_ship.specs.Shipping.{news}
 use Rattle.coco_ship.proofs.RoundLemmas.{done_none, done_then, is_silent_then, loop_faults, passes_none, passes_then, waited_not, was_given, whole_all}
+use Rattle.coco_ship.proofs.ThereLemmas.{exact_none, exact_then, right_none, right_then, there_all}
 use Rattle.coco_ship.proofs.ship.exchanges.Goals as goal
 
 pub loop-exchange-init : goal.loop-exchange-init
@@ -11,6 +12,8 @@ loop-exchange-init g c = record {
   passes = passes_none c.args.ring c.args.epoch (g.N.Net.sent c.args.net.now) (g.N.Net.given c.args.net.now) c.args.copies.now c.requires.begun;
   done = done_none c.args.ring c.args.epoch (g.N.Net.given c.args.net.now) c.args.lines.now c.args.copies.now;
   faults = inl (omega arith);
+  exact = exact_none c.args.ring c.args.epoch c.args.pieces.now (g.N.Net.given c.args.net.now) c.args.lines.now;
+  right = right_none c.args.ring c.args.epoch c.args.pieces.now (g.N.Net.sent c.args.net.now) (g.N.Net.sent c.args.net.now) (g.N.Net.given c.args.net.now) c.args.lines.now (g.N.Net.given c.args.net.now) refl;
   alone = λ none i. g.N.Net.sent c.args.net.now;
 }
 
@@ -41,6 +44,9 @@ loop-exchange-preserved g c =
       passes = passes_then ring c.args.epoch s0 g0 ts (g.N.Net.sent c.loop-exchange.net) (g.N.Net.given c.loop-exchange.net) us (g.N.Net.sent c.exchange.new.net) (g.N.Net.given c.exchange.new.net) c.exchange.new.copies copies before.passes c.exchange.ensures.passes;
       done = done_then ring c.args.epoch g0 (g.N.Net.given c.loop-exchange.net) (g.N.Net.given c.exchange.new.net) ls ts ms us c.exchange.new.lines c.exchange.new.copies before.passes.gives c.exchange.ensures.passes.gives lines copies before.done c.in_ok-exchange-in-Some.ensures.done;
       faults = loop_faults (g.N.Net.faults c.args.net.now) c.loop-exchange._exchange (g.N.Net.faults c.loop-exchange.net) (g.N.Net.faults c.exchange.new.net) ((n : ℕ) → HasAnswered ring ms n) ((n : ℕ) → HasAnswered ring c.exchange.new.lines n) (waited_not ring ms c.in-Some._node waited) before.faults c.in_ok-exchange-in-Some.ensures.faults;
+      exact = exact_then ring c.args.epoch c.args.pieces.now g0 ls (g.N.Net.given c.loop-exchange.net) ms (g.N.Net.given c.exchange.new.net) c.exchange.new.lines before.passes.gives c.exchange.ensures.passes.gives before.exact c.in_ok-exchange-in-Some.ensures.exact;
+      right = right_then ring c.args.epoch c.args.pieces.now s0 g0 ls (g.N.Net.sent c.loop-exchange.net) (g.N.Net.given c.loop-exchange.net) ms (g.N.Net.sent c.exchange.new.net) (g.N.Net.given c.exchange.new.net)
+          before.passes.sends c.exchange.ensures.passes.sends before.passes.gives c.exchange.ensures.passes.gives before.right before.exact c.exchange.ensures.right;
       alone = λ none. absurd (no_copy waited.j ring.copies waited.is_copy.copy none);
     }
 
@@ -148,3 +154,41 @@ returns-in-Some-silent-clause-written g c = c.loop-exchange.invariant.going.writ
 
 pub returns-in_err-exchange-in-Some-clause-written : goal.returns-in_err-exchange-in-Some-clause-written
 returns-in_err-exchange-in-Some-clause-written g c = c.exchange.ensures.written
+
+pub returns-in-None-clause-there : goal.returns-in-None-clause-there
+returns-in-None-clause-there g c =
+    let ring = c.args.ring in
+    let before = c.loop-exchange.invariant in
+    let g0 = g.N.Net.given c.args.net.now in
+    let ms = c.loop-exchange.lines in
+    let us = c.loop-exchange.copies in
+    let lines : length ms ≡ ring.partitions * ring.copies = omega (arith, c.loop-exchange.auto.lines, c.requires.lines) in
+    let copies : length us ≡ ring.partitions * ring.copies = omega (arith, c.loop-exchange.auto.copies, c.requires.copies) in
+    λ starts so_far exact. there_all ring c.args.epoch c.args.pieces.now (g.N.Net.sent c.loop-exchange.net) (so_far ++ news g0 (g.N.Net.given c.loop-exchange.net)) ms us starts lines copies before.going c.in-None.ensures (before.exact starts so_far exact)
+
+pub returns-in-None-clause-right : goal.returns-in-None-clause-right
+returns-in-None-clause-right g c = c.loop-exchange.invariant.right
+
+pub returns-in-None-silent-clause-there : goal.returns-in-None-silent-clause-there
+returns-in-None-silent-clause-there g c =
+    let ring = c.args.ring in
+    let before = c.loop-exchange.invariant in
+    let g0 = g.N.Net.given c.args.net.now in
+    let ms = c.loop-exchange.lines in
+    let us = c.loop-exchange.copies in
+    let lines : length ms ≡ ring.partitions * ring.copies = omega (arith, c.loop-exchange.auto.lines, c.requires.lines) in
+    let copies : length us ≡ ring.partitions * ring.copies = omega (arith, c.loop-exchange.auto.copies, c.requires.copies) in
+    λ starts so_far exact. there_all ring c.args.epoch c.args.pieces.now (g.N.Net.sent c.loop-exchange.net) (so_far ++ news g0 (g.N.Net.given c.loop-exchange.net)) ms us starts lines copies before.going c.in-None-silent.ensures (before.exact starts so_far exact)
+
+pub returns-in-None-silent-clause-right : goal.returns-in-None-silent-clause-right
+returns-in-None-silent-clause-right g c = c.loop-exchange.invariant.right
+
+pub returns-in_err-exchange-in-Some-clause-right : goal.returns-in_err-exchange-in-Some-clause-right
+returns-in_err-exchange-in-Some-clause-right g c =
+    let ring = c.args.ring in
+    let before = c.loop-exchange.invariant in
+    right_then ring c.args.epoch c.args.pieces.now (g.N.Net.sent c.args.net.now) (g.N.Net.given c.args.net.now) c.args.lines.now (g.N.Net.sent c.loop-exchange.net) (g.N.Net.given c.loop-exchange.net) c.loop-exchange.lines (g.N.Net.sent c.exchange.new.net) (g.N.Net.given c.exchange.new.net)
+    before.passes.sends c.exchange.ensures.passes.sends before.passes.gives c.exchange.ensures.passes.gives before.right before.exact c.exchange.ensures.right
+
+pub returns-in-Some-silent-clause-right : goal.returns-in-Some-silent-clause-right
+returns-in-Some-silent-clause-right g c = c.loop-exchange.invariant.right

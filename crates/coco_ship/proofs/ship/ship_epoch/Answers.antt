@@ -1,9 +1,12 @@
-use Rattle.std.proofs.Common.{◌≡◌, ◌*◌, List, arith, length, subst, sym}
+use Rattle.std.proofs.Common.{◌≡◌, ◌*◌, List, [], arith, length, refl, subst, sym}
+use Rattle.std.proofs.lemmas.Result.{on_ok_weaker}
 use Rattle.coco_ship.specs.declared.line.Line.{Line}
 use Rattle.coco_ship.specs.Going.{IsGoing}
 use Rattle.coco_ship.specs.Shipping.{news}
 use Rattle.coco_ship.proofs.RoundLemmas.{gain_only, going_first, passes_none, tables_begun}
 use Rattle.coco_ship.proofs.TakeLemmas.{brings_none}
+use Rattle.coco_ship.specs.There.{AreExact}
+use Rattle.coco_ship.proofs.ThereLemmas.{exact_first, right_none_all}
 use Rattle.coco_ship.proofs.ship.ship_epoch.Goals as goal
 
 pub exchanges-requires-clause-going : goal.exchanges-requires-clause-going
@@ -45,3 +48,21 @@ returns-clause-tables g c =
 
 pub returns-in_err-lines-clause-tables : goal.returns-in_err-lines-clause-tables
 returns-in_err-lines-clause-tables g c = c.requires.tables
+
+pub returns-clause-there : goal.returns-clause-there
+returns-clause-there g c =
+    let lines = c.in_ok-lines.ensures in
+    let first : AreExact c.args.ring c.args.epoch c.args.pieces.now c.args.copies.now [] c.deref_mut.result.now =
+    subst (AreExact c.args.ring c.args.epoch c.args.pieces.now c.args.copies.now []) (sym c.deref_mut.ensures.value) (exact_first c.args.ring c.args.epoch c.args.pieces.now c.in_ok-lines.lines.items c.args.copies.now lines.lines lines.counted) in
+    on_ok_weaker c.exchanges.result (λ come. come c.args.copies.now [] first) c.exchanges.ensures.there
+
+pub returns-clause-right : goal.returns-clause-right
+returns-clause-right g c =
+    let lines = c.in_ok-lines.ensures in
+    let first : AreExact c.args.ring c.args.epoch c.args.pieces.now c.args.copies.now [] c.deref_mut.result.now =
+    subst (AreExact c.args.ring c.args.epoch c.args.pieces.now c.args.copies.now []) (sym c.deref_mut.ensures.value) (exact_first c.args.ring c.args.epoch c.args.pieces.now c.in_ok-lines.lines.items c.args.copies.now lines.lines lines.counted) in
+    c.exchanges.ensures.right c.args.copies.now [] c.requires.tables.count first
+
+pub returns-in_err-lines-clause-right : goal.returns-in_err-lines-clause-right
+returns-in_err-lines-clause-right g c =
+    right_none_all c.args.ring c.args.epoch c.args.pieces.now c.args.copies.now (news (g.N.Net.given c.args.net.now) (g.N.Net.given c.args.net.now)) (g.N.Net.sent c.args.net.now)
