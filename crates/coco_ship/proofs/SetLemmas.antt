@@ -162,6 +162,13 @@ misses_as there had places missing new misses before same = record {
   only = λ q h. let of = misses.only q (sym (same q) ∙ h) in (sym (before q) ∙ of.0, of.1);
 }
 
+-- where the places that are there are these, nothing is missed
+pub misses_nothing : (there had places : List ℕ) → HasSame there had → had ≡ places → Misses there places []
+misses_nothing there had places same is = record {
+  each = λ q named. inl (sym (same q) ∙ ap (λ ks. is_in ks q) is ∙ named);
+  only = λ q h. absurd (apart (sym h));
+}
+
 -- ---- a list that is sorted, and in which each place is left once
 
 contained : (ks : List ℕ) (q : ℕ) → is_in ks q ≡ true → Contains ks q

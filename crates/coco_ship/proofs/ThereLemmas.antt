@@ -9,7 +9,7 @@ use Rattle.coco_copy.specs.CopyState.{CopyState}
 use Rattle.coco_ship.specs.declared.line.Line.{Line}
 use Rattle.coco_ship.specs.declared.ring.Ring.{Ring}
 use Rattle.coco_ship.specs.Placing.{holder_of, table_of, IsCopy, IsRing}
-use Rattle.coco_ship.specs.Sets.{is_in, Misses}
+use Rattle.coco_ship.specs.Sets.{Misses}
 use Rattle.coco_ship.specs.Pieces.{AreShippable, IsOf}
 use Rattle.coco_ship.specs.Letters.{posted_of, ship_of}
 use Rattle.coco_ship.specs.Lines.{answered, AreCounted, AreLines, ArePlacesOf, IsLine}

@@ -4,7 +4,7 @@ use Rattle.std.specs.List.{slice_get}
 use Rattle.coco_types.specs.declared.call.Piece.{Piece}
 use Rattle.coco_msg.specs.declared.message.Message.{Message}
 use Rattle.coco_msg.specs.declared.message.Message.TheVariants.{Total, Missing, All}
-use Rattle.coco_msg.specs.Bytes.{IsMessage}
+use Rattle.coco_msg.specs.Bytes.{bytes_of, IsMessage}
 use Rattle.coco_net.specs.declared.letter.Posted.{Posted}
 use Rattle.coco_ship.specs.declared.line.Line.{Line}
 use Rattle.coco_ship.specs.declared.ring.Ring.{Ring}
@@ -24,6 +24,10 @@ reply_of ring p j m = posted_of (holder_of ring p j) (primary_of ring p) m
 pub record Adds (old new : List Posted) (Kind : Posted → Type 0) : Type 0 where
   pub stay : (s : Posted) → Contains old s → Contains new s
   pub only : (s : Posted) → Contains new s → Contains old s ⊎ Kind s
+
+-- no bytes yet, or those of the message
+abbrev pub AreNoneOr : Message → List ℕ → Type 0
+AreNoneOr m bytes = (bytes ≡ []) ⊎ (bytes ≡ bytes_of m)
 
 -- the piece is shipped to those of the first copies of which its primary doesn't know that they have it
 pub record ShipsPiece (ring : Ring) (epoch : ℕ) (x : Piece) (lines : List Line) (count : ℕ) (old new : List Posted) : Type 0 where

@@ -2,15 +2,15 @@
 
 ghost use Rattle.std.specs.Prelude.{◌≡◌, ◌*◌, ◌<◌, ◌^◌, [], ◌∷◌, ◌++◌, All, length, IfOk, OnOk};
 ghost use Rattle.coco_bytes.specs.Values.{IsKey, IsValue};
-ghost use Rattle.coco_msg.specs.Bytes.{IsMessage, IsWrite};
+ghost use Rattle.coco_msg.specs.Bytes.{bytes_of, IsMessage, IsWrite};
 ghost use Rattle.coco_msg.specs.declared.message.Message.TheVariants.{Total as Told};
 ghost use Rattle.coco_ship.specs.Letters.{ship_of};
 ghost use Rattle.coco_ship.specs.Placing.{IsRing};
-ghost use Rattle.coco_ship.specs.Sending.{ask_of, AreAsks, ShipsPiece, TellsTotals};
+ghost use Rattle.coco_ship.specs.Sending.{ask_of, AreAsks, AreNoneOr, ShipsPiece, TellsTotals};
 
 use crate::Ring;
 use crate::line::Line;
-use crate::mail::{add_letter, write_letter};
+use crate::mail::{add_copy, write_letter};
 use coco_msg::{Message, Places, ship_bytes};
 use coco_net::Posted;
 use coco_types::{Key, NoMemory, Piece, Value, Write};
@@ -70,23 +70,38 @@ fn piece_fits(piece: &Piece)
     writes_fit(piece.writes.as_slice());
 }
 
-// Ships a piece to a copy.
+// Writes the bytes of a piece's Ship where they aren't yet.
+fn write_ship(alloc: Global, epoch: u64, piece: &Piece, bytes: &mut Vec<u8>) -> Result<(), NoMemory>
+    requires few { length piece.now.writes < 2 ^ 32 }
+    requires bytes { AreNoneOr (ship_of epoch piece.now) bytes.old.items }
+    ensures { OnOk result (bytes.new.items ≡ bytes_of (ship_of epoch piece.now)) }
+{
+    if bytes.is_empty() {
+        *bytes = ship_bytes(alloc, epoch, piece)?;
+    }
+    Ok(())
+}
+
+// Ships a piece to a copy. The bytes are those of its Ship, for all copies.
 fn ship(
     alloc: Global,
     ring: Ring,
     epoch: u64,
     piece: &Piece,
     copy: u8,
+    bytes: &mut Vec<u8>,
     letters: &mut VecDeque<Posted>,
 ) -> Result<(), NoMemory>
     requires ring { IsRing ring }
     requires few { length piece.now.writes < 2 ^ 32 }
-    ensures { OnOk result (letters.new.items ≡ letters.old.items ++ ask_of ring piece.now.partition copy (ship_of epoch piece.now) ∷ []) }
+    requires bytes { AreNoneOr (ship_of epoch piece.now) bytes.old.items }
+    ensures letters { OnOk result (letters.new.items ≡ letters.old.items ++ ask_of ring piece.now.partition copy (ship_of epoch piece.now) ∷ []) }
+    ensures bytes { OnOk result (AreNoneOr (ship_of epoch piece.now) bytes.new.items) }
 {
-    let bytes = ship_bytes(alloc, epoch, piece)?;
+    write_ship(alloc, epoch, piece, bytes)?;
     let from = ring.primary(piece.partition);
     let to = ring.holder(piece.partition, copy);
-    add_letter(letters, from, to, bytes)
+    add_copy(alloc, letters, from, to, bytes.as_slice())
 }
 
 // Ships a piece to each copy of which its primary doesn't know that it is there.
@@ -107,10 +122,11 @@ fn ship_piece(
         return Err(NoMemory);
     }
     piece_fits(piece);
+    let mut bytes = Vec::new(alloc);
     for copy in 0..ring.copies {
         let line = &lines[ring.table(piece.partition, copy)];
         if !line.is_done && line.lacking.has(piece.place) {
-            ship(alloc, ring, epoch, piece, copy, letters)?;
+            ship(alloc, ring, epoch, piece, copy, &mut bytes, letters)?;
         }
     }
     Ok(())

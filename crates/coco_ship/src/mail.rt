@@ -29,6 +29,20 @@ pub(crate) fn add_letter(
     Ok(())
 }
 
+// Adds a letter with a copy of these bytes.
+pub(crate) fn add_copy(
+    alloc: Global,
+    letters: &mut VecDeque<Posted>,
+    from: u8,
+    to: u8,
+    bytes: &[u8],
+) -> Result<(), NoMemory>
+    ensures { OnOk result (letters.new.items ≡ letters.old.items ++ record { to = to; letter = record { from = from; bytes = bytes.now } } ∷ []) }
+{
+    let copy = bytes.to_vec(alloc)?;
+    add_letter(letters, from, to, copy)
+}
+
 // Writes a letter.
 pub(crate) fn write_letter(
     alloc: Global,

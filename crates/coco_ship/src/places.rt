@@ -1,6 +1,6 @@
 //! Places of pieces: as they come, and in sets in which they rise.
 
-ghost use Rattle.std.specs.Prelude.{◌≡◌, ◌==◌, length, IfOk, OnOk};
+ghost use Rattle.std.specs.Prelude.{◌≡◌, ◌==◌, true, length, IfOk, OnOk};
 ghost use Rattle.coco_msg.specs.Bytes.{ArePlaces};
 ghost use Rattle.coco_ship.specs.Sets.{is_in, Adds, HasSame, Keeps, Misses};
 
@@ -53,6 +53,13 @@ impl PlaceSet {
         self.places.is_empty()
     }
 
+    // Whether these are its places, rising.
+    pub fn is_just(&self, places: &[u32]) -> bool
+        ensures { result ≡ true → self.now ≡ places.now }
+    {
+        self.places.as_slice() == places
+    }
+
     // The same set once more.
     pub fn copied(&self, alloc: Global) -> Result<PlaceSet, NoMemory>
         ensures { IfOk result (λ copy. copy ≡ self.now) }
@@ -99,6 +106,16 @@ pub(crate) fn missing(alloc: Global, there: &[u32], places: &[u32]) -> Result<Pl
     ensures { IfOk result (λ missing. Misses there.now places.now missing) }
 {
     let had = PlaceSet::of(there.to_vec(alloc)?);
+    if had.is_just(places) {
+        return Ok(PlaceSet::of(Vec::new(alloc)));
+    }
+    lacked(alloc, &had, places)
+}
+
+// Those of the places that aren't in the set.
+fn lacked(alloc: Global, had: &PlaceSet, places: &[u32]) -> Result<PlaceSet, NoMemory>
+    ensures { IfOk result (λ missing. Misses had.now places.now missing) }
+{
     let mut missing = Arrivals::new(alloc);
     for place in places {
         if !had.has(*place) {

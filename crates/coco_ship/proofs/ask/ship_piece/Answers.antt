@@ -1,7 +1,8 @@
-use Rattle.std.proofs.Common.{◌≡◌, ◌<◌, ◌^◌, ◌∙◌, ◌+◌, Some, arith, length, subst, sym}
+use Rattle.std.proofs.Common.{◌≡◌, ◌<◌, ◌^◌, ◌∙◌, ◌+◌, Some, arith, inl, length, rules, subst, sym}
 use Rattle.std.specs.List.{slice_get}
 use Rattle.coco_ship.specs.Placing.{table_of}
-use Rattle.coco_ship.specs.Sending.{ShipsPiece}
+use Rattle.coco_ship.specs.Letters.{ship_of}
+use Rattle.coco_ship.specs.Sending.{AreNoneOr, ShipsPiece}
 use Rattle.coco_ship.proofs.MessageLemmas.{are_writes}
 use Rattle.coco_ship.proofs.NoteLemmas.{read_at}
 use Rattle.coco_ship.proofs.SendLemmas.{ships_more, ships_none, ships_same}
@@ -13,7 +14,10 @@ loop-copy-init c =
     let x = c.args.piece.now in
     let fits = c.piece_fits.ensures in
     let few : length x.writes < 2 ^ 32 = omega (arith, c.len.ensures, c.if-len.false) in
-    ships_none c.args.ring c.args.epoch x c.args.lines.now c.args.letters.now.items (omega arith, fits.partition, fits.place, fits.time, are_writes x.writes few fits.writes)
+    record {
+      ships = ships_none c.args.ring c.args.epoch x c.args.lines.now c.args.letters.now.items (omega arith, fits.partition, fits.place, fits.time, are_writes x.writes few fits.writes);
+      bytes = inl (search rules);
+    }
 
 pub loop-copy-preserved : goal.loop-copy-preserved
 loop-copy-preserved c =
@@ -30,16 +34,24 @@ loop-copy-preserved c =
     elim c.if-not-line.branch [
       | then-not-line+then-has+in_ok-ship w ↦
           let now : c.if-not-line.letters.items ≡ w.ship.new.letters.items = cc in
-          ships_more ring e x lines n old mid c.if-not-line.letters.items (now ∙ w.in_ok-ship.ensures) c.loop-copy.invariant
+          let made : c.if-not-line.bytes.items ≡ w.ship.new.bytes.items = cc in
+          record {
+            ships = ships_more ring e x lines n old mid c.if-not-line.letters.items (now ∙ w.in_ok-ship.ensures.letters) c.loop-copy.invariant.ships;
+            bytes = subst (AreNoneOr (ship_of e x)) (sym made) w.in_ok-ship.ensures.bytes;
+          }
       | else-not-line w ↦
           let now : c.if-not-line.letters.items ≡ mid = cc in
-          subst (ShipsPiece ring e x lines (n + 1) old) (sym now) (ships_same ring e x lines n old mid line at (elim w.else-not-line.branch [
-            | else-not-line-via-then-not-line+else-has v ↦ λ waits lacks. cc
-            | else-not-line-via-else-not-line v ↦ λ waits lacks. cc
-          ]) c.loop-copy.invariant)
+          let same : c.if-not-line.bytes.items ≡ c.loop-copy.bytes.items = cc in
+          record {
+            ships = subst (ShipsPiece ring e x lines (n + 1) old) (sym now) (ships_same ring e x lines n old mid line at (elim w.else-not-line.branch [
+              | else-not-line-via-then-not-line+else-has v ↦ λ waits lacks. cc
+              | else-not-line-via-else-not-line v ↦ λ waits lacks. cc
+            ]) c.loop-copy.invariant.ships);
+            bytes = subst (AreNoneOr (ship_of e x)) (sym same) c.loop-copy.invariant.bytes;
+          }
     ]
 
 pub returns : goal.returns
 returns c =
     let last : c.loop-copy.copy ≡ c.args.ring.copies = omega arith in
-    subst (λ n. ShipsPiece c.args.ring c.args.epoch c.args.piece.now c.args.lines.now n c.args.letters.now.items c.loop-copy.letters.items) last c.loop-copy.invariant
+    subst (λ n. ShipsPiece c.args.ring c.args.epoch c.args.piece.now c.args.lines.now n c.args.letters.now.items c.loop-copy.letters.items) last c.loop-copy.invariant.ships

@@ -1,30 +1,20 @@
-use Rattle.std.proofs.Common.{◌+◌, ◌<◌, List, ℕ, length, rules, subst, sym, take}
-use Rattle.std.proofs.lemmas.List.{take_all}
-use Rattle.coco_ship.specs.Sets.{HasSame, Misses}
-use Rattle.coco_ship.proofs.SetLemmas.{misses_as, misses_more, misses_none, misses_same}
-use Rattle.coco_ship.proofs.places.missing.Goals.{then-not-has+in_ok-add, else-not-has}
+use Rattle.std.proofs.Common.{[], List, ℕ, refl, rules, subst}
+use Rattle.std.proofs.lemmas.Result.{IfOk-weaker}
+use Rattle.coco_ship.specs.Sets.{HasSame}
+use Rattle.coco_ship.proofs.SetLemmas.{misses_as, misses_nothing}
 use Rattle.coco_ship.proofs.places.missing.Goals as goal
 
-pub loop-place-init : goal.loop-place-init
-loop-place-init c = misses_none c.had.inside.places.items c.new-missing.result c.new-missing.ensures
-
-pub loop-place-preserved : goal.loop-place-preserved
-loop-place-preserved c =
-    let there = c.had.inside.places.items in
+pub returns-then-is_just : goal.returns-then-is_just
+returns-then-is_just c =
+    let there = c.args.there.now in
     let ps = c.args.places.now in
-    let i = c.loop-place.place-index in
-    let mid = c.loop-place.missing in
-    let within : i < length ps = search rules in
-    elim c.if-not-has.branch [
-      | then-not-has+in_ok-add w ↦ subst (Misses there (take (i + 1) ps)) (sym w.missing-is) (misses_more there mid w.add.new.places ps i within c.loop-place.invariant (cc) w.in_ok-add.ensures)
-      | else-not-has w ↦ subst (Misses there (take (i + 1) ps)) (sym w.missing-is) (misses_same there mid ps i within c.loop-place.invariant (cc))
-    ]
+    let copied : HasSame there c.of-had.result = subst (λ qs. HasSame qs c.of-had.result) (search rules) c.of-had.ensures in
+    let none : HasSame [] c.of.result = subst (λ (qs : List ℕ). HasSame qs c.of.result) c.new.ensures.items c.of.ensures in
+    misses_as there there ps [] c.of.result (misses_nothing there c.of-had.result ps copied (c.is_just.ensures c.if-is_just.true)) (λ q. refl) none
 
 pub returns : goal.returns
 returns c =
+    let there = c.args.there.now in
     let ps = c.args.places.now in
-    let had : List ℕ = c.had.inside.places.items in
-    let whole : Misses had ps c.loop-place.missing = subst (λ qs. Misses had qs c.loop-place.missing) (take_all c.loop-place.place-index ps (search rules)) c.loop-place.invariant in
-    let copied : HasSame c.args.there.now c.of-had.result = subst (λ qs. HasSame qs c.of-had.result) (search rules) c.of-had.ensures in
-    let same : HasSame c.args.there.now had = subst (HasSame c.args.there.now) (search rules) copied in
-    misses_as c.args.there.now had ps c.loop-place.missing c.of.result whole same (subst (λ qs. HasSame qs c.of.result) c.into_vec.ensures c.of.ensures)
+    let copied : HasSame there c.of-had.result = subst (λ qs. HasSame qs c.of-had.result) (search rules) c.of-had.ensures in
+    IfOk-weaker c.lacked.result _ _ (λ missing h. misses_as there c.of-had.result ps missing missing h copied (λ q. refl)) c.lacked.ensures

@@ -1,4 +1,4 @@
-use Rattle.std.proofs.Common.{◌≡◌, ◌*◌, List, [], arith, length, refl, subst, sym}
+use Rattle.std.proofs.Common.{◌≡◌, ◌*◌, List, [], arith, length, subst, sym}
 use Rattle.std.proofs.lemmas.Result.{on_ok_weaker}
 use Rattle.coco_ship.specs.declared.line.Line.{Line}
 use Rattle.coco_ship.specs.Going.{IsGoing}
