@@ -1,6 +1,7 @@
 #!/usr/bin/env bash
 # Epochs run by several workers over several partitions, killed at random moments and run again on the same lines: however
-# the workers interleave, the history is serial, what was answered stands, and no money and no piece is lost or made.
+# the workers interleave, the history is serial, what was answered stands, and no money and no piece is lost or made. And
+# money that goes round in whole runs, each line with its answer.
 . "$(dirname "$0")/store.bash"
 
 count=10000
@@ -79,6 +80,56 @@ one() {
     [ "$(sum)" -eq "$wanted" ] || wrong "$name: $(sum) in place of $wanted"
 }
 
+# same WHAT FILE WANTED: the two must have the same bytes.
+same() {
+    local differs
+    differs=$(diff "$2" "$3") || wrong "$name, $1: $(head -5 <<<"$differs")"
+}
+
+# round WORKERS: 20 accounts on three partitions are opened with 1,000 each, in one epoch and at one time, since no two lines
+# touch one account. Then 200 moves go round, 50 in an epoch: each is answered at its place, and none is refused. Each account
+# gives as often as it gets.
+round() {
+    name="round by $1"
+    rm -rf "$work/store"
+    "$program" "$work/store" init --partitions 3 <<'TEXT' || wrong "$name: init"
+table acct;
+proc open(a, n) { put acct[a] = n; reply n; }
+proc move(a, b, n) {
+  if a == b { refuse 3; }
+  let x = get acct[a];
+  let y = get acct[b];
+  if x == none or y == none { refuse 1; }
+  if x < n { refuse 2; }
+  put acct[a] = x - n;
+  put acct[b] = y + n;
+  reply x - n;
+}
+TEXT
+    input=$work/lines
+    seq 20 | awk '{ printf "{\"args\":[%d,1000],\"call\":\"open\",\"id\":%d}\n", $1, $1 }' >"$input"
+    on "$work/store" run --workers "$1" --epoch 50
+    ends "$name, accounts" 0
+    same accounts "$work/said" <(seq 20 | awk '{ printf "{\"epoch\":1,\"id\":%d,\"ok\":1000,\"time\":1}\n", $1 }')
+    seq 0 199 | awk '{
+        from = 1 + $1 % 20
+        to = 1 + ($1 + 7) % 20
+        printf "{\"args\":[%d,%d,10],\"call\":\"move\",\"id\":%d}\n", from, to, 21 + $1
+    }' >"$input"
+    on "$work/store" run --workers "$1" --epoch 50
+    ends "$name, moves" 0
+    # What is left on the account, and when, is as the workers came to it.
+    sed 's/,"ok":[0-9][0-9]*,"time":[0-9][0-9]*}$/,"ok"}/' "$work/said" >"$work/bare"
+    same moves "$work/bare" <(seq 0 199 | awk '{ printf "{\"epoch\":%d,\"id\":%d,\"ok\"}\n", 2 + int($1 / 50), 21 + $1 }')
+    on "$work/store" dump
+    ends "$name, dump" 0
+    [ "$(grep -vc '^{"row"' "$work/said")" -eq 220 ] || wrong "$name: the number of records"
+    same rows <(grep '^{"row"' "$work/said") <(seq 20 | awk '{ printf "{\"row\":%d,\"table\":\"acct\",\"value\":1000}\n", $1 }')
+    on "$work/store" verify
+    ends "$name, verify" 0
+    [ "$(<"$work/said")" = 'serial 220' ] || wrong "$name: $(head -c 200 "$work/said")"
+}
+
 one bank 1000 1 1 3 100
 one bank 2 2 16 1 50
 one bank 50 4 4 3 1000
@@ -87,4 +138,5 @@ one shop 40 1 7 1 200
 one shop 1 2 1 3 25
 one shop 8 4 16 2 1000
 one shop 300 16 5 8 500
+for workers in 1 2 4 16; do round "$workers"; done
 ended
