@@ -1,6 +1,6 @@
 //! Items that are turned, shards that go behind locks and come back, and whole epochs.
 
-ghost use Rattle.std.specs.Prelude.{◌≡◌, ◌<◌, length, map, nat_eq, IfOk};
+ghost use Rattle.std.specs.Prelude.{◌≡◌, ◌<◌, ◌≤◌, length, map, nat_eq, IfOk};
 ghost use Rattle.std.specs.List.{IsDistinct};
 ghost use Rattle.coco_ast.specs.Fitting.{Fits};
 ghost use Rattle.coco_epoch.specs.Running.{FitAll};
@@ -12,10 +12,10 @@ use crate::rows::turn;
 use coco_ast::Checked;
 use coco_copy::CopyTable;
 use coco_gate::OpenGate;
-use coco_net::QuietNet;
+use coco_net::{Lose, Net, QuietNet, ScriptNet};
 use coco_shard::Shard;
-use coco_types::limits::MOST_ARGUMENTS;
-use coco_types::{Args, Call, Key, NoMemory, Request, Value};
+use coco_types::limits::{MOST_ARGUMENTS, MOST_BATCH_LINES};
+use coco_types::{Args, Call, Key, NoMemory, Reply, Request, Value};
 use coco_worker::EpochConfig;
 use std::alloc::Global;
 use std::sync::Wait;
@@ -23,6 +23,8 @@ use std::test::Fail;
 use std::thread::Threads;
 
 const KEY: Key = Key { table: 0, row: 4 };
+
+const FIVE: Key = Key { table: 0, row: 5 };
 
 // A shard with this value.
 fn shard_with(alloc: Global, value: i64) -> Result<Shard, NoMemory> {
@@ -53,13 +55,12 @@ fn tables(alloc: Global) -> Result<Vec<CopyTable>, NoMemory>
     Ok(tables)
 }
 
-// A put of ten times the row's number into a row.
-fn put(alloc: Global, procs: &Checked, id: u64, row: i64) -> Result<Request, Fail>
+fn put(alloc: Global, procs: &Checked, id: u64, row: i64, value: i64) -> Result<Request, Fail>
     ensures id { IfOk result (λ request. request.id ≡ id) }
     ensures fits { IfOk result (λ request. Fits procs.now request.call) }
 {
     let mut args = Args::new(alloc);
-    for number in [row, row.saturating_mul(10)] {
+    for number in [row, value] {
         if args.len() < MOST_ARGUMENTS {
             args.push(Some(Value::Int(number)))?;
         }
@@ -84,35 +85,73 @@ fn puts(alloc: Global, procs: &Checked) -> Result<Vec<Request>, Fail>
     ensures fit { IfOk result (λ requests. FitAll procs.now requests.items) }
 {
     Ok(vec![in alloc;
-        put(alloc, procs, 9, 4)?,
-        put(alloc, procs, 8, 5)?,
-        put(alloc, procs, 3, 6)?,
-        put(alloc, procs, 2, 7)?,
+        put(alloc, procs, 9, 4, 40)?,
+        put(alloc, procs, 8, 5, 50)?,
+        put(alloc, procs, 3, 6, 60)?,
+        put(alloc, procs, 2, 7, 70)?,
     ]?)
 }
 
-// The puts, run by so many workers.
-fn ran<R: Threads + Wait + Sync>(rt: &R, alloc: Global, workers: u8) -> Result<EpochDone, Fail>
-    requires { 0 < workers }
+// A put of 70 into row 5.
+fn one_put(alloc: Global, procs: &Checked) -> Result<Vec<Request>, Fail>
+    ensures count { IfOk result (λ requests. length requests.items ≡ 1) }
+    ensures distinct { IfOk result (λ requests. IsDistinct nat_eq (map (λ r. r.id) requests.items)) }
+    ensures fit { IfOk result (λ requests. FitAll procs.now requests.items) }
 {
-    let procs = Checked::built_in(alloc)?;
-    let requests = puts(alloc, &procs)?;
+    Ok(vec![in alloc; put(alloc, procs, 1, 5, 70)?]?)
+}
+
+// The requests, run in an epoch by so many workers on three nodes with two copies, over this net.
+fn ran<R: Threads + Wait + Sync, N: Net + Sync>(
+    rt: &R,
+    alloc: Global,
+    procs: &Checked,
+    requests: &[Request],
+    epoch: u64,
+    workers: u8,
+    net: &N,
+) -> Result<EpochDone, Fail>
+    requires workers { 0 < workers }
+    requires few { length requests.now ≤ MOST_BATCH_LINES }
+    requires fit { FitAll procs.now requests.now }
+    requires distinct { IsDistinct nat_eq (map (λ r. r.id) requests.now) }
+{
     let shards = fresh(alloc)?;
     let tables = tables(alloc)?;
-    let net = QuietNet::new(alloc);
     let config = EpochConfig {
-        epoch: 7,
+        epoch,
         workers,
         attempts: 3,
         nodes: 3,
         copies: 2,
     };
     match run_epoch(
-        rt, alloc, shards, tables, &procs, &requests, config, &OpenGate, &net,
+        rt, alloc, shards, tables, procs, requests, config, &OpenGate, net,
     ) {
         Ok(done) => Ok(done),
         Err(_) => Err("out of memory".into()),
     }
+}
+
+// The puts, run by so many workers.
+fn ran_puts<R: Threads + Wait + Sync>(rt: &R, alloc: Global, workers: u8) -> Result<EpochDone, Fail>
+    requires { 0 < workers }
+{
+    let procs = Checked::built_in(alloc)?;
+    let requests = puts(alloc, &procs)?;
+    let net = QuietNet::new(alloc);
+    ran(rt, alloc, &procs, &requests, 7, workers, &net)
+}
+
+// The one put, run by one worker over this net.
+fn ran_one_put<R: Threads + Wait + Sync, N: Net + Sync>(
+    rt: &R,
+    alloc: Global,
+    net: &N,
+) -> Result<EpochDone, Fail> {
+    let procs = Checked::built_in(alloc)?;
+    let requests = one_put(alloc, &procs)?;
+    ran(rt, alloc, &procs, &requests, 1, 1, net)
 }
 
 // Whether four puts of different rows stand at time 1, by id, with their pieces and with what copies have of row 5.
@@ -126,8 +165,8 @@ fn stands(alloc: Global, epoch: &EpochDone) -> Result<bool, Fail> {
         pieces.push((piece.place, piece.partition, piece.time))?;
     }
     let pending = |table: usize| {
-        let row = Key { table: 0, row: 5 };
-        epoch.copies.get(table).and_then(|table| table.pending(row))
+        let copy = epoch.copies.get(table);
+        copy.and_then(|copy| copy.pending(FIVE))
     };
     let put = Some((1, Some(Value::Int(50))));
     Ok(
@@ -137,6 +176,27 @@ fn stands(alloc: Global, epoch: &EpochDone) -> Result<bool, Fail> {
             && pending(4) == put
             && pending(5) == put,
     )
+}
+
+// Whether one put of 70 was answered, at time 1 of epoch 1.
+fn is_answered(epoch: &EpochDone) -> bool {
+    epoch.dones.len() == 1
+        && epoch.dones.as_slice().iter().all(|done| {
+            (done.id, done.epoch, done.time) == (1, 1, 1)
+                && done.reply.get() == Reply::Ok(Some(Value::Int(70)))
+        })
+}
+
+// What pends for a row in a copy, and how many entries the journal of its lock has.
+type Early = (Option<(u64, Option<Value>)>, usize);
+
+// This of row 5, of each copy.
+fn early(alloc: Global, epoch: &EpochDone) -> Result<Vec<Early>, NoMemory> {
+    let mut all = Vec::new(alloc);
+    for (copy, journal) in epoch.copies.iter().zip(epoch.copy_journals.iter()) {
+        all.push((copy.pending(FIVE), journal.len()))?;
+    }
+    Ok(all)
 }
 
 #[test]
@@ -178,9 +238,27 @@ fn shards_come_back_from_their_locks_in_order(rt: HostRuntime) -> Result<(), Fai
 #[test]
 fn workers_commit_puts_into_four_rows_at_time_1(rt: HostRuntime) -> Result<(), Fail> {
     let alloc = rt.alloc();
-    let alone = ran(&rt, alloc, 1)?;
-    let both = ran(&rt, alloc, 2)?;
+    let alone = ran_puts(&rt, alloc, 1)?;
+    let both = ran_puts(&rt, alloc, 2)?;
     assert!(rt; stands(alloc, &alone)? && stands(alloc, &both)?);
     assert!(rt; alone.transcripts.len() == 1 && both.transcripts.len() == 2);
+    Ok(())
+}
+
+#[test]
+fn copies_have_early_what_the_net_carries_and_the_answer_is_the_same(
+    rt: HostRuntime,
+) -> Result<(), Fail> {
+    let alloc = rt.alloc();
+    let lossy = ScriptNet::new(alloc, Lose::FirstSend, true, 2);
+    let carried = ran_one_put(&rt, alloc, &QuietNet::new(alloc))?;
+    let lost = ran_one_put(&rt, alloc, &lossy)?;
+    assert!(rt; is_answered(&carried) && is_answered(&lost));
+    let none = (None, 0);
+    let put = (Some((1, Some(Value::Int(70)))), 1);
+    assert!(rt;
+        early(alloc, &carried)?.as_slice() == [none, none, none, none, put, put].as_slice()
+            && early(alloc, &lost)?.as_slice() == [none; 6].as_slice()
+    );
     Ok(())
 }
