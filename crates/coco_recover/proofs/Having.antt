@@ -19,7 +19,7 @@ use Rattle.coco_store.specs.Laws.{AreSame, OneContents}
 use Rattle.coco_store.specs.Rules.{Setting, base_values, commit_epochs, prepared_epochs}
 use Rattle.coco_recover.specs.Bases.{IsBased, entries_of}
 use Rattle.coco_recover.specs.Commits.{AreCommitted}
-use Rattle.coco_recover.specs.Layouts.{setting_of}
+use Rattle.coco_recover.specs.Layouts.{place_behind, setting_of}
 use Rattle.coco_recover.specs.Nodes.{IsLoaded, nodes_of}
 use Rattle.coco_recover.specs.Opening.{Has, IsOpening, ShardsHold, entry_in, its_keep}
 use Rattle.coco_recover.specs.declared.base.Based.{Based}
@@ -86,6 +86,7 @@ same_had law keep c d store same has =
       primaries = λ rows. one_map_held d store.shards.items store.copies.items (law d store.shards.items store.copies.items rows tables);
       next = subst (λ (l : List ℕ). IsNextTo l store.next_epoch) (same_epochs c d same) has.next;
       base = has.base ∙ ap base_values same.base;
+      place = has.place ∙ ap place_behind same.earlier;
     }
 
 -- ---- what was read
@@ -102,13 +103,14 @@ opened_of last committed loaded based logs = record {
   keep = last.entry.keep;
   base = based.rows;
   base_file = last.entry.base_file;
+  layout_place = last.place;
 }
 
 module _ (read : AllIsRead) (tables : TablesHoldTheMap) (history : KeptAreTheHistory) (last : LastLayout) (committed : Committed) (loaded : Loaded) (based : Based) (logs : Logs) (keep : Option ℕ)
     (are : AreCommitted (setting_of last) committed) (keeps : committed.kept.keep ≡ keep) (holds : IsLoaded (setting_of last) committed loaded) (all : length (nodes_of loaded) ≡ last.entry.layout.nodes)
     (rows : IsBased (setting_of last) based) (one_base : entries_of committed.base.items ≡ entries_of based.history.entries.items) where
-  has_contents : (earlier : List LayoutEntry) → Has keep (contents_of earlier last committed (nodes_of loaded)) (opened_of last committed loaded based logs)
-  has_contents earlier =
+  has_contents : (earlier : List LayoutEntry) → last.place ≡ place_behind earlier → Has keep (contents_of earlier last committed (nodes_of loaded)) (opened_of last committed loaded based logs)
+  has_contents earlier place =
       let c = contents_of earlier last committed (nodes_of loaded) in
       let kept_ones = history c committed.kept keep keeps are.remembered.kept in
       let held = read c loaded.tables.shards.items loaded.tables.copies.items holds.tables in
@@ -125,16 +127,17 @@ module _ (read : AllIsRead) (tables : TablesHoldTheMap) (history : KeptAreTheHis
         next = subst (λ (l : List ℕ). IsNextTo (behind ++ l) loaded.next)
             (each ∙ ap (λ (n : ℕ). flat_map (λ m. prepared_epochs (c.prepared m)) (range_with_len 0 n)) all) holds.next;
         base = rows.values ∙ ap base_values (sym one_base);
+        place = place;
       }
 
-  pub is_opening : OneContents → (earlier : List LayoutEntry) (files : Files) → Holds files (contents_of earlier last committed (nodes_of loaded))
+  pub is_opening : OneContents → (earlier : List LayoutEntry) (files : Files) → last.place ≡ place_behind earlier → Holds files (contents_of earlier last committed (nodes_of loaded))
       → IsOpening (λ c. keep) files (opened_of last committed loaded based logs)
-  is_opening one earlier files held =
+  is_opening one earlier files place held =
       let c = contents_of earlier last committed (nodes_of loaded) in
       record {
         contents = c;
         holds = held;
-        has = λ d holds_d. same_had tables keep c d (opened_of last committed loaded based logs) (one files c d held holds_d) (has_contents earlier);
+        has = λ d holds_d. same_had tables keep c d (opened_of last committed loaded based logs) (one files c d held holds_d) (has_contents earlier place);
       }
 
 -- by the layout's keep number, where that was asked for

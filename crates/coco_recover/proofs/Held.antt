@@ -67,6 +67,7 @@ holds_last entries last files of file = record {
     limits = of.good.limits;
     tree = of.good.tree;
   };
+  place = of.place;
 }
 
 pub holds_parts : (files : Files) (last : LastLayout) (based : Based) (number : ℕ) (entries : List BaseEntry) → last.entry.base_file ≡ Some number → IsBased (setting_of last) based

@@ -101,5 +101,6 @@ module _ (of_base : BaseDonesFollow) (of_commits : CommittedDonesFollow) (last :
         first = omega (arith, next.next);
         end = next_below (last.entry.layout.base_epoch ∷ epochs ++ flat_map prepared_epochs (nodes_of loaded)) loaded.next next
             (epochs_below last committed loaded last.entry.layout.nodes good are read.nodes read.each);
+        early = good.early;
         logs = are_logs;
       }

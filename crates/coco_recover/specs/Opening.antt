@@ -1,5 +1,5 @@
 -- What is had of an opened store: what its files hold, by logs that stand in them.
-use Rattle.std.specs.Prelude.{◌≡◌, ◌≢◌, ℕ, ◌%◌, ◌<◌, ◌≤◌, nat_eq, List, length, Option, None, slice_index, slice_index_or}
+use Rattle.std.specs.Prelude.{◌≡◌, ◌≢◌, ℕ, ◌%◌, ◌<◌, ◌≤◌, ◌^◌, nat_eq, List, length, Option, None, slice_index, slice_index_or}
 use Rattle.std.specs.List.{AllByRecursion, filter, flat_map, slice_get}
 use Rattle.std.specs.FinMap.{empty}
 use Rattle.std.specs.Option.{unwrap_or}
@@ -27,6 +27,7 @@ use Rattle.coco_store.specs.Entries.{commits_kind, layouts_kind, prepared_kind}
 use Rattle.coco_store.specs.Placement.{IsHeldBy}
 use Rattle.coco_store.specs.Rules.{IsWithinLimits, base_values}
 use Rattle.coco_store.specs.Texts.{IsAcceptedText}
+use Rattle.coco_recover.specs.Layouts.{place_behind}
 use Rattle.coco_recover.specs.declared.opening.Logs.{Logs}
 use Rattle.coco_recover.specs.declared.opening.Opened.{Opened}
 
@@ -66,6 +67,7 @@ pub record Has (keep : Option ℕ) (c : Contents) (store : Opened) : Type 0 wher
   pub primaries : HaveRows c → ShardsHold (map_in c) store.shards.items
   pub next : IsNextOf c store.next_epoch
   pub base : flat_map (λ rows. rows) store.base.items ≡ base_values c.base
+  pub place : store.layout_place ≡ place_behind c.earlier
 
 -- the files hold a store, and the opened one has what they hold
 pub record IsOpening (keep_of : Contents → Option ℕ) (files : Files) (store : Opened) : Type 0 where
@@ -119,4 +121,5 @@ pub record IsSoundStore (store : Opened) : Type 0 where
   pub keeps : AreKeptBelow store.procs store.kept store.next_epoch
   pub first : 0 < store.next_epoch
   pub end : store.next_epoch ≤ epochs_end
+  pub early : store.layout_place < 2 ^ 62
   pub logs : AreLogs store.layout store.logs

@@ -8,17 +8,18 @@ use Rattle.coco_store.specs.Contents.{HoldsBase, HoldsCommits, HoldsLayouts, Hol
 use Rattle.coco_store.specs.Entries.{prepared_kind}
 use Rattle.coco_store.specs.Rules.{EachBehind, IsNextPrepared}
 use Rattle.coco_recover.specs.Bases.{entries_of}
-use Rattle.coco_recover.specs.Layouts.{setting_of}
+use Rattle.coco_recover.specs.Layouts.{place_behind, setting_of}
 use Rattle.coco_recover.specs.Nodes.{IsLoaded, entries_at, nodes_of}
 use Rattle.coco_recover.specs.declared.base.BasePart.{BasePart}
 use Rattle.coco_recover.specs.declared.commits.Committed.{Committed}
 use Rattle.coco_recover.specs.declared.layouts.LastLayout.{LastLayout}
 use Rattle.coco_recover.specs.declared.nodes.Loaded.{Loaded}
 
--- file 0 holds layouts, this one last
+-- file 0 holds layouts, this one last, in its place
 pub record HoldsLast (files : Files) (last : LastLayout) : Type 0 where
   pub earlier : List LayoutEntry
   pub holds : HoldsLayouts earlier (setting_of last) (files 0)
+  pub place : last.place ≡ place_behind earlier
 
 -- the layout's base file, if it has one, holds these entries
 abbrev pub HoldsParts : Files → LastLayout → List BasePart → Type 0

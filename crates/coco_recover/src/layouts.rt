@@ -14,11 +14,21 @@ use std::alloc::Global;
 use std::marker::Model;
 use std::slice;
 
+// Where the first gate stands, and how many bytes a gate and a length take.
+const FIRST_GATE: u64 = 8;
+
+const GATE_AND_LENGTH: u64 = 5;
+
+// Every file ends before this place.
+const END: u64 = 1 << 62;
+
 /// A layout, with the tree of its text.
 #[derive(Drop)]
 pub struct LastLayout {
     pub entry: LayoutEntry,
     pub procs: Checked,
+    /// Where its body begins in its file.
+    pub place: u64,
 }
 
 /// The entries of the layouts' file, of which the last one is remembered. Contracts see all of them.
@@ -26,6 +36,8 @@ pub struct LastLayout {
 pub struct LayoutReading {
     taken: Trace<LayoutEntry>,
     last: Option<LastLayout>,
+    /// Where the next gate stands.
+    gate: u64,
 }
 
 impl Model for LayoutReading {
@@ -34,11 +46,11 @@ impl Model for LayoutReading {
 
     ghost Value = { List LayoutEntry };
 
-    ghost use Rattle.coco_recover.specs.Layouts.{EndWith};
+    ghost use Rattle.coco_recover.specs.Layouts.{IsLaidOut};
 
     ghost view = { λ r. r.taken.items };
 
-    ghost invariant = { λ r. EndWith r.taken.items r.last };
+    ghost invariant = { λ r. IsLaidOut r.taken.items r.last r.gate };
 }
 
 impl LayoutReading {
@@ -49,6 +61,7 @@ impl LayoutReading {
         LayoutReading {
             taken: Trace::new(),
             last: None,
+            gate: FIRST_GATE,
         }
     }
 
@@ -84,8 +97,18 @@ impl Rules for LayoutReading {
         };
         match layout_tree(alloc, &entry)? {
             Ok(procs) => {
+                let place = self.gate + GATE_AND_LENGTH;
+                let behind = place + body.len() as u64;
+                if behind >= END {
+                    return Err(NoMemory);
+                }
                 self.taken.add(slice::from_ref(&entry));
-                self.last = Some(LastLayout { entry, procs });
+                self.last = Some(LastLayout {
+                    entry,
+                    procs,
+                    place,
+                });
+                self.gate = behind;
                 Ok(None)
             }
             Err(at) => Ok(Some(at)),

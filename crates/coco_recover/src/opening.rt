@@ -51,6 +51,8 @@ pub struct Opened {
     /// The rows of the base, entry by entry.
     pub base: Vec<MapRows>,
     pub base_file: Option<u32>,
+    /// Where the body of the last layout begins in the layouts' file.
+    pub layout_place: u64,
 }
 
 /// Opens a store: reads each of its files once, from its front, and writes none. Of the replies those are kept that
@@ -130,7 +132,11 @@ fn open_behind<H: Host>(
     } = read_base(alloc, host, &last, keep)?;
     let (committed, chief) = read_commits(alloc, host, &last, history)?;
     let (loaded, nodes) = read_nodes(alloc, host, &last, &committed, tables)?;
-    let LastLayout { entry, procs } = last;
+    let LastLayout {
+        entry,
+        procs,
+        place,
+    } = last;
     let LayoutEntry {
         layout,
         keep,
@@ -148,5 +154,6 @@ fn open_behind<H: Host>(
         keep,
         base: rows,
         base_file,
+        layout_place: place,
     })
 }

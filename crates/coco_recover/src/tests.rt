@@ -47,6 +47,13 @@ const BASE: [u8; 190] = [
     0, 0, 0, 0, 0, 0, 0, 70, 0,
 ];
 
+// The layout of one node, and behind it one of two nodes and no copies.
+const TWO_NODES: [u8; 73] = [
+    b'C', b'O', b'C', b'O', b'L', b'O', b'G', 0, 1, 0, 0, 0, 25, 1, 1, 1, 1, 0, 0, 0, 0, 1, 0, 0,
+    0, 2, 0, 0, 0, 0, 0, 0, 0, 0, 0, 0, 0, 0, 1, 0, 0, 0, 29, 1, 1, 2, 1, 0, 0, 0, 0, 1, 0, 0, 0,
+    2, 0, 0, 0, 3, 0, 0, 0, 0, 0, 0, 0, 0, 0, 0, 0, 0, 0,
+];
+
 // What is seen of an opened store: the number of its next epoch, how many replies it keeps, and its row 5.
 type Seen = (u64, u64, Option<i64>);
 
@@ -96,6 +103,12 @@ fn opened(alloc: Global, mut host: MemoryHost, is_whole: bool) -> Result<Seen, O
     }
 }
 
+// How many nodes the last layout of a store has, and where its body begins.
+fn layout(alloc: Global, host: &mut MemoryHost) -> Result<(u8, u64), OpenFault> {
+    let store = recover(alloc, host)?;
+    Ok((store.layout.nodes, store.layout_place))
+}
+
 #[test]
 fn the_worked_stores_are_opened(rt: HostRuntime) -> Result<(), Fail> {
     for is_whole in [false, true] {
@@ -123,5 +136,15 @@ fn a_store_that_lacks_an_entry_is_refused(rt: HostRuntime) -> Result<(), Fail> {
     let host = host_of(rt.alloc(), &COMMITS, &NONE_PREPARED)?;
     let refused = OpenFault::NotAStore { file: 2, at: 8 };
     assert_eq!(rt; opened(rt.alloc(), host, false), Err(refused));
+    Ok(())
+}
+
+#[test]
+fn the_last_layout_is_told_with_its_place(rt: HostRuntime) -> Result<(), Fail> {
+    let mut host = host_of(rt.alloc(), &NO_COMMITS, &NONE_PREPARED)?;
+    host.write_at(3, 0, &NONE_PREPARED)?;
+    assert_eq!(rt; layout(rt.alloc(), &mut host), Ok((1, 13)));
+    host.write_at(0, 0, &TWO_NODES)?;
+    assert_eq!(rt; layout(rt.alloc(), &mut host), Ok((2, 43)));
     Ok(())
 }

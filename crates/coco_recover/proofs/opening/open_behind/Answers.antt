@@ -54,7 +54,7 @@ returns-clause-ok g c files told held =
     let holds = store_held files last c.in_ok-committed.committed (nodes_of c.in_ok-loaded.loaded) held parts (committed.ok files behind).0 (loaded.ok files (committed.read.same ∙ behind)).each in
     is_opening c.tables_follow_the_files.ensures.all c.tables_follow_the_files.ensures.map c.kept_dones_follow_the_files.ensures.history last c.in_ok-committed.committed c.in_ok-loaded.loaded
     c.in_ok-history.field-0 logs c.args.keep committed.committed (ap (λ b. b.keep) committed.basis ∙ based.keep) loaded.read.are loaded.read.nodes based.based one_base
-    c.files_hold_one_store.ensures.store held.earlier files holds
+    c.files_hold_one_store.ensures.store held.earlier files held.place holds
 
 pub returns-clause-sound : goal.returns-clause-sound
 returns-clause-sound g c =
