@@ -1,13 +1,15 @@
 -- How the opening of a store ends that doesn't succeed.
-use Rattle.std.specs.Prelude.{◌≡◌, ◌≢◌, ◌⊎◌, ℕ, List, Option, IfSome}
+use Rattle.std.specs.Prelude.{◌≡◌, ◌≢◌, ◌⊎◌, ℕ, ◌+◌, List, Option, IfSome}
 use Rattle.coco_host.specs.Files.{Files}
 use Rattle.coco_host.specs.Moments.{Observation}
 use Rattle.coco_io.specs.Counts.{Rose}
 use Rattle.coco_ending.specs.declared.ending.Ending.{Ending}
 use Rattle.coco_ending.specs.declared.ending.Ending.TheVariants as ending
+use Rattle.coco_entry.specs.declared.layout.LayoutEntry.{LayoutEntry}
 use Rattle.coco_log.specs.LogState.{IsOnlyRead}
 use Rattle.coco_read.specs.declared.fault.OpenFault.{OpenFault}
 use Rattle.coco_read.specs.declared.fault.OpenFault.TheVariants as fault
+use Rattle.coco_recover.specs.Layouts.{place_behind}
 use Rattle.coco_serve.specs.Serving.{Outside}
 use Rattle.coco_store.specs.Contents.{Contents, Holds}
 use Rattle.coco_store.specs.Refusals.{IsFirstRefusal}
@@ -17,17 +19,17 @@ ending_of_opening fault.Disk = ending.DiskFault
 ending_of_opening (fault.NotAStore file at) = ending.NotAStore file at
 ending_of_opening fault.NoMemory = ending.NoMemory
 
--- where the first layout says its number of nodes
-abbrev pub nodes_field : ℕ
-nodes_field = 15
+-- where the layout behind these says its number of nodes, which is behind the tag and the version of its body
+abbrev pub nodes_field : List LayoutEntry → ℕ
+nodes_field earlier = place_behind earlier + 2
 
--- files are no store, first at this place; or they are one of several nodes, which can't be run yet
+-- files are no store, first at this place; or they are one of several nodes, which can't be run yet, as their last layout says there
 pub record HasSeveral (files : Files) (file at : ℕ) : Type 0 where
   pub contents : Contents
   pub holds : Holds files contents
   pub several : contents.setting.entry.layout.nodes ≢ 1
   pub file_is : file ≡ 0
-  pub at_is : at ≡ nodes_field
+  pub at_is : at ≡ nodes_field contents.earlier
 
 abbrev pub IsRefusedInRun : Files → ℕ → ℕ → Type 0
 IsRefusedInRun files file at = IsFirstRefusal files file at ⊎ HasSeveral files file at

@@ -8,7 +8,7 @@ ghost use Rattle.coco_cluster.specs.Standing.{StandsAt};
 ghost use Rattle.coco_load.specs.Epochs.{IsNextOf};
 ghost use Rattle.coco_log.specs.LogState.{IsOnlyRead};
 ghost use Rattle.coco_store.specs.Contents.{Contents, Holds, IsGoodStore};
-ghost use Rattle.coco_run.specs.Opening.{FailsToOpen, HasOneNode, IsRefusedInRun, ending_of_opening, nodes_field};
+ghost use Rattle.coco_run.specs.Opening.{FailsToOpen, HasOneNode, IsRefusedInRun, ending_of_opening};
 
 use coco_cluster::Cluster;
 use coco_ending::Ending;
@@ -19,10 +19,10 @@ use coco_recover::recover;
 use coco_types::NoMemory;
 use std::alloc::Global;
 
-// Where the first layout of the layouts' file, which is file 0, says its number of nodes.
+// The file of layouts, and where the body of one says its number of nodes: behind its tag and its version.
 const LAYOUTS_FILE: u32 = 0;
 
-const NODES_FIELD: u64 = 15;
+const NODES_FIELD: u64 = 2;
 
 /// How a call ends whose store can't be opened.
 pub fn ending_of_opening(fault: OpenFault) -> Ending
@@ -35,7 +35,7 @@ pub fn ending_of_opening(fault: OpenFault) -> Ending
     }
 }
 
-/// The host's store of one node, opened to be run. One of several nodes is refused.
+/// The host's store of one node, opened to be run. One of several nodes is refused where its last layout says so.
 pub fn open_cluster<H: Host>(alloc: Global, host: &mut H) -> Result<Cluster, Ending>
     ensures read { IsOnlyRead H.moment H.observed H.said H.reads H.may_leave host.old host.new }
     ensures stream { H.say_faults host.new ≡ H.say_faults host.old }
@@ -56,7 +56,7 @@ pub fn open_cluster<H: Host>(alloc: Global, host: &mut H) -> Result<Cluster, End
     if store.layout.nodes != 1 {
         return Err(Ending::NotAStore {
             file: LAYOUTS_FILE,
-            at: NODES_FIELD,
+            at: store.layout_place + NODES_FIELD,
         });
     }
     match cluster_of(alloc, store) {

@@ -1,4 +1,4 @@
-use Rattle.std.proofs.Common.{inr, ap, refl, sym, subst, ◌∙◌}
+use Rattle.std.proofs.Common.{ℕ, ◌+◌, inr, ap, refl, sym, subst, ◌∙◌}
 use Rattle.coco_entry.specs.declared.layout.LayoutEntry.{LayoutEntry}
 use Rattle.coco_load.specs.Epochs.{IsNextOf}
 use Rattle.coco_run.specs.Opening.{IsRefusedInRun}
@@ -8,14 +8,14 @@ use Rattle.coco_run.proofs.opening.open_cluster.Goals as goal
 pub returns-then-store-ne1-clause-err : goal.returns-then-store-ne1-clause-err
 returns-then-store-ne1-clause-err g c = (
   c.in-Ok.ensures.counts,
-  if_some (λ files. IsRefusedInRun files 0 15) (g.H.Host.reads c.args.host.now) (λ files are.
+  if_some (λ files. IsRefusedInRun files 0 (c.in-Ok.store.layout_place + 2)) (g.H.Host.reads c.args.host.now) (λ files are.
       let opening = c.in-Ok.ensures.ok files are in
       inr (record {
         contents = opening.contents;
         holds = opening.holds;
         several = λ one. c.if-store-ne1.true (ap (λ (e : LayoutEntry). e.layout.nodes) (opening.has opening.contents opening.holds).layout ∙ one);
         file_is = refl;
-        at_is = refl;
+        at_is = ap (λ (n : ℕ). n + 2) (opening.has opening.contents opening.holds).place;
       })),
 )
 
