@@ -4,3 +4,4 @@ pub mod Law
 pub mod Packed
 pub mod RowState
 pub mod Table
+pub mod Version

@@ -1,8 +1,10 @@
 //! A row as a shard keeps it, with the note whether its key is listed as touched, and what an ask makes of it.
 
-ghost use Rattle.std.specs.Prelude.{◌≡◌, ◌||◌, true, false, IsSome};
+ghost use Rattle.std.specs.Prelude.{◌≡◌, ◌||◌, true, false, Some, IsSome};
 ghost use Rattle.coco_types.specs.RowKey.{RowKey};
+ghost use Rattle.coco_types.specs.declared.value.Value.TheVariants.{Int};
 ghost use Rattle.coco_rows.specs.Versions.{at_rest, newest_of};
+ghost use Rattle.coco_rows.specs.declared.Newest.TheVariants.{Set};
 ghost use Rattle.coco_shard.specs.declared.ops.Answer.TheVariants.{Got};
 ghost use Rattle.coco_shard.specs.Kept.{Follows, IsSound, state_of};
 ghost use Rattle.coco_shard.specs.Table.{is_mark_of, extended, installed};
@@ -139,10 +141,29 @@ fn release(row: &mut Row, by: AttemptId, answer: &mut Answer)
 pub fn put(row: &mut Row, time: u64, value: &Option<Value>)
     ensures row { state_of row.new ≡ installed time value.now (state_of row.old) }
 {
-    row.newest = Newest::Set(*value);
+    set_newest(&mut row.newest, value);
     row.wts = time;
     row.rts = time;
     row.mark = None;
+}
+
+// A number is written by itself, and no text's room is copied.
+fn set_newest(newest: &mut Newest, value: &Option<Value>)
+    ensures { newest.new ≡ Set value.now }
+{
+    match value {
+        Some(Value::Int(number)) => set_number(newest, *number),
+        _ => *newest = Newest::Set(*value),
+    }
+}
+
+fn set_number(newest: &mut Newest, number: i64)
+    ensures { newest.new ≡ Set (Some (Int number)) }
+{
+    match newest {
+        Newest::Set(Some(Value::Int(place))) => *place = number,
+        _ => *newest = Newest::Set(Some(Value::Int(number))),
+    }
 }
 
 // Makes the newest version valid until the time.

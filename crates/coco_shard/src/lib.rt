@@ -10,10 +10,12 @@ pub mod shard;
 mod table;
 mod tail;
 mod values;
+pub mod version;
 
 pub use ops::{Answer, Ask, Op};
 pub use packed::{PackedAnswer, PackedAsk, PackedOp};
 pub use shard::Shard;
+pub use version::Version;
 
 #[cfg(test)]
 mod tests {
@@ -104,5 +106,24 @@ mod tests {
         assert_eq!(rt; shard.greatest_time(), 5);
         shard.put_at(FIVE, 6, int(8))?;
         reads(&rt, &mut shard, 6, 8)
+    }
+
+    #[test]
+    fn a_version_shows_what_the_lent_steps_leave(rt: HostRuntime) -> Result<(), Fail> {
+        let mut shard = Shard::new(rt.alloc());
+        assert!(rt; shard.version(FIVE).is_none());
+        let (worker, number) = (0, 1);
+        assert_eq!(rt; shard.mark(FIVE, AttemptId { worker, number })?, 0);
+        for (time, value) in [(3, int(7)), (4, int(8)), (6, None), (7, int(9))] {
+            shard.put_lent(FIVE, time, &value)?;
+            let version = shard.version(FIVE).ok_or("no row")?;
+            assert_eq!(rt; (version.wts, version.rts), (time, time));
+            assert_eq!(rt; version.value, value.as_ref());
+        }
+        shard.revert();
+        shard.extend(FIVE, 9)?;
+        let version = shard.version(FIVE).ok_or("no row")?;
+        assert_eq!(rt; (version.wts, version.rts), (0, 9));
+        Ok(())
     }
 }
