@@ -1,21 +1,20 @@
 -- The scripts of an epoch that one worker ran alone, as journals and one transcript.
-use Rattle.std.proofs.Common.{◌≡◌, ℕ, zero, suc, ◌+◌, ◌<◌, ◌≤◌, nat_eq, nat_le, Bool, true, false, ◌&&◌, ◌||◌, cond, List, [], ◌∷◌, ◌++◌, map, length, slice_index_or, Option, None, Some, refl, sym, ap, ◌∙◌, subst, arith, append_assoc}
+use Rattle.std.proofs.Common.{◌≡◌, ℕ, zero, suc, ◌+◌, ◌<◌, ◌≤◌, nat_eq, Bool, true, false, ◌&&◌, ◌||◌, cond, List, [], ◌∷◌, ◌++◌, map, length, slice_index_or, Some, refl, sym, ap, ◌∙◌, subst, arith, append_assoc}
 use Rattle.std.specs.List.{AllByRecursion, cons_option, filter, filter_map, list_any, slice_get}
 use Rattle.std.proofs.lemmas.Bool.{both_ways, eq-eqb, eqb-true}
-use Rattle.std.proofs.lemmas.List.{append-nil, length-append, map-append}
+use Rattle.std.proofs.lemmas.List.{length-append, map-append}
 use Rattle.std.proofs.lemmas.List.Elements.{filter-append}
-use Rattle.coco_types.specs.RowKey.{RowKey}
 use Rattle.coco_types.specs.declared.call.Done.{Done}
 use Rattle.coco_types.specs.declared.call.Request.{Request}
-use Rattle.coco_ast.proofs.Lists.{all_append, all_map}
+use Rattle.coco_ast.proofs.Lists.{all_append}
 use Rattle.coco_ast.specs.Tree.{Procedures}
 use Rattle.coco_journaled.specs.declared.entry.Entry.{Entry as Logged}
-use Rattle.coco_occ.specs.Exchange.{Exchange, step_of}
+use Rattle.coco_occ.specs.Exchange.{step_of}
 use Rattle.coco_occ.specs.Steps.{at_shard, taken}
 use Rattle.coco_occ.specs.declared.outcome.Outcome.TheVariants.{Committed}
 use Rattle.coco_occ.specs.declared.outcome.Tried.{Tried}
 use Rattle.coco_occ.specs.declared.script.Step.{Step}
-use Rattle.coco_order.specs.Execution.{AreTries, Beginning, Execution, IsTried, Journal, RiseByNumber, Tries, all_at_shard, all_tries, concat_tries, how_many_at, logged, of_pass, steps_of}
+use Rattle.coco_order.specs.Execution.{AreTries, Beginning, Execution, Journal, RiseByNumber, Tries, all_at_shard, concat_tries, how_many_at, logged, of_pass, steps_of}
 use Rattle.coco_order.specs.Outcome.{commit_of, done_of, is_commit}
 use Rattle.coco_shard.specs.Law.{Entry}
 use Rattle.coco_shard.specs.declared.ops.Answer.{Answer}

@@ -9,7 +9,6 @@ use Rattle.coco_ast.proofs.Lists.{all_weaker}
 use Rattle.coco_shard.specs.RowState.{RowState, ShardState}
 use Rattle.coco_shard.specs.Table.{answer_at, extended, unless_marked}
 use Rattle.coco_shard.specs.declared.ops.Op.TheVariants.{Extend}
-use Rattle.coco_shard.specs.declared.ops.Answer.{Answer}
 use Rattle.coco_shard.specs.declared.ops.Answer.TheVariants.{Extended, Changed}
 use Rattle.coco_epoch.specs.Shards.{AreOfPartitions, KeepStable, row_in, with_row_in}
 use Rattle.coco_epoch.proofs.ShardLemmas.{keeps_itself, keeps_on}

@@ -1,9 +1,9 @@
 -- Writes are made, one after another.
-use Rattle.std.proofs.Common.{◌≡◌, ℕ, ◌<◌, ◌≤◌, ◌||◌, Bool, true, false, cond, List, [], ◌∷◌, map, length, Option, None, Some, refl, sym, ap, ◌∙◌, subst, arith}
+use Rattle.std.proofs.Common.{◌≡◌, ℕ, ◌<◌, ◌≤◌, ◌||◌, cond, List, [], ◌∷◌, map, length, None, Some, refl, sym, ap, ◌∙◌, subst}
 use Rattle.coco_types.specs.RowKey.{RowKey}
 use Rattle.coco_types.specs.declared.call.AttemptId.{AttemptId}
 use Rattle.coco_types.specs.declared.call.Write.{Write}
-use Rattle.coco_types.proofs.Keys.{is_key, key_itself}
+use Rattle.coco_types.proofs.Keys.{key_itself}
 use Rattle.coco_shard.specs.RowState.{RowState, ShardState}
 use Rattle.coco_shard.specs.Table.{installed, is_mark_of}
 use Rattle.coco_shard.specs.declared.ops.Answer.TheVariants.{Installed, NotMine}

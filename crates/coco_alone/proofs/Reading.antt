@@ -1,5 +1,5 @@
 -- A run reads the keys that its call needs.
-use Rattle.std.proofs.Common.{◌≡◌, ◌<◌, Bool, true, false, cond, List, [], ◌∷◌, ◌++◌, map, length, Some, refl, sym, ap, ◌∙◌, subst}
+use Rattle.std.proofs.Common.{◌≡◌, ◌<◌, Bool, true, false, cond, List, [], ◌∷◌, ◌++◌, map, length, refl, sym, ap, ◌∙◌, subst}
 use Rattle.std.specs.FinMap.{empty}
 use Rattle.std.specs.List.{AllByRecursion}
 use Rattle.std.proofs.lemmas.List.{map-append}
@@ -18,8 +18,7 @@ use Rattle.coco_eval.specs.Standing.{Ended, Evaluation, HasGiven, IsSound, Says,
 use Rattle.coco_eval.specs.declared.machine.Given.{Given}
 use Rattle.coco_shard.specs.RowState.{RowState, ShardState}
 use Rattle.coco_shard.specs.declared.ops.Answer.TheVariants.{Got}
-use Rattle.coco_epoch.specs.Shards.{AreOfPartitions, KeepStable, row_in, with_row_in}
-use Rattle.coco_epoch.proofs.ShardLemmas.{keeps_itself, keeps_on}
+use Rattle.coco_epoch.specs.Shards.{KeepStable, row_in, with_row_in}
 use Rattle.coco_alone.specs.declared.asks.Seen.{Seen}
 use Rattle.coco_alone.specs.Asked.{Lead, reads_in, seen_in}
 use Rattle.coco_alone.specs.Calls.{HasRead, steps_by}

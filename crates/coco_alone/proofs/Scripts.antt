@@ -1,6 +1,6 @@
 -- What an attempt asks that nothing disturbs is a script that commits.
-use Rattle.std.proofs.Common.{◌≡◌, ℕ, suc, ◌+◌, ◌<◌, ◌≤◌, max, nat_eq, nat_lt, nat_le, Bool, true, false, not, ◌&&◌, cond, List, [], ◌∷◌, ◌++◌, map, filter, length, Option, None, Some, refl, sym, ap, ◌∙◌, subst, arith}
-use Rattle.std.specs.List.{AllByRecursion, filter_map, find}
+use Rattle.std.proofs.Common.{◌≡◌, ℕ, suc, ◌≤◌, nat_le, Bool, true, false, cond, List, [], ◌∷◌, ◌++◌, map, filter, length, None, Some, refl, sym, ap, ◌∙◌, subst, arith}
+use Rattle.std.specs.List.{AllByRecursion, filter_map}
 use Rattle.std.proofs.lemmas.Bool.{eq-eqb}
 use Rattle.std.proofs.lemmas.List.{map-append}
 use Rattle.coco_types.specs.Limits.{most_time}
@@ -13,19 +13,16 @@ use Rattle.coco_ast.specs.Keyed.{Rows, value_at}
 use Rattle.coco_ast.specs.Meaning.{Run, run}
 use Rattle.coco_ast.proofs.Lists.{all_map}
 use Rattle.coco_ast.specs.Tree.{Procedures}
-use Rattle.coco_eval.specs.Standing.{Evaluation, HasGiven, keys_of}
+use Rattle.coco_eval.specs.Standing.{Evaluation}
 use Rattle.coco_eval.specs.declared.machine.Given.{Given}
 use Rattle.coco_shard.specs.Law.{greatest}
-use Rattle.coco_shard.specs.RowState.{RowState, ShardState}
+use Rattle.coco_shard.specs.RowState.{ShardState}
 use Rattle.coco_shard.specs.Table.{key_of}
-use Rattle.coco_shard.specs.declared.ops.Op.{Op}
-use Rattle.coco_shard.specs.declared.ops.Op.TheVariants.{Lock, Install}
 use Rattle.coco_shard.specs.declared.ops.Answer.TheVariants.{Stood}
 use Rattle.coco_epoch.specs.Shards.{newest_in, row_in, stable_in}
 use Rattle.coco_occ.specs.Exchange.{Exchange, Found, MayAnswer, changed_since, conflict_of, ops_of, read, read_of, shown_by, step_of}
 use Rattle.coco_occ.specs.Script.{IsAsked, IsScript, IsTry, extension, extensions_due, needs_extension, outcome_of, past, time_of}
 use Rattle.coco_occ.specs.declared.outcome.Outcome.TheVariants.{Committed}
-use Rattle.coco_occ.specs.declared.outcome.Why.{Why}
 use Rattle.coco_occ.specs.declared.outcome.Why.TheVariants as why
 use Rattle.coco_occ.specs.declared.script.Step.{Step}
 use Rattle.coco_occ.proofs.Begun.{committed_in_time, due_in_time}

@@ -1,5 +1,5 @@
 -- What one worker ran alone is an execution without a tail, so it is serial.
-use Rattle.std.proofs.Common.{◌≡◌, ◌⊎◌, inl, inr, ℕ, zero, suc, ◌+◌, ◌*◌, ◌<◌, ◌≤◌, ◌%◌, nat_eq, nat_le, Bool, true, false, ◌&&◌, ◌||◌, cond, List, [], ◌∷◌, ◌++◌, map, length, slice_index_or, Option, None, Some, refl, sym, ap, ◌∙◌, subst, arith, append_assoc}
+use Rattle.std.proofs.Common.{◌≡◌, inl, inr, ℕ, zero, suc, ◌+◌, ◌<◌, ◌≤◌, ◌%◌, nat_eq, nat_le, Bool, true, false, ◌&&◌, ◌||◌, cond, List, [], ◌∷◌, ◌++◌, map, length, None, Some, refl, sym, ap, ◌∙◌, subst, arith, append_assoc}
 use Rattle.std.specs.List.{AllByRecursion, IsDistinct, filter_map, list_any, slice_get}
 use Rattle.std.specs.List.Sorted.{IsPermutation}
 use Rattle.std.proofs.lemmas.Bool.{both_ways, eq-eqb, eqb-true, leb-true, leb-false}
@@ -12,8 +12,7 @@ use Rattle.coco_types.specs.RowKey.{RowKey}
 use Rattle.coco_types.specs.declared.call.Done.{Done}
 use Rattle.coco_types.specs.declared.call.Piece.{Piece}
 use Rattle.coco_types.specs.declared.call.Request.{Request}
-use Rattle.coco_types.specs.declared.call.Write.{Write}
-use Rattle.coco_types.proofs.Keys.{is_key, key_itself, one_key}
+use Rattle.coco_types.proofs.Keys.{is_key, one_key}
 use Rattle.coco_ast.proofs.Lists.{all_both, all_map, all_weaker}
 use Rattle.coco_ast.specs.History.{rows_after}
 use Rattle.coco_ast.specs.Keyed.{Rows, value_at}
@@ -21,24 +20,22 @@ use Rattle.coco_ast.specs.Meaning.{run}
 use Rattle.coco_ast.specs.Tree.{Procedures}
 use Rattle.coco_epoch.specs.Pieces.{pieces_of, place_of}
 use Rattle.coco_epoch.specs.Running.{FitAll}
-use Rattle.coco_epoch.specs.SerialEpoch.{IsSerialEpoch}
-use Rattle.coco_epoch.specs.Shards.{HaveNewest, HaveStable, HoldMap, KeepStable, row_in, shard_at}
+use Rattle.coco_epoch.specs.Shards.{HoldMap, KeepStable, row_in, shard_at}
 use Rattle.coco_occ.specs.Steps.{at_shard}
 use Rattle.coco_occ.specs.declared.outcome.Outcome.TheVariants.{Committed}
 use Rattle.coco_occ.specs.declared.outcome.Tried.{Tried}
 use Rattle.coco_occ.specs.declared.script.Step.{Step}
-use Rattle.coco_order.specs.Execution.{AreOf, AreTries, AreWorkedOff, Beginning, Execution, InEachExecution, IsExecution, IsTried, Tries, all_at_shard, concat, how_many_at, journal_of, journal_on, of_pass, steps_of, transcript_of}
+use Rattle.coco_order.specs.Execution.{AreOf, AreTries, AreWorkedOff, Beginning, Execution, InEachExecution, IsExecution, IsTried, all_at_shard, concat, how_many_at, journal_of, journal_on, of_pass, steps_of, transcript_of}
 use Rattle.coco_order.specs.Laws.{CommitsAreSerial, OutcomesAreEpochs, OutcomesAreSerial, TimesAreFew, WritesAreRuns}
 use Rattle.coco_order.specs.OneKey.{Among}
 use Rattle.coco_order.specs.Order.{AreInOrder}
-use Rattle.coco_order.specs.Outcome.{AreCommits, ComeOfExecution, IsGreatestRead, IsOutcome, commit_of, commits, done_of, is_commit, is_committed, newest_at_end, tail_dones, tail_requests, tail_rows, uncommitted}
+use Rattle.coco_order.specs.Outcome.{IsGreatestRead, IsOutcome, commit_of, commits, done_of, is_commit, tail_dones, tail_requests, uncommitted}
 use Rattle.coco_pieces.specs.Pieces.{request_pieces}
 use Rattle.coco_shard.proofs.LawLemmas.{answers_lawful, answers_rows}
 use Rattle.coco_shard.specs.Law.{Entry, IsLawful, law_row, read_time}
 use Rattle.coco_shard.specs.RowState.{RowState, ShardState, row_at, stable_at}
 use Rattle.coco_shard.specs.Table.{key_of}
-use Rattle.coco_alone.specs.Asked.{Lead}
-use Rattle.coco_alone.specs.Epochs.{AloneIsSerial, AreAllOf, AreFrom, HaveFinished, IsMade, Made, attempt_at, dones_of, finished_of, made_done, pieces_in, scripts_of}
+use Rattle.coco_alone.specs.Epochs.{AloneIsSerial, HaveFinished, IsMade, Made, dones_of, finished_of, made_done, pieces_in, scripts_of}
 use Rattle.coco_alone.specs.declared.progress.Finished.{Finished}
 use Rattle.coco_alone.proofs.Executing.{all_placed, all_there, commits_are, committed_at, concat_made, execution_of, journal_at, journal_found, journals_count, one_at, one_try, pass_there, rise_from, scripts_home, steps_there, tried_of, tries_of}
 use Rattle.coco_alone.proofs.Scripts.{all_over, map_twice}

@@ -8,7 +8,7 @@ use Rattle.coco_types.specs.RowKey.{RowKey}
 use Rattle.coco_types.specs.declared.value.Value.{Value}
 use Rattle.coco_types.proofs.KeyMaps.{same_keyed}
 use Rattle.coco_shard.specs.RowState.{RowState, ShardState, resting, stable_at}
-use Rattle.coco_epoch.specs.Shards.{AreSettled, KeepStable, SettleOn, row_in, shard_at, shard_of, stable_in}
+use Rattle.coco_epoch.specs.Shards.{AreSettled, KeepStable, SettleOn, row_in, shard_at, stable_in}
 use Rattle.coco_alone.specs.Asked.{AreCalm}
 
 pub settled_row : (shards : List ShardState) → AreSettled shards → (k : RowKey) → row_in shards k ≡ resting (stable_in shards k)

@@ -1,16 +1,16 @@
 -- What an attempt that nothing disturbs asks of shards, and what it finds there.
-use Rattle.std.specs.Prelude.{◌≡◌, ⊤, ℕ, ◌≤◌, Bool, true, false, not, ◌&&◌, nat_lt, if◌then◌else◌, List, [], ◌∷◌, ◌++◌, map, length, Option, None, Some}
-use Rattle.std.specs.List.{filter, list_any}
+use Rattle.std.specs.Prelude.{◌≡◌, ℕ, ◌≤◌, Bool, not, ◌&&◌, nat_lt, if◌then◌else◌, List, [], ◌∷◌, Option, None, Some}
+use Rattle.std.specs.List.{list_any}
 use Rattle.coco_types.specs.RowKey.{RowKey}
 use Rattle.coco_types.specs.declared.call.AttemptId.{AttemptId}
 use Rattle.coco_types.specs.declared.call.Write.{Write}
 use Rattle.coco_ast.specs.Meaning.{is_key}
 use Rattle.coco_shard.specs.RowState.{RowState, ShardState}
-use Rattle.coco_shard.specs.Table.{answer_at, extended, key_of, left_by}
-use Rattle.coco_shard.specs.declared.ops.Op.TheVariants.{Read, Lock, Extend, Install, Past}
-use Rattle.coco_shard.specs.declared.ops.Answer.TheVariants.{Got, Locked, Extended, Installed, Stood}
+use Rattle.coco_shard.specs.Table.{answer_at, key_of, left_by}
+use Rattle.coco_shard.specs.declared.ops.Op.TheVariants.{Lock, Extend, Install, Past}
+use Rattle.coco_shard.specs.declared.ops.Answer.TheVariants.{Locked, Extended, Installed, Stood}
 use Rattle.coco_epoch.specs.Shards.{row_in, stable_in, with_row_in}
-use Rattle.coco_occ.specs.Exchange.{Exchange, Found, read, step_of}
+use Rattle.coco_occ.specs.Exchange.{Exchange, Found, read}
 use Rattle.coco_occ.specs.declared.script.Step.{Step}
 use Rattle.coco_alone.specs.declared.asks.Seen.{Seen}
 

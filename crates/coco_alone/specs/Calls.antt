@@ -1,5 +1,5 @@
 -- What the parts of an attempt that nothing disturbs do to shards, and what one call comes to.
-use Rattle.std.specs.Prelude.{◌≡◌, ⊤, ℕ, ◌≤◌, true, false, if◌then◌else◌, List, [], ◌∷◌, map, length, Option, None, Some}
+use Rattle.std.specs.Prelude.{◌≡◌, ⊤, ℕ, ◌≤◌, false, if◌then◌else◌, List, [], ◌∷◌, map, length, Option, None, Some}
 use Rattle.std.specs.List.{AllByRecursion, filter}
 use Rattle.coco_types.specs.RowKey.{RowKey}
 use Rattle.coco_types.specs.declared.call.AttemptId.{AttemptId}
@@ -9,7 +9,7 @@ use Rattle.coco_ast.specs.Keyed.{Rows, value_at}
 use Rattle.coco_ast.specs.Meaning.{run}
 use Rattle.coco_ast.specs.Tree.{Procedures}
 use Rattle.coco_eval.specs.Standing.{Evaluation, HasGiven, keys_of}
-use Rattle.coco_shard.specs.RowState.{RowState, ShardState}
+use Rattle.coco_shard.specs.RowState.{ShardState}
 use Rattle.coco_epoch.specs.Running.{CameTo}
 use Rattle.coco_epoch.specs.Shards.{newest_in, row_in, stable_in}
 use Rattle.coco_occ.specs.Exchange.{Exchange, step_of}

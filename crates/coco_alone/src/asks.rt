@@ -1,14 +1,18 @@
-//! The asks of an attempt that nothing disturbs, each at the shard of its key.
+//! The steps of an attempt that nothing disturbs, each at the shard of its key.
 
-ghost use Rattle.std.specs.Prelude.{◌≡◌, ◌<◌, ◌++◌, ◌∷◌, [], None, Some, length, ◌%◌, slice_set, IfOk, OnOk, OnErr};
-ghost use Rattle.coco_shard.specs.Table.{after_ask, answer_at, extended, installed, key_of, unless_marked};
+ghost use Rattle.std.specs.Prelude.{◌≡◌, ◌<◌, ◌++◌, ◌∷◌, [], None, Some, length, IfOk, MatchOption, OnErr, OnOk};
+ghost use Rattle.std.specs.FinMap.{get};
+ghost use Rattle.coco_eval.specs.Standing.{Asks, Ready};
+ghost use Rattle.coco_shard.specs.Table.{extended, installed, unless_marked};
 ghost use Rattle.coco_shard.specs.declared.ops.Answer.{Answer as Answered};
+ghost use Rattle.coco_shard.specs.Version.{IsVersionOf};
 ghost use Rattle.coco_epoch.specs.Shards.{AreOfPartitions, KeepStable, newest_in, row_in, shard_of, stable_in, with_row_in};
 ghost use Rattle.coco_alone.specs.Asked.{seen_in};
 
+use coco_eval::Run;
 use coco_pieces::partition_of;
-use coco_shard::{Answer, Ask, Op, Shard};
-use coco_types::{AttemptId, Key, Machine, NoMemory, Value, Write};
+use coco_shard::{Shard, Version};
+use coco_types::{AttemptId, Key, NoMemory, Value, Write};
 
 /// A key that was read, with the times that its row showed.
 #[derive(Clone, Copy, Debug)]
@@ -18,48 +22,63 @@ pub struct Seen {
     pub rts: u64,
 }
 
-// Out of memory, nothing has changed.
-fn ask(shards: &mut [Shard], by: AttemptId, op: Op) -> Result<Answer, NoMemory>
-    requires { 0 < length shards.old }
-    ensures answer { IfOk result (λ answer. answer ≡ answer_at (row_in shards.old (key_of op)) by op) }
-    ensures state { OnOk result (shards.new ≡ slice_set shards.old ((key_of op).row % length shards.old) (after_ask (shard_of shards.old (key_of op)) (record { by = by; op = op }))) }
-    ensures err { OnErr result (shards.new ≡ shards.old) }
+// The newest version of a key's row, lent, where the key has one.
+fn newest_key(shards: &[Shard], key: Key) -> Option<Version<'_>>
+    requires { 0 < length shards.now }
+    ensures { MatchOption result
+        (get (shard_of shards.now key) key ≡ None)
+        (λ version. (get (shard_of shards.now key) key ≡ Some (row_in shards.now key)) × IsVersionOf (row_in shards.now key) version) }
 {
-    let place = partition_of(op.key(), shards.len());
-    shards[place].apply(Ask { by, op })
+    let place = partition_of(key, shards.len());
+    shards[place].version(key)
 }
 
-// The same, where the answer is known before.
-fn tell(shards: &mut [Shard], by: AttemptId, op: Op) -> Result<(), NoMemory>
-    requires { 0 < length shards.old }
-    ensures state { OnOk result (shards.new ≡ slice_set shards.old ((key_of op).row % length shards.old) (after_ask (shard_of shards.old (key_of op)) (record { by = by; op = op }))) }
-    ensures err { OnErr result (shards.new ≡ shards.old) }
-{
-    match ask(shards, by, op) {
-        Ok(_) => Ok(()),
-        Err(error) => Err(error),
-    }
-}
-
-/// The newest value of a key, whose times are noted.
+/// Notes the times of a key, and gives its newest value to the run that asks for it.
 pub fn read_key(
     shards: &mut [Shard],
-    by: AttemptId,
     key: Key,
     seen: &mut Vec<Seen>,
-) -> Result<Option<Value>, NoMemory>
+    running: &mut Run,
+) -> Result<(), NoMemory>
     requires some { 0 < length shards.old }
     requires partitions { AreOfPartitions shards.old }
-    ensures value { IfOk result (λ value. value ≡ newest_in shards.old key) }
+    requires asks { running.old.standing ≡ Asks key }
+    ensures given { OnOk result (running.new ≡ record running.old { given = running.old.given ++ record { key = key; value = newest_in shards.old key } ∷ []; standing = Ready }) }
     ensures seen { OnOk result (seen.new.items ≡ seen.old.items ++ seen_in shards.old key ∷ []) }
     ensures ok { OnOk result (shards.new ≡ with_row_in shards.old key (row_in shards.old key)) }
     ensures kept { KeepStable shards.old shards.new }
 {
-    let Answer::Got { wts, rts, value } = ask(shards, by, Op::Read(key))? else {
-        unreachable!()
+    let Some(version) = newest_key(shards, key) else {
+        return read_missing(shards, key, seen, running);
     };
+    let Version { wts, rts, value } = version;
+    running.give_lent(value);
     seen.push(Seen { key, wts, rts })?;
-    Ok(value)
+    Ok(())
+}
+
+// The same where the key has no row, which is made.
+#[inline(never)]
+fn read_missing(
+    shards: &mut [Shard],
+    key: Key,
+    seen: &mut Vec<Seen>,
+    running: &mut Run,
+) -> Result<(), NoMemory>
+    requires some { 0 < length shards.old }
+    requires partitions { AreOfPartitions shards.old }
+    requires asks { running.old.standing ≡ Asks key }
+    requires missing { get (shard_of shards.old key) key ≡ None }
+    ensures given { OnOk result (running.new ≡ record running.old { given = running.old.given ++ record { key = key; value = newest_in shards.old key } ∷ []; standing = Ready }) }
+    ensures seen { OnOk result (seen.new.items ≡ seen.old.items ++ seen_in shards.old key ∷ []) }
+    ensures ok { OnOk result (shards.new ≡ with_row_in shards.old key (row_in shards.old key)) }
+    ensures kept { KeepStable shards.old shards.new }
+{
+    extend_key(shards, key, 0)?;
+    running.give_lent(None);
+    let (wts, rts) = (0, 0);
+    seen.push(Seen { key, wts, rts })?;
+    Ok(())
 }
 
 /// Locks a key on which no other attempt's mark stands, and answers its row's read time.
@@ -71,46 +90,61 @@ pub fn lock_key(shards: &mut [Shard], by: AttemptId, key: Key) -> Result<u64, No
     ensures ok { OnOk result (shards.new ≡ with_row_in shards.old key (record (row_in shards.old key) { mark = Some by })) }
     ensures kept { KeepStable shards.old shards.new }
 {
-    match ask(shards, by, Op::Lock(key)) {
-        Ok(Answer::Locked { rts, .. }) => Ok(rts),
-        Ok(_) => unreachable!(),
-        Err(error) => Err(error),
-    }
+    mark(shards, by, key)
+}
+
+// The same. Out of memory, nothing has changed.
+fn mark(shards: &mut [Shard], by: AttemptId, key: Key) -> Result<u64, NoMemory>
+    requires some { 0 < length shards.old }
+    requires free { (answer : Answered) → unless_marked (row_in shards.old key).mark by answer ≡ answer }
+    ensures rts { IfOk result (λ rts. rts ≡ (row_in shards.old key).rts) }
+    ensures ok { OnOk result (shards.new ≡ with_row_in shards.old key (record (row_in shards.old key) { mark = Some by })) }
+    ensures err { OnErr result (shards.new ≡ shards.old) }
+{
+    let place = partition_of(key, shards.len());
+    shards[place].mark(key, by)
 }
 
 /// Makes the version of a key that was read valid until the time.
-pub fn extend_key(
-    shards: &mut [Shard],
-    by: AttemptId,
-    seen: &Seen,
-    time: u64,
-) -> Result<(), NoMemory>
+pub fn extend_key(shards: &mut [Shard], key: Key, time: u64) -> Result<(), NoMemory>
     requires some { 0 < length shards.old }
     requires partitions { AreOfPartitions shards.old }
-    requires unmarked { (row_in shards.old seen.now.key).mark ≡ None }
-    requires same { (row_in shards.old seen.now.key).wts ≡ seen.now.wts }
-    ensures ok { OnOk result (shards.new ≡ with_row_in shards.old seen.now.key (extended time (row_in shards.old seen.now.key))) }
+    requires unmarked { (row_in shards.old key).mark ≡ None }
+    ensures ok { OnOk result (shards.new ≡ with_row_in shards.old key (extended time (row_in shards.old key))) }
     ensures kept { KeepStable shards.old shards.new }
 {
-    let Seen { key, wts, .. } = *seen;
-    tell(shards, by, Op::Extend { key, wts, time })
+    extend(shards, key, time)
+}
+
+// The same. Out of memory, nothing has changed.
+fn extend(shards: &mut [Shard], key: Key, time: u64) -> Result<(), NoMemory>
+    requires some { 0 < length shards.old }
+    requires unmarked { (row_in shards.old key).mark ≡ None }
+    ensures ok { OnOk result (shards.new ≡ with_row_in shards.old key (extended time (row_in shards.old key))) }
+    ensures err { OnErr result (shards.new ≡ shards.old) }
+{
+    let place = partition_of(key, shards.len());
+    shards[place].extend(key, time)
 }
 
 /// Makes a write at the time, of a key that is locked.
-pub fn install_key(
-    shards: &mut [Shard],
-    by: AttemptId,
-    write: &Write,
-    time: u64,
-) -> Result<(), NoMemory>
+pub fn install_key(shards: &mut [Shard], write: &Write, time: u64) -> Result<(), NoMemory>
     requires some { 0 < length shards.old }
     requires partitions { AreOfPartitions shards.old }
-    requires mine { (row_in shards.old write.now.key).mark ≡ Some by }
     ensures ok { OnOk result (shards.new ≡ with_row_in shards.old write.now.key (installed time write.now.value (row_in shards.old write.now.key))) }
     ensures kept { KeepStable shards.old shards.new }
 {
-    let Write { key, value } = *write;
-    tell(shards, by, Op::Install { key, time, value })
+    put(shards, write, time)
+}
+
+// The same. Out of memory, nothing has changed.
+fn put(shards: &mut [Shard], write: &Write, time: u64) -> Result<(), NoMemory>
+    requires { 0 < length shards.old }
+    ensures ok { OnOk result (shards.new ≡ with_row_in shards.old write.now.key (installed time write.now.value (row_in shards.old write.now.key))) }
+    ensures err { OnErr result (shards.new ≡ shards.old) }
+{
+    let place = partition_of(write.key, shards.len());
+    shards[place].put_lent(write.key, time, &write.value)
 }
 
 /// The stable value of a key.

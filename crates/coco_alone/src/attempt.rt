@@ -54,10 +54,7 @@ pub fn read_all(
     seen.clear();
     loop {
         match running.next_key(procs) {
-            Some(key) => {
-                let value = read_key(shards, by, key, seen)?;
-                running.give_lent(value.as_ref());
-            }
+            Some(key) => read_key(shards, key, seen, running)?,
             None => return Ok(()),
         }
     }
@@ -111,7 +108,7 @@ pub fn extend_all(
     ensures kept { KeepStable shards.old shards.new }
 {
     for found in seen {
-        extend_due(shards, by, found, writes, time)?;
+        extend_due(shards, found, writes, time)?;
     }
     Ok(())
 }
@@ -119,7 +116,6 @@ pub fn extend_all(
 // Extends one key, if it needs that.
 fn extend_due(
     shards: &mut [Shard],
-    by: AttemptId,
     found: &Seen,
     writes: &[Write],
     time: u64,
@@ -127,12 +123,11 @@ fn extend_due(
     requires some { 0 < length shards.old }
     requires partitions { AreOfPartitions shards.old }
     requires unmarked { needs time writes.now found.now ≡ true → (row_in shards.old found.now.key).mark ≡ None }
-    requires same { (row_in shards.old found.now.key).wts ≡ found.now.wts }
     ensures ok { OnOk result (shards.new ≡ (if needs time writes.now found.now then with_row_in shards.old found.now.key (extended time (row_in shards.old found.now.key)) else shards.old)) }
     ensures kept { KeepStable shards.old shards.new }
 {
     if needs_extension(writes, found, time) {
-        return extend_key(shards, by, found, time);
+        return extend_key(shards, found.key, time);
     }
     Ok(())
 }
@@ -164,7 +159,7 @@ pub fn install_all(
     ensures kept { KeepStable shards.old shards.new }
 {
     for write in writes {
-        install_key(shards, by, write, time)?;
+        install_key(shards, write, time)?;
     }
     Ok(())
 }

@@ -1,4 +1,4 @@
-use Rattle.std.proofs.Common.{◌≡◌, ◌+◌, ◌<◌, List, ◌∷◌, drop, length, sym, ap, ◌∙◌, subst, arith}
+use Rattle.std.proofs.Common.{◌+◌, drop, ap, ◌∙◌, subst, arith}
 use Rattle.coco_shard.specs.RowState.{RowState}
 use Rattle.coco_alone.specs.declared.asks.Seen.{Seen}
 use Rattle.coco_alone.proofs.Leads.{left_at}
@@ -15,12 +15,6 @@ pub extend_due-requires-clause-unmarked : goal.extend_due-requires-clause-unmark
 extend_due-requires-clause-unmarked c = λ needs.
     let s : Seen = c.found-item.result in
     ap (λ (r : RowState). r.mark) (c.loop-found.invariant.rows s.key) ∙ c.requires.unmarked s.key (unmarked_then c.args.time c.args.writes.now s needs)
-
-pub extend_due-requires-clause-same : goal.extend_due-requires-clause-same
-extend_due-requires-clause-same c =
-    let so : ExtendedTo c.args.by c.args.time c.args.shards.now c.loop-found.shards c.args.writes.now c.args.seen.now (c.found-item.result ∷ drop (c.loop-found.found-index + 1) c.args.seen.now) =
-    subst (ExtendedTo c.args.by c.args.time c.args.shards.now c.loop-found.shards c.args.writes.now c.args.seen.now) (left_at c.args.seen.now c.loop-found.found-index c.found-item.result (omega arith) c.found-item.is) c.loop-found.invariant in
-    so.same.0
 
 pub loop-found-preserved : goal.loop-found-preserved
 loop-found-preserved c =

@@ -1,4 +1,4 @@
-use Rattle.std.proofs.Common.{◌≡◌, ℕ, ◌+◌, ◌<◌, List, ◌∷◌, drop, map, max, length, sym, ap, ◌∙◌, arith}
+use Rattle.std.proofs.Common.{ℕ, ◌+◌, List, drop, map, sym, ap, ◌∙◌, arith}
 use Rattle.coco_shard.specs.Law.{greatest}
 use Rattle.coco_alone.specs.declared.asks.Seen.{Seen}
 use Rattle.coco_alone.proofs.Leads.{left_at}

@@ -1,8 +1,7 @@
-use Rattle.std.proofs.Common.{◌≡◌, ◌+◌, ◌<◌, List, ◌∷◌, drop, length, ap, ◌∙◌, subst, arith}
+use Rattle.std.proofs.Common.{◌+◌, drop, subst, arith}
 use Rattle.coco_types.specs.declared.call.Write.{Write}
-use Rattle.coco_alone.specs.Calls.{mark_for}
 use Rattle.coco_alone.proofs.Leads.{left_at}
-use Rattle.coco_alone.proofs.Installing.{InstalledTo, first_mine, none_installed, one_installed}
+use Rattle.coco_alone.proofs.Installing.{InstalledTo, none_installed, one_installed}
 use Rattle.coco_alone.proofs.attempt.install_all.Goals as goal
 
 pub loop-write-init : goal.loop-write-init
@@ -10,13 +9,6 @@ loop-write-init c = none_installed c.args.by c.args.time c.args.shards.now c.arg
 
 pub install_key-requires-clause-partitions : goal.install_key-requires-clause-partitions
 install_key-requires-clause-partitions c = c.loop-write.invariant.kept.partitions
-
-pub install_key-requires-clause-mine : goal.install_key-requires-clause-mine
-install_key-requires-clause-mine c =
-    let w : Write = c.write-item.result in
-    c.loop-write.invariant.marks w.key
-    ∙ ap (λ (ws : List Write). mark_for c.args.by ws w.key) (left_at c.args.writes.now c.loop-write.write-index w (omega arith) c.write-item.is)
-    ∙ first_mine c.args.by w (drop (c.loop-write.write-index + 1) c.args.writes.now)
 
 pub loop-write-preserved : goal.loop-write-preserved
 loop-write-preserved c =

@@ -1,7 +1,7 @@
-use Rattle.std.proofs.Common.{◌≡◌, ◌+◌, ◌<◌, List, ◌∷◌, drop, length, sym, subst, arith}
+use Rattle.std.proofs.Common.{◌+◌, List, drop, sym, subst, arith}
 use Rattle.coco_types.specs.declared.call.Write.{Write}
 use Rattle.coco_alone.proofs.Leads.{left_at}
-use Rattle.coco_alone.proofs.Locking.{LockedTo, all_locked, none_locked, one_locked}
+use Rattle.coco_alone.proofs.Locking.{LockedTo, none_locked, one_locked}
 use Rattle.coco_alone.proofs.attempt.lock_all.Goals as goal
 
 pub loop-write-init : goal.loop-write-init

@@ -1,4 +1,4 @@
-use Rattle.std.proofs.Common.{◌≡◌, List, [], ◌∷◌, ◌++◌, refl, sym, ap, subst, ◌∙◌, rules}
+use Rattle.std.proofs.Common.{◌≡◌, List, refl, sym, ap, subst, ◌∙◌, rules}
 use Rattle.std.specs.List.{AllByRecursion}
 use Rattle.std.proofs.lemmas.List.{map-append}
 use Rattle.coco_types.specs.RowKey.{RowKey}
@@ -27,18 +27,18 @@ pub read_key-requires-clause-partitions : goal.read_key-requires-clause-partitio
 read_key-requires-clause-partitions c = c.loop-key.invariant.kept.partitions
 
 pub loop-key-smaller : goal.loop-key-smaller
-loop-key-smaller c = (is_given c.loop-key.running c.next_key.new.self c.give_lent.new.self c.in-Some.key _ c.next_key.ensures.others c.in-Some.ensures.key c.next_key.ensures.few (c.give_lent.ensures c.in-Some.key c.in-Some.ensures.key)).fewer
+loop-key-smaller c = (is_given c.loop-key.running c.next_key.new.self c.read_key.new.running c.in-Some.key _ c.next_key.ensures.others c.in-Some.ensures.key c.next_key.ensures.few c.in_ok-read_key-in-Some.ensures.given).fewer
 
 pub loop-key-preserved : goal.loop-key-preserved
 loop-key-preserved c =
     let before = c.loop-key.invariant in
-    let next = is_given c.loop-key.running c.next_key.new.self c.give_lent.new.self c.in-Some.key _ c.next_key.ensures.others c.in-Some.ensures.key c.next_key.ensures.few (c.give_lent.ensures c.in-Some.key c.in-Some.ensures.key) in
-    let read = c.in_ok-value-in-Some.ensures in
+    let next = is_given c.loop-key.running c.next_key.new.self c.read_key.new.running c.in-Some.key _ c.next_key.ensures.others c.in-Some.ensures.key c.next_key.ensures.few c.in_ok-read_key-in-Some.ensures.given in
+    let read = c.in_ok-read_key-in-Some.ensures in
     record {
       procs = next.procs ∙ before.procs;
       call = next.call_same ∙ before.call;
       ready = next.ready;
-      given = one_as_in (newest_in c.args.shards.now) c.loop-key.running.given c.give_lent.new.self.given c.in-Some.key _ next.given (c.as_ref.ensures.value ∙ read.value ∙ ap (λ (r : RowState). r.newest) (before.read.rows c.in-Some.key)) before.given;
+      given = one_as_in (newest_in c.args.shards.now) c.loop-key.running.given c.read_key.new.running.given c.in-Some.key _ next.given (ap (λ (r : RowState). r.newest) (before.read.rows c.in-Some.key)) before.given;
       read = subst (λ (ks : List RowKey). HasRead c.args.by c.args.shards.now c.read_key.new.shards ks c.read_key.new.seen.items) (sym (ap keys_of next.given ∙ map-append (λ (g : Given). g.key) c.loop-key.running.given _))
           (one_read c.args.by c.args.shards.now c.loop-key.shards c.read_key.new.shards (keys_of c.loop-key.running.given) c.loop-key.seen.items c.read_key.new.seen.items c.in-Some.key c.requires.some before.kept before.read read.ok read.seen);
       kept = keeps_on c.args.shards.now c.loop-key.shards c.read_key.new.shards before.kept c.read_key.ensures.kept;

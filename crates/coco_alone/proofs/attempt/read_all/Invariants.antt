@@ -12,7 +12,7 @@ invariant-loop-key l = record {
   call : l.running.call ≡ l.initial.running.call;
   ready : l.running.standing ≡ Ready;
   given : AreAsIn (newest_in l.initial.shards) l.running.given;
-  read : HasRead l.by l.initial.shards l.shards (keys_of l.running.given) l.seen.items;
+  read : HasRead l.fn.by l.initial.shards l.shards (keys_of l.running.given) l.seen.items;
   kept : KeepStable l.initial.shards l.shards;
 }
 

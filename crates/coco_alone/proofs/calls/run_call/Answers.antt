@@ -1,4 +1,4 @@
-use Rattle.std.proofs.Common.{◌≡◌, sym, subst, ◌∙◌}
+use Rattle.std.proofs.Common.{sym, subst, ◌∙◌}
 use Rattle.coco_eval.specs.Standing.{Evaluation}
 use Rattle.coco_epoch.proofs.RunLemmas.{some_same}
 use Rattle.coco_alone.specs.Calls.{HasLooked}

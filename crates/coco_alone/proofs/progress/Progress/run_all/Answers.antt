@@ -1,4 +1,4 @@
-use Rattle.std.proofs.Common.{◌≡◌, ℕ, ◌+◌, List, [], ◌∷◌, length, refl, sym, ap, subst, ◌∙◌, arith, rules}
+use Rattle.std.proofs.Common.{◌≡◌, ℕ, List, [], length, refl, sym, ap, subst, ◌∙◌, arith, rules}
 use Rattle.coco_types.specs.declared.call.Request.{Request}
 use Rattle.coco_epoch.specs.Running.{FitAll}
 use Rattle.coco_epoch.proofs.ShardLemmas.{keeps_itself, keeps_on}
