@@ -11,3 +11,4 @@ pub mod Worked
 pub mod Epochs
 pub mod Ends
 pub mod PieceOrder
+pub mod Tails

@@ -6,6 +6,7 @@ ghost use Rattle.coco_ast.specs.Keyed.{Rows};
 ghost use Rattle.coco_epoch.specs.Running.{FitAll};
 ghost use Rattle.coco_epoch.specs.Shards.{HoldMap, AreOfPartitions, AreSettled};
 ghost use Rattle.coco_parallel.specs.Epochs.{IsWorkedEpoch, beginning_with};
+ghost use Rattle.coco_parallel.specs.Tails.{HaveTails};
 ghost use Rattle.coco_parallel.specs.Worked.{AreReplayed, HaveCommits, begun_all, start_of};
 
 use crate::ends::end_epoch;
@@ -70,6 +71,7 @@ pub fn run_epoch<R: Threads + Wait + Sync, G: Gate + Sync, N: Net + Sync>(
     ensures commits { IfOk result (λ done. (m : Rows) →
         HaveCommits (start_of procs.now m requests.now shards.items config (N.carries net.now)) (length copies.items) done.copy_journals.items done.transcripts.items) }
     ensures replayed { IfOk result (λ done. AreReplayed (begun_all config.epoch copies.items) done.copy_journals.items done.copies.items) }
+    ensures tails { IfOk result (λ done. (m : Rows) → HaveTails (beginning_with procs.now m requests.now shards.items config) done.transcripts.items done.tails.items) }
     ensures shards { IfErr result (λ refused. refused.shards.items ≡ shards.items) }
     ensures copies { IfErr result (λ refused. refused.copies.items ≡ begun_all config.epoch copies.items) }
 {

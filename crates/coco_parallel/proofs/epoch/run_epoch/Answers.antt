@@ -1,15 +1,18 @@
-use Rattle.std.proofs.Common.{◌≤◌, List, ℕ, drop, length, sym, ap, ◌∙◌, subst, arith}
+use Rattle.std.proofs.Common.{◌≤◌, List, ℕ, drop, length, map, sym, ap, ◌∙◌, subst, arith}
 use Rattle.std.specs.FinMap.{empty}
 use Rattle.std.proofs.lemmas.List.{length-map}
 use Rattle.coco_ast.specs.Keyed.{Rows}
 use Rattle.coco_copy.specs.CopyState.{CopyState, begun}
-use Rattle.coco_order.specs.Execution.{Journal}
+use Rattle.coco_order.specs.Execution.{Journal, Transcript}
 use Rattle.coco_epoch.specs.Shards.{AreOfPartitions, AreQuietAfter, KeepStable, SettleOn}
 use Rattle.coco_shard.specs.RowState.{stable_at}
 use Rattle.coco_types.specs.declared.limits.TheConstants.{MOST_PARTITIONS, MOST_TIME}
 use Rattle.coco_parallel.specs.Ends.{IsEnd}
 use Rattle.coco_parallel.specs.Epochs.{IsWorkedEpoch, beginning_with, execution_with}
+use Rattle.coco_parallel.specs.Tails.{HaveTails}
 use Rattle.coco_parallel.specs.Worked.{HaveCommits, start_of}
+use Rattle.coco_worker.specs.declared.slot.Slot.{Slot}
+use Rattle.coco_parallel.proofs.EndLemmas.{have_tails}
 use Rattle.coco_parallel.proofs.DeskLemmas.{written_back}
 use Rattle.coco_parallel.proofs.WholeLemmas.{copies_back, may_begin, shards_back, whole_epoch}
 use Rattle.coco_parallel.proofs.epoch.run_epoch.Goals as goal
@@ -94,3 +97,10 @@ returns-clause-commits g c = λ m.
 
 pub returns-clause-replayed : goal.returns-clause-replayed
 returns-clause-replayed g c = let w = c.in_ok-shards.ensures.worked empty in record { count = w.copies_are; each = λ table lt. (w.copied table lt).replays }
+
+pub returns-clause-tails : goal.returns-clause-tails
+returns-clause-tails g c = λ m.
+    let w = c.in_ok-shards.ensures.worked m in
+    let b = beginning_with c.args.procs.now m c.args.requests.now c.args.shards.items c.args.config in
+    subst (HaveTails b c.in_ok-shards.field-0.transcripts.items) (sym w.tails_are)
+    (subst (λ (ts : List Transcript). HaveTails b ts (map (λ (slot : Slot). slot.tail) w.slots)) (sym w.transcripts_are) (have_tails (start_of c.args.procs.now m c.args.requests.now c.args.shards.items c.args.config (g.N.Net.carries c.args.net.now)) w.slots c.in_ok-shards.field-0.journals.items c.in_ok-shards.field-0.shards.items w.ended))
