@@ -8,9 +8,9 @@ ghost use Rattle.coco_bench_occ.specs.Cases.{IsCase};
 use crate::calls::requests_of;
 use crate::lines::Line;
 use coco_ast::Checked;
-use coco_occ::{Attempt, Why, take_turn};
-use coco_shard::{Ask, Shard};
-use coco_types::{AttemptId, NoMemory, Request, Value};
+use coco_occ::{Attempt, Move, Why, take_turn};
+use coco_shard::{Ask, Op, Shard};
+use coco_types::{AttemptId, Cause, Key, NoMemory, Reply, Request, Text, Value};
 use std::alloc::Global;
 
 /// The shards behind the calls that are given, these calls, and those that are tried.
@@ -135,7 +135,9 @@ pub fn run_alone(
     ensures { OnOk result (MayPlay procs.now (length shards.old) attempt.new) }
 {
     // (a proof knows the parts of a move by the types that are named here)
-    let (_ask, _value, _why): (Option<Ask>, Option<Value>, Option<Why>) = (None, None, None);
+    let (_made, _ask, _op): (Option<Move>, Option<Ask>, Option<Op>) = (None, None, None);
+    let (_reply, _cause, _why): (Option<Reply>, Option<Cause>, Option<Why>) = (None, None, None);
+    let (_value, _text, _key): (Option<Value>, Option<Text>, Option<Key>) = (None, None, None);
     let mut moves: u32 = 0;
     for _ in 0..MOST_MOVES {
         if take_turn(procs, shards, attempt)?.is_none() {
