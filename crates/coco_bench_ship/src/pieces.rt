@@ -4,29 +4,30 @@ ghost use Rattle.std.specs.Prelude.{◌≡◌, ◌<◌, ◌^◌, ◌*◌, ◌+�
 ghost use Rattle.coco_bench_ship.specs.Numbered.{AreNew, AreNumbered, HasRows, IsNew, IsNumber};
 
 use coco_copy::CopyTable;
-use coco_types::{Key, NoMemory, Piece, Sequence, Value, Write, Writes};
+use coco_types::{Key, NoMemory, PackedWrite, PackedWrites, Piece, Sequence, Value, Write};
 use std::alloc::Global;
 
 // Writes a row.
-fn write(row: u64, value: &Option<Value>) -> Write
+fn write(alloc: Global, row: u64, value: &Option<Value>) -> Result<PackedWrite, NoMemory>
     requires { row < 2 ^ 63 }
-    ensures { result.key.row ≡ row }
+    ensures { IfOk result (λ w. w.key.row ≡ row) }
 {
-    Write {
+    let write = Write {
         key: Key { table: 0, row },
         value: *value,
-    }
+    };
+    PackedWrite::of(alloc, &write)
 }
 
 // The two rows of the piece of this number.
-fn rows(alloc: Global, number: u16) -> Result<Writes, NoMemory>
+fn rows(alloc: Global, number: u16) -> Result<PackedWrites, NoMemory>
     ensures { IfOk result (λ ws. HasRows number ws) }
 {
     let row = u64::from(number) * 2;
     let mut rows = Vec::new(alloc);
     let value = Some(Value::Int(70));
-    let first = write(row, &value);
-    let second = write(row + 1, &value);
+    let first = write(alloc, row, &value)?;
+    let second = write(alloc, row + 1, &value)?;
     rows.push(first)?;
     rows.push(second)?;
     Ok(Sequence::from_vec(rows))

@@ -1,28 +1,55 @@
 //! Counted writes and places.
 
-ghost use Rattle.std.specs.Prelude.{◌≡◌, [], None, ◌≤◌, ◌<◌, ◌^◌, ◌++◌, length, IfOk, OnOk};
+ghost use Rattle.std.specs.Prelude.{◌≡◌, [], None, Some, ◌≤◌, ◌<◌, ◌^◌, ◌++◌, length, IfOk, OnOk};
 ghost use Rattle.coco_bytes.specs.Fields.{u32_bytes};
 ghost use Rattle.coco_bytes.specs.Lists.{counted, counted_at, items_at};
+ghost use Rattle.coco_bytes.specs.Values.{key_bytes, value_bytes};
+ghost use Rattle.coco_types.specs.declared.value.Value.TheVariants.{Int};
 ghost use Rattle.coco_msg.specs.Bytes.{write_bytes};
 ghost use Rattle.coco_msg.specs.Reading.{write_at, rises, place_at, Answers};
 
 use crate::MessageFault;
 use crate::message::Places;
-use coco_bytes::{get_key, get_u32, get_value, put_key, put_u32, put_value};
-use coco_types::{NoMemory, Sequence, Write, Writes};
+use coco_bytes::{get_key, get_u32, get_value, put_key, put_packed, put_u32};
+use coco_types::{Key, NoMemory, Packed, PackedWrite, PackedWrites, Sequence};
 use std::alloc::Global;
 
 /// Puts counted writes behind the bytes.
-pub fn put_writes(out: &mut Vec<u8>, writes: &[Write]) -> Result<(), NoMemory>
+pub fn put_writes(out: &mut Vec<u8>, writes: &[PackedWrite]) -> Result<(), NoMemory>
     requires { length writes.now < 2 ^ 32 }
     ensures { OnOk result (out.new.items ≡ out.old.items ++ counted write_bytes writes.now) }
 {
     put_u32(out, writes.len() as u32)?;
     for write in writes {
-        put_key(out, write.key)?;
-        put_value(out, &write.value)?;
+        put_write(out, write)?;
     }
     Ok(())
+}
+
+// Puts a write behind the bytes, that of a number at once.
+fn put_write(out: &mut Vec<u8>, write: &PackedWrite) -> Result<(), NoMemory>
+    ensures { OnOk result (out.new.items ≡ out.old.items ++ write_bytes write.now) }
+{
+    match write.value().int() {
+        Some(number) => {
+            out.extend_from_slice(&int_bytes(write.key(), number))?;
+            Ok(())
+        }
+        None => {
+            put_key(out, write.key())?;
+            put_packed(out, write.value())
+        }
+    }
+}
+
+// The bytes of a write of a number.
+fn int_bytes(key: Key, number: i64) -> [u8; 19]
+    ensures { result ≡ key_bytes key ++ value_bytes (Some (Int number)) }
+{
+    let [a, b] = key.table.to_be_bytes();
+    let [c, d, e, f, g, h, i, j] = key.row.to_be_bytes();
+    let [k, l, m, n, o, p, q, r] = number.to_be_bytes();
+    [a, b, c, d, e, f, g, h, i, j, 1, k, l, m, n, o, p, q, r]
 }
 
 /// Puts counted places behind the bytes.
@@ -38,21 +65,22 @@ pub fn put_places(out: &mut Vec<u8>, places: &[u32]) -> Result<(), NoMemory>
 }
 
 #[tactic(auto, unfolding(crate::specs::Reading::write_at))]
-fn get_write(from: &[u8], at: usize) -> Result<(Write, usize), MessageFault>
+fn get_write(alloc: Global, from: &[u8], at: usize) -> Result<(PackedWrite, usize), MessageFault>
     requires { at ≤ length from.now }
     ensures read { Answers result (write_at from.now at) }
     ensures within { IfOk result (λ r. r.1 ≤ length from.now) }
 {
     let (key, next) = get_key(from, at)?;
     let (value, end) = get_value(from, next)?;
-    Ok((Write { key, value }, end))
+    let value = Packed::of(alloc, &value)?;
+    Ok((PackedWrite::new(key, value), end))
 }
 
 // The bytes of a write without a value, which is the shortest.
 const SHORTEST: usize = 11;
 
 // No writes yet, with room for so many.
-fn with_room(alloc: Global, count: usize) -> Result<Writes, NoMemory>
+fn with_room(alloc: Global, count: usize) -> Result<PackedWrites, NoMemory>
     ensures { IfOk result (λ writes. writes ≡ []) }
 {
     Ok(Sequence::from_vec(Vec::with_capacity(alloc, count)?))
@@ -64,7 +92,7 @@ fn get_each_write(
     from: &[u8],
     at: usize,
     count: u32,
-) -> Result<(Writes, usize), MessageFault>
+) -> Result<(PackedWrites, usize), MessageFault>
     requires { at ≤ length from.now }
     ensures read { Answers result (items_at (λ _. write_at) None count from.now at) }
     ensures within { IfOk result (λ r. r.1 ≤ length from.now) }
@@ -73,9 +101,7 @@ fn get_each_write(
     let mut writes = with_room(alloc, most.min(count as usize))?;
     let mut end = at;
     for _ in 0..count {
-        let (write, after) = get_write(from, end)?;
-        // The proof of the push wants this field's type in view.
-        let _value = &write.value;
+        let (write, after) = get_write(alloc, from, end)?;
         writes.push(write)?;
         end = after;
     }
@@ -84,7 +110,11 @@ fn get_each_write(
 
 /// The counted writes at a place.
 #[tactic(auto, unfolding(coco_bytes::specs::Lists::counted_at))]
-pub fn get_writes(alloc: Global, from: &[u8], at: usize) -> Result<(Writes, usize), MessageFault>
+pub fn get_writes(
+    alloc: Global,
+    from: &[u8],
+    at: usize,
+) -> Result<(PackedWrites, usize), MessageFault>
     requires { at ≤ length from.now }
     ensures read { Answers result (counted_at (λ _. write_at) from.now at) }
     ensures within { IfOk result (λ r. r.1 ≤ length from.now) }

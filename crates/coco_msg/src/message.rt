@@ -3,7 +3,7 @@
 ghost use Rattle.std.specs.Prelude.{◌≡◌};
 ghost use Rattle.coco_msg.specs.Bytes.{epoch_of};
 
-use coco_types::{Sequence, Writes};
+use coco_types::{PackedWrites, Sequence};
 
 /// Places of requests in an epoch, rising.
 pub type Places = Sequence<u32>;
@@ -17,7 +17,7 @@ pub enum Message {
         partition: u8,
         place: u32,
         time: u64,
-        writes: Writes,
+        writes: PackedWrites,
     },
     /// The places of all pieces of a partition, from its primary to a copy.
     Total {

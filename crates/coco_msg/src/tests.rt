@@ -3,7 +3,7 @@
 ghost use Rattle.std.specs.Prelude.{◌≡◌, [], ◌∷◌, IfOk};
 
 use super::*;
-use coco_types::{Key, NoMemory, Sequence, Value, Write};
+use coco_types::{Key, NoMemory, PackedWrite, Sequence, Value, Write};
 use std::alloc::Global;
 use std::test::Fail;
 
@@ -45,11 +45,12 @@ fn a_message_is_its_tag_its_epoch_and_its_fields(rt: HostRuntime) -> Result<(), 
 
 #[test]
 fn a_ship_is_read_as_it_was_written(rt: HostRuntime) -> Result<(), Fail> {
-    let mut writes = Sequence::new(rt.alloc());
-    writes.push(Write {
+    let write = Write {
         key: Key { table: 0, row: 5 },
         value: Some(Value::Int(70)),
-    })?;
+    };
+    let mut writes = Sequence::new(rt.alloc());
+    writes.push(PackedWrite::of(rt.alloc(), &write)?)?;
     let ship = Message::Ship {
         epoch: 1,
         partition: 2,

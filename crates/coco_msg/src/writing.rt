@@ -1,14 +1,14 @@
 //! Messages to bytes.
 
 ghost use Rattle.std.specs.Prelude.{◌≡◌, ◌∷◌, ◌++◌, ◌<◌, ◌^◌, length, IfOk, OnOk, Bool};
-ghost use Rattle.coco_bytes.specs.Fields.{u64_bytes};
+ghost use Rattle.coco_bytes.specs.Fields.{u8_bytes, u32_bytes, u64_bytes};
 ghost use Rattle.coco_msg.specs.declared.message.Message.TheVariants.{Ship};
 ghost use Rattle.coco_msg.specs.Bytes.{bytes_of, HasBytes, listed_bytes, piece_bytes, flag_bytes};
 
 use crate::lists::{put_places, put_writes};
 use crate::message::{Message, Places};
 use coco_bytes::{put_u8, put_u32, put_u64};
-use coco_types::{NoMemory, Piece, Writes};
+use coco_types::{NoMemory, PackedWrites, Piece};
 use std::alloc::Global;
 
 // Puts a tag and an epoch behind the bytes.
@@ -47,7 +47,7 @@ fn put_piece(
     partition: u8,
     place: u32,
     time: u64,
-    writes: &Writes,
+    writes: &PackedWrites,
 ) -> Result<(), NoMemory>
     requires { length writes.now < 2 ^ 32 }
     ensures { OnOk result (out.new.items ≡ out.old.items ++ piece_bytes partition place time writes.now) }
@@ -129,19 +129,26 @@ pub fn message_bytes(alloc: Global, message: &Message) -> Result<Vec<u8>, NoMemo
     Ok(out)
 }
 
+// The bytes of a Ship in front of its writes.
+fn ship_head(epoch: u64, partition: u8, place: u32, time: u64) -> [u8; 22]
+    ensures { result ≡ 1 ∷ (u64_bytes epoch ++ (u8_bytes partition ++ (u32_bytes place ++ u64_bytes time))) }
+{
+    let [a, b, c, d, e, f, g, h] = epoch.to_be_bytes();
+    let [i, j, k, l] = place.to_be_bytes();
+    let [m, n, o, p, q, r, s, t] = time.to_be_bytes();
+    [
+        1, a, b, c, d, e, f, g, h, partition, i, j, k, l, m, n, o, p, q, r, s, t,
+    ]
+}
+
 /// The bytes of the Ship of a piece, whose writes are to be fewer than 2^32.
 pub fn ship_bytes(alloc: Global, epoch: u64, piece: &Piece) -> Result<Vec<u8>, NoMemory>
     requires { length piece.now.writes < 2 ^ 32 }
     ensures { IfOk result (λ bytes. bytes.items ≡ bytes_of (Ship epoch piece.now.partition piece.now.place piece.now.time piece.now.writes)) }
 {
     let mut out = Vec::with_capacity(alloc, FIELDS + WRITE * piece.writes.len())?;
-    put_head(&mut out, 1, epoch)?;
-    put_piece(
-        &mut out,
-        piece.partition,
-        piece.place,
-        piece.time,
-        &piece.writes,
-    )?;
+    let head = ship_head(epoch, piece.partition, piece.place, piece.time);
+    out.extend_from_slice(&head)?;
+    put_writes(&mut out, piece.writes.as_slice())?;
     Ok(out)
 }

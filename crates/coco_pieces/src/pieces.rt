@@ -4,7 +4,7 @@ ghost use Rattle.std.specs.Prelude.{◌≡◌, ◌≢◌, ◌<◌, ◌≤◌, �
 ghost use Rattle.coco_pieces.specs.Pieces.{request_pieces, writes_on};
 
 use coco_types::limits::MOST_PARTITIONS;
-use coco_types::{Key, NoMemory, Piece, Pieces, Write, Writes};
+use coco_types::{Key, NoMemory, PackedWrite, PackedWrites, Piece, Pieces, Write};
 use std::alloc::Global;
 
 /// The partition of a key, of so many.
@@ -63,21 +63,21 @@ fn next_partition(writes: &[Write], count: usize, from: usize) -> usize
     next
 }
 
-// The writes on a partition.
+// The writes on a partition, packed.
 fn writes_in(
     alloc: Global,
     writes: &[Write],
     count: usize,
     partition: usize,
-) -> Result<Writes, NoMemory>
+) -> Result<PackedWrites, NoMemory>
     requires { 0 < count }
     ensures { IfOk result (λ found. found ≡ writes_on count partition writes.now) }
 {
     let mut found = Vec::new(alloc);
     for write in writes {
         if partition_of(write.key, count) == partition {
-            found.push(*write)?;
+            found.push(PackedWrite::of(alloc, write)?)?;
         }
     }
-    Ok(Writes::from_vec(found))
+    Ok(PackedWrites::from_vec(found))
 }

@@ -13,7 +13,7 @@ ghost use Rattle.coco_prepared.specs.LastWrites.{AreLastWrites, LeaveTheMap, hel
 ghost use Rattle.coco_prepared.specs.Stamps.{rows_in, stamp_at};
 
 use coco_entry::Row;
-use coco_types::{Key, NoMemory, Packed, Piece, Write};
+use coco_types::{Key, NoMemory, Packed, PackedWrite, Piece};
 use std::alloc::Global;
 use std::collections::BTreeMap;
 
@@ -32,21 +32,16 @@ pub fn prepared_rows(alloc: Global, pieces: &[Piece], held: &[bool]) -> Result<V
 {
     let mut last = BTreeMap::new(alloc);
     for piece in pieces {
-        keep_piece(alloc, &mut last, held, piece)?;
+        keep_piece(&mut last, held, piece)?;
     }
     rows_of(alloc, &last)
 }
 
-fn keep_piece(
-    alloc: Global,
-    last: &mut BTreeMap<Key, Stamp>,
-    held: &[bool],
-    piece: &Piece,
-) -> Result<(), NoMemory>
+fn keep_piece(last: &mut BTreeMap<Key, Stamp>, held: &[bool], piece: &Piece) -> Result<(), NoMemory>
     ensures { OnOk result ((k : RowKey) → stamp_at k last.new.entries ≡ option_or (last_stamp k (held_pieces held.now (piece.now ∷ []))) (stamp_at k last.old.entries)) }
 {
     if is_held(held, piece.partition) {
-        keep_last(alloc, last, piece.time, piece.writes.as_slice())
+        keep_last(last, piece.time, piece.writes.as_slice())
     } else {
         Ok(())
     }
@@ -63,16 +58,15 @@ fn is_held(held: &[bool], partition: u8) -> bool
 
 // Keeps the last write on each key.
 fn keep_last(
-    alloc: Global,
     last: &mut BTreeMap<Key, Stamp>,
     time: u64,
-    writes: &[Write],
+    writes: &[PackedWrite],
 ) -> Result<(), NoMemory>
     ensures { OnOk result ((k : RowKey) → stamp_at k last.new.entries ≡ option_or (option_map (λ v. (time, v)) (last_value k writes.now)) (stamp_at k last.old.entries)) }
 {
     for write in writes {
-        let value = Packed::of(alloc, &write.value)?;
-        last.insert(write.key, Stamp { time, value })?;
+        let value = write.value().try_clone()?;
+        last.insert(write.key(), Stamp { time, value })?;
     }
     Ok(())
 }

@@ -1,7 +1,7 @@
 //! The rows of a few pieces.
 
 use crate::prepared_rows;
-use coco_types::{Key, NoMemory, Piece, Value, Write, Writes};
+use coco_types::{Key, NoMemory, PackedWrite, PackedWrites, Piece, Value, Write};
 use std::alloc::Global;
 use std::test::Fail;
 
@@ -12,11 +12,9 @@ fn piece(
     key: Key,
     number: i64,
 ) -> Result<Piece, NoMemory> {
-    let mut writes = Writes::new(alloc);
-    writes.push(Write {
-        key,
-        value: Some(Value::Int(number)),
-    })?;
+    let value = Some(Value::Int(number));
+    let mut writes = PackedWrites::new(alloc);
+    writes.push(PackedWrite::of(alloc, &Write { key, value })?)?;
     Ok(Piece {
         place: 0,
         partition,

@@ -1,7 +1,7 @@
 //! What primaries send: the pieces that a copy may lack, and the places of all.
 
 ghost use Rattle.std.specs.Prelude.{◌≡◌, ◌*◌, ◌<◌, ◌^◌, [], ◌∷◌, ◌++◌, All, length, IfOk, OnOk};
-ghost use Rattle.coco_bytes.specs.Values.{IsKey, IsValue};
+ghost use Rattle.coco_bytes.specs.Values.{IsKey};
 ghost use Rattle.coco_msg.specs.Bytes.{bytes_of, IsMessage, IsWrite};
 ghost use Rattle.coco_msg.specs.declared.message.Message.TheVariants.{Total as Told};
 ghost use Rattle.coco_ship.specs.Letters.{ship_of};
@@ -11,9 +11,10 @@ ghost use Rattle.coco_ship.specs.Sending.{ask_of, AreAsks, AreNoneOr, ShipsPiece
 use crate::Ring;
 use crate::line::Line;
 use crate::mail::{add_copy, write_letter};
+use coco_bytes::packed_fits;
 use coco_msg::{Message, Places, ship_bytes};
 use coco_net::Posted;
-use coco_types::{Key, NoMemory, Piece, Value, Write};
+use coco_types::{Key, NoMemory, PackedWrite, Piece};
 use std::alloc::Global;
 use std::collections::VecDeque;
 
@@ -25,31 +26,16 @@ fn key_fits(key: &Key)
     let _row = key.row;
 }
 
-// A number of 64 bits, or a text of at most 256 bytes.
-fn value_fits(value: &Option<Value>)
-    ensures { IsValue value.now }
-{
-    match value {
-        None => {}
-        Some(Value::Int(number)) => {
-            let _number = *number;
-        }
-        Some(Value::Text(text)) => {
-            let _bytes = text.as_bytes();
-        }
-    }
-}
-
 // A key and a value that fit.
-fn write_fits(write: &Write)
+fn write_fits(write: &PackedWrite)
     ensures { IsWrite write.now }
 {
-    key_fits(&write.key);
-    value_fits(&write.value);
+    key_fits(&write.key());
+    packed_fits(write.value());
 }
 
 // Each write fits.
-fn writes_fit(writes: &[Write])
+fn writes_fit(writes: &[PackedWrite])
     ensures { All IsWrite writes.now }
 {
     for write in writes {

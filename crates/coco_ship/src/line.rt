@@ -9,7 +9,7 @@ use crate::Ring;
 use crate::places::{Arrivals, PlaceSet, add};
 use coco_copy::CopyTable;
 use coco_msg::Places;
-use coco_types::{NoMemory, Piece, Write};
+use coco_types::{NoMemory, PackedWrite, Piece};
 use std::alloc::Global;
 
 /// Between a primary and a copy.
@@ -54,10 +54,10 @@ fn unnoted(alloc: Global, count: usize) -> Result<Vec<Noted>, NoMemory>
 }
 
 // Whether what pends for the write's key has at least this time.
-fn is_covered(table: &CopyTable, time: u64, write: &Write) -> bool
+fn is_covered(table: &CopyTable, time: u64, write: &PackedWrite) -> bool
     ensures { result ≡ covers_at (get table.now.pending write.now.key) time }
 {
-    match table.pending(write.key) {
+    match table.pending(write.key()) {
         Some((pending, _)) => time <= pending,
         None => false,
     }

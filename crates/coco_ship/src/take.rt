@@ -15,7 +15,7 @@ use crate::places::{add, kept};
 use coco_copy::{CopyAsk, CopyTable};
 use coco_msg::{Message, Places};
 use coco_net::Letter;
-use coco_types::{Machine, NoMemory, Write, Writes};
+use coco_types::{Machine, NoMemory, PackedWrite, PackedWrites};
 use std::alloc::Global;
 
 // Puts the writes of a piece.
@@ -23,17 +23,14 @@ pub(crate) fn put_all(
     table: &mut CopyTable,
     epoch: u64,
     time: u64,
-    writes: &[Write],
+    writes: &[PackedWrite],
 ) -> Result<(), NoMemory>
     requires { table.old.epoch ≡ epoch }
     ensures puts { Puts time writes.now table.old table.new }
     ensures pend { OnOk result (covers table.new time writes.now ≡ true) }
 {
     for write in writes {
-        let write = Write {
-            key: write.key,
-            value: write.value,
-        };
+        let write = write.get();
         table.apply(CopyAsk::Put { epoch, time, write })?;
     }
     Ok(())
@@ -46,7 +43,7 @@ fn take_ship(
     epoch: u64,
     place: u32,
     time: u64,
-    writes: &Writes,
+    writes: &PackedWrites,
 ) -> Result<(), NoMemory>
     requires { table.old.epoch ≡ epoch }
     ensures ok { OnOk result (TakesShip place time writes.now line.old table.old line.new table.new) }

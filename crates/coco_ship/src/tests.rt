@@ -10,7 +10,7 @@ use crate::take::put_all;
 use crate::*;
 use coco_copy::CopyTable;
 use coco_net::{FloodNet, Lose, Net, QuietNet, ScriptNet, SeededNet};
-use coco_types::{Key, NoMemory, Piece, Sequence, Value, Write};
+use coco_types::{Key, NoMemory, PackedWrite, Piece, Sequence, Value, Write};
 use std::alloc::Global;
 use std::process::Abort;
 use std::test::Fail;
@@ -32,7 +32,8 @@ fn piece(alloc: Global, number: u8) -> Result<Piece, NoMemory>
         row: u64::from(number % 4) + 5,
     };
     let value = Some(Value::Int(i64::from(number) + 70));
-    let writes = Sequence::from_vec(vec![in alloc; Write { key, value }]?);
+    let write = PackedWrite::of(alloc, &Write { key, value })?;
+    let writes = Sequence::from_vec(vec![in alloc; write]?);
     Ok(Piece {
         place: u32::from(number),
         partition: (number % 3 + 2) % 3,

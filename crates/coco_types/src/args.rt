@@ -54,6 +54,24 @@ impl Args {
         Ok(())
     }
 
+    /// Adds a packed argument at the end.
+    pub fn push_packed(&mut self, argument: Packed) -> Result<(), NoMemory>
+        requires { length self.old < MOST_ARGUMENTS }
+        ensures ok { OnOk result (self.new ≡ self.old ++ argument ∷ []) }
+        ensures err { OnErr result (self.new ≡ self.old) }
+    {
+        self.items.push(argument)?;
+        Ok(())
+    }
+
+    /// The arguments, in place.
+    pub fn as_slice(&self) -> &[Packed]
+        ensures items { result.now ≡ self.now }
+        ensures most { length result.now ≤ MOST_ARGUMENTS }
+    {
+        self.items.as_slice()
+    }
+
     /// How many there are.
     pub fn len(&self) -> usize
         ensures len { result ≡ length self.now }

@@ -1,7 +1,7 @@
 //! Calls of procedures, what they answer and write, and their records once they are committed.
 ghost use Rattle.std.specs.Prelude.{◌≡◌, IfOk};
 
-use crate::{Args, KeptReply, Key, NoMemory, Sequence, Value};
+use crate::{Args, KeptReply, Key, NoMemory, PackedWrites, Sequence, Value};
 
 /// A call of a procedure. A snapshot call reads the versions of the last committed epoch.
 #[derive(Debug, PartialEq, Eq, Drop)]
@@ -93,7 +93,7 @@ pub struct Piece {
     pub place: u32,
     pub partition: u8,
     pub time: u64,
-    pub writes: Writes,
+    pub writes: PackedWrites,
 }
 
 pub type Pieces = Sequence<Piece>;

@@ -39,6 +39,24 @@ impl KeptReply {
         Ok(KeptReply { kind })
     }
 
+    /// The reply that answers this value or none. It takes no memory.
+    pub fn answered(value: Packed) -> KeptReply
+        ensures { result ≡ reply.Ok value }
+    {
+        KeptReply {
+            kind: Kind::Ok(value),
+        }
+    }
+
+    /// The reply of a call that was refused for this cause. It takes no memory.
+    pub fn refused(cause: Cause) -> KeptReply
+        ensures { result ≡ reply.Refused cause }
+    {
+        KeptReply {
+            kind: Kind::Refused(cause),
+        }
+    }
+
     pub fn get(&self) -> Reply
         ensures { result ≡ self.now }
     {

@@ -1,7 +1,8 @@
 //! A value or none, packed: a number in place, a text on the heap.
-ghost use Rattle.std.specs.Prelude.{◌≡◌, IfOk};
+ghost use Rattle.std.specs.Prelude.{◌≡◌, Some, IfOk};
 ghost use Rattle.std.specs.Option.{option_map};
 ghost use Rattle.coco_types.specs.Arguments.{int_of};
+ghost use Rattle.coco_types.specs.declared.value.Value.TheVariants as datum;
 ghost use Rattle.coco_types.specs.Packing.{unpacked, lent_value};
 
 use crate::{NoMemory, Text, Value};
@@ -48,6 +49,15 @@ impl Packed {
             Some(Value::Text(text)) => Kind::Text(boxed(alloc, text)?),
         };
         Ok(Packed { kind })
+    }
+
+    /// A whole number. It takes no memory.
+    pub fn of_int(number: i64) -> Packed
+        ensures { result ≡ Some (datum.Int number) }
+    {
+        Packed {
+            kind: Kind::Int(number),
+        }
     }
 
     pub fn get(&self) -> Option<Value>

@@ -1,8 +1,8 @@
 //! Texts, arguments, calls, records and keys on their happy paths.
 
 use crate::{
-    Args, Call, Cause, Done, Failed, KeptReply, Key, NoMemory, OutFault, Reply, Sequence, Text,
-    Value,
+    Args, Call, Cause, Done, Failed, KeptReply, Key, NoMemory, OutFault, PackedWrite, Reply,
+    Sequence, Text, Value, Write,
 };
 use std::alloc::Global;
 use std::test::Fail;
@@ -137,6 +137,22 @@ fn a_kept_reply_is_the_reply(rt: HostRuntime) -> Result<(), Fail> {
             let other = KeptReply::of(rt.alloc(), other)?;
             assert_eq!(rt; other == copy, i == j);
         }
+    }
+    Ok(())
+}
+
+#[test]
+fn a_packed_write_is_the_write(rt: HostRuntime) -> Result<(), Fail> {
+    let text = Text::of("seven").ok_or("too long")?;
+    let key = Key { table: 1, row: 7 };
+    for value in [None, Some(Value::Int(-7)), Some(Value::Text(text))] {
+        let write = Write { key, value };
+        let packed = PackedWrite::of(rt.alloc(), &write)?;
+        assert_eq!(rt; packed.get(), write);
+        assert_eq!(rt; packed.key(), key);
+        assert_eq!(rt; packed.value().get(), value);
+        let value = packed.value().try_clone()?;
+        assert_eq!(rt; PackedWrite::new(key, value).get(), write);
     }
     Ok(())
 }

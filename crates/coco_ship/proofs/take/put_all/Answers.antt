@@ -1,5 +1,6 @@
 use Rattle.std.proofs.Common.{◌≡◌, ◌<◌, ◌∙◌, ◌∷◌, [], ap, length, rules, subst, sym, true}
 use Rattle.std.specs.FinMap.{get}
+use Rattle.coco_types.specs.declared.call.Write.{Write}
 use Rattle.coco_copy.specs.CopyState.{CopyState}
 use Rattle.coco_copy.specs.declared.ops.CopyAsk.TheVariants.{Put}
 use Rattle.coco_copy.specs.Puts.{after_ask}
@@ -17,7 +18,8 @@ loop-write-preserved c =
     let t = c.apply.new.self in
     let within : i < length ws = search rules in
     let put = one_put s c.args.epoch c.args.time w (c.loop-write.invariant.puts.epoch_stays ∙ c.requires) in
-    let state : t ≡ after_ask s (Put c.args.epoch c.args.time w) = c.in_ok-apply.ensures.state in
+    let state : t ≡ after_ask s (Put c.args.epoch c.args.time w) =
+    c.in_ok-apply.ensures.state ∙ ap (λ (v : Write). after_ask s (Put c.args.epoch c.args.time v)) c.get-write.ensures in
     let puts : Puts c.args.time (w ∷ []) s t = subst (Puts c.args.time (w ∷ []) s) (sym state) put.0 in
     let here : covers_at (get t.pending w.key) c.args.time ≡ true = ap (λ (z : CopyState). covers_at (get z.pending w.key) c.args.time) state ∙ put.1 in
     record {
