@@ -1,13 +1,13 @@
 //! Keys and values as fields.
 
 ghost use Rattle.std.specs.Prelude.{◌≡◌, ◌≤◌, ◌∷◌, ◌++◌, length, IfOk, OnOk, OnErr};
-ghost use Rattle.coco_bytes.specs.Fields.{bytes16};
-ghost use Rattle.coco_bytes.specs.Values.{key_bytes, key_at, value_bytes, value_at, text_at};
+ghost use Rattle.coco_bytes.specs.Fields.{i64_bytes, bytes16};
+ghost use Rattle.coco_bytes.specs.Values.{key_bytes, key_at, value_bytes, IsValue, value_at, text_at};
 
 use crate::FieldFault;
 use crate::reading::{get_bytes16, get_i64, get_u8, get_u16, get_u64};
 use crate::writing::{put_both, put_u8};
-use coco_types::{Key, NoMemory, Text, Value};
+use coco_types::{Key, Lent, NoMemory, Packed, Text, Value};
 use std::str::from_utf8;
 
 // One more than the greatest row.
@@ -18,7 +18,10 @@ pub fn put_key(out: &mut Vec<u8>, key: Key) -> Result<(), NoMemory>
     ensures ok { OnOk result (out.new.items ≡ out.old.items ++ key_bytes key) }
     ensures err { OnErr result (out.new.items ≡ out.old.items) }
 {
-    put_both(out, &key.table.to_be_bytes(), &key.row.to_be_bytes())
+    let [a, b] = key.table.to_be_bytes();
+    let [c, d, e, f, g, h, i, j] = key.row.to_be_bytes();
+    out.extend_from_slice(&[a, b, c, d, e, f, g, h, i, j])?;
+    Ok(())
 }
 
 /// The key at a place. A row of 2^63 or more is bad at its place.
@@ -44,9 +47,46 @@ pub fn put_value(out: &mut Vec<u8>, value: &Option<Value>) -> Result<(), NoMemor
 {
     match value {
         None => put_u8(out, 0),
-        Some(Value::Int(n)) => put_both(out, &[1], &n.to_be_bytes()),
+        Some(Value::Int(n)) => put_int(out, *n),
         Some(Value::Text(text)) => put_text(out, text),
     }
+}
+
+/// Puts a packed value or none behind the bytes.
+pub fn put_packed(out: &mut Vec<u8>, value: &Packed) -> Result<(), NoMemory>
+    ensures ok { OnOk result (out.new.items ≡ out.old.items ++ value_bytes value.now) }
+    ensures err { OnErr result (out.new.items ≡ out.old.items) }
+{
+    match value.lend() {
+        None => put_u8(out, 0),
+        Some(Lent::Int(n)) => put_int(out, n),
+        Some(Lent::Text(text)) => put_text(out, text),
+    }
+}
+
+/// A packed value or none is one that has bytes: a number of 64 bits, or a text of at most 256 bytes.
+pub fn packed_fits(value: &Packed)
+    ensures { IsValue value.now }
+{
+    match value.lend() {
+        None => {}
+        Some(Lent::Int(number)) => {
+            let _number = number;
+        }
+        Some(Lent::Text(text)) => {
+            let _bytes = text.as_bytes();
+        }
+    }
+}
+
+// A kind and its number are put at once, since most values are numbers.
+fn put_int(out: &mut Vec<u8>, n: i64) -> Result<(), NoMemory>
+    ensures ok { OnOk result (out.new.items ≡ out.old.items ++ 1 ∷ i64_bytes n) }
+    ensures err { OnErr result (out.new.items ≡ out.old.items) }
+{
+    let [a, b, c, d, e, f, g, h] = n.to_be_bytes();
+    out.extend_from_slice(&[1, a, b, c, d, e, f, g, h])?;
+    Ok(())
 }
 
 fn put_text(out: &mut Vec<u8>, text: &Text) -> Result<(), NoMemory>

@@ -1,5 +1,5 @@
 -- Committed requests read back.
-use Rattle.std.proofs.Common.{◌≡◌, ℕ, zero, suc, ◌+◌, ◌^◌, ◌<◌, ◌≤◌, Bool, true, false, cond, ltb, leb, eqb, List, ◌++◌, Option, Ok, refl, sym, arith}
+use Rattle.std.proofs.Common.{◌≡◌, ◌≢◌, ℕ, zero, suc, ◌+◌, ◌^◌, ◌<◌, ◌≤◌, Bool, true, false, cond, ltb, leb, eqb, List, ◌++◌, Option, Ok, Err, refl, sym, arith}
 use Rattle.std.proofs.lemmas.Bool.{ltb-true, lt-ltb, leb-true, le-leb}
 use Rattle.coco_types.specs.declared.call.Call.{Call}
 use Rattle.coco_types.specs.declared.call.Cause.{Cause}
@@ -10,6 +10,7 @@ use Rattle.coco_types.specs.declared.call.Reply.TheVariants as reply
 use Rattle.coco_types.specs.declared.value.Value.{Value}
 use Rattle.coco_types.specs.Limits.{most_arguments}
 use Rattle.coco_bytes.specs.declared.fault.FieldFault.{FieldFault}
+use Rattle.coco_bytes.specs.declared.fault.FieldFault.TheVariants.{Bad}
 use Rattle.coco_bytes.specs.Fields.{Stands, AreBytes, u8_bytes, u16_bytes, u64_bytes}
 use Rattle.coco_bytes.specs.Reads.{Agree, u8_at, u16_at, u64_at}
 use Rattle.coco_bytes.specs.Values.{value_bytes, IsValue, value_at}
@@ -97,6 +98,13 @@ cause_again from at BadRow end fits p = rw (u8_agrees.again from at 5 end (omega
 
 cause_agrees : Agree cause_at cause_bytes IsCause
 cause_agrees = record { found = cause_found; again = cause_again }
+
+-- no reply is of another kind
+pub no_reply : (kind at : ℕ) (from : List ℕ) (next : ℕ) → kind ≢ 0 → kind ≢ 1 → reply_of_kind kind at from next ≡ Err (Bad at)
+unfolding reply_of_kind
+no_reply zero at from next other last = absurd (other refl)
+no_reply (suc zero) at from next other last = absurd (last refl)
+no_reply (suc (suc kind)) at from next other last = refl
 
 reply_found_of : (kind : ℕ) (from : List ℕ) (at next : ℕ) (p : Reply × ℕ) → AreBytes from → Stands from at (u8_bytes kind) next → reply_of_kind kind at from next ≡ Ok p → IsReply p.0 × Stands from at (reply_bytes p.0) p.1
 unfolding reply_of_kind

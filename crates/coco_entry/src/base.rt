@@ -1,16 +1,19 @@
 //! The entries of a base file: its head, the kept Dones, and the rows of the map.
 
-ghost use Rattle.std.specs.Prelude.{◌≡◌, None, ◌≤◌, ◌<◌, ◌^◌, [], ◌++◌, length, IfOk, OnOk, OnErr, All};
+ghost use Rattle.std.specs.Prelude.{◌≡◌, None, Some, ◌≤◌, ◌<◌, ◌^◌, [], ◌++◌, length, IfOk, OnOk, OnErr, All};
 ghost use Rattle.std.specs.Option.{option_map};
 ghost use Rattle.coco_bytes.specs.Lists.{counted, FitInTurn, items_at};
+ghost use Rattle.coco_bytes.specs.Values.{IsValue};
 ghost use Rattle.coco_entry.specs.Grammar.{Answers, ReadsExactly};
 ghost use Rattle.coco_entry.specs.Bases.{floor_bytes, IsFloor, floor_number_at, floor_at, head_bytes, IsHead, head_at, head_in, items_count_at, AreItems, is_before as comes_before, stamp_rises, stamp_of, stamped_at, DoneRises, base_done_bytes, IsBaseDone, base_done_at, base_dones_bytes, AreBaseDones, base_dones_at, base_dones_in, present_at, BaseRowRises, base_row_bytes, IsBaseRow, base_row_at, base_rows_bytes, AreBaseRows, base_rows_at, base_rows_in};
 
 use crate::EntryFault;
-use crate::calls::{Timed, done_of_parts, get_kept, get_timed, put_any, put_done};
+use crate::calls::{Timed, done_of_parts, get_kept, get_timed, put_done};
 use crate::fields::{emptied, get_flag, get_tag, whole};
 use crate::prepared::{get_rising_key, key_fits};
-use coco_bytes::{FieldFault, get_u32, get_u64, get_value, put_key, put_u8, put_u32, put_u64};
+use coco_bytes::{
+    FieldFault, get_u32, get_u64, get_value, put_key, put_u8, put_u32, put_u64, put_value,
+};
 use coco_types::{Done, Dones, Key, MapRows, NoMemory, Sequence, Value};
 use std::alloc::Global;
 
@@ -308,9 +311,23 @@ fn put_base_row(out: &mut Vec<u8>, row: &(Key, Value)) -> Result<(), NoMemory>
     ensures fits { OnOk result (IsBaseRow row.now) }
 {
     key_fits(&row.0);
+    value_fits(&row.1);
     put_key(out, row.0)?;
-    put_any(out, &Some(row.1))?;
-    Ok(())
+    put_value(out, &Some(row.1))
+}
+
+// A number of 64 bits, or a text of at most 256 bytes.
+fn value_fits(value: &Value)
+    ensures { IsValue (Some value.now) }
+{
+    match value {
+        Value::Int(number) => {
+            let _number = *number;
+        }
+        Value::Text(text) => {
+            let _bytes = text.as_bytes();
+        }
+    }
 }
 
 fn put_each_row(out: &mut Vec<u8>, rows: &[(Key, Value)]) -> Result<(), NoMemory>

@@ -7,12 +7,10 @@ ghost use Rattle.coco_entry.specs.Grammar.{Answers};
 ghost use Rattle.coco_entry.specs.Calls.{flag_bytes, args_bytes, AreArgs, args_count_at, args_at, call_bytes, IsCall, call_at, cause_bytes, IsCause, cause_of_kind, cause_at, reply_bytes, IsReply, reply_of_kind, reply_at, timed_bytes, timed_at, done_bytes, IsDone, done_of, done_at};
 
 use crate::EntryFault;
-use crate::fields::get_flag;
-use coco_bytes::{
-    FieldFault, get_u8, get_u16, get_u64, get_value, put_u8, put_u16, put_u64, put_value,
-};
+use crate::fields::{get_any, get_flag, put_any};
+use coco_bytes::{FieldFault, get_u8, get_u16, get_u64, put_u8, put_u16, put_u64};
 use coco_types::limits::MOST_ARGUMENTS;
-use coco_types::{Args, Call, Cause, Done, KeptReply, NoMemory, Reply, Value};
+use coco_types::{Args, Call, Cause, Done, KeptReply, NoMemory, Packed};
 use std::alloc::Global;
 
 /// A call with its id and its time.
@@ -23,38 +21,14 @@ pub struct Timed {
     pub time: u64,
 }
 
-/// Puts a value or none behind the bytes. Each is one that has bytes.
-pub fn put_any(out: &mut Vec<u8>, value: &Option<Value>) -> Result<(), NoMemory>
-    ensures ok { OnOk result (out.new.items ≡ out.old.items ++ value_bytes value.now) }
-    ensures fits { IsValue value.now }
-{
-    value_fits(value);
-    put_value(out, value)
-}
-
-// A number of 64 bits, or a text of at most 256 bytes.
-fn value_fits(value: &Option<Value>)
-    ensures { IsValue value.now }
-{
-    match value {
-        None => {}
-        Some(Value::Int(number)) => {
-            let _number = *number;
-        }
-        Some(Value::Text(text)) => {
-            let _bytes = text.as_bytes();
-        }
-    }
-}
-
-fn put_args(out: &mut Vec<u8>, args: &Args) -> Result<(), NoMemory>
+fn put_args(out: &mut Vec<u8>, args: &[Packed]) -> Result<(), NoMemory>
+    requires { length args.now ≤ MOST_ARGUMENTS }
     ensures ok { OnOk result (out.new.items ≡ out.old.items ++ args_bytes args.now) }
     ensures fits { OnOk result (AreArgs args.now) }
 {
     put_u8(out, args.len() as u8)?;
-    for place in 0..args.len() {
-        let value = args.get(place).unwrap_or(None);
-        put_any(out, &value)?;
+    for argument in args {
+        put_any(out, argument)?;
     }
     Ok(())
 }
@@ -65,7 +39,7 @@ fn put_call(out: &mut Vec<u8>, call: &Call) -> Result<(), NoMemory>
 {
     put_u16(out, call.proc_no)?;
     put_u8(out, call.snapshot as u8)?;
-    put_args(out, &call.args)
+    put_args(out, call.args.as_slice())
 }
 
 fn put_cause(out: &mut Vec<u8>, cause: Cause) -> Result<(), NoMemory>
@@ -84,18 +58,18 @@ fn put_cause(out: &mut Vec<u8>, cause: Cause) -> Result<(), NoMemory>
     }
 }
 
-fn put_reply(out: &mut Vec<u8>, reply: &Reply) -> Result<(), NoMemory>
+fn put_reply(out: &mut Vec<u8>, reply: &KeptReply) -> Result<(), NoMemory>
     ensures ok { OnOk result (out.new.items ≡ out.old.items ++ reply_bytes reply.now) }
     ensures fits { OnOk result (IsReply reply.now) }
 {
-    match reply {
-        Reply::Ok(value) => {
+    match reply.answer() {
+        Ok(value) => {
             put_u8(out, 0)?;
             put_any(out, value)
         }
-        Reply::Refused(cause) => {
+        Err(cause) => {
             put_u8(out, 1)?;
-            put_cause(out, *cause)
+            put_cause(out, cause)
         }
     }
 }
@@ -108,17 +82,7 @@ pub fn put_done(out: &mut Vec<u8>, done: &Done) -> Result<(), NoMemory>
     put_u64(out, done.id)?;
     put_call(out, &done.call)?;
     put_u64(out, done.time)?;
-    put_reply(out, &done.reply.get())
-}
-
-// The argument at a place: a value or none.
-fn get_arg(from: &[u8], at: usize) -> Result<(Option<Value>, usize), EntryFault>
-    requires { at ≤ length from.now }
-    ensures read { Answers result (value_at from.now at) }
-    ensures within { IfOk result (λ r. r.1 ≤ length from.now) }
-{
-    let (value, end) = get_value(from, at)?;
-    Ok((value, end))
+    put_reply(out, &done.reply)
 }
 
 // So many arguments, one behind another.
@@ -136,8 +100,8 @@ fn get_each_arg(
     let mut args = Args::with_room(alloc, count as usize)?;
     let mut end = at;
     for _ in 0..count {
-        let (value, after) = get_arg(from, end)?;
-        args.push(value)?;
+        let (value, after) = get_any(alloc, from, end)?;
+        args.push_packed(value)?;
         end = after;
     }
     Ok((args, end))
@@ -205,38 +169,23 @@ fn get_cause(from: &[u8], at: usize) -> Result<(Cause, usize), FieldFault>
     }
 }
 
-#[tactic(auto, unfolding(crate::specs::Calls::reply_at, crate::specs::Calls::reply_of_kind))]
-fn get_reply(from: &[u8], at: usize) -> Result<(Reply, usize), FieldFault>
-    requires { at ≤ length from.now }
-    ensures read { result ≡ reply_at from.now at }
-    ensures within { IfOk result (λ r. r.1 ≤ length from.now) }
-{
-    let (kind, next) = get_u8(from, at)?;
-    match kind {
-        0 => {
-            let (value, end) = get_value(from, next)?;
-            Ok((Reply::Ok(value), end))
-        }
-        1 => {
-            let (cause, end) = get_cause(from, next)?;
-            Ok((Reply::Refused(cause), end))
-        }
-        _ => Err(FieldFault::Bad { at }),
-    }
-}
-
 /// The reply at a place, as it is kept.
+#[tactic(auto, unfolding(crate::specs::Calls::reply_at, crate::specs::Calls::reply_of_kind))]
 pub fn get_kept(alloc: Global, from: &[u8], at: usize) -> Result<(KeptReply, usize), EntryFault>
     requires { at ≤ length from.now }
     ensures read { Answers result (reply_at from.now at) }
     ensures within { IfOk result (λ r. r.1 ≤ length from.now) }
 {
-    let (reply, end) = get_reply(from, at)?;
-    // The proof of the loan wants this field's type in view.
-    if let Reply::Ok(value) = &reply {
-        let _value = value;
+    let (kind, next) = get_u8(from, at)?;
+    if kind == 0 {
+        let (value, end) = get_any(alloc, from, next)?;
+        return Ok((KeptReply::answered(value), end));
     }
-    Ok((KeptReply::of(alloc, &reply)?, end))
+    if kind == 1 {
+        let (cause, end) = get_cause(from, next)?;
+        return Ok((KeptReply::refused(cause), end));
+    }
+    Err(EntryFault::Bad { at })
 }
 
 /// The id, the call and the time at a place.

@@ -8,11 +8,8 @@ ghost use Rattle.coco_entry.specs.Grammar.{Answers, ReadsExactly};
 ghost use Rattle.coco_entry.specs.Rows.{key_rises, rising_key_at, row_bytes, IsRow, row_at, RowRises, prepared_bytes, IsPrepared, prepared_at, prepared_in};
 
 use crate::EntryFault;
-use crate::calls::put_any;
-use crate::fields::{emptied, get_tag, whole};
-use coco_bytes::{
-    FieldFault, get_key, get_u32, get_u64, get_value, put_key, put_u8, put_u32, put_u64,
-};
+use crate::fields::{emptied, get_any, get_tag, put_any, whole};
+use coco_bytes::{FieldFault, get_key, get_u32, get_u64, put_key, put_u8, put_u32, put_u64};
 use coco_types::{Key, NoMemory, Packed, Sequence};
 use std::alloc::Global;
 use std::cmp::Ordering;
@@ -49,7 +46,7 @@ fn put_row(out: &mut Vec<u8>, row: &Row) -> Result<(), NoMemory>
     key_fits(&row.key);
     put_key(out, row.key)?;
     put_u64(out, row.time)?;
-    put_any(out, &row.value.get())?;
+    put_any(out, &row.value)?;
     Ok(())
 }
 
@@ -107,8 +104,7 @@ fn get_row(
 {
     let (key, at) = get_rising_key(from, at, before)?;
     let (time, at) = get_u64(from, at)?;
-    let (value, end) = get_value(from, at)?;
-    let value = Packed::of(alloc, &value)?;
+    let (value, end) = get_any(alloc, from, at)?;
     Ok((Row { key, time, value }, end))
 }
 

@@ -23,7 +23,7 @@ loop-init c = record {
 
 pub loop-preserved : goal.loop-preserved
 loop-preserved c = record {
-  so_far = rest_goes_on (λ _. value_at) c.loop.args c.push.new.self c.args.count c.loop.counter c.args.from.now c.loop.end c.in_ok-value.value c.in_ok-value.after c.loop-test.true c.in_ok-value.ensures.read c.in_ok-push.ensures.ok ∙ c.loop.invariant.so_far;
-  count = omega (arith, ap length c.in_ok-push.ensures.ok, length-append c.loop.args (c.in_ok-value.value ∷ []), c.loop.invariant.count);
+  so_far = rest_goes_on (λ _. value_at) c.loop.args c.push_packed.new.self c.args.count c.loop.counter c.args.from.now c.loop.end c.in_ok-value.value c.in_ok-value.after c.loop-test.true c.in_ok-value.ensures.read c.in_ok-push_packed.ensures.ok ∙ c.loop.invariant.so_far;
+  count = omega (arith, ap length c.in_ok-push_packed.ensures.ok, length-append c.loop.args (c.in_ok-value.value ∷ []), c.loop.invariant.count);
   within = c.in_ok-value.ensures.within;
 }
