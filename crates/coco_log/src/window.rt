@@ -10,8 +10,9 @@ use coco_host::Host;
 use coco_types::NoMemory;
 use std::alloc::Global;
 
-// How many bytes one read asks for at least.
-const PIECE: usize = 65536;
+// How many bytes one read asks for at least. Once a buffer of this size was given back, the C library's allocator keeps
+// as much at hand, so that the epochs that follow touch no fresh pages.
+const PIECE: usize = 1_048_576;
 
 /// A piece of a file, as it was read last, in a buffer that grows with what is wanted at once.
 #[derive(Drop)]
