@@ -1,8 +1,9 @@
 -- How variables are gathered.
-use Rattle.std.proofs.Common.{◌≡◌, ℕ, ◌+◌, ◌<◌, Bool, true, false, cond, ◌&&◌, nat_eq, List, [], ◌∷◌, ◌++◌, length, drop, get_or, slice_get, None, Some, refl, ap, sym, ◌∙◌, append_assoc}
+use Rattle.std.proofs.Common.{◌≡◌, ℕ, ◌+◌, ◌<◌, Bool, true, false, cond, ◌&&◌, nat_eq, List, [], ◌∷◌, ◌++◌, length, take, drop, get_or, slice_get, None, Some, refl, ap, sym, subst, ◌∙◌, append_assoc}
+use Rattle.std.proofs.Math.ListN.{set}
 use Rattle.std.specs.Cmp.Lexicographic.{pointwise, bytes_decides}
 use Rattle.std.proofs.lemmas.Bool.{and_parts}
-use Rattle.std.proofs.lemmas.List.{map-append}
+use Rattle.std.proofs.lemmas.List.{map-append, take_more_set}
 use Rattle.std.proofs.lemmas.Option.{get_or_from_slice_get, slice_get_within}
 use Rattle.coco_ast.specs.Meaning.{Datum, Variables, variable_at, bound}
 use Rattle.coco_ast.specs.Tree.{Statement, Let, Get, Put, Delete, If, IfElse, Repeat, Refuse, Reply, Statements, End, Then}
@@ -40,6 +41,13 @@ slot_added (v ∷ vs) x = is_or (pointwise nat_eq v.name x) _ (slot_added vs x)
 
 pub added : (vs : List Variable) (x : List ℕ) → IsGrown (variables_of vs) (variables_of (vs ++ record { name = x; value = None } ∷ []))
 added vs x = record { values = values_more vs x; slots = slots_more vs x }
+
+-- the variable that stands next in a list with more behind comes back without its value
+pub one_more : (list us : List Variable) (used : ℕ) (x : List ℕ) (d : Datum) → take used list ≡ us → used < length list → d ≡ None
+    → IsGrown (variables_of us) (variables_of (take (used + 1) (set list used (record { name = x; value = d }))))
+one_more list us used x d front lt none =
+    let is = ap (λ (e : Datum). take (used + 1) (set list used (record { name = x; value = e }))) none ∙ take_more_set list used (new_slot x) lt ∙ ap (λ (vs : List Variable). vs ++ new_slot x ∷ []) front in
+    subst (λ (vs : List Variable). IsGrown (variables_of us) (variables_of vs)) (sym is) (added us x)
 
 pub grown_on : (a b c : Variables) → IsGrown a b → IsGrown b c → IsGrown a c
 grown_on a b c one other = record { values = λ x. other.values x ∙ one.values x; slots = λ x h. other.slots x (one.slots x h) }

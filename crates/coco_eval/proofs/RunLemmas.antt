@@ -9,7 +9,7 @@ use Rattle.coco_ast.specs.Meaning.{value_of, key_of}
 use Rattle.coco_ast.specs.Tree.{Expression, RowPlace, Statement, Let, Get, Put, Delete, If, IfElse, Repeat, Refuse, Reply, Statements, End, Then}
 use Rattle.coco_ast.specs.Views.{statement_of, statements_of}
 use Rattle.coco_ast.specs.declared.tree.Stmt.{Stmt}
-use Rattle.coco_eval.specs.Moves.{kept_of, Ahead, Moves, MovesBlock, MovesOne, MovesTurns, Settles, HasRoom, on_way}
+use Rattle.coco_eval.specs.Moves.{kept_of, Ahead, Moves, MovesBlock, MovesGet, MovesOne, MovesTurns, Settles, HasRoom, on_way}
 use Rattle.coco_eval.specs.Places.{Kept, Onward, Goes, behind, with, with_given, with_variable, with_write, turns, runs_one, runs, from, goes_on_first, goes_on_one, goes_on_repeat, goes_on, weight_first, weight_one, weight_repeat, weight_on, depth_one, depth, are_bounded_in, are_bounded}
 use Rattle.coco_eval.specs.declared.machine.Frame.{Frame}
 use Rattle.coco_eval.specs.declared.machine.Machine.{Machine}
@@ -338,6 +338,33 @@ pub settled_put : (s : Stop) (ts : List (List ℕ)) (st : Statement) (p : RowPla
 settled_put s ts st p e w fs old new is path to =
     subst (λ (t : Statement). MovesOne s ts t w fs old new) (sym is)
     (settled s _ 1 (λ v gs m. goes_on_one m ts v (goes_on m ts gs) (Put p e)) (λ v gs. weight_one v (weight_on gs) (Put p e)) 0 old new path to)
+
+pub got : (s : Stop) (ts : List (List ℕ)) (st : Statement) (x : List ℕ) (p : RowPlace) (old new : Machine) → st ≡ Get x p → MovesGet s ts x p way.Fresh old new → MovesOne s ts st way.Fresh [] old new
+got s ts st x p old new is to = subst (λ (t : Statement). MovesOne s ts t way.Fresh [] old new) (sym is) to
+
+-- it has no block, and asks for nothing
+abbrev pub is_plain : Statement → Bool
+is_plain (Let x e) = true
+is_plain (Get x p) = false
+is_plain (Put p e) = true
+is_plain (Delete p) = true
+is_plain (If e b) = false
+is_plain (IfElse e b d) = false
+is_plain (Repeat n x b) = false
+is_plain (Refuse n) = true
+is_plain (Reply e) = true
+
+-- there is no place within it
+pub plain : (s : Stop) (ts : List (List ℕ)) (st : Statement) (w : Way) (fs : List Frame) (old new : Machine) → is_plain st ≡ true → MovesOne s ts st way.Fresh [] old new → MovesOne s ts st w fs old new
+plain s ts (Let x e) w fs old new is to = to
+plain s ts (Get x p) w fs old new is to = let e : false ≡ true = is in cc
+plain s ts (Put p e) w fs old new is to = to
+plain s ts (Delete p) w fs old new is to = to
+plain s ts (If e b) w fs old new is to = let e : false ≡ true = is in cc
+plain s ts (IfElse e b d) w fs old new is to = let e : false ≡ true = is in cc
+plain s ts (Repeat n x b) w fs old new is to = let e : false ≡ true = is in cc
+plain s ts (Refuse n) w fs old new is to = to
+plain s ts (Reply e) w fs old new is to = to
 
 pub repeated : (s : Stop) (ts : List (List ℕ)) (st : Statement) (n : ℕ) (x : List ℕ) (b : Statements) (w : Way) (fs : List Frame) (old new : Machine) → st ≡ Repeat n x b
     → MovesTurns s ts n x b (λ m. goes_on_repeat w (goes_on m ts fs) (runs m ts) n x b (kept_of old)) (weight_repeat w (weight_on fs) n b) old new → MovesOne s ts st w fs old new

@@ -1,5 +1,6 @@
 pub mod Advance
 pub mod EvaluationCode
+pub mod Holding
 pub mod Keeping
 pub mod Lending
 pub mod Moves

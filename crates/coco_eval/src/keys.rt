@@ -1,8 +1,9 @@
 //! Keys: those that places name, and what is known of one.
-ghost use Rattle.std.specs.Prelude.{◌≡◌, ◌+◌, ◌<◌, ◌≤◌, ◌^◌, length, vec_capacity, vec_len, MatchResult, slice_set, insert};
+ghost use Rattle.std.specs.Prelude.{◌≡◌, ◌+◌, ◌<◌, ◌≤◌, ◌^◌, length, vec_capacity, vec_len, MatchResult, slice_set, insert, Some};
 ghost use Rattle.std.specs.Option.{option_copied};
 ghost use Rattle.coco_ast.specs.Meaning.{Datum, key_of, place_of as table_number, put_write, row_key};
 ghost use Rattle.coco_ast.specs.Views.{place_of};
+ghost use Rattle.coco_types.specs.declared.value.Value.TheVariants.{Int};
 ghost use Rattle.coco_eval.specs.Lending.{datum_of};
 ghost use Rattle.coco_eval.specs.Places.{written_at, given_at};
 ghost use Rattle.coco_eval.specs.Slots.{variables_of};
@@ -10,7 +11,7 @@ ghost use Rattle.coco_eval.specs.Slots.{variables_of};
 use crate::machine::Given;
 use crate::names::are_same_names;
 use crate::operand::{Operand, owned};
-use crate::values::value;
+use crate::values::{leaf, value};
 use crate::variables::Variable;
 use coco_ast::{Name, Place};
 use coco_types::{Cause, Key, Value, Write};
@@ -22,6 +23,9 @@ pub fn key(tables: &[Name], variables: &[Variable], place: &Place) -> Result<Key
     requires { length tables.now < 2 ^ 16 }
     ensures { result ≡ key_of tables.now (variables_of variables.now) (place_of place.now) }
 {
+    if let Some(row) = leaf(&place.row, variables) {
+        return numbered_key(table_number(tables, &place.table), row);
+    }
     match value(&place.row, variables) {
         Ok(row) => row_key(table_number(tables, &place.table), &row),
         Err(cause) => Err(cause),
@@ -44,11 +48,17 @@ fn row_key(table: u16, row: &Operand<'_>) -> Result<Key, Cause>
     ensures { result ≡ row_key table (datum_of row.now) }
 {
     match row {
-        Operand::Int(row) => match u64::try_from(*row) {
-            Ok(row) => Ok(Key { table, row }),
-            Err(_) => Err(Cause::BadRow),
-        },
+        Operand::Int(row) => numbered_key(table, *row),
         Operand::None | Operand::Text(_) => Err(Cause::Kind),
+    }
+}
+
+fn numbered_key(table: u16, row: i64) -> Result<Key, Cause>
+    ensures { result ≡ row_key table (Some (Int row)) }
+{
+    match u64::try_from(row) {
+        Ok(row) => Ok(Key { table, row }),
+        Err(_) => Err(Cause::BadRow),
     }
 }
 

@@ -2,6 +2,7 @@
 #![tactic(auto)]
 
 mod advance;
+mod held;
 mod keys;
 mod machine;
 mod names;

@@ -19,7 +19,7 @@ pub enum Way {
     Given,
     Then,
     Else,
-    Turn(u64),
+    Turn(u8),
 }
 
 /// Where a run stands within a block.

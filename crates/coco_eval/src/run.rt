@@ -11,7 +11,7 @@ ghost use Rattle.coco_eval.specs.Standing.{Ready, Asks, Ended, IsSound};
 use crate::advance::{advance, procedure, settle};
 use crate::machine::{Frame, Given, Machine};
 use crate::noted::Noted;
-use crate::room::prepare;
+use crate::room::{prepare, prepare_again};
 use coco_ast::Checked;
 use coco_types::{Call, Key, NoMemory, Reply, Value, Writes};
 use std::alloc::Global;
@@ -93,7 +93,14 @@ impl Run {
         let Some(proc) = procedure(procs, call.proc_no) else {
             unreachable!()
         };
-        prepare(&mut self.machine, &mut self.spare, proc, &call.args)?;
+        let is_same = call.proc_no == self.number;
+        prepare_again(
+            &mut self.machine,
+            &mut self.spare,
+            proc,
+            &call.args,
+            is_same,
+        )?;
         self.procs = Noted::of(procs);
         self.call = Noted::of(call);
         self.number = call.proc_no;

@@ -66,7 +66,7 @@ impl Machine {
             (key_weight (from first (statements_of block.now))) self.old self.new }
     {
         for at in first..block.len() {
-            match self.statement(tables, &block[at], Way::Fresh, &[]) {
+            match self.fresh(tables, &block[at]) {
                 Stop::Goes => {}
                 Stop::Asks(way) => return self.stand(at, way),
                 Stop::Ends => return Stop::Ends,
@@ -87,6 +87,46 @@ impl Machine {
         Stop::Asks(way)
     }
 
+    // Runs a statement from its start.
+    #[cycle(run)]
+    fn fresh(&mut self, tables: &[Name], statement: &Stmt) -> Stop
+        requires tables { length tables.now < 2 ^ 16 }
+        requires bounded { are_bounded_in (statement_of statement.now) ≡ true }
+        requires room { HasRoom (weight_one Way.Fresh (weight_on []) (statement_of statement.now)) (depth_one (statement_of statement.now)) self.old }
+        ensures { MovesOne result tables.now (statement_of statement.now) Way.Fresh [] self.old self.new }
+    {
+        match statement {
+            Stmt::Let { name, value } => self.assign(name, value),
+            Stmt::Get { name, place } => self.ask(tables, name, place),
+            Stmt::Put { place, value } => self.put(tables, place, value),
+            Stmt::Delete { place } => self.delete(tables, place),
+            Stmt::If {
+                test,
+                yes,
+                no: None,
+            } => match self.takes_first(test, Way::Fresh) {
+                Ok(true) => on_way(self.block(tables, yes, &[]), Way::Then),
+                Ok(false) => Stop::Goes,
+                Err(cause) => self.refuse(cause),
+            },
+            Stmt::If {
+                test,
+                yes,
+                no: Some(no),
+            } => match self.takes_first(test, Way::Fresh) {
+                Ok(true) => on_way(self.block(tables, yes, &[]), Way::Then),
+                Ok(false) => on_way(self.block(tables, no, &[]), Way::Else),
+                Err(cause) => self.refuse(cause),
+            },
+            Stmt::Repeat { bound, name, block } => {
+                self.repeat(tables, *bound, name, block, Way::Fresh, &[])
+            }
+            Stmt::Refuse(number) => self.refuse(Cause::User(*number)),
+            Stmt::Reply(value) => self.answer(value),
+        }
+    }
+
+    // Runs a statement from a place within it on.
     #[cycle(run)]
     fn statement(&mut self, tables: &[Name], statement: &Stmt, way: Way, inner: &[Frame]) -> Stop
         requires tables { length tables.now < 2 ^ 16 }
@@ -95,10 +135,7 @@ impl Machine {
         ensures { MovesOne result tables.now (statement_of statement.now) way (reverse inner.now) self.old self.new }
     {
         match statement {
-            Stmt::Let { name, value } => self.assign(name, value),
             Stmt::Get { name, place } => self.get(tables, name, place, way),
-            Stmt::Put { place, value } => self.put(tables, place, value),
-            Stmt::Delete { place } => self.delete(tables, place),
             Stmt::If {
                 test,
                 yes,
@@ -120,8 +157,11 @@ impl Machine {
             Stmt::Repeat { bound, name, block } => {
                 self.repeat(tables, *bound, name, block, way, inner)
             }
-            Stmt::Refuse(number) => self.refuse(Cause::User(*number)),
-            Stmt::Reply(value) => self.answer(value),
+            Stmt::Let { .. }
+            | Stmt::Put { .. }
+            | Stmt::Delete { .. }
+            | Stmt::Refuse(_)
+            | Stmt::Reply(_) => self.fresh(tables, statement),
         }
     }
 
@@ -145,7 +185,9 @@ impl Machine {
     {
         match way {
             Way::Turn(turn) => match self.block(tables, block, inner) {
-                Stop::Goes if turn < bound => self.turns(tables, turn + 1, bound, name, block),
+                Stop::Goes if u64::from(turn) < bound => {
+                    self.turns(tables, u64::from(turn) + 1, bound, name, block)
+                }
                 stop => on_way(stop, way),
             },
             _ => self.turns(tables, 0, bound, name, block),
@@ -175,7 +217,7 @@ impl Machine {
             self.count(name, turn);
             match self.block(tables, block, &[]) {
                 Stop::Goes => {}
-                stop => return on_way(stop, Way::Turn(turn)),
+                stop => return on_way(stop, Way::Turn(turn as u8)),
             }
         }
         Stop::Goes
@@ -223,10 +265,18 @@ impl Machine {
                 self.variables.set(name, &newest(&self.given));
                 Stop::Goes
             }
-            _ => match key(tables, self.variables.as_slice(), place) {
-                Ok(key) => self.read(name, key),
-                Err(cause) => self.refuse(cause),
-            },
+            _ => self.ask(tables, name, place),
+        }
+    }
+
+    fn ask(&mut self, tables: &[Name], name: &Name, place: &Place) -> Stop
+        requires tables { length tables.now < 2 ^ 16 }
+        requires room { HasRoom 1 0 self.old }
+        ensures { MovesGet result tables.now name.now (place_of place.now) Way.Fresh self.old self.new }
+    {
+        match key(tables, self.variables.as_slice(), place) {
+            Ok(key) => self.read(name, key),
+            Err(cause) => self.refuse(cause),
         }
     }
 

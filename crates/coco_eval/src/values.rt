@@ -1,7 +1,8 @@
 //! The values of expressions.
-ghost use Rattle.std.specs.Prelude.{◌≡◌, not, neg_ℤ, IfSome, Ok};
+ghost use Rattle.std.specs.Prelude.{◌≡◌, not, neg_ℤ, IfSome, Ok, Some};
 ghost use Rattle.coco_ast.specs.Meaning.{value_of, combined, numbers, number_of, and_then, is_true, truth, within_range};
-ghost use Rattle.coco_ast.specs.Tree.{Add, Subtract, Multiply, Divide, Remainder};
+ghost use Rattle.coco_ast.specs.Tree.{Two, None as Nothing, Add, Subtract, Multiply, Divide, Remainder};
+ghost use Rattle.coco_types.specs.declared.value.Value.TheVariants.{Int};
 ghost use Rattle.coco_ast.specs.Views.{expression_of, sign_of};
 ghost use Rattle.coco_eval.specs.Lending.{datum_of, computed_of, whole_of};
 ghost use Rattle.coco_eval.specs.Slots.{variables_of};
@@ -12,30 +13,115 @@ use coco_ast::{Expr, TwoOp};
 use coco_types::Cause;
 
 /// What an expression comes to. The value is lent from the expression or from the variables. Most
-/// expressions are names and numbers, so these are read in place, and the others by a call.
+/// expressions are whole numbers of one operator at most, and these take the quick way.
 #[inline(always)]
 pub fn value<'a>(expr: &'a Expr, variables: &'a [Variable]) -> Result<Operand<'a>, Cause>
     ensures { computed_of result ≡ value_of (variables_of variables.now) (expression_of expr.now) }
 {
-    match plain(expr, variables) {
-        Some(value) => Ok(value),
-        None => paired(expr, variables),
+    match quick(expr, variables) {
+        Some(number) => Ok(Operand::Int(number)),
+        None => any(expr, variables),
     }
 }
 
-// Two names or numbers with an operator between them are read in place, too.
-#[inline(always)]
-fn paired<'a>(expr: &'a Expr, variables: &'a [Variable]) -> Result<Operand<'a>, Cause>
+fn any<'a>(expr: &'a Expr, variables: &'a [Variable]) -> Result<Operand<'a>, Cause>
     ensures { computed_of result ≡ value_of (variables_of variables.now) (expression_of expr.now) }
 {
-    if let Expr::Two { op, left, right } = expr {
-        if let Some(left) = plain(left, variables) {
-            if let Some(right) = plain(right, variables) {
-                return whole(combination(*op, &left, &right));
-            }
-        }
+    match nested(expr, variables) {
+        Some(number) => Ok(Operand::Int(number)),
+        None => computed(expr, variables),
     }
-    computed(expr, variables)
+}
+
+// The whole number that an expression comes to. None says nothing: the expression may have operators within
+// one another, come to a text or to none, or be refused. It calls nothing, so that it takes no room.
+fn quick(expr: &Expr, variables: &[Variable]) -> Option<i64>
+    ensures { IfSome result (λ n. value_of (variables_of variables.now) (expression_of expr.now) ≡ Ok (Some (Int n))) }
+{
+    let Expr::Two { op, left, right } = expr else {
+        return leaf(expr, variables);
+    };
+    if matches!(&**right, Expr::None) {
+        return beside_none(*op, left, variables);
+    }
+    let left = leaf(left, variables)?;
+    let right = leaf(right, variables)?;
+    simple(*op, left, right)
+}
+
+// The same of an expression with operators within one another.
+#[cycle(nested)]
+fn nested(expr: &Expr, variables: &[Variable]) -> Option<i64>
+    ensures { IfSome result (λ n. value_of (variables_of variables.now) (expression_of expr.now) ≡ Ok (Some (Int n))) }
+{
+    let Expr::Two { op, left, right } = expr else {
+        return None;
+    };
+    let left = nested_or_quick(left, variables)?;
+    let right = nested_or_quick(right, variables)?;
+    of_numbers(*op, left, right).ok()
+}
+
+#[cycle(nested)]
+fn nested_or_quick(expr: &Expr, variables: &[Variable]) -> Option<i64>
+    ensures { IfSome result (λ n. value_of (variables_of variables.now) (expression_of expr.now) ≡ Ok (Some (Int n))) }
+{
+    match quick(expr, variables) {
+        Some(number) => Some(number),
+        None => nested(expr, variables),
+    }
+}
+
+/// The number that a name or a number is.
+#[inline(always)]
+pub fn leaf(expr: &Expr, variables: &[Variable]) -> Option<i64>
+    ensures { IfSome result (λ n. value_of (variables_of variables.now) (expression_of expr.now) ≡ Ok (Some (Int n))) }
+{
+    match expr {
+        Expr::Number(number) => Some(*number),
+        Expr::Var(name) => match value_at(variables, name) {
+            Operand::Int(number) => Some(number),
+            Operand::None | Operand::Text(_) => None,
+        },
+        _ => None,
+    }
+}
+
+// A variable is compared with `none`.
+#[inline(always)]
+fn beside_none(op: TwoOp, left: &Expr, variables: &[Variable]) -> Option<i64>
+    ensures { IfSome result (λ n. value_of (variables_of variables.now) (Two (sign_of op) (expression_of left.now) Nothing) ≡ Ok (Some (Int n))) }
+{
+    let Expr::Var(name) = left else {
+        return None;
+    };
+    let is_none = are_same(&value_at(variables, name), &Operand::None);
+    match op {
+        TwoOp::Equal => Some(as_number(is_none)),
+        TwoOp::NotEqual => Some(as_number(!is_none)),
+        _ => None,
+    }
+}
+
+// What an operator makes of two whole numbers, if it does not divide and is not refused.
+#[inline(always)]
+fn simple(op: TwoOp, left: i64, right: i64) -> Option<i64>
+    ensures { IfSome result (λ n. numbers (sign_of op) left right ≡ Ok (Some (Int n))) }
+{
+    match op {
+        TwoOp::Add => left.checked_add(right),
+        TwoOp::Subtract => left.checked_sub(right),
+        TwoOp::Multiply => left.checked_mul(right),
+        TwoOp::Divide | TwoOp::Remainder => None,
+        TwoOp::Equal => Some(as_number(left == right)),
+        TwoOp::NotEqual => Some(as_number(left != right)),
+        TwoOp::Less => Some(as_number(left < right)),
+        TwoOp::AtMost => Some(as_number(left <= right)),
+        TwoOp::Greater => Some(as_number(left > right)),
+        TwoOp::AtLeast => Some(as_number(left >= right)),
+        TwoOp::And => Some(as_number(left != 0 && right != 0)),
+        TwoOp::Or => Some(as_number(left != 0 || right != 0)),
+    }
 }
 
 // The value of a name, a number or `none`, and None for any other expression.

@@ -1,13 +1,15 @@
 //! The variables of a run.
-ghost use Rattle.std.specs.Prelude.{◌≡◌, ◌<◌, ◌∷◌, ◌++◌, [], length, slice_set, slice_index_or, OnOk, OnErr, MatchOption};
+ghost use Rattle.std.specs.Prelude.{◌≡◌, ◌<◌, ◌∷◌, ◌++◌, [], true, false, Some, length, slice_set, slice_index_or, OnOk, OnErr, MatchOption};
 ghost use Rattle.coco_ast.specs.Meaning.{Datum, variable_at};
+ghost use Rattle.coco_types.specs.declared.value.Value.TheVariants.{Int};
 ghost use Rattle.coco_eval.specs.Lending.{datum_of};
-ghost use Rattle.coco_eval.specs.Slots.{variables_of, set_at};
+ghost use Rattle.coco_eval.specs.Slots.{variables_of, set_at, IsGrown};
 
+use crate::held::Held;
 use crate::names::are_same_names;
-use crate::operand::{Operand, lend, owned, store};
+use crate::operand::Operand;
 use coco_ast::Name;
-use coco_types::{NoMemory, Value};
+use coco_types::NoMemory;
 use std::alloc::Global;
 use std::marker::Model;
 
@@ -15,7 +17,7 @@ use std::marker::Model;
 #[derive(Debug, Drop)]
 pub struct Variable {
     pub name: Name,
-    pub value: Option<Value>,
+    pub value: Held,
 }
 
 /// Variables in a list that may be longer: those behind them are of an earlier run, and lend their
@@ -69,12 +71,37 @@ impl Slots {
         if self.used < self.list.len() {
             let variable = &mut self.list[self.used];
             variable.name = *name;
-            store(&mut variable.value, value);
+            variable.value.store(value);
         } else {
             push_new(&mut self.list, name, value)?;
         }
         self.used += 1;
         Ok(())
+    }
+
+    /// Adds a variable of a whole number, where an earlier run has left the room. It answers whether it has.
+    pub fn push_number(&mut self, name: &Name, number: i64) -> bool
+        ensures yes { result ≡ true → self.new ≡ self.old ++ record { name = name.now; value = Some (Int number) } ∷ [] }
+        ensures no { result ≡ false → self.new ≡ self.old }
+    {
+        if self.used >= self.list.len() {
+            return false;
+        }
+        let variable = &mut self.list[self.used];
+        variable.name = *name;
+        variable.value.store_number(number);
+        self.used += 1;
+        true
+    }
+
+    /// Adds the variable that stood next in an earlier run, without its value, where there was one.
+    pub fn reuse(&mut self)
+        ensures { IsGrown (variables_of self.old) (variables_of self.new) }
+    {
+        if self.used < self.list.len() {
+            self.list[self.used].value.clear();
+            self.used += 1;
+        }
     }
 
     /// Sets the variable of a name, where there is one.
@@ -83,7 +110,7 @@ impl Slots {
         ensures { variables_of self.new ≡ set_at (variables_of self.old) name.now (datum_of value.now) }
     {
         if let Some(at) = place_of(self.as_slice(), name) {
-            store(&mut self.list[at].value, value);
+            self.list[at].value.store(value);
         }
     }
 }
@@ -97,7 +124,7 @@ fn push_new(list: &mut Vec<Variable>, name: &Name, value: &Operand<'_>) -> Resul
 {
     list.push(Variable {
         name: *name,
-        value: owned(value),
+        value: Held::of(value),
     })?;
     Ok(())
 }
@@ -110,7 +137,7 @@ pub fn value_at<'a>(variables: &'a [Variable], name: &Name) -> Operand<'a>
     let mut rest = variables;
     while let Some((variable, others)) = rest.split_first() {
         if are_same_names(&variable.name, name) {
-            return lend(&variable.value);
+            return variable.value.lend();
         }
         rest = others;
     }

@@ -1,6 +1,6 @@
-use Rattle.std.proofs.Common.{rules, ◌≡◌, ◌-◌, ◌*◌, [], ◌∷◌, List, reverse, ap, sym, subst, ◌∙◌, arith}
+use Rattle.std.proofs.Common.{rules, ◌≡◌, true, inl, inr, ◌-◌, ◌*◌, [], ◌∷◌, List, reverse, ap, sym, subst, ◌∙◌, arith}
 use Rattle.coco_ast.specs.Checks.{key_weight}
-use Rattle.coco_ast.specs.Tree.{Put, Repeat}
+use Rattle.coco_ast.specs.Tree.{Get, Put, Repeat}
 use Rattle.coco_ast.specs.Views.{statement_of, statements_of, place_of, expression_of}
 use Rattle.coco_ast.specs.declared.tree.Stmt.{Stmt, the_lemmas}
 use Rattle.coco_eval.specs.Moves.{kept_of, MovesBlock, MovesTurns, on_way}
@@ -8,13 +8,42 @@ use Rattle.coco_eval.specs.Places.{goes_on, goes_on_repeat, weight_repeat, turns
 use Rattle.coco_eval.specs.declared.machine.Stop.{Stop}
 use Rattle.coco_eval.specs.declared.machine.Stop.TheVariants as stop
 use Rattle.coco_eval.specs.declared.machine.Way.TheVariants as way
-use Rattle.coco_eval.proofs.RunLemmas.{is_at, room_at, room_behind, gone, ended, asked, since, led_on, fresh_led, through, through_first, settled_put, repeated, room_turn, turned, turn_stops}
+use Rattle.coco_eval.proofs.RunLemmas.{is_at, room_at, room_behind, gone, ended, asked, since, led_on, fresh_led, through, through_first, settled_put, got, is_plain, plain, repeated, room_turn, turned, turn_stops}
 use Rattle.coco_eval.proofs.machine.Machine.+run.Goals as goal
 
-pub statement-returns-in-Put : goal.statement-returns-in-Put
-statement-returns-in-Put t c =
+pub fresh-returns-in-Put : goal.fresh-returns-in-Put
+fresh-returns-in-Put t c =
     let is : statement_of c.args.statement.now ≡ Put (place_of c.in-Put.place) (expression_of c.in-Put.value) = rw c.in-Put.is (search (rules, the_lemmas)) in
-    settled_put c.put.result c.args.tables.now (statement_of c.args.statement.now) _ _ c.args.way (reverse c.args.inner.now) c.args.self.now c.put.new.self is c.requires.room.path c.put.ensures
+    settled_put c.put.result c.args.tables.now (statement_of c.args.statement.now) _ _ way.Fresh [] c.args.self.now c.put.new.self is c.requires.room.path c.put.ensures
+
+pub fresh-returns-in-Repeat : goal.fresh-returns-in-Repeat
+fresh-returns-in-Repeat t c =
+    let is : statement_of c.args.statement.now ≡ Repeat c.in-Repeat.bound c.in-Repeat.name (statements_of c.in-Repeat.block.items) = rw c.in-Repeat.is (search (rules, the_lemmas)) in
+    let block = c.deref-in-Repeat.result.now in
+    repeated c.repeat.result c.args.tables.now (statement_of c.args.statement.now) c.in-Repeat.bound c.in-Repeat.name (statements_of block) way.Fresh [] c.args.self.now c.repeat.new.self
+    (is ∙ ap (λ (ss : List Stmt). Repeat c.in-Repeat.bound c.in-Repeat.name (statements_of ss)) (sym c.deref-in-Repeat.ensures.value)) c.repeat.ensures
+
+pub fresh-returns-in-Get : goal.fresh-returns-in-Get
+fresh-returns-in-Get t c =
+    let is : statement_of c.args.statement.now ≡ Get c.in-Get.name (place_of c.in-Get.place) = rw c.in-Get.is (search (rules, the_lemmas)) in
+    got c.ask.result c.args.tables.now (statement_of c.args.statement.now) c.in-Get.name (place_of c.in-Get.place) c.args.self.now c.ask.new.self is c.ask.ensures
+
+pub statement-returns-in-Let : goal.statement-returns-in-Let
+statement-returns-in-Let t c =
+    let alone : is_plain (statement_of c.args.statement.now) ≡ true = elim c.in-Let.is [
+      | inl w ↦ rw w.2 (search (rules, the_lemmas))
+      | inr u ↦ elim u [
+        | inl w ↦ rw w.2 (search (rules, the_lemmas))
+        | inr v ↦ elim v [
+          | inl w ↦ rw w.1 (search (rules, the_lemmas))
+          | inr k ↦ elim k [
+            | inl w ↦ rw w.1 (search (rules, the_lemmas))
+            | inr w ↦ rw w.1 (search (rules, the_lemmas))
+          ]
+        ]
+      ]
+    ] in
+    plain c.fresh.result c.args.tables.now (statement_of c.args.statement.now) c.args.way (reverse c.args.inner.now) c.args.self.now c.fresh.new.self alone c.fresh.ensures
 
 pub statement-returns-in-Repeat : goal.statement-returns-in-Repeat
 statement-returns-in-Repeat t c =
@@ -81,8 +110,8 @@ within-returns-in-Ends t c =
     let at = is_at c.args.block.now c.args.frame.at c.index-block-frame.result c.if-frame-block.false c.index-block-frame.is in
     ended c.args.tables.now c.args.frame.at (statements_of c.args.block.now) (statement_of c.index-block-frame.result) c.args.frame.way (reverse c.args.inner.now) c.args.self.now c.statement.new.self at c.in-Ends.ensures
 
-pub behind-statement-requires : goal.behind-statement-requires
-behind-statement-requires t c =
+pub behind-fresh-requires : goal.behind-fresh-requires
+behind-fresh-requires t c =
     let at = is_at c.args.block.now c.loop-at.at c.index-block-at.result c.loop-at-test.true c.index-block-at.is in let b = statements_of c.args.block.now in let ts = c.args.tables.now in (
       search (rules, the_lemmas),
       (
@@ -106,23 +135,23 @@ behind-returns-in-Asks t c =
     subst (λ (s : Stop). MovesBlock s ts b (λ m. runs m ts (from c.args.first b) (kept_of c.args.self.now)) (key_weight (from c.args.first b)) c.args.self.now c.stand.new.self) (sym c.stand.ensures.stop)
     (since (stop.Asks c.in-Asks.way) _ _ (λ w fs m. goes_on m ts fs b) _ _ (λ w fs. weight_on fs b) (depth b) c.args.self.now c.loop-at.self c.stand.new.self
     (fresh_led _ ts (from c.loop-at.at b) _ c.args.self.now c.loop-at.self c.loop-at.invariant.led)
-    (asked ts c.loop-at.at b (statement_of c.index-block-at.result) c.in-Asks.way way.Fresh [] c.loop-at.self c.statement.new.self c.stand.new.self at c.in-Asks.ensures
+    (asked ts c.loop-at.at b (statement_of c.index-block-at.result) c.in-Asks.way way.Fresh [] c.loop-at.self c.fresh.new.self c.stand.new.self at c.in-Asks.ensures
     (record { path = c.stand.ensures.path; room = c.stand.ensures.room; others = c.stand.ensures.others })))
 
 pub behind-returns-in-Ends : goal.behind-returns-in-Ends
 behind-returns-in-Ends t c =
     let at = is_at c.args.block.now c.loop-at.at c.index-block-at.result c.loop-at-test.true c.index-block-at.is in let b = statements_of c.args.block.now in let ts = c.args.tables.now in
-    since stop.Ends _ _ (λ w fs m. goes_on m ts fs b) _ _ (λ w fs. weight_on fs b) (depth b) c.args.self.now c.loop-at.self c.statement.new.self
+    since stop.Ends _ _ (λ w fs m. goes_on m ts fs b) _ _ (λ w fs. weight_on fs b) (depth b) c.args.self.now c.loop-at.self c.fresh.new.self
     (fresh_led _ ts (from c.loop-at.at b) _ c.args.self.now c.loop-at.self c.loop-at.invariant.led)
-    (ended ts c.loop-at.at b (statement_of c.index-block-at.result) way.Fresh [] c.loop-at.self c.statement.new.self at c.in-Ends.ensures)
+    (ended ts c.loop-at.at b (statement_of c.index-block-at.result) way.Fresh [] c.loop-at.self c.fresh.new.self at c.in-Ends.ensures)
 
 pub behind-loop-at-preserved : goal.behind-loop-at-preserved
 behind-loop-at-preserved t c =
     let at = is_at c.args.block.now c.loop-at.at c.index-block-at.result c.loop-at-test.true c.index-block-at.is in let b = statements_of c.args.block.now in let ts = c.args.tables.now in
     record {
       path = c.in-Goes.ensures.reaches.1;
-      led = led_on _ _ _ _ _ _ c.args.self.now c.loop-at.self c.statement.new.self (fresh_led _ ts (from c.loop-at.at b) _ c.args.self.now c.loop-at.self c.loop-at.invariant.led)
-          (gone ts c.loop-at.at b (statement_of c.index-block-at.result) way.Fresh [] c.loop-at.self c.statement.new.self at c.in-Goes.ensures);
+      led = led_on _ _ _ _ _ _ c.args.self.now c.loop-at.self c.fresh.new.self (fresh_led _ ts (from c.loop-at.at b) _ c.args.self.now c.loop-at.self c.loop-at.invariant.led)
+          (gone ts c.loop-at.at b (statement_of c.index-block-at.result) way.Fresh [] c.loop-at.self c.fresh.new.self at c.in-Goes.ensures);
     }
 
 pub behind-returns : goal.behind-returns

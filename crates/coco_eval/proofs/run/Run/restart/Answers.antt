@@ -9,7 +9,7 @@ use Rattle.coco_eval.proofs.run.Run.restart.Goals as goal
 
 pub invariant_of-self-2 : goal.invariant_of-self-2
 invariant_of-self-2 c =
-    let m = c.prepare.new.machine in let spare = c.prepare.new.spare in let ws = c.self.inside.writes in let call = c.args.call.now in
+    let m = c.prepare_again.new.machine in let spare = c.prepare_again.new.spare in let ws = c.self.inside.writes in let call = c.args.call.now in
     subst (λ (ps : Procedures). IsRunOf ps c.of-2.result.value call.proc_no m spare ws stage.Ready) (sym c.of.ensures)
     (subst (λ (d : Call). IsRunOf c.args.procs.now d call.proc_no m spare ws stage.Ready) (sym c.of-2.ensures)
-    (begun c.args.procs.now call (procedure_of c.in-Some.proc.now) m spare ws c.in-Some.ensures.accepted (sym c.in-Some.ensures.value) c.in_ok-prepare.ensures.ok))
+    (begun c.args.procs.now call (procedure_of c.in-Some.proc.now) m spare ws c.in-Some.ensures.accepted (sym c.in-Some.ensures.value) c.in_ok-prepare_again.ensures.ok))
