@@ -11,3 +11,4 @@ pub mod ReadingLemmas
 pub mod ReadsLemmas
 pub mod ReplyLemmas
 pub mod TextLemmas
+pub mod TokenLemmas

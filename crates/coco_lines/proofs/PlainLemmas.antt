@@ -1,17 +1,14 @@
 -- What a member of a plain line adds to its parts, and what they ask for in the end.
-use Rattle.std.proofs.Common.{◌≡◌, ℕ, ◌&&◌, Bool, true, false, true≢false, nat_eq, List, [], length, Option, Some, IfSome, Ordering, Less, Equal, Greater, nat_cmp, Bor, refl, sym, ap, subst, ◌∙◌, codes}
+use Rattle.std.proofs.Common.{◌≡◌, ℕ, ◌&&◌, Bool, true, false, true≢false, nat_eq, List, length, Option, Some, IfSome, Ordering, Less, Equal, Greater, nat_cmp, Bor, refl, sym, ap, subst, ◌∙◌, codes}
 use Rattle.std.specs.Option.{option_map, option_and_then}
 use Rattle.std.specs.Ordering.{match_ordering}
 use Rattle.std.specs.Str.{bytes_eq}
 use Rattle.std.specs.Cmp.Lexicographic.{slice_cmp}
 use Rattle.std.proofs.lemmas.Bool.{eq-eqb}
 use Rattle.std.proofs.lemmas.Slice.Eq.{bytes_eq-Decides}
-use Rattle.json.specs.Json as json
-use Rattle.json.specs.Lex.{tokens}
 use Rattle.serde_json.specs.Data.{Data, unsigned, number, string, boolean, array, object, Items, Members, no_members, member, put}
 use Rattle.serde_json.specs.Events.{items_len}
 use Rattle.serde_json.specs.Find.{get_member, as_array, as_number, as_str, as_u64}
-use Rattle.serde_json.specs.Read.{of_json, read}
 use Rattle.serde_json.proofs.Views.{get_member-put, get_member-put_other}
 use Rattle.coco_types.specs.declared.value.Value.{Value}
 use Rattle.coco_ast.specs.Tree.{Procedures}
@@ -115,8 +112,3 @@ module _ (p : Parts) (ms : Members) (args : List (Option Value)) (call : Bor (Li
       let counted : items_len listed.0 ≡ length f.0.1.params = sym (args_length listed.0 args listed.2) ∙ part p.args args _ has_args h.count ∙ many ∙ sym f.3 in
       asks_for procs (object ms) (record { args = listed.0; call = call.now; id = id; snapshot = p.snapshot }) f.0 args asked f.1 (fitting (length f.0.1.params) listed.0 args counted listed.2)
       ∙ ap (λ n. Some (record { id = id; call = record { proc_no = n; args = args; snapshot = p.snapshot } })) f.2
-
--- ---- texts, trees and what they ask for
-
-pub whole_text : (text : List ℕ) (j : json.Json) → json.value 127 (tokens text) ≡ Some (j, []) → read text ≡ of_json j
-whole_text text j is = rw is

@@ -1,5 +1,6 @@
 -- The texts of answers.
-use Rattle.std.specs.Prelude.{ℕ, List, [], ◌∷◌, ◌++◌, Option, Some, None, codes, decimal}
+use Rattle.std.specs.Prelude.{◌≡◌, ℕ, List, [], ◌∷◌, ◌++◌, Option, Some, None, codes, decimal}
+use Rattle.json.specs.Print.{quoted}
 use Rattle.serde_json.specs.Data.{Data, null, number, unsigned, string, object, no_members, member}
 use Rattle.serde_json.specs.Find.{of_integer}
 use Rattle.serde_json.specs.Written.{compact_text}
@@ -64,3 +65,13 @@ done_text done = compact_text (done_json done) ++ 10 ∷ []
 -- what is said for a line that is refused, by its number
 unfoldable pub error_text : LineError → ℕ → List ℕ
 error_text e line = compact_text (error_json e line) ++ 10 ∷ []
+
+-- ---- for private clauses
+
+-- the member that says a reply, with the comma before it
+abbrev pub reply_text : Reply → List ℕ
+reply_text reply = 44 ∷ (quoted (reply_key reply) ++ 58 ∷ compact_text (reply_json reply))
+
+-- something may have been put at the end
+abbrev pub Grew : List ℕ → List ℕ → Type 0
+Grew old new = (more : List ℕ) × (new ≡ old ++ more)

@@ -1,12 +1,12 @@
-//! The usual line, looked at in a tree of borrowed texts. Only a request is decided here; what isn't plain
-//! is left to the full reading.
+//! The usual line, read token by token with no tree. Only a request is decided here; what isn't plain is left to
+//! the full reading.
 
-ghost use Rattle.std.specs.Prelude.{◌≡◌, ◌<◌, ◌≤◌, ◌++◌, ◌∷◌, ◌==◌, [], length, slice_index, IsTrue, Option, true, false, Some, Ok, IfSome, option_and_then, codes};
+ghost use Rattle.std.specs.Prelude.{◌≡◌, ◌<◌, ◌≤◌, ◌++◌, ◌∷◌, ◌==◌, [], length, slice_index, IsTrue, Option, true, false, Some, None, Ok, IfSome, option_and_then, codes};
 ghost use Rattle.fast_float.specs.Text.{scan};
-ghost use Rattle.json.specs.Value.{value_view, items_view, members_view};
+ghost use Rattle.json.specs.Json.{value, items, members};
 ghost use Rattle.serde_json.specs.Data.{Data, Members, no_members, object, unsigned, negative};
 ghost use Rattle.serde_json.specs.Find.{as_i64};
-ghost use Rattle.serde_json.specs.Read.{of_json, of_items, of_members, number_from, number_of, read};
+ghost use Rattle.serde_json.specs.Read.{of_json, of_items, of_members, converted, number_from, number_of, read};
 ghost use Rattle.coco_types.specs.declared.value.Value.{Value as Datum};
 ghost use Rattle.coco_types.specs.declared.value.Value.TheVariants as datum;
 ghost use Rattle.coco_lines.specs.Reading.{arg_of, args_of, request_in};
@@ -17,11 +17,11 @@ use coco_ast::Checked;
 use coco_types::limits::MOST_ARGUMENTS;
 use coco_types::{Args, Call, Request, Text, Value};
 use fast_float::Numeral;
-use json::{Reader, Scratch, Value as Tree};
+use json::{Reader, Scratch, Token};
 use std::alloc::Global;
 
-// As deep as the lists and objects of a line may nest.
-const MOST_LEVELS: usize = 127;
+// How many arguments there is room for before any is read.
+const USUAL_ARGUMENTS: usize = 3;
 
 // The request that a plain line asks for. None says nothing of the line.
 pub(crate) fn plain_request(
@@ -33,18 +33,21 @@ pub(crate) fn plain_request(
     ensures { IfSome result (λ request. request_in procs.now (read text.now) ≡ Some request) }
 {
     let mut reader = Reader::new(text, scratch).ok()?;
-    let tree = Tree::read(alloc, &mut reader, MOST_LEVELS).ok()?;
+    let parts = object_parts(alloc, &mut reader)?;
     if reader.next().is_some() {
         return None;
     }
-    request_in(alloc, procs, &tree)
+    parts.request(procs)
 }
 
-fn request_in(alloc: Global, procs: &Checked, tree: &Tree<'_>) -> Option<Request>
-    ensures { IfSome result (λ request. request_in procs.now (of_json (value_view tree.now)) ≡ Some request) }
+// The parts of an object.
+fn object_parts<'a>(alloc: Global, reader: &mut Reader<'a>) -> Option<Parts<'a>>
+    ensures { IfSome result (λ parts. (ms : Members)
+        × (converted of_json (value 127 reader.old) ≡ Some (object ms, reader.new)) × Holds parts ms) }
 {
-    match tree {
-        Tree::Object(members) => parts_of(alloc, members.as_slice())?.request(procs),
+    let token = reader.next()?;
+    match token {
+        Token::BeginObject => parts_of(alloc, reader),
         _ => None,
     }
 }
@@ -59,8 +62,11 @@ struct Parts<'a> {
     snapshot: bool,
 }
 
-fn parts_of<'a>(alloc: Global, members: &[(&'a str, Tree<'a>)]) -> Option<Parts<'a>>
-    ensures { IfSome result (λ parts. (ms : Members) × (of_members (members_view members.now) no_members ≡ Some ms) × Holds parts ms) }
+// The parts that the members of an object say, up to the brace that closes it.
+fn parts_of<'a>(alloc: Global, reader: &mut Reader<'a>) -> Option<Parts<'a>>
+    ensures { IfSome result (λ parts. (ms : Members)
+        × (converted (λ all. of_members all no_members) (members (value 126) (length reader.old) reader.old) ≡ Some (ms, reader.new))
+        × Holds parts ms) }
 {
     let mut parts = Parts {
         args: None,
@@ -69,63 +75,68 @@ fn parts_of<'a>(alloc: Global, members: &[(&'a str, Tree<'a>)]) -> Option<Parts<
         id: None,
         snapshot: false,
     };
-    for member in members {
-        parts.take(alloc, member.0, &member.1)?;
+    'members: while let Some(name) = reader.next_key().ok()? {
+        parts.take(alloc, reader, name)?;
     }
     Some(parts)
 }
 
 impl<'a> Parts<'a> {
-    fn take(&mut self, alloc: Global, name: &str, value: &Tree<'a>) -> Option<()>
-        ensures { IfSome result (λ _. Taken self.old name.now (of_json (value_view value.now)) self.new) }
+    fn take(&mut self, alloc: Global, reader: &mut Reader<'a>, name: &str) -> Option<()>
+        ensures { IfSome result (λ _. Taken self.old name.now reader.old self.new reader.new) }
     {
         match name {
-            "args" => self.take_args(alloc, value),
-            "call" => self.take_call(value),
-            "id" => self.take_id(value),
-            "snapshot" => self.take_snapshot(value),
+            "args" => self.take_args(alloc, reader),
+            "call" => self.take_call(reader),
+            "id" => self.take_id(reader),
+            "snapshot" => self.take_snapshot(reader),
             _ => None,
         }
     }
 
-    fn take_args(&mut self, alloc: Global, value: &Tree<'a>) -> Option<()>
-        ensures { IfSome result (λ _. Taken self.old (codes "args") (of_json (value_view value.now)) self.new) }
+    fn take_args(&mut self, alloc: Global, reader: &mut Reader<'a>) -> Option<()>
+        ensures { IfSome result (λ _. Taken self.old (codes "args") reader.old self.new reader.new) }
     {
-        let Tree::Array(items) = value else {
+        let token = reader.next()?;
+        let Token::BeginArray = token else {
             return None;
         };
-        self.args = Some(args_of(alloc, items.as_slice())?);
-        self.count = items.len();
+        let args = args_of(alloc, reader)?;
+        self.count = args.len();
+        self.args = Some(args);
         Some(())
     }
 
-    fn take_call(&mut self, value: &Tree<'a>) -> Option<()>
-        ensures { IfSome result (λ _. Taken self.old (codes "call") (of_json (value_view value.now)) self.new) }
+    fn take_call(&mut self, reader: &mut Reader<'a>) -> Option<()>
+        ensures { IfSome result (λ _. Taken self.old (codes "call") reader.old self.new reader.new) }
     {
-        let Tree::String(text) = value else {
+        let token = reader.next()?;
+        let Token::String(text) = token else {
             return None;
         };
-        self.call = Some(*text);
+        self.call = Some(text);
         Some(())
     }
 
-    fn take_id(&mut self, value: &Tree<'a>) -> Option<()>
-        ensures { IfSome result (λ _. Taken self.old (codes "id") (of_json (value_view value.now)) self.new) }
+    fn take_id(&mut self, reader: &mut Reader<'a>) -> Option<()>
+        ensures { IfSome result (λ _. Taken self.old (codes "id") reader.old self.new reader.new) }
     {
-        let Tree::Number(text) = value else {
+        let token = reader.next()?;
+        let Token::Number(text) = token else {
             return None;
         };
         self.id = Some(not_signed(text)?);
         Some(())
     }
 
-    fn take_snapshot(&mut self, value: &Tree<'a>) -> Option<()>
-        ensures { IfSome result (λ _. Taken self.old (codes "snapshot") (of_json (value_view value.now)) self.new) }
+    fn take_snapshot(&mut self, reader: &mut Reader<'a>) -> Option<()>
+        ensures { IfSome result (λ _. Taken self.old (codes "snapshot") reader.old self.new reader.new) }
     {
-        let Tree::Bool(asked) = value else {
+        let token = reader.next()?;
+        let Token::Bool(asked) = token else {
             return None;
         };
-        self.snapshot = *asked;
+        self.snapshot = asked;
         Some(())
     }
 
@@ -148,30 +159,40 @@ impl<'a> Parts<'a> {
     }
 }
 
-fn args_of(alloc: Global, items: &[Tree<'_>]) -> Option<Args>
-    ensures value { IfSome result (λ args. option_and_then args_of (of_items (items_view items.now)) ≡ Some args) }
-    ensures count { IfSome result (λ args. length args ≡ length items.now) }
+// The items of an array as arguments, up to the bracket that closes it.
+fn args_of(alloc: Global, reader: &mut Reader<'_>) -> Option<Args>
+    ensures { IfSome result (λ args. converted args_of (converted of_items (items (value 125) (length reader.old) reader.old)) ≡ Some (args, reader.new)) }
 {
-    if items.len() > MOST_ARGUMENTS {
-        return None;
-    }
-    let mut args = Args::with_room(alloc, items.len()).ok()?;
-    for item in items {
-        push_arg(&mut args, item)?;
+    let mut args = Args::with_room(alloc, USUAL_ARGUMENTS).ok()?;
+    'items: while !reader.take_end_array() {
+        if args.len() == MOST_ARGUMENTS {
+            return None;
+        }
+        push_arg(&mut args, reader)?;
     }
     Some(args)
 }
 
-fn push_arg(args: &mut Args, item: &Tree<'_>) -> Option<()>
+fn push_arg(args: &mut Args, reader: &mut Reader<'_>) -> Option<()>
     requires { length args.old < 16 }
-    ensures { IfSome result (λ _. (arg : Option Datum) × (option_and_then arg_of (of_json (value_view item.now)) ≡ Some arg) × (args.new ≡ args.old ++ arg ∷ [])) }
+    ensures { IfSome result (λ _. (arg : Option Datum)
+        × (converted arg_of (converted of_json (value 125 reader.old)) ≡ Some (arg, reader.new))
+        × (args.new ≡ args.old ++ arg ∷ [])) }
 {
-    match item {
-        Tree::Null => args.push(None).ok(),
-        Tree::Number(text) => push_int(args, signed(text)?),
-        Tree::String(text) => push_text(args, text),
-        Tree::Bool(_) | Tree::Array(_) | Tree::Object(_) => None,
+    let token = reader.next()?;
+    match token {
+        Token::Null => push_none(args),
+        Token::Number(text) => push_int(args, signed(text)?),
+        Token::String(text) => push_text(args, text),
+        _ => None,
     }
+}
+
+fn push_none(args: &mut Args) -> Option<()>
+    requires { length args.old < 16 }
+    ensures { IfSome result (λ _. args.new ≡ args.old ++ None ∷ []) }
+{
+    args.push(None).ok()
 }
 
 fn push_int(args: &mut Args, n: i64) -> Option<()>

@@ -1,19 +1,16 @@
 //! The texts of answers.
 
 ghost use Rattle.std.specs.Prelude.{◌≡◌, ◌++◌, ◌∷◌, [], codes, decimal, IfOk, OnOk, OnErr};
-ghost use Rattle.json.specs.Print.{print};
-ghost use Rattle.json.specs.Token.{key, string, number};
-ghost use Rattle.json.specs.Tree.{json_tokens};
-ghost use Rattle.serde_json.specs.Written.{outline};
-ghost use Rattle.coco_lines.specs.Texts.{value_json, cause_word, reply_key, reply_json, done_json, error_word, error_json, done_text, error_text};
+ghost use Rattle.std.specs.Fmt.{signed_decimal};
+ghost use Rattle.json.specs.Print.{quoted};
+ghost use Rattle.serde_json.specs.Written.{compact_text};
+ghost use Rattle.coco_lines.specs.Texts.{Grew, value_json, cause_word, reply_text, error_word, done_text, error_text};
 
 use crate::LineError;
 use coco_types::{Cause, Done, KeptReply, Lent, NoMemory, Packed};
+use itoa::Buffer;
 use json::Writer;
-use std::alloc::{AllocError, Global};
-
-// How many bytes most texts have at the most.
-const MOST_TEXTS: usize = 128;
+use std::alloc::Global;
 
 /// The text that is said for a record.
 pub fn done_text(alloc: Global, done: &Done) -> Result<Vec<u8>, NoMemory>
@@ -38,10 +35,12 @@ pub fn write_done(out: &mut Vec<u8>, done: &Done) -> Result<(), NoMemory>
     ensures ok { OnOk result (out.new.items ≡ out.old.items ++ done_text done.now) }
     ensures err { OnErr result (out.new.items ≡ out.old.items) }
 {
-    let alloc = *out.allocator();
-    let mut writer = small_writer(alloc)?;
-    put_done(alloc, &mut writer, done)?;
-    put_line(out, writer)
+    let len = out.len();
+    let put = put_done(out, done);
+    if put.is_err() {
+        out.truncate(len);
+    }
+    put
 }
 
 /// Puts the text of a refused line at the end of a buffer, whole or not at all.
@@ -49,115 +48,120 @@ pub fn write_error(out: &mut Vec<u8>, error: LineError, number: u64) -> Result<(
     ensures ok { OnOk result (out.new.items ≡ out.old.items ++ error_text error number) }
     ensures err { OnErr result (out.new.items ≡ out.old.items) }
 {
-    let mut writer = small_writer(*out.allocator())?;
-    put_error(&mut writer, error, number)?;
-    put_line(out, writer)
+    let len = out.len();
+    let put = put_error(out, error, number);
+    if put.is_err() {
+        out.truncate(len);
+    }
+    put
 }
 
-// A writer with room for most texts. A writer over the buffer of many answers would clear room as long as these for
-// each text.
-fn small_writer(alloc: Global) -> Result<Writer, NoMemory>
-    ensures before { IfOk result (λ writer. writer.before ≡ []) }
-    ensures tokens { IfOk result (λ writer. writer.tokens ≡ []) }
+// The names of members need no escape, so they stand here as they are written.
+fn put_done(out: &mut Vec<u8>, done: &Done) -> Result<(), NoMemory>
+    ensures ok { OnOk result (out.new.items ≡ out.old.items ++ done_text done.now) }
+    ensures err { OnErr result (Grew out.old.items out.new.items) }
 {
-    Ok(Writer::new(Vec::with_capacity(alloc, MOST_TEXTS)?))
+    put_count(out, b"{\"epoch\":", done.epoch)?;
+    put_count(out, b",\"id\":", done.id)?;
+    put_reply(out, &done.reply)?;
+    put_count(out, b",\"time\":", done.time)?;
+    put(out, b"}\n")
 }
 
-// Puts a whole text at the end of a buffer, with a line feed.
-fn put_line(out: &mut Vec<u8>, writer: Writer) -> Result<(), NoMemory>
-    ensures ok { OnOk result (out.new.items ≡ out.old.items ++ (writer.before ++ print writer.tokens ++ 10 ∷ [])) }
+fn put_error(out: &mut Vec<u8>, error: LineError, line: u64) -> Result<(), NoMemory>
+    ensures ok { OnOk result (out.new.items ≡ out.old.items ++ error_text error line) }
+    ensures err { OnErr result (Grew out.old.items out.new.items) }
+{
+    put(out, b"{\"error\":")?;
+    put_string(out, word_of(error))?;
+    put_count(out, b",\"line\":", line)?;
+    put(out, b"}\n")
+}
+
+fn put(out: &mut Vec<u8>, text: &[u8]) -> Result<(), NoMemory>
+    ensures ok { OnOk result (out.new.items ≡ out.old.items ++ text.now) }
     ensures err { OnErr result (out.new.items ≡ out.old.items) }
 {
-    let mut text = writer.into_inner();
-    text.push(b'\n')?;
-    out.extend_from_slice(text.as_slice())?;
+    out.extend_from_slice(text)?;
     Ok(())
 }
 
-fn put_done(alloc: Global, writer: &mut Writer, done: &Done) -> Result<(), AllocError>
-    ensures ok { OnOk result (writer.new.tokens
-        ≡ writer.old.tokens ++ json_tokens (outline (done_json done.now))) }
-    ensures before { writer.new.before ≡ writer.old.before }
+// A count, with the text before it.
+fn put_count(out: &mut Vec<u8>, before: &[u8], count: u64) -> Result<(), NoMemory>
+    ensures ok { OnOk result (out.new.items ≡ out.old.items ++ (before.now ++ decimal count)) }
+    ensures err { OnErr result (Grew out.old.items out.new.items) }
 {
-    writer.begin_object()?;
-    put_count(writer, "epoch", done.epoch)?;
-    put_count(writer, "id", done.id)?;
-    put_reply(alloc, writer, &done.reply)?;
-    put_count(writer, "time", done.time)?;
-    writer.end_object()
+    put(out, before)?;
+    let mut digits = Buffer::new();
+    put(out, digits.format(count).as_bytes())
 }
 
-fn put_error(writer: &mut Writer, error: LineError, line: u64) -> Result<(), AllocError>
-    ensures ok { OnOk result (writer.new.tokens
-        ≡ writer.old.tokens ++ json_tokens (outline (error_json error line))) }
-    ensures before { writer.new.before ≡ writer.old.before }
+fn put_int(out: &mut Vec<u8>, number: i64) -> Result<(), NoMemory>
+    ensures ok { OnOk result (out.new.items ≡ out.old.items ++ signed_decimal number) }
+    ensures err { OnErr result (out.new.items ≡ out.old.items) }
 {
-    writer.begin_object()?;
-    writer.key("error")?;
-    writer.string(word_of(error))?;
-    put_count(writer, "line", line)?;
-    writer.end_object()
+    let mut digits = Buffer::new();
+    put(out, digits.format(number).as_bytes())
 }
 
-fn put_count(writer: &mut Writer, name: &str, count: u64) -> Result<(), AllocError>
-    ensures ok { OnOk result (writer.new.tokens
-        ≡ writer.old.tokens ++ key name.now ∷ number (decimal count) ∷ []) }
-    ensures before { writer.new.before ≡ writer.old.before }
+// A text in quotes, with escapes where it has to have them.
+fn put_string(out: &mut Vec<u8>, text: &str) -> Result<(), NoMemory>
+    ensures ok { OnOk result (out.new.items ≡ out.old.items ++ quoted text.now) }
+    ensures err { OnErr result (out.new.items ≡ out.old.items) }
 {
-    writer.key(name)?;
-    writer.u64(count)
+    let mut writer = Writer::new(Vec::new(*out.allocator()));
+    writer.string(text)?;
+    put(out, writer.into_inner().as_slice())
 }
 
-fn put_reply(alloc: Global, writer: &mut Writer, reply: &KeptReply) -> Result<(), AllocError>
-    ensures ok { OnOk result (writer.new.tokens
-        ≡ writer.old.tokens ++ key (reply_key reply.now) ∷ json_tokens (outline (reply_json reply.now))) }
-    ensures before { writer.new.before ≡ writer.old.before }
+fn put_reply(out: &mut Vec<u8>, reply: &KeptReply) -> Result<(), NoMemory>
+    ensures ok { OnOk result (out.new.items ≡ out.old.items ++ reply_text reply.now) }
+    ensures err { OnErr result (Grew out.old.items out.new.items) }
 {
     match reply.answer() {
         Ok(value) => {
-            writer.key("ok")?;
-            put_value(writer, value)
+            put(out, b",\"ok\":")?;
+            put_value(out, value)
         }
         Err(cause) => {
-            writer.key("refused")?;
-            put_cause(alloc, writer, cause)
+            put(out, b",\"refused\":")?;
+            put_cause(out, cause)
         }
     }
 }
 
-fn put_value(writer: &mut Writer, value: &Packed) -> Result<(), AllocError>
-    ensures ok { OnOk result (writer.new.tokens
-        ≡ writer.old.tokens ++ json_tokens (outline (value_json value.now))) }
-    ensures before { writer.new.before ≡ writer.old.before }
+fn put_value(out: &mut Vec<u8>, value: &Packed) -> Result<(), NoMemory>
+    ensures ok { OnOk result (out.new.items ≡ out.old.items ++ compact_text (value_json value.now)) }
+    ensures err { OnErr result (out.new.items ≡ out.old.items) }
 {
     match value.lend() {
-        None => writer.null(),
-        Some(Lent::Int(number)) => writer.i64(number),
-        Some(Lent::Text(text)) => writer.string(text.as_str()),
+        None => put(out, b"null"),
+        Some(Lent::Int(number)) => put_int(out, number),
+        Some(Lent::Text(text)) => put_string(out, text.as_str()),
     }
 }
 
-fn put_cause(alloc: Global, writer: &mut Writer, cause: Cause) -> Result<(), AllocError>
-    ensures ok { OnOk result (writer.new.tokens ≡ writer.old.tokens ++ string (cause_word cause) ∷ []) }
-    ensures before { writer.new.before ≡ writer.old.before }
+fn put_cause(out: &mut Vec<u8>, cause: Cause) -> Result<(), NoMemory>
+    ensures ok { OnOk result (out.new.items ≡ out.old.items ++ quoted (cause_word cause)) }
+    ensures err { OnErr result (out.new.items ≡ out.old.items) }
 {
     match cause {
-        Cause::User(number) => put_user(alloc, writer, number),
-        Cause::Overflow => writer.string("overflow"),
-        Cause::ZeroDivide => writer.string("zero divide"),
-        Cause::Kind => writer.string("kind"),
-        Cause::BadRow => writer.string("bad row"),
+        Cause::User(number) => put_user(out, number),
+        Cause::Overflow => put_string(out, "overflow"),
+        Cause::ZeroDivide => put_string(out, "zero divide"),
+        Cause::Kind => put_string(out, "kind"),
+        Cause::BadRow => put_string(out, "bad row"),
     }
 }
 
 // The word of a refusal by a procedure's own number.
-fn put_user(alloc: Global, writer: &mut Writer, number: u16) -> Result<(), AllocError>
-    ensures ok { OnOk result (writer.new.tokens
-        ≡ writer.old.tokens ++ string (codes "user " ++ decimal number) ∷ []) }
-    ensures before { writer.new.before ≡ writer.old.before }
+fn put_user(out: &mut Vec<u8>, number: u16) -> Result<(), NoMemory>
+    ensures ok { OnOk result (out.new.items ≡ out.old.items ++ quoted (codes "user " ++ decimal number)) }
+    ensures err { OnErr result (out.new.items ≡ out.old.items) }
 {
+    let alloc = *out.allocator();
     let word = format!(in alloc; "user {number}")?;
-    writer.string(word.as_str())
+    put_string(out, word.as_str())
 }
 
 fn word_of(error: LineError) -> &'static str

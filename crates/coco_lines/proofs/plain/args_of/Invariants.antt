@@ -1,14 +1,13 @@
-use Rattle.std.proofs.Common.{◌≡◌, ◌≤◌, ◌++◌, drop, length}
-use Rattle.std.specs.Option.{option_map, option_and_then}
-use Rattle.json.specs.Value.{items_view}
-use Rattle.serde_json.specs.Read.{of_items}
+use Rattle.std.proofs.Common.{◌≡◌, ◌≤◌, ℕ, ◌++◌, length}
+use Rattle.json.specs.Json.{parse_map, items, value}
+use Rattle.serde_json.specs.Read.{of_items, converted}
 use Rattle.coco_lines.specs.Reading.{args_of}
 use Rattle.coco_lines.proofs.plain.args_of.Given as goal
 
 -- the arguments so far stand before those of the items that are left
-abbrev pub invariant-loop-item : goal.invariant-loop-item
-invariant-loop-item l = record {
-  so_far : option_and_then args_of (of_items (items_view l.items)) ≡ option_map (λ rest. l.args ++ rest) (option_and_then args_of (of_items (items_view (drop l.item-index l.items))));
-  count : length l.args ≡ l.item-index;
-  few : length l.items ≤ 16;
-}
+abbrev pub invariant-items : goal.invariant-items
+invariant-items l = (n : ℕ) × (length l.reader ≤ n)
+    × (converted args_of (converted of_items (items (value 125) (length l.initial.reader) l.initial.reader)) ≡ parse_map (λ more. l.args ++ more) (converted args_of (converted of_items (items (value 125) n l.reader))))
+
+abbrev pub decreases-items : goal.decreases-items
+decreases-items l = length l.reader
