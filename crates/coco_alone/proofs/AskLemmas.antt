@@ -1,15 +1,15 @@
 -- Shards behind a step on one row.
-use Rattle.std.proofs.Common.{◌≡◌, ◌<◌, ◌%◌, true, false, cond, List, length, slice_set, Option, None, Some, Result, Ok, Err, OnOk, OnErr, refl, sym, ap, ◌∙◌, subst}
+use Rattle.std.proofs.Common.{◌≡◌, ℕ, ◌<◌, ◌%◌, true, false, cond, List, length, get_or, slice_set, Option, None, Some, Result, Ok, Err, OnOk, OnErr, refl, sym, ap, ◌∙◌, subst}
 use Rattle.std.specs.FinMap.{get, insert, empty}
 use Rattle.std.specs.Option.{unwrap_or}
-use Rattle.std.proofs.lemmas.List.{set-get_or}
+use Rattle.std.proofs.lemmas.List.{get_or_default, same_lists, set-get_or}
 use Rattle.std.proofs.lemmas.Option.{unwrap_or-slice_get}
 use Rattle.coco_types.specs.RowKey.{RowKey}
 use Rattle.coco_types.proofs.Keys.{is_key, one_key}
 use Rattle.coco_types.proofs.KeyMaps.{get_put, same_keyed}
 use Rattle.coco_shard.specs.RowState.{RowState, ShardState, resting, row_at}
 use Rattle.coco_shard.specs.Table.{extended}
-use Rattle.coco_epoch.specs.Shards.{AreOfPartitions, KeepStable, row_in, shard_of, stable_in, with_row_in}
+use Rattle.coco_epoch.specs.Shards.{AreOfPartitions, KeepStable, row_in, shard_at, shard_of, stable_in, with_row_in}
 use Rattle.coco_epoch.proofs.ShardLemmas.{kept_set, keeps_itself}
 
 module _ (shards new : List ShardState) (key : RowKey) (row : RowState) (some : 0 < length shards) (of : AreOfPartitions shards) (same : row.stable ≡ stable_in shards key) where
@@ -19,6 +19,15 @@ module _ (shards new : List ShardState) (key : RowKey) (row : RowState) (some : 
   pub kept_either : {T E : Type 0} (r : Result T E) → OnOk r (new ≡ with_row_in shards key row) → OnErr r (new ≡ shards) → KeepStable shards new
   kept_either (Ok x) ok err = kept_at ok
   kept_either (Err e) ok err = subst (KeepStable shards) (sym err) (keeps_itself shards of)
+
+-- ---- all shards
+
+-- as many shards with the same row at each key are the same
+pub same_shards : (xs ys : List ShardState) → length xs ≡ length ys → ((p : ℕ) (k : RowKey) → get (shard_at xs p) k ≡ get (shard_at ys p) k) → xs ≡ ys
+same_shards xs ys count same = same_lists xs ys count (λ p d lt. sym (read xs p d lt) ∙ same_keyed (shard_at xs p) (shard_at ys p) (same p) ∙ read ys p d (subst (λ (n : ℕ). p < n) count lt))
+  where
+    read : (shards : List ShardState) (p : ℕ) (d : ShardState) → p < length shards → shard_at shards p ≡ get_or shards p d
+    read shards p d lt = unwrap_or-slice_get shards p empty ∙ get_or_default shards p empty d lt
 
 -- ---- a key that is read
 

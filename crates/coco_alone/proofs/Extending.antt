@@ -14,18 +14,19 @@ use Rattle.coco_epoch.specs.Shards.{AreOfPartitions, KeepStable, row_in, with_ro
 use Rattle.coco_epoch.proofs.ShardLemmas.{keeps_itself, keeps_on}
 use Rattle.coco_occ.specs.declared.script.Step.{Step}
 use Rattle.coco_alone.specs.declared.asks.Seen.{Seen}
-use Rattle.coco_alone.specs.Asked.{Lead, extends_to, is_written, needs_more}
+use Rattle.coco_alone.specs.Asked.{Lead, extends_to, is_written, marks_on, needs_more}
 use Rattle.coco_alone.specs.Calls.{HasExtended, steps_by}
 use Rattle.coco_alone.proofs.Leads.{by_row}
 use Rattle.coco_alone.proofs.Locking.{free_mark, some_still}
+use Rattle.coco_alone.proofs.Marking.{marks_past, other_row, some_changed}
 
 -- what is asked of these keys
-abbrev pub extending : AttemptId → ℕ → List ShardState → List Write → List Seen → List Step
-extending by time first ws seen = steps_by by (length first) (map (extends_to time) (filter (needs_more time ws) seen))
+abbrev pub extending : AttemptId → ℕ → ℕ → List Write → List Seen → List Step
+extending by time count ws seen = steps_by by count (map (extends_to time) (filter (needs_more time ws) seen))
 
 -- the extensions of those left go on to what all lead to
 pub record ExtendedTo (by : AttemptId) (time : ℕ) (first now : List ShardState) (ws : List Write) (all left : List Seen) : Type 0 where
-  pub leads : (last : List ShardState) → Lead now (extending by time first ws left) last → Lead first (extending by time first ws all) last
+  pub leads : (last : List ShardState) → Lead now (extending by time (length first) ws left) last → Lead first (extending by time (length first) ws all) last
   pub rows : (k : RowKey) → row_in now k ≡ record (row_in first k) { rts = (row_in now k).rts }
   pub until : (most : ℕ) → time ≤ most → ((k : RowKey) → (row_in first k).rts ≤ most) → (k : RowKey) → (row_in now k).rts ≤ most
   pub same : AllByRecursion (λ (s : Seen). (row_in now s.key).wts ≡ s.wts) left
@@ -59,7 +60,7 @@ module _ (by : AttemptId) (time : ℕ) (first now new : List ShardState) (ws : L
   extends : (b : Bool) → needs_more time ws s ≡ b → (b ≡ true → (row_in now s.key).mark ≡ None) → KeepStable now new → new ≡ cond b (with_row_in now s.key (extended time (row_in now s.key))) now → ExtendedTo by time first new ws all left
   extends true needs unmarked kept is = record {
     leads = λ last a. so.leads last (subst (λ b. Lead now (steps_by by (length first) (map (extends_to time) (cond b (s ∷ filter (needs_more time ws) left) (filter (needs_more time ws) left)))) last) (sym needs)
-        (told by (row_in now s.key) s time so.same.0 (unmarked refl), subst (λ (z : List ShardState). Lead z (extending by time first ws left) last) is a));
+        (told by (row_in now s.key) s time so.same.0 (unmarked refl), subst (λ (z : List ShardState). Lead z (extending by time (length first) ws left) last) is a));
     rows = λ k. by_row (λ r. r ≡ record (row_in first k) { rts = r.rts }) now new s.key (extended time (row_in now s.key)) there is k
         (λ e. ap (extended time) (so.rows s.key) ∙ ap (λ (q : RowKey). record (row_in first q) { rts = max (row_in now s.key).rts time }) (sym e))
         (λ _. so.rows k);
@@ -70,7 +71,7 @@ module _ (by : AttemptId) (time : ℕ) (first now new : List ShardState) (ws : L
   }
   extends false needs unmarked kept is = record {
     leads = λ last a. so.leads last (subst (λ b. Lead now (steps_by by (length first) (map (extends_to time) (cond b (s ∷ filter (needs_more time ws) left) (filter (needs_more time ws) left)))) last) (sym needs)
-        (subst (λ (z : List ShardState). Lead z (extending by time first ws left) last) is a));
+        (subst (λ (z : List ShardState). Lead z (extending by time (length first) ws left) last) is a));
     rows = λ k. subst (λ (z : List ShardState). row_in z k ≡ record (row_in first k) { rts = (row_in z k).rts }) (sym is) (so.rows k);
     until = λ most le h k. subst (λ (z : List ShardState). (row_in z k).rts ≤ most) (sym is) (so.until most le h k);
     same = subst (λ (z : List ShardState). AllByRecursion (λ (x : Seen). (row_in z x.key).wts ≡ x.wts) left) (sym is) so.same.1;
@@ -82,3 +83,25 @@ module _ (by : AttemptId) (time : ℕ) (first now new : List ShardState) (ws : L
 
 pub all_extended : (by : AttemptId) (time : ℕ) (first now : List ShardState) (ws : List Write) (all : List Seen) → ExtendedTo by time first now ws all [] → HasExtended by time first now ws all
 all_extended by time first now ws all so = record { leads = so.leads now refl; rows = so.rows; until = so.until }
+
+-- ---- with marks
+
+-- what leads from shards to others leads from one to the other with marks on the rows of the writes, too
+pub extends_past : (by : AttemptId) (time n : ℕ) (first last : List ShardState) (ws : List Write) (seen : List Seen) → 0 < length first
+    → Lead first (extending by time n ws seen) last → Lead (marks_on by first ws) (extending by time n ws seen) (marks_on by last ws)
+extends_past by time n first last ws [] some lead = ap (λ (s : List ShardState). marks_on by s ws) lead
+extends_past by time n first last ws (s ∷ seen) some lead =
+    choose (needs_more time ws s) refl lead (extends_past by time n first last ws seen some)
+    (λ led. extends_past by time n (with_row_in first s.key (extended time (row_in first s.key))) last ws seen (some_changed first s.key (extended time) some) led)
+  where
+    choose : (b : Bool) → needs_more time ws s ≡ b
+        → Lead first (steps_by by n (map (extends_to time) (cond b (s ∷ filter (needs_more time ws) seen) (filter (needs_more time ws) seen)))) last
+        → (Lead first (extending by time n ws seen) last → Lead (marks_on by first ws) (extending by time n ws seen) (marks_on by last ws))
+        → (Lead (with_row_in first s.key (extended time (row_in first s.key))) (extending by time n ws seen) last → Lead (marks_on by (with_row_in first s.key (extended time (row_in first s.key))) ws) (extending by time n ws seen) (marks_on by last ws))
+        → Lead (marks_on by first ws) (steps_by by n (map (extends_to time) (cond b (s ∷ filter (needs_more time ws) seen) (filter (needs_more time ws) seen)))) (marks_on by last ws)
+    choose true t led same further =
+        let apart : is_written ws s.key ≡ false = unmarked_then time ws s t in (
+          led.0 ∙ ap (λ (row : RowState). answer_at row by (Extend s.key s.wts time)) (sym (other_row by first ws s.key some apart)),
+          subst (λ (z : List ShardState). Lead z (extending by time n ws seen) (marks_on by last ws)) (sym (marks_past by first ws s.key (extended time) some apart)) (further led.1),
+        )
+    choose false f led same further = same led

@@ -1,5 +1,6 @@
 mod AskLemmas
 mod Leads
+mod Marking
 mod Locking
 mod Extending
 mod Installing
@@ -12,3 +13,4 @@ mod Serving
 mod Settling
 mod Executing
 mod Serial
+mod Keeping

@@ -12,7 +12,7 @@ use Rattle.std.proofs.lemmas.List.Sorted.{ranks_by, sorted_far}
 use Rattle.coco_types.specs.declared.call.Done.{Done}
 use Rattle.coco_ast.specs.History.{IsBefore}
 use Rattle.coco_order.specs.Order.{AreInOrder}
-use Rattle.coco_alone.specs.Epochs.{dones_of}
+use Rattle.coco_alone.specs.Epochs.{dones_in}
 use Rattle.coco_alone.specs.declared.progress.Finished.{Finished}
 
 abbrev pub Rank : Type 0
@@ -46,13 +46,13 @@ ranked e d (inr (epoch, inr (time, id))) =
 not_before : (e d : Finished) → is_lt (rank_cmp (rank e) (rank d)) ≡ false → IsBefore e.done d.done → ⊥
 not_before e d f h = both_ways (is_lt (rank_cmp (rank e) (rank d))) f (ranked e d h)
 
-none_before : (x : Finished) (ys : List Finished) → ((j : ℕ) (d : Finished) → j < length ys → is_lt (rank_cmp (rank (get_or ys j d)) (rank x)) ≡ false) → AllByRecursion (λ (e : Done). IsBefore e x.done → ⊥) (dones_of ys)
+none_before : (x : Finished) (ys : List Finished) → ((j : ℕ) (d : Finished) → j < length ys → is_lt (rank_cmp (rank (get_or ys j d)) (rank x)) ≡ false) → AllByRecursion (λ (e : Done). IsBefore e x.done → ⊥) (dones_in ys)
 none_before x [] h = tt
 none_before x (y ∷ ys) h = (not_before y x (h 0 y (omega arith)), none_before x ys (λ j d lt. h (suc j) d (omega arith)))
 
-in_order : (xs : List Finished) → ((i j : ℕ) (d : Finished) → i ≤ j → j < length xs → is_lt (rank_cmp (rank (get_or xs j d)) (rank (get_or xs i d))) ≡ false) → AreInOrder (dones_of xs)
+in_order : (xs : List Finished) → ((i j : ℕ) (d : Finished) → i ≤ j → j < length xs → is_lt (rank_cmp (rank (get_or xs j d)) (rank (get_or xs i d))) ≡ false) → AreInOrder (dones_in xs)
 in_order [] h = tt
 in_order (x ∷ xs) h = (none_before x xs (λ j d lt. h 0 (suc j) d (omega arith) (omega arith)), in_order xs (λ i j d le lt. h (suc i) (suc j) d (omega arith) (omega arith)))
 
-pub sorted_in_order : (xs : List Finished) → IsSortedByKey rank rank_cmp xs → AreInOrder (dones_of xs)
+pub sorted_in_order : (xs : List Finished) → IsSortedByKey rank rank_cmp xs → AreInOrder (dones_in xs)
 sorted_in_order xs sorted = in_order xs (sorted_far (λ (x y : Finished). is_lt (rank_cmp (rank x) (rank y))) (ranks_by ranks_total rank) xs sorted)

@@ -35,8 +35,7 @@ use Rattle.coco_shard.proofs.LawLemmas.{answers_lawful, answers_rows}
 use Rattle.coco_shard.specs.Law.{Entry, IsLawful, law_row, read_time}
 use Rattle.coco_shard.specs.RowState.{RowState, ShardState, row_at, stable_at}
 use Rattle.coco_shard.specs.Table.{key_of}
-use Rattle.coco_alone.specs.Epochs.{AloneIsSerial, HaveFinished, IsMade, Made, dones_of, finished_of, made_done, pieces_in, scripts_of}
-use Rattle.coco_alone.specs.declared.progress.Finished.{Finished}
+use Rattle.coco_alone.specs.Epochs.{AloneIsSerial, Ended, HaveFinished, IsMade, Made, dones_of, ended_of, made_done, pieces_in, scripts_of}
 use Rattle.coco_alone.proofs.Executing.{all_placed, all_there, commits_are, committed_at, concat_made, execution_of, journal_at, journal_found, journals_count, one_at, one_try, pass_there, rise_from, scripts_home, steps_there, tried_of, tries_of}
 use Rattle.coco_alone.proofs.Scripts.{all_over, map_twice}
 use Rattle.coco_alone.proofs.Serving.{AtHome, Answers, IsOn, keys_asked, law_same, lawful_as, on_shard, served, untouched}
@@ -96,7 +95,7 @@ greatest_at g (q ∷ ks) first = choose (greatest_at g ks first)
 
 -- ---- the execution
 
-module _ (ps : Procedures) (epoch : ℕ) (first last : List ShardState) (requests : List Request) (finished : List Finished) (some : 0 < length first) (fit : FitAll ps requests) (kept : KeepStable first last) (have : HaveFinished ps epoch first last requests finished)
+module _ (ps : Procedures) (epoch : ℕ) (first last : List ShardState) (requests : List Request) (finished : List Ended) (some : 0 < length first) (fit : FitAll ps requests) (kept : KeepStable first last) (have : HaveFinished ps epoch first last requests finished)
     (m : Rows) (holds : HoldMap m first) (attempts : ℕ) (positive : 0 < attempts) where
   abbrev b : Beginning
   b = record { procs = ps; opening = m; requests = requests; partitions = length first; workers = 1; attempts = attempts }
@@ -185,7 +184,7 @@ module _ (ps : Procedures) (epoch : ℕ) (first last : List ShardState) (request
 
   commits_so : commits b epoch x ≡ dones_of finished
   commits_so = ap (filter_map (commit_of b epoch)) (append-nil (map tried_of have.made)) ∙ commits_are b epoch have.made placed
-      ∙ sym (ap dones_of have.finished_are ∙ map_twice (finished_of epoch (length first)) (λ (f : Finished). f.done) have.made)
+      ∙ sym (ap dones_of have.ended_are ∙ map_twice (ended_of epoch (length first)) (λ (f : Ended). f.done) have.made)
 
   read_time_is : (k : RowKey) → read_time k (journal_on b x k) ≡ (row_in last k).rts
   read_time_is k = ap (λ (r : RowState). r.rts) (sym (rows k))
@@ -205,9 +204,9 @@ module _ (ps : Procedures) (epoch : ℕ) (first last : List ShardState) (request
       below at best k true t = best k t
       below at best k false f = subst (λ (n : ℕ). n ≤ (row_in last at).rts) (sym (ap (λ (r : RowState). r.rts) (untouched first last steps k some have.leads f ∙ settled_row first holds.settled k))) (omega arith)
 
-  module _ (serial : InEachExecution CommitsAreSerial) (sorted : List Finished) (same : IsPermutation finished sorted) (order : AreInOrder (dones_of sorted)) where
+  module _ (serial : InEachExecution CommitsAreSerial) (sorted : List Ended) (same : IsPermutation finished sorted) (order : AreInOrder (dones_of sorted)) where
     same_dones : IsPermutation (commits b epoch x) (dones_of sorted)
-    same_dones = subst (λ (ds : List Done). IsPermutation ds (dones_of sorted)) (sym commits_so) (IsPermutation-map (λ (f : Finished). f.done) finished sorted same)
+    same_dones = subst (λ (ds : List Done). IsPermutation ds (dones_of sorted)) (sym commits_so) (IsPermutation-map (λ (f : Ended). f.done) finished sorted same)
 
     pub outcome : IsOutcome b epoch x (dones_of sorted)
     outcome =
@@ -224,32 +223,32 @@ module _ (ps : Procedures) (epoch : ℕ) (first last : List ShardState) (request
     -- ---- pieces
 
     -- each is of a request that was run
-    abbrev IsOf : Finished → Type 0
-    IsOf f = (y : Made) × Among (map tried_of have.made) (tried_of y) × (slice_get requests y.place ≡ Some y.request) × IsMade ps (length first) y × (f ≡ finished_of epoch (length first) y)
+    abbrev IsOf : Ended → Type 0
+    IsOf f = (y : Made) × Among (map tried_of have.made) (tried_of y) × (slice_get requests y.place ≡ Some y.request) × IsMade ps (length first) y × (f ≡ ended_of epoch (length first) y)
 
     each_made : (ys : List Made) → ((t : Tried) → Among (map tried_of ys) t → Among (map tried_of have.made) t) → AllByRecursion (λ (y : Made). slice_get requests y.place ≡ Some y.request) ys → AllByRecursion (IsMade ps (length first)) ys
-        → AllByRecursion IsOf (map (finished_of epoch (length first)) ys)
+        → AllByRecursion IsOf (map (ended_of epoch (length first)) ys)
     each_made [] among at are = tt
     each_made (y ∷ ys) among at are = ((y, among (tried_of y) (inl refl), at.0, are.0, refl), each_made ys (λ t h. among t (inr h)) at.1 are.1)
 
     pub all_of : AllByRecursion IsOf sorted
-    all_of = all_moved IsOf finished sorted same (subst (AllByRecursion IsOf) (sym have.finished_are) (each_made have.made (λ t h. h) placed have.each))
+    all_of = all_moved IsOf finished sorted same (subst (AllByRecursion IsOf) (sym have.ended_are) (each_made have.made (λ t h. h) placed have.each))
 
     module _ (distinct : IsDistinct nat_eq (map (λ (r : Request). r.id) requests)) (runs : InEachExecution WritesAreRuns) where
       -- the pieces of one, behind those in front of it
-      one_piece : (front behind : List Done) (f : Finished) → dones_of sorted ≡ front ++ f.done ∷ behind → IsOf f
+      one_piece : (front behind : List Done) (f : Ended) → dones_of sorted ≡ front ++ f.done ∷ behind → IsOf f
           → f.pieces ≡ request_pieces (length first) (place_of requests f.done.id) f.done.time (run ps f.done.call (rows_after ps m front)).writes
       one_piece front behind f split of =
           let y : Made = of.0 in
-          let done : f.done ≡ made_done epoch y = ap (λ (g : Finished). g.done) of.4 in
+          let done : f.done ≡ made_done epoch y = ap (λ (g : Ended). g.done) of.4 in
           let among : Among (concat x.transcripts) (tried_of y) = subst (λ (ts : List Tried). Among ts (tried_of y)) (sym (append-nil (map tried_of have.made))) of.1 in
           let commit : commit_of b epoch (tried_of y) ≡ Some f.done = ap (λ o. done_of epoch o (Committed y.time y.reply)) of.2 ∙ ap (λ (d : Done). Some d) (sym done) in
-          ap (λ (g : Finished). g.pieces) of.4
+          ap (λ (g : Ended). g.pieces) of.4
           ∙ ap (λ (n : ℕ). request_pieces (length first) n y.time y.writes) (sym (ap (λ (d : Done). place_of requests d.id) done ∙ found_place requests y.place y.request distinct of.2))
           ∙ ap (λ (n : ℕ). request_pieces (length first) (place_of requests f.done.id) n y.writes) (sym (ap (λ (d : Done). d.time) done))
           ∙ ap (request_pieces (length first) (place_of requests f.done.id) f.done.time) (runs b x is epoch (dones_of sorted) outcome distinct front behind f.done split (tried_of y) among commit y.request y.writes of.2 of.3)
 
-      pieces_from : (front : List Done) (fs : List Finished) → dones_of sorted ≡ front ++ dones_of fs → AllByRecursion IsOf fs → pieces_in fs ≡ pieces_of ps (length first) requests (rows_after ps m front) (dones_of fs)
+      pieces_from : (front : List Done) (fs : List Ended) → dones_of sorted ≡ front ++ dones_of fs → AllByRecursion IsOf fs → pieces_in fs ≡ pieces_of ps (length first) requests (rows_after ps m front) (dones_of fs)
       pieces_from front [] split all = refl
       pieces_from front (f ∷ fs) split all =
           ap (λ (qs : List Piece). qs ++ pieces_in fs) (one_piece front (dones_of fs) f split all.0)
@@ -261,34 +260,34 @@ module _ (ps : Procedures) (epoch : ℕ) (first last : List ShardState) (request
       pieces = pieces_from [] sorted refl all_of
 
     module _ (few : length requests ≤ most_batch_lines) (times : InEachExecution TimesAreFew) where
-      early_one : (f : Finished) → IsOf f → f.done.time ≤ most_time
+      early_one : (f : Ended) → IsOf f → f.done.time ≤ most_time
       early_one f of =
           let y : Made = of.0 in
           let among : Among (concat x.transcripts) (tried_of y) = subst (λ (ts : List Tried). Among ts (tried_of y)) (sym (append-nil (map tried_of have.made))) of.1 in
           let le : y.time ≤ length (concat x.transcripts) = (times b x is).commits (tried_of y) y.time y.reply among refl in
           let count : length (concat x.transcripts) ≡ length requests = ap length (append-nil (map tried_of have.made)) ∙ length-map have.made tried_of ∙ as_many in
-          subst (λ (d : Done). d.time ≤ most_time) (sym (ap (λ (g : Finished). g.done) of.4)) (omega (arith, le, count, few))
+          subst (λ (d : Done). d.time ≤ most_time) (sym (ap (λ (g : Ended). g.done) of.4)) (omega (arith, le, count, few))
 
       pub early : AllByRecursion (λ (d : Done). d.time ≤ most_time) (dones_of sorted)
-      early = all_map (λ (f : Finished). f.done) (λ (d : Done). d.time ≤ most_time) sorted (all_weaker IsOf (λ (f : Finished). f.done.time ≤ most_time) early_one sorted all_of)
+      early = all_map (λ (f : Ended). f.done) (λ (d : Done). d.time ≤ most_time) sorted (all_weaker IsOf (λ (f : Ended). f.done.time ≤ most_time) early_one sorted all_of)
 
 pub alone_is_serial : InEachExecution CommitsAreSerial → InEachExecution TimesAreFew → InEachExecution OutcomesAreSerial → InEachExecution OutcomesAreEpochs → InEachExecution WritesAreRuns → AloneIsSerial
 unfolding outcome
 alone_is_serial serial times outcomes epochs runs ps epoch first last requests sorted some fit few distinct kept all m holds attempts positive =
     let executed : IsExecution (record { procs = ps; opening = m; requests = requests; partitions = length first; workers = 1; attempts = attempts }) (execution_of (length first) all.have.made) =
-    is ps epoch first last requests all.finished some fit kept all.have m holds attempts positive in
+    is ps epoch first last requests all.ended some fit kept all.have m holds attempts positive in
     let came : IsOutcome (record { procs = ps; opening = m; requests = requests; partitions = length first; workers = 1; attempts = attempts }) epoch (execution_of (length first) all.have.made) (dones_of sorted) =
-    outcome ps epoch first last requests all.finished some fit kept all.have m holds attempts positive serial sorted all.same all.order in
+    outcome ps epoch first last requests all.ended some fit kept all.have m holds attempts positive serial sorted all.same all.order in
     let one = outcomes _ _ executed epoch (dones_of sorted) came in (
       record { execution = execution_of (length first) all.have.made; is = executed; outcome = came },
       record {
         each = epochs _ _ executed epoch (dones_of sorted) came distinct;
-        early = early ps epoch first last requests all.finished some fit kept all.have m holds attempts positive serial sorted all.same all.order few times;
+        early = early ps epoch first last requests all.ended some fit kept all.have m holds attempts positive serial sorted all.same all.order few times;
         replies = one.replies;
         times = one.times;
-        pieces = pieces ps epoch first last requests all.finished some fit kept all.have m holds attempts positive serial sorted all.same all.order distinct runs ∙ ap (λ (n : ℕ). pieces_of ps n requests m (dones_of sorted)) (sym kept.count);
+        pieces = pieces ps epoch first last requests all.ended some fit kept all.have m holds attempts positive serial sorted all.same all.order distinct runs ∙ ap (λ (n : ℕ). pieces_of ps n requests m (dones_of sorted)) (sym kept.count);
         partitions = kept.partitions;
-        newest = λ k. ap (λ (r : RowState). r.newest) (rows ps epoch first last requests all.finished some fit kept all.have m holds attempts positive k) ∙ sym (came.newest k);
+        newest = λ k. ap (λ (r : RowState). r.newest) (rows ps epoch first last requests all.ended some fit kept all.have m holds attempts positive k) ∙ sym (came.newest k);
         stable = λ k. ap (λ (n : ℕ). stable_at (shard_at last (k.row % n)) k) kept.count ∙ kept.stable (k.row % length first) k ∙ holds.values k;
       },
     )

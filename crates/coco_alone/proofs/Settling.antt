@@ -1,15 +1,12 @@
 -- Settled shards, and shards that settle on what they were.
-use Rattle.std.proofs.Common.{◌≡◌, ℕ, ◌<◌, ◌≤◌, ◌%◌, List, length, get_or, Result, Ok, Err, IfOk, OnErr, Option, None, Some, refl, sym, ap, ◌∙◌, subst, arith}
-use Rattle.std.specs.FinMap.{empty}
+use Rattle.std.proofs.Common.{◌≡◌, ◌≤◌, ◌%◌, List, length, Result, Ok, Err, IfOk, OnErr, Option, None, Some, refl, sym, ap, ◌∙◌, subst, arith}
 use Rattle.std.specs.Option.{option_map, unwrap_or}
-use Rattle.std.proofs.lemmas.List.{get_or_default, same_lists}
-use Rattle.std.proofs.lemmas.Option.{unwrap_or-slice_get}
 use Rattle.coco_types.specs.RowKey.{RowKey}
 use Rattle.coco_types.specs.declared.value.Value.{Value}
-use Rattle.coco_types.proofs.KeyMaps.{same_keyed}
 use Rattle.coco_shard.specs.RowState.{RowState, ShardState, resting, stable_at}
-use Rattle.coco_epoch.specs.Shards.{AreSettled, KeepStable, SettleOn, row_in, shard_at, stable_in}
+use Rattle.coco_epoch.specs.Shards.{AreSettled, KeepStable, SettleOn, row_in, stable_in}
 use Rattle.coco_alone.specs.Asked.{AreCalm}
+use Rattle.coco_alone.proofs.AskLemmas.{same_shards}
 
 pub settled_row : (shards : List ShardState) → AreSettled shards → (k : RowKey) → row_in shards k ≡ resting (stable_in shards k)
 settled_row shards settled k = ap (λ (o : Option RowState). unwrap_or o (resting None)) (settled (k.row % length shards) k) ∙ choose (stable_in shards k)
@@ -27,16 +24,8 @@ calm_settled shards settled = record {
 
 -- shards that kept their stable values settle on what they were
 pub reverted_same : (first last back : List ShardState) → AreSettled first → KeepStable first last → SettleOn stable_at last back → back ≡ first
-reverted_same first last back settled kept settle = same_lists _ _ (settle.count ∙ kept.count) (λ k d lt. sym (read back k d lt) ∙ same k ∙ read first k d (within_first k lt))
-  where
-    same : (p : ℕ) → shard_at back p ≡ shard_at first p
-    same p = same_keyed _ _ (λ k. settle.each p k ∙ ap (option_map (λ value. resting (Some value))) (kept.stable p k) ∙ sym (settled p k))
-
-    read : (shards : List ShardState) (p : ℕ) (d : ShardState) → p < length shards → shard_at shards p ≡ get_or shards p d
-    read shards p d lt = unwrap_or-slice_get shards p empty ∙ get_or_default shards p empty d lt
-
-    within_first : (p : ℕ) → p < length back → p < length first
-    within_first p lt = let e : length back ≡ length first = settle.count ∙ kept.count in omega arith
+reverted_same first last back settled kept settle =
+    same_shards back first (settle.count ∙ kept.count) (λ p k. settle.each p k ∙ ap (option_map (λ value. resting (Some value))) (kept.stable p k) ∙ sym (settled p k))
 
 pub always_err : {T E : Type 0} (r : Result T E) (P : Type 0) → P → OnErr r P
 always_err (Ok x) P p = tt

@@ -1,5 +1,5 @@
 -- The parts of an attempt that nothing disturbs, joined.
-use Rattle.std.proofs.Common.{◌≡◌, ℕ, suc, ◌+◌, ◌||◌, ◌≤◌, Bool, true, false, cond, List, [], ◌∷◌, map, filter, length, None, Some, refl, sym, ap, ◌∙◌, subst, arith}
+use Rattle.std.proofs.Common.{◌≡◌, ℕ, suc, ◌+◌, ◌||◌, ◌<◌, ◌≤◌, false, List, [], ◌∷◌, map, filter, length, None, Some, refl, sym, ap, ◌∙◌, subst, arith}
 use Rattle.std.specs.List.{AllByRecursion}
 use Rattle.std.specs.declared.cmp.Ordering.{Ordering}
 use Rattle.std.specs.declared.cmp.Ordering.TheVariants.{Less}
@@ -23,8 +23,10 @@ use Rattle.coco_occ.specs.Exchange.{Exchange, read}
 use Rattle.coco_occ.specs.Script.{time_of}
 use Rattle.coco_occ.proofs.NeedLemmas.{run_ascends}
 use Rattle.coco_alone.specs.declared.asks.Seen.{Seen}
-use Rattle.coco_alone.specs.Asked.{AreCalm, Lead, extends_to, found_in, is_written, locks_in, marked, needs_more, reads_in, seen_in}
-use Rattle.coco_alone.specs.Calls.{AreApart, HasCalled, HasExtended, HasInstalled, HasLocked, HasRun, mark_for, steps_by}
+use Rattle.coco_alone.specs.Asked.{AreCalm, Lead, extends_to, found_in, is_written, locks_in, marks_on, needs_more, reads_in, seen_in}
+use Rattle.coco_alone.specs.Calls.{AreApart, HasCalled, HasExtended, HasInstalled, HasRun, steps_by}
+use Rattle.coco_alone.proofs.Extending.{extends_past}
+use Rattle.coco_alone.proofs.Locking.{locks_lead, some_still}
 use Rattle.coco_alone.proofs.Scripts.{all_over, asked, greatest_map, is_script, leads_then, time_is}
 
 -- ---- no key is written twice
@@ -45,45 +47,30 @@ run_writes_apart ps call m = apart (run ps call m).writes (run_ascends ps call m
 
 -- ---- rows along the way
 
-marked_mark : (by : AttemptId) (b : Bool) (row : RowState) → row.mark ≡ None → (marked by b row).mark ≡ cond b (Some by) None
-marked_mark by true row none = refl
-marked_mark by false row none = none
-
-marked_wts : (by : AttemptId) (b : Bool) (row : RowState) → (marked by b row).wts ≡ row.wts
-marked_wts by true row = refl
-marked_wts by false row = refl
-
-marked_rts : (by : AttemptId) (b : Bool) (row : RowState) → (marked by b row).rts ≡ row.rts
-marked_rts by true row = refl
-marked_rts by false row = refl
-
 -- shards of which each key's row is the other's row
 abbrev pub SameRows : List ShardState → List ShardState → Type 0
 SameRows old new = (k : RowKey) → row_in new k ≡ row_in old k
 
-module _ (by : AttemptId) (old first locked : List ShardState) (ws : List Write) (same : SameRows old first) (has : HasLocked by first locked ws) (calm : AreCalm by.number old) where
+module _ (by : AttemptId) (old first : List ShardState) (same : SameRows old first) (calm : AreCalm by.number old) where
   pub first_unmarked : (k : RowKey) → (row_in first k).mark ≡ None
   first_unmarked k = ap (λ (r : RowState). r.mark) (same k) ∙ calm.unmarked k
 
-  pub marks_there : (k : RowKey) → (row_in locked k).mark ≡ mark_for by ws k
-  marks_there k = ap (λ (r : RowState). r.mark) (has.rows k) ∙ marked_mark by (is_written ws k) (row_in first k) (first_unmarked k)
+  wts_there : (k : RowKey) → (row_in first k).wts ≡ (row_in old k).wts
+  wts_there k = ap (λ (r : RowState). r.wts) (same k)
 
-  pub unmarked_there : (k : RowKey) → is_written ws k ≡ false → (row_in locked k).mark ≡ None
-  unmarked_there k f = marks_there k ∙ ap (λ b. cond b (Some by) None) f
+  rts_there : (k : RowKey) → (row_in first k).rts ≡ (row_in old k).rts
+  rts_there k = ap (λ (r : RowState). r.rts) (same k)
 
-  pub wts_there : (k : RowKey) → (row_in locked k).wts ≡ (row_in old k).wts
-  wts_there k = ap (λ (r : RowState). r.wts) (has.rows k) ∙ marked_wts by (is_written ws k) (row_in first k) ∙ ap (λ (r : RowState). r.wts) (same k)
+  -- what was read still has the times that were read
+  pub seen_there : (ks : List RowKey) (seen : List Seen) → seen ≡ map (seen_in old) ks → AllByRecursion (λ (s : Seen). (row_in first s.key).wts ≡ s.wts) seen
+  seen_there ks seen is = subst (AllByRecursion (λ (s : Seen). (row_in first s.key).wts ≡ s.wts)) (sym is) (all_over (seen_in old) (λ (s : Seen). (row_in first s.key).wts ≡ s.wts) ks wts_there)
 
-  pub rts_there : (k : RowKey) → (row_in locked k).rts ≡ (row_in old k).rts
-  rts_there k = ap (λ (r : RowState). r.rts) (has.rows k) ∙ marked_rts by (is_written ws k) (row_in first k) ∙ ap (λ (r : RowState). r.rts) (same k)
+  pub shown_there : (ks : List RowKey) (seen : List Seen) → seen ≡ map (seen_in old) ks → AllByRecursion (λ (s : Seen). s.rts ≡ (row_in first s.key).rts) seen
+  shown_there ks seen is = subst (AllByRecursion (λ (s : Seen). s.rts ≡ (row_in first s.key).rts)) (sym is) (all_over (seen_in old) (λ (s : Seen). s.rts ≡ (row_in first s.key).rts) ks (λ k. sym (rts_there k)))
 
-  -- what was read still has the write times that were read
-  pub seen_there : (ks : List RowKey) (seen : List Seen) → seen ≡ map (seen_in old) ks → AllByRecursion (λ (s : Seen). (row_in locked s.key).wts ≡ s.wts) seen
-  seen_there ks seen is = subst (AllByRecursion (λ (s : Seen). (row_in locked s.key).wts ≡ s.wts)) (sym is) (all_over (seen_in old) (λ (s : Seen). (row_in locked s.key).wts ≡ s.wts) ks wts_there)
-
-  module _ (time : ℕ) (extended last : List ShardState) (seen : List Seen) (more : HasExtended by time locked extended ws seen) where
-    pub mine_there : (k : RowKey) → (row_in extended k).mark ≡ mark_for by ws k
-    mine_there k = ap (λ (r : RowState). r.mark) (more.rows k) ∙ marks_there k
+  module _ (time : ℕ) (extended last : List ShardState) (ws : List Write) (seen : List Seen) (more : HasExtended by time first extended ws seen) where
+    pub extended_unmarked : (k : RowKey) → (row_in extended k).mark ≡ None
+    extended_unmarked k = ap (λ (r : RowState). r.mark) (more.rows k) ∙ first_unmarked k
 
     -- behind it all is calm again
     pub calm_again : time ≤ by.number + 1 → HasInstalled by time extended last ws → AreCalm (by.number + 1) last
@@ -121,25 +108,27 @@ read_parts : (old : List ShardState) (ks : List RowKey) → map (reads_in old) k
 read_parts old [] = refl
 read_parts old (k ∷ ks) = ap (λ xs. reads_in old k ∷ xs) (read_parts old ks)
 
-pub called : (ps : Procedures) (call : Call) (by : AttemptId) (old first locked extended last : List ShardState) (e : Evaluation) (seen : List Seen) (above most time : ℕ)
-    → call.snapshot ≡ false → (ran : HasRun ps call by old first seen e)
-    → HasLocked by first locked (run ps call ran.rows).writes → HasExtended by time locked extended (run ps call ran.rows).writes seen → HasInstalled by time extended last (run ps call ran.rows).writes
-    → KeepStable old first → KeepStable first locked → KeepStable locked extended
+pub called : (ps : Procedures) (call : Call) (by : AttemptId) (old first extended last : List ShardState) (e : Evaluation) (seen : List Seen) (above most time : ℕ)
+    → call.snapshot ≡ false → 0 < length old → AreCalm by.number old → (ran : HasRun ps call by old first seen e)
+    → HasExtended by time first extended (run ps call ran.rows).writes seen → HasInstalled by time extended last (run ps call ran.rows).writes
+    → KeepStable old first → KeepStable first extended
     → above ≡ greatest 0 (map (λ (s : Seen). s.wts) seen) → most ≡ greatest above (map (λ (w : Write). (row_in first w.key).rts) (run ps call ran.rows).writes) → time ≡ suc most → time ≤ most_time
     → HasCalled ps call by old last time (Some e)
-called ps call by old first locked extended last e seen above most time plain ran has more done one two three is_above is_most is le =
+called ps call by old first extended last e seen above most time plain some calm ran more done one two is_above is_most is le =
     let n : ℕ = length old in
     let ws : List Write = (run ps call ran.rows).writes in
     let ks : List RowKey = (run ps call ran.rows).needs in
+    let there : 0 < length first = some_still old first one.count some in
+    let locked : List ShardState = marks_on by first ws in
     let time_is_so : time ≡ time_of (map (found_in old) ks) (map (locks_in old) ws) =
     is ∙ time_is ps call by old ran.rows time above most (is_above ∙ ap (λ (xs : List Seen). greatest 0 (map (λ (s : Seen). s.wts) xs)) ran.reads.seen_is) (is_most ∙ ap (greatest above) (same_shown old first ran.reads.rows ws)) in
     let leads : Lead old (steps_by by n (asked ps call by old ran.rows time)) last =
-    leads_then by n n (length extended) old extended last _ _ refl (three.count ∙ two.count ∙ one.count)
-    (leads_then by n n (length locked) old locked extended _ _ refl (two.count ∙ one.count)
+    leads_then by n n (length extended) old (marks_on by extended ws) last _ _ refl (two.count ∙ one.count)
+    (leads_then by n n (length first) old locked (marks_on by extended ws) _ _ refl one.count
     (leads_then by n n (length first) old first locked _ _ refl one.count
     (subst (λ (xs : List Exchange). Lead old (steps_by by n xs) first) (read_parts old ks) ran.reads.leads)
-    (subst (λ (xs : List Exchange). Lead first (steps_by by (length first) xs) locked) (same_locks old first ran.reads.rows ws) has.leads))
-    (subst (λ (xs : List Seen). Lead locked (steps_by by (length locked) (map (extends_to time) (filter (needs_more time ws) xs))) extended) ran.reads.seen_is more.leads))
+    (subst (λ (xs : List Exchange). Lead first (steps_by by (length first) xs) locked) (same_locks old first ran.reads.rows ws) (locks_lead by first ws there (first_unmarked by old first ran.reads.rows calm))))
+    (subst (λ (xs : List Seen). Lead locked (steps_by by (length first) (map (extends_to time) (filter (needs_more time ws) xs))) (marks_on by extended ws)) ran.reads.seen_is (extends_past by time (length first) first extended ws seen there more.leads)))
     done.leads in
     record {
       rows = ran.rows;

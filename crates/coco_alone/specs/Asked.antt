@@ -6,7 +6,7 @@ use Rattle.coco_types.specs.declared.call.AttemptId.{AttemptId}
 use Rattle.coco_types.specs.declared.call.Write.{Write}
 use Rattle.coco_ast.specs.Meaning.{is_key}
 use Rattle.coco_shard.specs.RowState.{RowState, ShardState}
-use Rattle.coco_shard.specs.Table.{answer_at, key_of, left_by}
+use Rattle.coco_shard.specs.Table.{answer_at, key_of, left_by, marked_by}
 use Rattle.coco_shard.specs.declared.ops.Op.TheVariants.{Lock, Extend, Install, Past}
 use Rattle.coco_shard.specs.declared.ops.Answer.TheVariants.{Locked, Extended, Installed, Stood}
 use Rattle.coco_epoch.specs.Shards.{row_in, stable_in, with_row_in}
@@ -62,6 +62,15 @@ abbrev pub needs_more : ℕ → List Write → Seen → Bool
 needs_more time ws s = not (is_written ws s.key) && nat_lt s.rts time
 
 -- ---- rows along an attempt
+
+-- the shards with a key's row changed
+abbrev pub changed_in : List ShardState → RowKey → (RowState → RowState) → List ShardState
+changed_in shards k change = with_row_in shards k (change (row_in shards k))
+
+-- the shards with this attempt's mark on the rows of these writes
+abbrev pub marks_on : AttemptId → List ShardState → List Write → List ShardState
+marks_on by shards [] = shards
+marks_on by shards (w ∷ ws) = marks_on by (changed_in shards w.key (marked_by by)) ws
 
 -- the row with this attempt's mark, or as it is
 abbrev pub marked : AttemptId → Bool → RowState → RowState

@@ -1,5 +1,5 @@
 -- What the parts of an attempt that nothing disturbs do to shards, and what one call comes to.
-use Rattle.std.specs.Prelude.{◌≡◌, ⊤, ℕ, ◌≤◌, false, if◌then◌else◌, List, [], ◌∷◌, map, length, Option, None, Some}
+use Rattle.std.specs.Prelude.{◌≡◌, ⊤, ℕ, ◌≤◌, false, List, [], ◌∷◌, map, length, Option, None, Some}
 use Rattle.std.specs.List.{AllByRecursion, filter}
 use Rattle.coco_types.specs.RowKey.{RowKey}
 use Rattle.coco_types.specs.declared.call.AttemptId.{AttemptId}
@@ -17,7 +17,7 @@ use Rattle.coco_occ.specs.Script.{IsScript}
 use Rattle.coco_occ.specs.declared.outcome.Outcome.TheVariants.{Committed}
 use Rattle.coco_occ.specs.declared.script.Step.{Step}
 use Rattle.coco_alone.specs.declared.asks.Seen.{Seen}
-use Rattle.coco_alone.specs.Asked.{Lead, extends_to, installs_at, is_written, locks_in, marked, needs_more, reads_in, seen_in}
+use Rattle.coco_alone.specs.Asked.{Lead, extends_to, installs_at, is_written, marks_on, needs_more, reads_in, seen_in}
 
 abbrev pub steps_by : AttemptId → ℕ → List Exchange → List Step
 steps_by by partitions asked = map (step_of by partitions) asked
@@ -27,11 +27,6 @@ pub record HasRead (by : AttemptId) (old new : List ShardState) (ks : List RowKe
   pub seen_is : seen ≡ map (seen_in old) ks
   pub leads : Lead old (steps_by by (length old) (map (reads_in old) ks)) new
   pub rows : (k : RowKey) → row_in new k ≡ row_in old k
-
--- the keys of these writes are locked, and no row has changed but for the marks
-pub record HasLocked (by : AttemptId) (old new : List ShardState) (ws : List Write) : Type 0 where
-  pub leads : Lead old (steps_by by (length old) (map (locks_in old) ws)) new
-  pub rows : (k : RowKey) → row_in new k ≡ marked by (is_written ws k) (row_in old k)
 
 -- what was seen and needs it is extended, and no row has changed but for read times
 pub record HasExtended (by : AttemptId) (time : ℕ) (old new : List ShardState) (ws : List Write) (seen : List Seen) : Type 0 where
@@ -44,13 +39,9 @@ abbrev pub AreApart : List Write → Type 0
 AreApart [] = ⊤
 AreApart (w ∷ ws) = (is_written ws w.key ≡ false) × AreApart ws
 
--- the mark of a key that this attempt has locked to write it
-abbrev pub mark_for : AttemptId → List Write → RowKey → Option AttemptId
-mark_for by ws k = if is_written ws k then Some by else None
-
--- these writes are made, and no mark stands
+-- these writes are made as if this attempt's marks stood on their rows, and no mark stands
 pub record HasInstalled (by : AttemptId) (time : ℕ) (old new : List ShardState) (ws : List Write) : Type 0 where
-  pub leads : Lead old (steps_by by (length old) (map (installs_at time) ws)) new
+  pub leads : Lead (marks_on by old ws) (steps_by by (length old) (map (installs_at time) ws)) new
   pub unmarked : (k : RowKey) → (row_in new k).mark ≡ None
   pub until : (most : ℕ) → time ≤ most → ((k : RowKey) → (row_in old k).rts ≤ most) → (k : RowKey) → (row_in new k).rts ≤ most
   pub written : (most : ℕ) → time ≤ most → ((k : RowKey) → (row_in old k).wts ≤ most) → (k : RowKey) → (row_in new k).wts ≤ most

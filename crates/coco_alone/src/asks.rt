@@ -1,10 +1,10 @@
 //! The steps of an attempt that nothing disturbs, each at the shard of its key.
 
-ghost use Rattle.std.specs.Prelude.{◌≡◌, ◌<◌, ◌++◌, ◌∷◌, [], None, Some, length, IfOk, MatchOption, OnErr, OnOk};
+ghost use Rattle.std.specs.Prelude.{◌≡◌, ◌<◌, ◌++◌, ◌∷◌, [], None, Some, length, MatchOption, OnErr, OnOk};
 ghost use Rattle.std.specs.FinMap.{get};
+ghost use Rattle.std.specs.List.{AllByRecursion};
 ghost use Rattle.coco_eval.specs.Standing.{Asks, Ready};
-ghost use Rattle.coco_shard.specs.Table.{extended, installed, unless_marked};
-ghost use Rattle.coco_shard.specs.declared.ops.Answer.{Answer as Answered};
+ghost use Rattle.coco_shard.specs.Table.{extended, installed};
 ghost use Rattle.coco_shard.specs.Version.{IsVersionOf};
 ghost use Rattle.coco_epoch.specs.Shards.{AreOfPartitions, KeepStable, newest_in, row_in, shard_of, stable_in, with_row_in};
 ghost use Rattle.coco_alone.specs.Asked.{seen_in};
@@ -12,7 +12,7 @@ ghost use Rattle.coco_alone.specs.Asked.{seen_in};
 use coco_eval::Run;
 use coco_pieces::partition_of;
 use coco_shard::{Shard, Version};
-use coco_types::{AttemptId, Key, NoMemory, Value, Write};
+use coco_types::{Key, NoMemory, Value, Write};
 
 /// A key that was read, with the times that its row showed.
 #[derive(Clone, Copy, Debug)]
@@ -81,43 +81,25 @@ fn read_missing(
     Ok(())
 }
 
-/// Locks a key on which no other attempt's mark stands, and answers its row's read time.
-pub fn lock_key(shards: &mut [Shard], by: AttemptId, key: Key) -> Result<u64, NoMemory>
-    requires some { 0 < length shards.old }
-    requires partitions { AreOfPartitions shards.old }
-    requires free { (answer : Answered) → unless_marked (row_in shards.old key).mark by answer ≡ answer }
-    ensures rts { IfOk result (λ rts. rts ≡ (row_in shards.old key).rts) }
-    ensures ok { OnOk result (shards.new ≡ with_row_in shards.old key (record (row_in shards.old key) { mark = Some by })) }
-    ensures kept { KeepStable shards.old shards.new }
+/// The read time of a key's row, which is looked up only where the key isn't among those seen.
+pub fn read_time(shards: &[Shard], seen: &[Seen], key: Key) -> u64
+    requires some { 0 < length shards.now }
+    requires shown { AllByRecursion (λ s. s.rts ≡ (row_in shards.now s.key).rts) seen.now }
+    ensures { result ≡ (row_in shards.now key).rts }
 {
-    mark(shards, by, key)
+    for found in seen {
+        if found.key == key {
+            return found.rts;
+        }
+    }
+    match newest_key(shards, key) {
+        Some(version) => version.rts,
+        None => 0,
+    }
 }
 
-// The same. Out of memory, nothing has changed.
-fn mark(shards: &mut [Shard], by: AttemptId, key: Key) -> Result<u64, NoMemory>
-    requires some { 0 < length shards.old }
-    requires free { (answer : Answered) → unless_marked (row_in shards.old key).mark by answer ≡ answer }
-    ensures rts { IfOk result (λ rts. rts ≡ (row_in shards.old key).rts) }
-    ensures ok { OnOk result (shards.new ≡ with_row_in shards.old key (record (row_in shards.old key) { mark = Some by })) }
-    ensures err { OnErr result (shards.new ≡ shards.old) }
-{
-    let place = partition_of(key, shards.len());
-    shards[place].mark(key, by)
-}
-
-/// Makes the version of a key that was read valid until the time.
+/// Makes the version of a key that was read valid until the time. Out of memory, nothing has changed.
 pub fn extend_key(shards: &mut [Shard], key: Key, time: u64) -> Result<(), NoMemory>
-    requires some { 0 < length shards.old }
-    requires partitions { AreOfPartitions shards.old }
-    requires unmarked { (row_in shards.old key).mark ≡ None }
-    ensures ok { OnOk result (shards.new ≡ with_row_in shards.old key (extended time (row_in shards.old key))) }
-    ensures kept { KeepStable shards.old shards.new }
-{
-    extend(shards, key, time)
-}
-
-// The same. Out of memory, nothing has changed.
-fn extend(shards: &mut [Shard], key: Key, time: u64) -> Result<(), NoMemory>
     requires some { 0 < length shards.old }
     requires unmarked { (row_in shards.old key).mark ≡ None }
     ensures ok { OnOk result (shards.new ≡ with_row_in shards.old key (extended time (row_in shards.old key))) }
@@ -127,18 +109,8 @@ fn extend(shards: &mut [Shard], key: Key, time: u64) -> Result<(), NoMemory>
     shards[place].extend(key, time)
 }
 
-/// Makes a write at the time, of a key that is locked.
+/// Makes a write at the time. Out of memory, nothing has changed.
 pub fn install_key(shards: &mut [Shard], write: &Write, time: u64) -> Result<(), NoMemory>
-    requires some { 0 < length shards.old }
-    requires partitions { AreOfPartitions shards.old }
-    ensures ok { OnOk result (shards.new ≡ with_row_in shards.old write.now.key (installed time write.now.value (row_in shards.old write.now.key))) }
-    ensures kept { KeepStable shards.old shards.new }
-{
-    put(shards, write, time)
-}
-
-// The same. Out of memory, nothing has changed.
-fn put(shards: &mut [Shard], write: &Write, time: u64) -> Result<(), NoMemory>
     requires { 0 < length shards.old }
     ensures ok { OnOk result (shards.new ≡ with_row_in shards.old write.now.key (installed time write.now.value (row_in shards.old write.now.key))) }
     ensures err { OnErr result (shards.new ≡ shards.old) }

@@ -1,6 +1,7 @@
-//! An attempt at a call that nothing disturbs: what it reads, locks, extends and installs.
+//! An attempt at a call that nothing disturbs: what it reads, extends and installs. What it locks stays unmarked, since
+//! nobody would see the marks before the writes take them away.
 
-ghost use Rattle.std.specs.Prelude.{◌≡◌, ℕ, ◌+◌, ◌<◌, ◌≤◌, ◌%◌, [], None, Some, true, false, if◌then◌else◌, length, map, IfOk, OnOk};
+ghost use Rattle.std.specs.Prelude.{◌≡◌, ℕ, ◌+◌, ◌<◌, ◌≤◌, ◌%◌, [], None, Some, true, false, if◌then◌else◌, length, map, OnOk};
 ghost use Rattle.std.specs.List.{AllByRecursion};
 ghost use Rattle.coco_types.specs.RowKey.{RowKey};
 ghost use Rattle.coco_eval.specs.Standing.{Ready};
@@ -9,9 +10,9 @@ ghost use Rattle.coco_shard.specs.Table.{extended};
 ghost use Rattle.coco_epoch.specs.Running.{HasEnded};
 ghost use Rattle.coco_epoch.specs.Shards.{AreOfPartitions, KeepStable, row_in, with_row_in};
 ghost use Rattle.coco_alone.specs.Asked.{is_written as writes_key, needs_more as needs};
-ghost use Rattle.coco_alone.specs.Calls.{AreApart, HasExtended, HasInstalled, HasLocked, HasLooked, HasRun, mark_for};
+ghost use Rattle.coco_alone.specs.Calls.{AreApart, HasExtended, HasInstalled, HasLooked, HasRun};
 
-use crate::asks::{Seen, extend_key, install_key, lock_key, read_key, stable_key};
+use crate::asks::{Seen, extend_key, install_key, read_key, read_time, stable_key};
 use coco_ast::Checked;
 use coco_eval::Run;
 use coco_shard::Shard;
@@ -71,25 +72,17 @@ pub fn greatest_wts(seen: &[Seen]) -> u64
     most
 }
 
-/// Locks the keys of the writes, and answers the greatest of this time and the read times that the locks showed.
-pub fn lock_all(
-    shards: &mut [Shard],
-    by: AttemptId,
-    writes: &[Write],
-    above: u64,
-) -> Result<u64, NoMemory>
-    requires some { 0 < length shards.old }
-    requires partitions { AreOfPartitions shards.old }
-    requires unmarked { (k : RowKey) → (row_in shards.old k).mark ≡ None }
-    ensures most { IfOk result (λ most. most ≡ greatest above (map (λ w. (row_in shards.old w.key).rts) writes.now)) }
-    ensures locked { OnOk result (HasLocked by shards.old shards.new writes.now) }
-    ensures kept { KeepStable shards.old shards.new }
+/// The greatest of this time and the read times of the rows of the written keys.
+pub fn greatest_rts(shards: &[Shard], seen: &[Seen], writes: &[Write], above: u64) -> u64
+    requires some { 0 < length shards.now }
+    requires shown { AllByRecursion (λ s. s.rts ≡ (row_in shards.now s.key).rts) seen.now }
+    ensures { result ≡ greatest above (map (λ w. (row_in shards.now w.key).rts) writes.now) }
 {
     let mut most = above;
     for write in writes {
-        most = lock_key(shards, by, write.key)?.max(most);
+        most = read_time(shards, seen, write.key).max(most);
     }
-    Ok(most)
+    most
 }
 
 /// Extends to the time what was seen, isn't written, and was valid up to an earlier time only.
@@ -144,7 +137,7 @@ fn is_written(writes: &[Write], key: Key) -> bool
     writes.iter().any(|write| key == write.key)
 }
 
-/// Makes the writes at the time, all of which are locked.
+/// Makes the writes at the time, as if the attempt's marks stood on their rows.
 pub fn install_all(
     shards: &mut [Shard],
     by: AttemptId,
@@ -153,7 +146,7 @@ pub fn install_all(
 ) -> Result<(), NoMemory>
     requires some { 0 < length shards.old }
     requires partitions { AreOfPartitions shards.old }
-    requires mine { (k : RowKey) → (row_in shards.old k).mark ≡ mark_for by writes.now k }
+    requires unmarked { (k : RowKey) → (row_in shards.old k).mark ≡ None }
     requires apart { AreApart writes.now }
     ensures installed { OnOk result (HasInstalled by time shards.old shards.new writes.now) }
     ensures kept { KeepStable shards.old shards.new }

@@ -9,7 +9,7 @@ ghost use Rattle.coco_alone.specs.Asked.{AreCalm};
 ghost use Rattle.coco_alone.specs.Calls.{HasCalled};
 
 use crate::asks::Seen;
-use crate::attempt::{extend_all, greatest_wts, install_all, lock_all, look_all, read_all};
+use crate::attempt::{extend_all, greatest_rts, greatest_wts, install_all, look_all, read_all};
 use coco_ast::Checked;
 use coco_eval::Run;
 use coco_shard::Shard;
@@ -92,7 +92,7 @@ fn run_try(
     read_all(running, procs, shards, by, seen)?;
     let seen = seen.as_slice();
     let writes = running.writes().as_slice();
-    let time = lock_all(shards, by, writes, greatest_wts(seen))? + 1;
+    let time = greatest_rts(shards, seen, writes, greatest_wts(seen)) + 1;
     extend_all(shards, by, seen, writes, time)?;
     install_all(shards, by, writes, time)?;
     Ok(time)

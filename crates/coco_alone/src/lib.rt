@@ -7,8 +7,10 @@ mod calls;
 mod epoch;
 pub mod laws;
 mod progress;
+mod room;
 
 pub use epoch::{Ran, run_alone};
+pub use room::Room;
 
 #[cfg(test)]
 mod tests;

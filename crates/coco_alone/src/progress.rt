@@ -1,16 +1,17 @@
 //! What an epoch has come to so far, call after call.
 
-ghost use Rattle.std.specs.Prelude.{◌≡◌, ◌+◌, ◌<◌, ◌≤◌, ◌++◌, ◌∷◌, [], length, IfOk, OnOk};
+ghost use Rattle.std.specs.Prelude.{◌≡◌, ℕ, ◌+◌, ◌<◌, ◌≤◌, ◌++◌, ◌∷◌, [], length, IfOk, OnOk};
 ghost use Rattle.coco_ast.specs.Fitting.{Fits};
 ghost use Rattle.coco_ast.specs.Meaning.{Run as Came};
 ghost use Rattle.coco_pieces.specs.Pieces.{request_pieces};
 ghost use Rattle.coco_epoch.specs.Running.{CameTo, FitAll, IsOver, IsThere};
 ghost use Rattle.coco_epoch.specs.Shards.{AreOfPartitions, KeepStable};
 ghost use Rattle.coco_alone.specs.Asked.{AreCalm};
-ghost use Rattle.coco_alone.specs.Epochs.{HasFinished, HaveFinished};
+ghost use Rattle.coco_alone.specs.Epochs.{HasFinished, HaveFinished, HavePlaces, all_ended};
 
 use crate::asks::Seen;
 use crate::calls::run_call;
+use crate::room::Room;
 use coco_ast::Checked;
 use coco_eval::Run;
 use coco_pieces::add_pieces;
@@ -19,14 +20,16 @@ use coco_types::limits::{MOST_BATCH_LINES, MOST_PARTITIONS, MOST_TIME};
 use coco_types::{AttemptId, Done, KeptReply, NoMemory, Pieces, Request};
 use std::alloc::Global;
 
-/// A request that was run, with what it wrote.
+/// A request that was run, and between which places its pieces stand among all pieces.
 #[derive(Drop)]
 pub struct Finished {
     pub done: Done,
-    pub pieces: Pieces,
+    pub first: usize,
+    pub end: usize,
 }
 
-/// The requests so far, in input order, and the run of the last call with what it read, whose room the next one uses.
+/// The requests so far with all their pieces, in input order, and the run of the last call with what it read, whose
+/// room the next one uses.
 #[derive(Drop)]
 pub struct Progress {
     pub alloc: Global,
@@ -34,21 +37,29 @@ pub struct Progress {
     pub running: Option<Run>,
     pub seen: Vec<Seen>,
     pub finished: Vec<Finished>,
+    pub pieces: Pieces,
 }
 
 impl Progress {
-    /// An epoch of this number of which nothing is run, with room for so many requests.
-    pub fn start(alloc: Global, epoch: u64, requests: usize) -> Result<Progress, NoMemory>
+    /// An epoch of this number of which nothing is run, with the room of the last one, and room for so many requests.
+    pub fn start(
+        alloc: Global,
+        epoch: u64,
+        room: Room,
+        requests: usize,
+    ) -> Result<Progress, NoMemory>
         ensures epoch { IfOk result (λ progress. progress.epoch ≡ epoch) }
         ensures over { IfOk result (λ progress. IsOver progress.running) }
         ensures finished { IfOk result (λ progress. progress.finished.items ≡ []) }
     {
+        let Room { running, seen } = room;
         Ok(Progress {
             alloc,
             epoch,
-            running: None,
-            seen: Vec::new(alloc),
+            running,
+            seen,
             finished: Vec::with_capacity(alloc, requests)?,
+            pieces: Pieces::from_vec(Vec::with_capacity(alloc, requests)?),
         })
     }
 
@@ -67,7 +78,9 @@ impl Progress {
         requires most { length shards.old ≤ MOST_PARTITIONS }
         requires partitions { AreOfPartitions shards.old }
         requires calm { AreCalm 0 shards.old }
-        ensures ran { OnOk result (HaveFinished procs.now self.old.epoch shards.old shards.new requests.items self.new.finished.items) }
+        ensures over { OnOk result (IsOver self.new.running) }
+        ensures ran { OnOk result (HaveFinished procs.now self.old.epoch shards.old shards.new requests.items (all_ended self.new.pieces self.new.finished.items)) }
+        ensures places { OnOk result (HavePlaces self.new.pieces self.new.finished.items) }
         ensures kept { KeepStable shards.old shards.new }
     {
         let mut place = 0;
@@ -92,8 +105,12 @@ impl Progress {
         requires partitions { AreOfPartitions shards.old }
         requires calm { AreCalm place shards.old }
         requires early { place < MOST_TIME }
+        requires places { HavePlaces self.old.pieces self.old.finished.items }
         ensures over { OnOk result (IsOver self.new.running) }
-        ensures ran { OnOk result (HasFinished procs.now self.old.epoch place request shards.old shards.new self.old.finished.items self.new.finished.items) }
+        ensures ran { OnOk result (HasFinished procs.now self.old.epoch place request shards.old shards.new
+            (all_ended self.old.pieces self.old.finished.items)
+            (all_ended self.new.pieces self.new.finished.items)) }
+        ensures places { OnOk result (HavePlaces self.new.pieces self.new.finished.items) }
         ensures calm { OnOk result (AreCalm (place + 1) shards.new) }
         ensures kept { KeepStable shards.old shards.new }
         ensures epoch { OnOk result (self.new.epoch ≡ self.old.epoch) }
@@ -126,9 +143,13 @@ impl Progress {
         requires some { 0 < count }
         requires most { count ≤ MOST_PARTITIONS }
         ensures finished { OnOk result ((ran : Came) → CameTo ran self.old.running →
-            self.new.finished.items ≡ self.old.finished.items
-            ++ record { done = record { id = request.id; call = request.call; epoch = self.old.epoch; time = time; reply = ran.reply }; pieces = request_pieces count place time ran.writes } ∷ []) }
-        ensures others { self.new ≡ record self.old { finished = self.new.finished } }
+            (self.new.pieces ≡ self.old.pieces ++ request_pieces count place time ran.writes)
+            × (self.new.finished.items ≡ self.old.finished.items ++ record {
+              done = record { id = request.id; call = request.call; epoch = self.old.epoch; time = time; reply = ran.reply };
+              first = length self.old.pieces;
+              end = length self.new.pieces;
+            } ∷ [])) }
+        ensures others { self.new ≡ record self.old { finished = self.new.finished; pieces = self.new.pieces } }
     {
         let Some(running) = &self.running else {
             unreachable!()
@@ -141,10 +162,11 @@ impl Progress {
             time,
             reply: KeptReply::of(self.alloc, running.reply())?,
         };
-        let mut pieces = Pieces::new(self.alloc);
+        let first = self.pieces.len();
         let writes = running.writes().as_slice();
-        add_pieces(self.alloc, &mut pieces, count, place, time, writes)?;
-        self.finished.push(Finished { done, pieces })?;
+        add_pieces(self.alloc, &mut self.pieces, count, place, time, writes)?;
+        let end = self.pieces.len();
+        self.finished.push(Finished { done, first, end })?;
         Ok(())
     }
 }

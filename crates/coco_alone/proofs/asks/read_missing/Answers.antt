@@ -1,8 +1,9 @@
-use Rattle.std.proofs.Common.{◌∙◌, ◌++◌, ◌∷◌, [], ap, sym}
+use Rattle.std.proofs.Common.{◌∙◌, ◌++◌, ◌∷◌, [], refl, ap, sym}
 use Rattle.coco_eval.specs.Standing.{Ready}
 use Rattle.coco_shard.specs.RowState.{RowState}
-use Rattle.coco_epoch.specs.Shards.{with_row_in}
-use Rattle.coco_alone.proofs.AskLemmas.{no_row, no_row_extended}
+use Rattle.coco_shard.specs.Table.{extended}
+use Rattle.coco_epoch.specs.Shards.{row_in, with_row_in}
+use Rattle.coco_alone.proofs.AskLemmas.{kept_either, no_row, no_row_extended}
 use Rattle.coco_alone.proofs.asks.read_missing.Goals as goal
 
 pub extend_key-requires-clause-unmarked : goal.extend_key-requires-clause-unmarked
@@ -21,3 +22,15 @@ returns-clause-seen c =
 
 pub returns-clause-ok : goal.returns-clause-ok
 returns-clause-ok c = c.in_ok-extend_key.ensures.ok ∙ ap (with_row_in c.args.shards.now c.args.key) (no_row_extended c.args.shards.now c.args.key c.requires.missing)
+
+pub returns-clause-kept : goal.returns-clause-kept
+returns-clause-kept c =
+    kept_either c.args.shards.now _ c.args.key (extended 0 (row_in c.args.shards.now c.args.key)) c.requires.some c.requires.partitions refl c.extend_key.result c.extend_key.ensures.ok c.extend_key.ensures.err
+
+pub returns-in_err-extend_key-clause-kept : goal.returns-in_err-extend_key-clause-kept
+returns-in_err-extend_key-clause-kept c =
+    kept_either c.args.shards.now _ c.args.key (extended 0 (row_in c.args.shards.now c.args.key)) c.requires.some c.requires.partitions refl c.extend_key.result c.extend_key.ensures.ok c.extend_key.ensures.err
+
+pub returns-in_err-push-clause-kept : goal.returns-in_err-push-clause-kept
+returns-in_err-push-clause-kept c =
+    kept_either c.args.shards.now _ c.args.key (extended 0 (row_in c.args.shards.now c.args.key)) c.requires.some c.requires.partitions refl c.extend_key.result c.extend_key.ensures.ok c.extend_key.ensures.err
