@@ -1,3 +1,4 @@
 pub mod KeepLemmas
+pub mod MapLemmas
 pub mod StoreLemmas
 pub mod TurnLemmas

@@ -26,7 +26,7 @@ use Rattle.coco_entry.specs.declared.commit.Commit.{Commit}
 use Rattle.coco_entry.specs.declared.prepared.Prepared.{Prepared}
 use Rattle.coco_entry.specs.declared.prepared.Row.{Row}
 use Rattle.coco_epoch.specs.Pieces.{pieces_of}
-use Rattle.coco_epoch.specs.Shards.{AreOfPartitions, HaveNewest, HoldMap}
+use Rattle.coco_epoch.specs.Shards.{AreOfPartitions, HaveNewest, HaveStable, HoldMap}
 use Rattle.coco_kept.specs.Holding.{NeverFall}
 use Rattle.coco_kept.specs.Keeping.{HoldsKept, Keeping}
 use Rattle.coco_load.specs.Keeping.{MayFollow}
@@ -42,9 +42,10 @@ use Rattle.coco_store.specs.Laws.{HasReady, MayCommit, MayPrepare, with_commit}
 use Rattle.coco_worker.specs.declared.slot.EpochConfig.{EpochConfig}
 use Rattle.coco_cluster.specs.Standing.{ClusterState, IsSound, KeepsBelow, StandsAt}
 use Rattle.coco_cluster.specs.Storing.{AreEntries, IsOneOf, MayStore, ShowsOneOf, Stores, commit_of, prepared_of, with_epoch, with_rows}
-use Rattle.coco_cluster.specs.Turning.{Grown, beginning_on, HasRoom, IsStoreOf, MayTurn, RanOn, ShowsStore, Turns}
+use Rattle.coco_cluster.specs.Turning.{Grown, beginning_on, HasRoom, IsStoreOf, MayTurn, MayWork, RanOn, ShowsStore, Turns}
 use Rattle.coco_cluster.specs.declared.fault.TurnFault.{TurnFault}
 use Rattle.coco_cluster.proofs.KeepLemmas.{as_many, floor_now, keeps_on, kept_now, may_follow, same_kept}
+use Rattle.coco_cluster.proofs.MapLemmas.{given_back}
 use Rattle.coco_cluster.proofs.StoreLemmas.{at_ok, no_ok}
 
 -- the history of contents with a commit entry more
@@ -109,6 +110,22 @@ has_run k seen requests given workers attempts config shards held now dones rows
   same = kept;
 }
 
+-- the requests may be run
+pub may_work : (k seen : ClusterState) (requests : List Request) (workers attempts : ℕ) (config : EpochConfig) → k ≡ seen → seen.spent ≡ false → IsSound k.kept k.shards k.chief k.node k.next_epoch k.spent
+    → MayTurn seen requests → 0 < workers → 0 < attempts → config ≡ record { epoch = k.next_epoch; workers = workers; attempts = attempts; nodes = 1; copies = 0 } → MayWork k.procs requests config k.shards
+may_work k seen requests workers attempts config is unspent sound may some_workers some_attempts one_node = subst (λ (told : EpochConfig). MayWork k.procs requests told k.shards) (sym one_node) (record {
+  some = sound.some;
+  most = sound.most;
+  holds = sound.holds (ap (λ (s : ClusterState). s.spent) is ∙ unspent);
+  fit = subst (λ (s : ClusterState). AllByRecursion (λ (r : Request). Fits s.procs r.call) requests) (sym is) may.fit;
+  few = may.few;
+  distinct = may.distinct;
+  workers = some_workers;
+  attempts = some_attempts;
+  nodes = omega arith;
+  alone = refl;
+})
+
 -- and its epoch was ended
 pub record HasEnded (shards : List ShardState) (now : Keeping) (dones : List Done) (last : List ShardState) (end : Keeping) : Type 0 where
   pub count : length last ≡ length shards
@@ -153,6 +170,10 @@ module _ (k : ClusterState) (requests : List Request) (workers attempts : ℕ) (
     rise = ran.last.rising;
     numbered = fit_all k.next_epoch None dones ran.serial.each.numbered;
   }
+
+  -- a revert gives back the shards
+  pub reverts : (mid back : List ShardState) → mid ≡ shards → length back ≡ length mid → ((n : Rows) → AreOfPartitions mid → HaveStable n mid → HoldMap n back) → back ≡ k.shards
+  reverts mid back same as_many holds = given_back m k.shards shards mid back (run.sound.holds run.unspent).1 run.count ran.serial.partitions ran.serial.stable same as_many (holds m)
 
   -- the epoch is over
   module _ (last : List ShardState) (end : Keeping) (over : HasEnded shards now dones last end) where

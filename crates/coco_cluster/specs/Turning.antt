@@ -1,7 +1,7 @@
 -- What a turn makes of the store, and what is seen of it meanwhile.
-use Rattle.std.specs.Prelude.{◌≡◌, ◌⊎◌, ℕ, ◌+◌, ◌≤◌, Bool, List, [], map, length, Option, None, Some, Result, OnOk, nat_eq}
+use Rattle.std.specs.Prelude.{◌≡◌, ◌⊎◌, ℕ, ◌+◌, ◌<◌, ◌≤◌, Bool, List, [], map, length, Option, None, Some, Result, OnOk, nat_eq}
 use Rattle.std.specs.List.{AllByRecursion, IsDistinct}
-use Rattle.coco_types.specs.Limits.{most_batch_lines}
+use Rattle.coco_types.specs.Limits.{most_batch_lines, most_partitions}
 use Rattle.coco_types.specs.declared.call.Done.{Done}
 use Rattle.coco_types.specs.declared.call.Piece.{Piece}
 use Rattle.coco_types.specs.declared.call.Request.{Request}
@@ -11,15 +11,20 @@ use Rattle.coco_append.specs.Gaining.{RestsOn}
 use Rattle.coco_ast.specs.Fitting.{Fits}
 use Rattle.coco_ast.specs.Growth.{GrowsBy}
 use Rattle.coco_ast.specs.History.{AreAbove, Epoch, History, all_dones, done_of, followed_by}
+use Rattle.coco_ast.specs.Keyed.{Rows}
+use Rattle.coco_ast.specs.Tree.{Procedures}
 use Rattle.coco_commits.specs.EpochEntries.{HasRoomFor}
 use Rattle.coco_entry.specs.declared.prepared.Row.{Row}
+use Rattle.coco_epoch.specs.Running.{FitAll}
 use Rattle.coco_epoch.specs.SerialEpoch.{IsSerialEpoch}
+use Rattle.coco_epoch.specs.Shards.{HoldMap}
 use Rattle.coco_order.specs.Execution.{Beginning}
 use Rattle.coco_order.specs.Outcome.{ComeOfExecution}
 use Rattle.coco_prepared.specs.LastWrites.{AreLastWrites}
 use Rattle.coco_shard.specs.RowState.{ShardState}
 use Rattle.coco_store.specs.Contents.{Contents, IsGoodStore, history_of, map_in}
 use Rattle.coco_store.specs.Rules.{Setting}
+use Rattle.coco_worker.specs.declared.slot.EpochConfig.{EpochConfig}
 use Rattle.coco_cluster.specs.Standing.{ClusterState, StandsAt}
 use Rattle.coco_cluster.specs.declared.fault.TurnFault.{TurnFault}
 
@@ -34,6 +39,19 @@ pub record MayTurn (k : ClusterState) (requests : List Request) : Type 0 where
 -- there is room for their Dones in a store without a keep number
 abbrev pub HasRoom : Contents → List Request → Type 0
 HasRoom c requests = HasRoomFor c.setting.entry.keep (length (all_dones (history_of c)) + length requests)
+
+-- workers who are told this may run requests on shards: these hold a map between two epochs, the requests fit, and each has an id of its own
+pub record MayWork (procs : Procedures) (requests : List Request) (config : EpochConfig) (shards : List ShardState) : Type 0 where
+  pub some : 0 < length shards
+  pub most : length shards ≤ most_partitions
+  pub holds : (m : Rows) × HoldMap m shards
+  pub fit : FitAll procs requests
+  pub few : length requests ≤ most_batch_lines
+  pub distinct : IsDistinct nat_eq (map (λ (r : Request). r.id) requests)
+  pub workers : 0 < config.workers
+  pub attempts : 0 < config.attempts
+  pub nodes : 0 < config.nodes
+  pub alone : config.copies ≡ 0
 
 -- the Dones and pieces of an epoch that workers ran on shards
 pub record HasWorked (b : Beginning) (epoch : ℕ) (shards : List ShardState) (dones : List Done) (pieces : List Piece) : Type 0 where

@@ -8,10 +8,11 @@ ghost use Rattle.coco_cluster.specs.Turning.{HasRoom, IsUntouched, MayTurn, Turn
 ghost use Rattle.coco_cluster.specs.declared.fault.TurnFault.TheVariants as fault;
 
 use crate::TurnFault;
-use crate::running::{Ran, end_epoch, on_one_node, run_epoch};
+use crate::running::{EpochRoom, Ran, end_epoch, on_one_node, run_epoch};
 use crate::storing::store_epoch;
 use coco_ast::Checked;
 use coco_commits::{a_run_is_the_next_commit, a_run_may_be_prepared};
+use coco_epoch::revert_all;
 use coco_gate::Gate;
 use coco_host::Host;
 use coco_kept::Kept;
@@ -48,6 +49,7 @@ pub struct Cluster {
     held: Vec<bool>,
     next_epoch: u64,
     body: Vec<u8>,
+    room: EpochRoom,
     is_spent: bool,
 }
 
@@ -79,6 +81,7 @@ impl Cluster {
             held: store.held,
             next_epoch: store.next_epoch,
             body: Vec::new(alloc),
+            room: EpochRoom::new(alloc),
             is_spent: false,
         }
     }
@@ -86,7 +89,8 @@ impl Cluster {
     /// Runs new requests as one epoch, by so many workers with so many attempts at each, and commits it: its prepared
     /// entry, then its commit entry, and then the shards are promoted and its Dones are kept. Whatever it answers, at
     /// each moment what a crash may leave is a good store, without the epoch or with it. Without requests there is
-    /// nothing to do. After a fault the cluster is spent, and the store has to be opened again.
+    /// nothing to do. After a fault the shards are as they were before the turn, also where the files may have the epoch:
+    /// the cluster is spent, and the store has to be opened again.
     pub fn turn<R: Threads + Wait + Sync, H: Host, G: Gate + Sync>(
         &mut self,
         rt: &R,
@@ -109,6 +113,7 @@ impl Cluster {
         ensures stand { OnOk result (Stands self.new.node (H.reads host.new) (H.may_leave host.new) × Stands self.new.chief (H.reads host.new) (H.may_leave host.new)) }
         ensures unspent { OnOk result (self.new.spent ≡ false) }
         ensures spent { OnErr result (self.new.spent ≡ true) }
+        ensures given_back { OnErr result (self.new.shards ≡ self.old.shards) }
         ensures next { OnOk result (0 < length requests.items → self.new.next_epoch ≡ self.old.next_epoch + 1) }
         ensures used_up { 0 < length requests.items → 2 ^ 40 ≤ self.old.next_epoch → result ≡ Err fault.EpochsUsedUp }
         ensures procs { self.new.procs ≡ self.old.procs }
@@ -130,6 +135,7 @@ impl Cluster {
         let Ran { dones, rows } = run_epoch(
             rt,
             alloc,
+            &mut self.room,
             &mut self.shards,
             &mut self.kept,
             &self.procs,
@@ -141,7 +147,7 @@ impl Cluster {
         // The laws by which its entries may be appended; the calls do nothing.
         a_run_is_the_next_commit();
         a_run_may_be_prepared();
-        store_epoch(
+        if let Err(fault) = store_epoch(
             host,
             &mut self.node,
             &mut self.chief,
@@ -149,7 +155,10 @@ impl Cluster {
             epoch,
             rows.as_slice(),
             dones.as_slice(),
-        )?;
+        ) {
+            revert_all(&mut self.shards);
+            return Err(TurnFault::from(fault));
+        }
         end_epoch(&mut self.shards, &mut self.kept, dones);
         self.next_epoch += 1;
         self.is_spent = false;

@@ -1,27 +1,26 @@
 //! The requests of a turn, run on the shards in hand, and the end of their epoch.
-ghost use Rattle.std.specs.Prelude.{◌≡◌, ◌<◌, ◌≤◌, ◌++◌, ◌^◌, ℕ, List, Option, length, map, nat_eq, IfOk};
-ghost use Rattle.std.specs.List.{IsDistinct};
+ghost use Rattle.std.specs.Prelude.{◌≡◌, ◌<◌, ◌≤◌, ◌++◌, ◌^◌, ℕ, List, Option, length, IfOk, OnErr};
 ghost use Rattle.coco_types.specs.declared.call.Done.{Done};
 ghost use Rattle.coco_ast.specs.Keyed.{Rows};
-ghost use Rattle.coco_epoch.specs.Running.{FitAll};
-ghost use Rattle.coco_epoch.specs.Shards.{AreOfPartitions, AreSettled, HaveNewest, HoldMap};
+ghost use Rattle.coco_epoch.specs.Shards.{AreOfPartitions, HaveNewest, HoldMap};
 ghost use Rattle.coco_kept.specs.Holding.{NeverFall};
 ghost use Rattle.coco_kept.specs.Keeping.{HoldsKept};
 ghost use Rattle.coco_load.specs.Keeping.{MayFollow};
 ghost use Rattle.coco_parallel.specs.Epochs.{beginning_with};
-ghost use Rattle.coco_cluster.specs.Turning.{HasWorked, RanOn};
+ghost use Rattle.coco_prepared.specs.LastWrites.{AreLastWrites};
+ghost use Rattle.coco_cluster.specs.Turning.{HasWorked, MayWork, RanOn};
 
-use coco_alone::run_alone;
+use coco_alone::{Room, run_alone};
 use coco_ast::Checked;
 use coco_entry::Row;
-use coco_epoch::promote_all;
+use coco_epoch::{promote_all, revert_all};
 use coco_gate::Gate;
 use coco_kept::Kept;
 use coco_load::{add_dones, make_room};
 use coco_net::QuietNet;
+use coco_parallel::rooms::Rooms;
 use coco_prepared::prepared_rows;
 use coco_shard::Shard;
-use coco_types::limits::{MOST_BATCH_LINES, MOST_PARTITIONS};
 use coco_types::{Dones, NoMemory, Pieces, Request};
 use coco_worker::EpochConfig;
 use std::alloc::Global;
@@ -43,6 +42,24 @@ struct Worked {
     pieces: Pieces,
 }
 
+/// Room that goes from epoch to epoch: that of one worker's run, and those of several workers' locks
+/// and transcripts.
+#[derive(Drop)]
+pub struct EpochRoom {
+    alone: Room,
+    locks: Rooms,
+}
+
+impl EpochRoom {
+    /// Room in which nothing has run. It takes no memory.
+    pub fn new(alloc: Global) -> EpochRoom {
+        EpochRoom {
+            alone: Room::new(alloc),
+            locks: Rooms::new(alloc),
+        }
+    }
+}
+
 /// What the workers of an epoch are told at a store of one node, which has no copies.
 pub fn on_one_node(epoch: u64, workers: u8, attempts: u8) -> EpochConfig
     ensures { result ≡ record { epoch = epoch; workers = workers; attempts = attempts; nodes = 1; copies = 0 } }
@@ -57,10 +74,12 @@ pub fn on_one_node(epoch: u64, workers: u8, attempts: u8) -> EpochConfig
 }
 
 /// Runs the requests of an epoch on shards at rest, and makes the rows of its prepared entry, and room for its Dones
-/// among the kept ones.
+/// among the kept ones. It begins with the room that the epoch before left. Out of memory, the shards are as they were
+/// handed in.
 pub fn run_epoch<R: Threads + Wait + Sync, G: Gate + Sync>(
     rt: &R,
     alloc: Global,
+    room: &mut EpochRoom,
     shards: &mut Vec<Shard>,
     kept: &mut Kept,
     procs: &Checked,
@@ -69,86 +88,100 @@ pub fn run_epoch<R: Threads + Wait + Sync, G: Gate + Sync>(
     config: EpochConfig,
     gate: &G,
 ) -> Result<Ran, NoMemory>
-    requires some { 0 < length shards.old.items }
-    requires most { length shards.old.items ≤ MOST_PARTITIONS }
-    requires partitions { AreOfPartitions shards.old.items }
-    requires settled { AreSettled shards.old.items }
-    requires fit { FitAll procs.now requests.items }
-    requires few { length requests.items ≤ MOST_BATCH_LINES }
-    requires distinct { IsDistinct nat_eq (map (λ r. r.id) requests.items) }
-    requires workers { 0 < config.workers }
-    requires attempts { 0 < config.attempts }
-    requires nodes { 0 < config.nodes }
-    requires alone { config.copies ≡ 0 }
+    requires { MayWork procs.now requests.items config shards.old.items }
     ensures ran { IfOk result (λ ran. (m : Rows) → HoldMap m shards.old.items → RanOn (beginning_with procs.now m requests.items shards.old.items config) config.epoch held.now shards.new.items ran.dones ran.rows.items) }
     ensures count { length shards.new.items ≡ length shards.old.items }
+    ensures err { OnErr result (shards.new.items ≡ shards.old.items) }
     ensures few { IfOk result (λ ran. length ran.rows.items < 2 ^ 32) }
     ensures room { IfOk result (λ ran. length ran.dones ≤ kept.new.room) }
     ensures kept { kept.new ≡ record kept.old { room = kept.new.room } }
 {
-    let Worked { dones, pieces } = work(rt, alloc, shards, procs, requests, config, gate)?;
+    let worked = work(rt, alloc, room, shards, procs, requests, config, gate)?;
+    let ran = made_ready(alloc, kept, held, worked);
+    if ran.is_err() {
+        revert_all(shards);
+    }
+    ran
+}
+
+// The Dones of an epoch, for which room is made among the kept ones, with the rows of its prepared entry.
+fn made_ready(
+    alloc: Global,
+    kept: &mut Kept,
+    held: &[bool],
+    worked: Worked,
+) -> Result<Ran, NoMemory>
+    ensures rows { IfOk result (λ ran. AreLastWrites held.now worked.pieces ran.rows.items) }
+    ensures few { IfOk result (λ ran. length ran.rows.items < 2 ^ 32) }
+    ensures dones { IfOk result (λ ran. ran.dones ≡ worked.dones) }
+    ensures room { IfOk result (λ ran. length ran.dones ≤ kept.new.room) }
+    ensures kept { kept.new ≡ record kept.old { room = kept.new.room } }
+{
+    let Worked { dones, pieces } = worked;
     let rows = prepared_rows(alloc, pieces.as_slice(), held)?;
     make_room(alloc, kept, dones.as_slice())?;
     Ok(Ran { dones, rows })
 }
 
-// What workers came to in an epoch. One worker goes alone, without the locks that several need.
+// What workers came to in an epoch. One worker goes alone, without the locks that several need. Out of memory, the
+// shards are as they were handed in.
 fn work<R: Threads + Wait + Sync, G: Gate + Sync>(
     rt: &R,
     alloc: Global,
+    room: &mut EpochRoom,
     shards: &mut Vec<Shard>,
     procs: &Checked,
     requests: Vec<Request>,
     config: EpochConfig,
     gate: &G,
 ) -> Result<Worked, NoMemory>
-    requires some { 0 < length shards.old.items }
-    requires most { length shards.old.items ≤ MOST_PARTITIONS }
-    requires partitions { AreOfPartitions shards.old.items }
-    requires settled { AreSettled shards.old.items }
-    requires fit { FitAll procs.now requests.items }
-    requires few { length requests.items ≤ MOST_BATCH_LINES }
-    requires distinct { IsDistinct nat_eq (map (λ r. r.id) requests.items) }
-    requires workers { 0 < config.workers }
-    requires attempts { 0 < config.attempts }
-    requires nodes { 0 < config.nodes }
-    requires alone { config.copies ≡ 0 }
+    requires { MayWork procs.now requests.items config shards.old.items }
     ensures worked { IfOk result (λ w. (m : Rows) → HoldMap m shards.old.items → HasWorked (beginning_with procs.now m requests.items shards.old.items config) config.epoch shards.new.items w.dones w.pieces) }
     ensures count { length shards.new.items ≡ length shards.old.items }
+    ensures err { OnErr result (shards.new.items ≡ shards.old.items) }
 {
     if config.workers > 1 {
-        return work_side_by_side(rt, alloc, shards, procs, requests.as_slice(), config, gate);
+        return work_side_by_side(
+            rt,
+            alloc,
+            &mut room.locks,
+            shards,
+            procs,
+            requests.as_slice(),
+            config,
+            gate,
+        );
     }
-    let ran = run_alone(alloc, shards.as_mut_slice(), procs, requests, config.epoch)?;
+    let ran = run_alone(
+        alloc,
+        &mut room.alone,
+        shards.as_mut_slice(),
+        procs,
+        requests,
+        config.epoch,
+    )?;
     Ok(Worked {
         dones: ran.dones,
         pieces: ran.pieces,
     })
 }
 
-// What several workers came to, side by side.
+// What several workers came to, side by side. Their locks begin with these rooms, and leave theirs there. Out of
+// memory, the shards are as they were handed in.
 fn work_side_by_side<R: Threads + Wait + Sync, G: Gate + Sync>(
     rt: &R,
     alloc: Global,
+    rooms: &mut Rooms,
     shards: &mut Vec<Shard>,
     procs: &Checked,
     requests: &[Request],
     config: EpochConfig,
     gate: &G,
 ) -> Result<Worked, NoMemory>
-    requires some { 0 < length shards.old.items }
-    requires most { length shards.old.items ≤ MOST_PARTITIONS }
-    requires partitions { AreOfPartitions shards.old.items }
-    requires settled { AreSettled shards.old.items }
-    requires fit { FitAll procs.now requests.now }
-    requires few { length requests.now ≤ MOST_BATCH_LINES }
-    requires distinct { IsDistinct nat_eq (map (λ r. r.id) requests.now) }
-    requires workers { 0 < config.workers }
-    requires attempts { 0 < config.attempts }
-    requires nodes { 0 < config.nodes }
-    requires alone { config.copies ≡ 0 }
+    requires { MayWork procs.now requests.now config shards.old.items }
     ensures worked { IfOk result (λ w. (m : Rows) → HoldMap m shards.old.items → HasWorked (beginning_with procs.now m requests.now shards.old.items config) config.epoch shards.new.items w.dones w.pieces) }
     ensures count { length shards.new.items ≡ length shards.old.items }
+    ensures err { OnErr result (shards.new.items ≡ shards.old.items) }
 {
     let in_hand = mem::replace(shards, Vec::new(alloc));
     match coco_parallel::epoch::run_epoch(
@@ -161,9 +194,11 @@ fn work_side_by_side<R: Threads + Wait + Sync, G: Gate + Sync>(
         config,
         gate,
         &QuietNet::new(alloc),
+        rooms,
     ) {
         Ok(done) => {
             *shards = done.shards;
+            rooms.keep(done.journals, done.copy_journals, done.transcripts);
             Ok(Worked {
                 dones: done.dones,
                 pieces: done.pieces,

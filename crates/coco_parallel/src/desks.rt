@@ -68,6 +68,7 @@ fn room_for<M: Packs + Drop>(
     let ended = Ended {
         machines: Vec::with_capacity(alloc, count)?,
         journals: Vec::with_capacity(alloc, count)?,
+        lists: Vec::with_capacity(alloc, count)?,
     };
     Ok((rows, back, ended))
 }

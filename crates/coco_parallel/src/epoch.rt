@@ -11,6 +11,7 @@ ghost use Rattle.coco_parallel.specs.Worked.{AreReplayed, HaveCommits, begun_all
 
 use crate::ends::end_epoch;
 use crate::laws::ends_are_serial;
+use crate::rooms::Rooms;
 use crate::running::{EpochRefused, Worked, run_workers, taken_back};
 use coco_ast::Checked;
 use coco_copy::CopyTable;
@@ -42,7 +43,8 @@ pub struct EpochDone {
 
 /// Runs the requests of an epoch: workers side by side, and then on one thread, as a tail, those that no worker
 /// committed. The copies begin the epoch. Out of memory, the shards are as they were handed in, and so are the copies
-/// but for what pended in them. `promote_all` of `coco_epoch` commits what it leaves in the shards.
+/// but for what pended in them. The locks and the transcripts begin with these rooms (`Rooms::keep` takes them back,
+/// once they are read). `promote_all` of `coco_epoch` commits what it leaves in the shards.
 pub fn run_epoch<R: Threads + Wait + Sync, G: Gate + Sync, N: Net + Sync>(
     rt: &R,
     alloc: Global,
@@ -53,6 +55,7 @@ pub fn run_epoch<R: Threads + Wait + Sync, G: Gate + Sync, N: Net + Sync>(
     config: EpochConfig,
     gate: &G,
     net: &N,
+    rooms: &mut Rooms,
 ) -> Result<EpochDone, EpochRefused>
     requires some { 0 < length shards.items }
     requires most { length shards.items ≤ MOST_PARTITIONS }
@@ -84,7 +87,7 @@ pub fn run_epoch<R: Threads + Wait + Sync, G: Gate + Sync, N: Net + Sync>(
         pieces,
         tails,
     } = run_workers(
-        rt, alloc, shards, copies, procs, requests, config, gate, net,
+        rt, alloc, shards, copies, procs, requests, config, gate, net, rooms,
     )?;
     ends_are_serial();
     let Ok((dones, pieces)) = end_epoch(

@@ -7,6 +7,7 @@ pub mod epoch;
 pub mod laws;
 pub mod locks;
 mod pieces;
+pub mod rooms;
 pub mod rows;
 pub mod running;
 pub mod stations;

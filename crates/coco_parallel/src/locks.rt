@@ -17,11 +17,12 @@ pub struct Started<M: Packs> {
     pub trays: Vec<Vec<Pass<M>>>,
 }
 
-/// What locks leave: the machines with their journals, in the locks' order.
+/// What locks leave: the machines with their journals and the lists of their passes, in the locks' order.
 #[derive(Drop)]
 pub struct Ended<M: Packs> {
     pub machines: Vec<M>,
     pub journals: Vec<Journal<M>>,
+    pub lists: Vec<Vec<Vec<u64>>>,
 }
 
 /// Ends all locks, once the passes of each are back. There is room for what they leave, and no memory is taken.
@@ -45,10 +46,12 @@ pub fn close_all<M: Packs + Drop>(
         let Closed {
             machine,
             journal,
-            lists: _,
+            lists,
         } = lock.close(tray);
         ended.machines.push_reserved(machine);
         ended.journals.push_reserved(journal);
+        // Only the next locks' room is lost where there is none.
+        let _ = ended.lists.push(lists);
     }
 }
 
@@ -97,6 +100,7 @@ fn room_for<M: Packs + Drop>(
     let ended = Ended {
         machines: Vec::with_capacity(alloc, count)?,
         journals: Vec::with_capacity(alloc, count)?,
+        lists: Vec::with_capacity(alloc, count)?,
     };
     Ok((started, ended))
 }

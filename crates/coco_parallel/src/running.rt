@@ -13,6 +13,7 @@ ghost use Rattle.coco_parallel.specs.Worked.{HaveWorked, KeepValues, begun_all, 
 
 use crate::desks::{Desk, close, open};
 use crate::locks::Ended;
+use crate::rooms::Rooms;
 use crate::stations::{Left, all_done, dismiss, man};
 use crate::workers::{Station, run_all};
 use coco_ast::Checked;
@@ -82,6 +83,7 @@ pub fn run_workers<R: Threads + Wait + Sync, G: Gate + Sync, N: Net + Sync>(
     config: EpochConfig,
     gate: &G,
     net: &N,
+    rooms: &mut Rooms,
 ) -> Result<Worked, EpochRefused>
     requires some { 0 < length shards.items }
     requires most { length shards.items ≤ MOST_PARTITIONS }
@@ -103,11 +105,13 @@ pub fn run_workers<R: Threads + Wait + Sync, G: Gate + Sync, N: Net + Sync>(
     let Ok(crew) = Crew::of(alloc, requests.len() as u32, workers) else {
         return Err(taken_back(shards, copies));
     };
-    let desks = match open_both(alloc, shards, copies, workers) {
+    let desks = match open_both(alloc, shards, copies, workers, rooms) {
         Ok(desks) => desks,
         Err(EpochRefused { shards, copies }) => return Err(taken_back(shards, copies)),
     };
-    let (worked, done) = run_crew(rt, alloc, desks, crew, procs, requests, config, gate, net);
+    let (worked, done) = run_crew(
+        rt, alloc, desks, crew, procs, requests, config, gate, net, rooms,
+    );
     if done {
         Ok(worked)
     } else {
@@ -126,6 +130,7 @@ fn run_crew<R: Threads + Wait + Sync, G: Gate + Sync, N: Net + Sync>(
     config: EpochConfig,
     gate: &G,
     net: &N,
+    rooms: &mut Rooms,
 ) -> (Worked, bool)
     requires shards { (machines : List ShardState) × IsOpen config.workers machines desks.shards.locks desks.shards.trays desks.shards.back desks.shards.ended.machines desks.shards.ended.journals desks.rows.items }
     requires copies { (tables : List CopyState) × IsOpen config.workers tables desks.copies.locks desks.copies.trays desks.copies.back desks.copies.ended.machines desks.copies.ended.journals desks.copy_rows.items }
@@ -157,7 +162,7 @@ fn run_crew<R: Threads + Wait + Sync, G: Gate + Sync, N: Net + Sync>(
         stations,
         mut left,
     } = crew;
-    let mut stations = man(alloc, rows, copy_rows, seats, stations);
+    let mut stations = man(alloc, rows, copy_rows, seats, stations, rooms);
     run_all(
         rt,
         alloc,
@@ -183,10 +188,16 @@ fn run_crew<R: Threads + Wait + Sync, G: Gate + Sync, N: Net + Sync>(
         claims.close(back);
     }
     closed_journals_are_lawful();
-    (worked_of(close(shards), close(copies), left), done)
+    (worked_of(close(shards), close(copies), left, rooms), done)
 }
 
-fn worked_of(shards: Ended<Shard>, copies: Ended<CopyTable>, left: Left) -> Worked
+// What the workers came to. The lists of the locks are left to the rooms.
+fn worked_of(
+    shards: Ended<Shard>,
+    copies: Ended<CopyTable>,
+    left: Left,
+    rooms: &mut Rooms,
+) -> Worked
     ensures { result ≡ record { shards = shards.machines; journals = shards.journals; copies = copies.machines; copy_journals = copies.journals; transcripts = left.transcripts; pieces = left.pieces; tails = left.tails } }
 {
     let Left {
@@ -194,6 +205,8 @@ fn worked_of(shards: Ended<Shard>, copies: Ended<CopyTable>, left: Left) -> Work
         pieces,
         tails,
     } = left;
+    rooms.shard_lists = shards.lists;
+    rooms.copy_lists = copies.lists;
     Worked {
         shards: shards.machines,
         journals: shards.journals,
@@ -235,6 +248,7 @@ fn open_both(
     shards: Vec<Shard>,
     copies: Vec<CopyTable>,
     workers: u32,
+    rooms: &mut Rooms,
 ) -> Result<Desks, EpochRefused>
     requires workers { 0 < workers }
     requires settled { AreSettled shards.items }
@@ -243,11 +257,11 @@ fn open_both(
     ensures shards_back { IfErr result (λ refused. KeepValues shards.items refused.shards.items) }
     ensures copies_back { IfErr result (λ refused. refused.copies.items ≡ copies.items) }
 {
-    let (shards, rows) = match open(alloc, shards, workers, &mut Vec::new(alloc)) {
+    let (shards, rows) = match open(alloc, shards, workers, &mut rooms.shards) {
         Ok(opened) => opened,
         Err(shards) => return Err(EpochRefused { shards, copies }),
     };
-    match open(alloc, copies, workers, &mut Vec::new(alloc)) {
+    match open(alloc, copies, workers, &mut rooms.copies) {
         Ok((copies, copy_rows)) => Ok(Desks {
             shards,
             copies,

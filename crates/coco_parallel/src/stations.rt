@@ -5,6 +5,7 @@ ghost use Rattle.coco_parallel.specs.Desks.{HasRoom};
 ghost use Rattle.coco_parallel.specs.Stations.{station_of, stations_of};
 ghost use Rattle.coco_parallel.specs.declared.workers.Station.{Station as Manned};
 
+use crate::rooms::Rooms;
 use crate::workers::Station;
 use coco_claim::ClaimSeat;
 use coco_copy::CopyTable;
@@ -23,13 +24,14 @@ pub struct Left {
     pub tails: Vec<Tail>,
 }
 
-/// A station for each worker, with its rows and its seat. There is room for them, and no memory is taken.
+/// A station for each worker, with its rows and its seat, and with a transcript in the room of one that was kept. There is room for them, and no memory is taken.
 pub fn man(
     alloc: Global,
     rows: Vec<Vec<Pass<Shard>>>,
     copy_rows: Vec<Vec<Pass<CopyTable>>>,
     seats: Vec<ClaimSeat>,
     mut stations: Vec<Station>,
+    rooms: &mut Rooms,
 ) -> Vec<Station>
     requires rows { vec_len rows ≡ vec_len seats }
     requires copy_rows { vec_len copy_rows ≡ vec_len seats }
@@ -44,7 +46,9 @@ pub fn man(
         let (Some(passes), Some(copy_passes)) = (rows.next(), copy_rows.next()) else {
             unreachable!()
         };
-        stations.push_reserved(station(alloc, worker, passes, copy_passes, seat));
+        let transcript = rooms.transcript(alloc);
+        let station = station(alloc, worker, passes, copy_passes, seat, transcript);
+        stations.push_reserved(station);
         worker += 1;
     }
     stations
@@ -57,7 +61,9 @@ fn station(
     passes: Vec<Pass<Shard>>,
     copy_passes: Vec<Pass<CopyTable>>,
     seat: ClaimSeat,
+    transcript: Transcript,
 ) -> Station
+    requires { transcript ≡ [] }
     ensures { result ≡ station_of worker passes copy_passes seat }
 {
     let slot = Slot {
@@ -65,7 +71,7 @@ fn station(
         passes,
         copy_passes,
         seat,
-        transcript: Transcript::new(alloc),
+        transcript,
         pieces: Pieces::new(alloc),
         tail: Tail::new(alloc),
     };

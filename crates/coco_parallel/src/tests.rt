@@ -8,6 +8,7 @@ ghost use Rattle.coco_epoch.specs.Shards.{AreOfPartitions, AreSettled};
 
 use crate::epoch::{EpochDone, run_epoch};
 use crate::locks::{Ended, close_all, start_all};
+use crate::rooms::Rooms;
 use crate::rows::turn;
 use coco_ast::Checked;
 use coco_copy::CopyTable;
@@ -101,7 +102,8 @@ fn one_put(alloc: Global, procs: &Checked) -> Result<Vec<Request>, Fail>
     Ok(vec![in alloc; put(alloc, procs, 1, 5, 70)?]?)
 }
 
-// The requests, run in an epoch by so many workers on three nodes with two copies, over this net.
+// The requests, run in an epoch by so many workers on three nodes with two copies, over this net
+// and in these rooms.
 fn ran<R: Threads + Wait + Sync, N: Net + Sync>(
     rt: &R,
     alloc: Global,
@@ -110,6 +112,7 @@ fn ran<R: Threads + Wait + Sync, N: Net + Sync>(
     epoch: u64,
     workers: u8,
     net: &N,
+    rooms: &mut Rooms,
 ) -> Result<EpochDone, Fail>
     requires workers { 0 < workers }
     requires few { length requests.now ≤ MOST_BATCH_LINES }
@@ -126,21 +129,26 @@ fn ran<R: Threads + Wait + Sync, N: Net + Sync>(
         copies: 2,
     };
     match run_epoch(
-        rt, alloc, shards, tables, procs, requests, config, &OpenGate, net,
+        rt, alloc, shards, tables, procs, requests, config, &OpenGate, net, rooms,
     ) {
         Ok(done) => Ok(done),
         Err(_) => Err("out of memory".into()),
     }
 }
 
-// The puts, run by so many workers.
-fn ran_puts<R: Threads + Wait + Sync>(rt: &R, alloc: Global, workers: u8) -> Result<EpochDone, Fail>
+// The puts, run by so many workers in these rooms.
+fn ran_puts<R: Threads + Wait + Sync>(
+    rt: &R,
+    alloc: Global,
+    workers: u8,
+    rooms: &mut Rooms,
+) -> Result<EpochDone, Fail>
     requires { 0 < workers }
 {
     let procs = Checked::built_in(alloc)?;
     let requests = puts(alloc, &procs)?;
     let net = QuietNet::new(alloc);
-    ran(rt, alloc, &procs, &requests, 7, workers, &net)
+    ran(rt, alloc, &procs, &requests, 7, workers, &net, rooms)
 }
 
 // The one put, run by one worker over this net.
@@ -151,7 +159,8 @@ fn ran_one_put<R: Threads + Wait + Sync, N: Net + Sync>(
 ) -> Result<EpochDone, Fail> {
     let procs = Checked::built_in(alloc)?;
     let requests = one_put(alloc, &procs)?;
-    ran(rt, alloc, &procs, &requests, 1, 1, net)
+    let mut rooms = Rooms::new(alloc);
+    ran(rt, alloc, &procs, &requests, 1, 1, net, &mut rooms)
 }
 
 // Whether four puts of different rows stand at time 1, by id, with their pieces and with what copies have of row 5.
@@ -224,6 +233,7 @@ fn shards_come_back_from_their_locks_in_order(rt: HostRuntime) -> Result<(), Fai
     let mut ended = Ended {
         machines: Vec::with_capacity(alloc, 2)?,
         journals: Vec::with_capacity(alloc, 2)?,
+        lists: Vec::with_capacity(alloc, 2)?,
     };
     close_all(started.locks, started.trays, &mut ended);
     let values = ended.machines.iter().map(|shard| shard.stable(KEY));
@@ -238,10 +248,23 @@ fn shards_come_back_from_their_locks_in_order(rt: HostRuntime) -> Result<(), Fai
 #[test]
 fn workers_commit_puts_into_four_rows_at_time_1(rt: HostRuntime) -> Result<(), Fail> {
     let alloc = rt.alloc();
-    let alone = ran_puts(&rt, alloc, 1)?;
-    let both = ran_puts(&rt, alloc, 2)?;
+    let alone = ran_puts(&rt, alloc, 1, &mut Rooms::new(alloc))?;
+    let both = ran_puts(&rt, alloc, 2, &mut Rooms::new(alloc))?;
     assert!(rt; stands(alloc, &alone)? && stands(alloc, &both)?);
     assert!(rt; alone.transcripts.len() == 1 && both.transcripts.len() == 2);
+    Ok(())
+}
+
+#[test]
+fn an_epoch_in_the_rooms_of_another_comes_to_the_same(rt: HostRuntime) -> Result<(), Fail> {
+    let alloc = rt.alloc();
+    let mut rooms = Rooms::new(alloc);
+    let first = ran_puts(&rt, alloc, 2, &mut rooms)?;
+    rooms.keep(first.journals, first.copy_journals, first.transcripts);
+    assert_eq!(rt; (rooms.shards.len(), rooms.copies.len()), (3, 6));
+    let second = ran_puts(&rt, alloc, 2, &mut rooms)?;
+    assert!(rt; stands(alloc, &second)?);
+    assert_eq!(rt; (rooms.shards.len(), rooms.copies.len()), (0, 0));
     Ok(())
 }
 

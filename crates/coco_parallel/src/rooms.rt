@@ -1,0 +1,74 @@
+//! The rooms that the locks and the workers of an epoch leave to those of the next.
+
+ghost use Rattle.std.specs.Prelude.{◌≡◌, []};
+
+use coco_copy::CopyTable;
+use coco_journaled::{Journal, Room};
+use coco_occ::Transcript;
+use coco_packs::Packs;
+use coco_shard::Shard;
+use std::alloc::Global;
+
+/// The rooms of an epoch's locks and of its workers' transcripts, which the next epoch's begin with. Locks take theirs
+/// from the end, so the last lock's stands first.
+#[derive(Drop)]
+pub struct Rooms {
+    pub(crate) shards: Vec<Room<Shard>>,
+    pub(crate) copies: Vec<Room<CopyTable>>,
+    /// The lists of places of each lock, in the locks' order, until the journals are there too.
+    pub(crate) shard_lists: Vec<Vec<Vec<u64>>>,
+    pub(crate) copy_lists: Vec<Vec<Vec<u64>>>,
+    transcripts: Vec<Transcript>,
+}
+
+impl Rooms {
+    /// No rooms. It takes no memory.
+    pub fn new(alloc: Global) -> Rooms {
+        Rooms {
+            shards: Vec::new(alloc),
+            copies: Vec::new(alloc),
+            shard_lists: Vec::new(alloc),
+            copy_lists: Vec::new(alloc),
+            transcripts: Vec::new(alloc),
+        }
+    }
+
+    /// Keeps the transcripts of an epoch that is read and the journals, these with the lists that the locks left. Out of
+    /// memory, journals and lists are let go.
+    pub fn keep(
+        &mut self,
+        journals: Vec<Journal<Shard>>,
+        copy_journals: Vec<Journal<CopyTable>>,
+        transcripts: Vec<Transcript>,
+    ) {
+        keep_all(&mut self.shards, journals, &mut self.shard_lists);
+        keep_all(&mut self.copies, copy_journals, &mut self.copy_lists);
+        self.transcripts = transcripts;
+    }
+
+    // A transcript of nothing, in the room of one that was kept, where one is left.
+    pub(crate) fn transcript(&mut self, alloc: Global) -> Transcript
+        ensures { result ≡ [] }
+    {
+        let Some(transcript) = self.transcripts.pop() else {
+            return Transcript::new(alloc);
+        };
+        let mut room = transcript.into_vec();
+        room.clear();
+        Transcript::from_vec(room)
+    }
+}
+
+// Makes a room of each journal with its lists, the last one first.
+fn keep_all<M: Packs + Drop>(
+    rooms: &mut Vec<Room<M>>,
+    mut journals: Vec<Journal<M>>,
+    all_lists: &mut Vec<Vec<Vec<u64>>>,
+) {
+    while let Some(journal) = journals.pop() {
+        let Some(lists) = all_lists.pop() else {
+            return;
+        };
+        let _ = rooms.push(Room { journal, lists });
+    }
+}
