@@ -1,5 +1,5 @@
 -- What files hold whose entries were read, and where files are refused first.
-use Rattle.std.proofs.Common.{◌≡◌, ℕ, ◌<◌, Bool, true, false, nat_eq, List, [], ◌∷◌, map, Option, Some, refl, subst, sym}
+use Rattle.std.proofs.Common.{◌≡◌, ◌≢◌, ℕ, ◌<◌, Bool, true, false, nat_eq, List, [], ◌∷◌, map, Option, Some, refl, subst, sym}
 use Rattle.std.proofs.lemmas.Bool.{eqb-false, eqb-true}
 use Rattle.coco_host.specs.Files.{Files}
 use Rattle.coco_entry.specs.declared.commit.Commit.{Commit}
@@ -9,13 +9,14 @@ use Rattle.coco_log.specs.LogState.{IsFresh, IsOpened, LogState}
 use Rattle.coco_read.specs.EntryRules.{EntryRules, IsFile, IsFirstIn, IsReadLog}
 use Rattle.coco_store.specs.Contents.{Contents, Holds, HoldsBase, HoldsHistory, chief_of, file_of}
 use Rattle.coco_store.specs.Entries.{AreLayouts, BaseEntry, Dones, Head, Values}
-use Rattle.coco_store.specs.Refusals.{IsFirst, IsFirstRefusal, IsNodeRefused, in_base, in_commits, in_layouts, in_node}
+use Rattle.coco_store.specs.Refusals.{IsFirst, IsFirstRefusal, IsNodeRefused, in_node}
 use Rattle.coco_store.specs.Rules.{EachBehind, HavePrepared, IsNextPrepared, IsWhole}
 use Rattle.coco_recover.specs.Bases.{Basis, IsBased, base_rules, entries_of}
 use Rattle.coco_recover.specs.Commits.{AreCommitted, commit_rules}
 use Rattle.coco_recover.specs.Layouts.{IsLastOf, layout_rules, setting_of}
 use Rattle.coco_recover.specs.Nodes.{NodeBasis, entries_at, node_rules}
 use Rattle.coco_recover.specs.Steps.{HoldsCommitted, HoldsEntries, HoldsLast, HoldsParts}
+use Rattle.coco_recover.specs.Without.{HoldsBut, IsFirstRefusalBut, IsHistoryRefusal, base_refused, commits_refused, in_other, layouts_refused}
 use Rattle.coco_recover.specs.declared.base.BasePart.{BasePart}
 use Rattle.coco_recover.specs.declared.base.Based.{Based}
 use Rattle.coco_recover.specs.declared.commits.Committed.{Committed}
@@ -113,16 +114,24 @@ module _ (files : Files) (last : LastLayout) (committed : Committed) (nodes : Li
       → IsFirst (IsNodeRefused (setting_of last) committed.commits.items n (files (file_of (setting_of last) n))) at → IsFirstRefusal files (file_of (setting_of last) n) at
   refused_node n at within before first = in_node {c = contents_of layouts.earlier last committed nodes} history_held within before first
 
+  -- the same, with the file of a node left out
+  pub held_but : (node : ℕ) → ((n : ℕ) → n < last.entry.layout.nodes → n ≢ node → HoldsEntries files last committed n (entries_at nodes n)) → HoldsBut node files (contents_of layouts.earlier last committed nodes)
+  held_but node each = record { history = history_held; nodes = each }
+
+  pub refused_other : (node n at : ℕ) → n < last.entry.layout.nodes → n ≢ node → ((m : ℕ) → m < n → m ≢ node → HoldsEntries files last committed m (entries_at nodes m))
+      → IsFirst (IsNodeRefused (setting_of last) committed.commits.items n (files (file_of (setting_of last) n))) at → IsFirstRefusalBut node files (file_of (setting_of last) n) at
+  refused_other node n at within other before first = in_other {c = contents_of layouts.earlier last committed nodes} history_held within other before first
+
 -- ---- what is refused
 
-pub refused_layouts : (files : Files) (at : ℕ) → IsFirstIn layout_rules 0 (files 0) at → IsFirstRefusal files 0 at
-refused_layouts files at first = in_layouts first
+pub refused_layouts : (files : Files) (at : ℕ) → IsFirstIn layout_rules 0 (files 0) at → IsHistoryRefusal files 0 at
+refused_layouts files at first = layouts_refused first
 
 pub refused_base : (files : Files) (last : LastLayout) (file at : ℕ) → HoldsLast files last → last.entry.base_file ≡ Some file → IsFirstIn (base_rules (setting_of last)) 3 (files file) at
-    → IsFirstRefusal files file at
-refused_base files last file at held is first = in_base {s = setting_of last} held.holds is first
+    → IsHistoryRefusal files file at
+refused_base files last file at held is first = base_refused {s = setting_of last} held.holds is first
 
 pub refused_commits : (files : Files) (last : LastLayout) (parts : List BasePart) (b : Basis) (at : ℕ) → b.setting ≡ setting_of last → b.base ≡ entries_of parts → HoldsLast files last → HoldsParts files last parts
-    → IsFirstIn (commit_rules b) 1 (files (chief_of (setting_of last))) at → IsFirstRefusal files (chief_of (setting_of last)) at
+    → IsFirstIn (commit_rules b) 1 (files (chief_of (setting_of last))) at → IsHistoryRefusal files (chief_of (setting_of last)) at
 refused_commits files last parts b at is base held holds first =
-    in_commits {s = setting_of last} held.holds holds (rw (is, base) at first)
+    commits_refused {s = setting_of last} held.holds holds (rw (is, base) at first)

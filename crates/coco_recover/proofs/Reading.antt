@@ -13,14 +13,14 @@ use Rattle.coco_recover.specs.declared.commits.Committed.{Committed}
 use Rattle.coco_recover.specs.declared.layouts.LastLayout.{LastLayout}
 use Rattle.coco_recover.specs.declared.nodes.Loaded.{Loaded}
 
-one_more : {A : Type 0} (P : ℕ → A → Type 0) (xs : List A) (x other : A) (n : ℕ) → length xs ≡ n → ((m : ℕ) → m < n → P m (get_or xs m other)) → P n x
+pub one_more : {A : Type 0} (P : ℕ → A → Type 0) (xs : List A) (x other : A) (n : ℕ) → length xs ≡ n → ((m : ℕ) → m < n → P m (get_or xs m other)) → P n x
     → (m : ℕ) → m < n + 1 → P m (get_or (xs ++ x ∷ []) m other)
 one_more P xs x other n long each here =
     below_more (λ (m : ℕ). P m (get_or (xs ++ x ∷ []) m other)) n
     (λ m less. subst (P m) (sym (get_or_append_left xs (x ∷ []) other m (omega (arith, less, long)))) (each m less))
     (subst (P n) (sym (get_or_at xs x [] other n long)) here)
 
-one_longer : {A : Type 0} (xs all : List A) (x : A) (n : ℕ) → all ≡ xs ++ x ∷ [] → length xs ≡ n → length all ≡ n + 1
+pub one_longer : {A : Type 0} (xs all : List A) (x : A) (n : ℕ) → all ≡ xs ++ x ∷ [] → length xs ≡ n → length all ≡ n + 1
 one_longer xs all x n are long = ap length are ∙ length-append xs (x ∷ []) ∙ ap (λ (k : ℕ). k + 1) long
 
 -- what was opened before stays so

@@ -11,7 +11,8 @@ use Rattle.coco_load.specs.Epochs.{IsNextTo}
 use Rattle.coco_load.specs.Laws.{BaseDonesFollow, CommittedDonesFollow}
 use Rattle.coco_load.specs.Reading.{maps_read}
 use Rattle.coco_log.specs.LogState.{IsFresh}
-use Rattle.coco_store.specs.Rules.{EachBehind, IsNextCommit, IsNextPrepared, base_of, commit_epochs, prepared_epochs}
+use Rattle.coco_store.specs.Entries.{BaseEntry}
+use Rattle.coco_store.specs.Rules.{EachBehind, IsNextCommit, IsNextPrepared, Setting, base_of, commit_epochs, prepared_epochs}
 use Rattle.coco_store.proofs.Naming.{names_apart}
 use Rattle.coco_recover.specs.Bases.{entries_of}
 use Rattle.coco_recover.specs.Commits.{AreCommitted}
@@ -48,6 +49,11 @@ module _ (P : ℕ → Type 0) where
 abbrev IsBelowEnd : ℕ → Type 0
 IsBelowEnd e = e < epochs_end
 
+pub commits_below : (s : Setting) (base : List BaseEntry) (commits : List Commit) → EachBehind (IsNextCommit s base) [] commits → AllByRecursion (λ e. e < epochs_end) (commit_epochs commits)
+commits_below s base commits each =
+    all_map (λ (c : Commit). c.epoch) IsBelowEnd commits (each_all (IsNextCommit s base) (λ (c : Commit). IsBelowEnd c.epoch)
+    (λ before c next. next.epoch.below_end) [] commits each)
+
 epochs_below : (last : LastLayout) (committed : Committed) (loaded : Loaded) (count : ℕ) → IsGoodLast last → AreCommitted (setting_of last) committed → length (nodes_of loaded) ≡ count
     → ((n : ℕ) → n < count → EachBehind (IsNextPrepared (setting_of last) n) [] (entries_at (nodes_of loaded) n))
     → AllByRecursion IsBelowEnd (last.entry.layout.base_epoch ∷ commit_epochs committed.commits.items ++ flat_map prepared_epochs (nodes_of loaded))
@@ -56,8 +62,7 @@ epochs_below last committed loaded count good are all each =
     let commits = committed.commits.items in
     all_append IsBelowEnd (last.entry.layout.base_epoch ∷ commit_epochs commits) (flat_map prepared_epochs (nodes_of loaded)) (
       good.limits.base_epoch,
-      all_map (λ (c : Commit). c.epoch) IsBelowEnd commits (each_all (IsNextCommit s (entries_of committed.base.items)) (λ (c : Commit). IsBelowEnd c.epoch)
-          (λ before c next. next.epoch.below_end) [] commits are.remembered.each),
+      commits_below s (entries_of committed.base.items) commits are.remembered.each,
     )
     (nodes_all IsBelowEnd (nodes_of loaded) (λ n less.
     all_map (λ (e : Prepared). e.epoch) IsBelowEnd (entries_at (nodes_of loaded) n) (each_all (IsNextPrepared s n) (λ (e : Prepared). IsBelowEnd e.epoch)

@@ -7,3 +7,4 @@ pub mod Readings
 pub mod Refusal
 pub mod Steps
 pub mod Taking
+pub mod Without

@@ -15,7 +15,9 @@ ghost use Rattle.coco_recover.specs.Commits.{AreCommitted, basis_of_committed};
 ghost use Rattle.coco_recover.specs.Layouts.{IsGoodLast, setting_of};
 ghost use Rattle.coco_recover.specs.Nodes.{IsLoaded, IsNode, node_basis_of, nodes_of};
 ghost use Rattle.coco_recover.specs.Steps.{AreHeld, AreRead, HoldsCommitted, HoldsEntries, HoldsLast, HoldsParts, IsLeft, IsRead};
+ghost use Rattle.coco_recover.specs.Without.{IsHistoryRefusal};
 
+use crate::layouts::FIRST_GATE;
 use crate::{
     BaseHistory, BaseReading, Based, CommitReading, Committed, LastLayout, LayoutReading, Loaded,
     NodeReading,
@@ -29,9 +31,6 @@ use std::alloc::Global;
 
 // The file of layouts.
 const LAYOUTS_FILE: u32 = 0;
-
-// Where the last gate stands in a log without entries.
-const FIRST_GATE: u64 = 8;
 
 // The kinds of logs.
 const LAYOUTS: u8 = 0;
@@ -50,7 +49,7 @@ pub(crate) fn read_layouts<H: Host>(
     ensures good { IfOk result (λ read. IsGoodLast read.0) }
     ensures log { IfOk result (λ read. IsFresh read.1 0 0) }
     ensures ok { IfOk result (λ read. (files : Files) → H.reads host.old ≡ Some files → HoldsLast files read.0 × IsOpened read.1 files (H.may_leave host.new)) }
-    ensures refused { (file at : ℕ) (files : Files) → result ≡ Err (fault.NotAStore file at) → H.reads host.old ≡ Some files → IsFirstRefusal files file at }
+    ensures refused { (file at : ℕ) (files : Files) → result ≡ Err (fault.NotAStore file at) → H.reads host.old ≡ Some files → IsHistoryRefusal files file at }
     ensures read { IsOnlyRead H.moment H.observed H.said H.reads H.may_leave host.old host.new }
     ensures counts { Counts result (H.disk_faults host.old) (H.disk_faults host.new) }
     ensures stream { H.say_faults host.new ≡ H.say_faults host.old }
@@ -59,7 +58,7 @@ pub(crate) fn read_layouts<H: Host>(
     let log = read_file(alloc, host, LAYOUTS_FILE, LAYOUTS, &mut reading)?;
     match reading.into_last() {
         Some(last) => Ok((last, log)),
-        // A log without a layout is refused there.
+        // A log without a layout is refused at its only gate.
         None => Err(OpenFault::NotAStore {
             file: LAYOUTS_FILE,
             at: FIRST_GATE,
@@ -80,7 +79,7 @@ pub(crate) fn read_base<H: Host>(
     ensures keep { IfOk result (λ based. based.history.kept.keep ≡ keep) }
     ensures ok { IfOk result (λ based. (files : Files) → H.reads host.old ≡ Some files
         → HoldsParts files last.now based.history.entries.items × IsLeft last.now.entry.base_file files (H.may_leave host.new)) }
-    ensures refused { (file at : ℕ) (files : Files) → result ≡ Err (fault.NotAStore file at) → H.reads host.old ≡ Some files → HoldsLast files last.now → IsFirstRefusal files file at }
+    ensures refused { (file at : ℕ) (files : Files) → result ≡ Err (fault.NotAStore file at) → H.reads host.old ≡ Some files → HoldsLast files last.now → IsHistoryRefusal files file at }
     ensures read { IsOnlyRead H.moment H.observed H.said H.reads H.may_leave host.old host.new }
     ensures counts { Counts result (H.disk_faults host.old) (H.disk_faults host.new) }
     ensures stream { H.say_faults host.new ≡ H.say_faults host.old }
@@ -107,7 +106,7 @@ pub(crate) fn read_commits<H: Host>(
     ensures log { IfOk result (λ read. IsFresh read.1 last.now.entry.layout.chief_file 1) }
     ensures ok { IfOk result (λ read. (files : Files) → H.reads host.old ≡ Some files → HoldsCommitted files last.now read.0 × IsOpened read.1 files (H.may_leave host.new)) }
     ensures refused { (file at : ℕ) (files : Files) → result ≡ Err (fault.NotAStore file at) → H.reads host.old ≡ Some files → HoldsLast files last.now
-        → HoldsParts files last.now base.entries.items → IsFirstRefusal files file at }
+        → HoldsParts files last.now base.entries.items → IsHistoryRefusal files file at }
     ensures read { IsOnlyRead H.moment H.observed H.said H.reads H.may_leave host.old host.new }
     ensures counts { Counts result (H.disk_faults host.old) (H.disk_faults host.new) }
     ensures stream { H.say_faults host.new ≡ H.say_faults host.old }
@@ -123,8 +122,8 @@ pub(crate) fn read_commits<H: Host>(
     Ok((reading.into_committed()?, log))
 }
 
-// What is loaded with the next node, and the node's log.
-fn read_node<H: Host>(
+/// What is loaded with the next node, and the node's log.
+pub(crate) fn read_node<H: Host>(
     alloc: Global,
     host: &mut H,
     last: &LastLayout,

@@ -14,9 +14,10 @@ use std::alloc::Global;
 use std::marker::Model;
 use std::slice;
 
-// Where the first gate stands, and how many bytes a gate and a length take.
-const FIRST_GATE: u64 = 8;
+/// Where the first gate of a log stands.
+pub(crate) const FIRST_GATE: u64 = 8;
 
+// How many bytes a gate and a length take.
 const GATE_AND_LENGTH: u64 = 5;
 
 // Every file ends before this place.

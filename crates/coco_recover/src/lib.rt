@@ -10,9 +10,13 @@ pub mod opening;
 mod refusal;
 #[cfg(test)]
 mod tests;
+pub mod without;
 
 pub use base::{BaseHistory, BasePart, BaseReading, Based};
 pub use commits::{CommitReading, Committed};
 pub use layouts::{LastLayout, LayoutReading};
 pub use nodes::{Loaded, NodeReading};
 pub use opening::{Logs, Opened, recover, recover_whole};
+pub use without::{
+    Parts, a_store_is_one_but_for_a_node, a_store_refused_but_for_a_node_is_none, read_without,
+};

@@ -1,6 +1,6 @@
 //! The worked stores of one node, opened from their bytes.
 
-use crate::{Opened, recover, recover_whole};
+use crate::{Opened, read_without, recover, recover_whole};
 use coco_host::{Host, MemoryHost};
 use coco_read::OpenFault;
 use coco_types::{Key, Value};
@@ -146,5 +146,37 @@ fn the_last_layout_is_told_with_its_place(rt: HostRuntime) -> Result<(), Fail> {
     assert_eq!(rt; layout(rt.alloc(), &mut host), Ok((1, 13)));
     host.write_at(0, 0, &TWO_NODES)?;
     assert_eq!(rt; layout(rt.alloc(), &mut host), Ok((2, 43)));
+    Ok(())
+}
+
+// What is seen of a store of which a node's file isn't read: its epochs, and which of two nodes have a log.
+fn seen_without(
+    alloc: Global,
+    host: &mut MemoryHost,
+    node: u8,
+) -> Result<(Vec<u64>, bool, bool), OpenFault> {
+    let parts = read_without(alloc, host, node)?;
+    Ok((
+        parts.epochs,
+        matches!(parts.nodes.first(), Some(Some(_))),
+        matches!(parts.nodes.get(1), Some(Some(_))),
+    ))
+}
+
+// The second node's file isn't there: the store is read without it, and refused without the other.
+#[test]
+fn a_node_is_left_out(rt: HostRuntime) -> Result<(), Fail> {
+    let mut host = host_of(rt.alloc(), &COMMITS, &PREPARED)?;
+    host.write_at(0, 0, &TWO_NODES)?;
+    let (epochs, first, second) = seen_without(rt.alloc(), &mut host, 1)?;
+    assert_eq!(rt; epochs.as_slice(), [1].as_slice());
+    assert_eq!(rt; (first, second), (true, false));
+    let refused = OpenFault::NotAStore { file: 3, at: 0 };
+    for node in [0, 2] {
+        assert!(rt;
+            matches!(seen_without(rt.alloc(), &mut host, node), Err(fault) if fault == refused)
+        );
+    }
+    assert!(rt; matches!(recover(rt.alloc(), &mut host), Err(fault) if fault == refused));
     Ok(())
 }

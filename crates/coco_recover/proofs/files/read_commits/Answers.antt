@@ -2,10 +2,10 @@ use Rattle.std.proofs.Common.{◌≡◌, ℕ, Err, ap, subst, sym, ◌∙◌}
 use Rattle.std.proofs.lemmas.Result.{err_from_is_err_and}
 use Rattle.coco_read.specs.declared.fault.OpenFault.TheVariants.{NotAStore}
 use Rattle.coco_store.specs.Contents.{chief_of}
-use Rattle.coco_store.specs.Refusals.{IsFirstRefusal}
 use Rattle.coco_store.specs.Rules.{Setting}
 use Rattle.coco_recover.specs.Commits.{AreCommitted, commit_rules}
 use Rattle.coco_recover.specs.Layouts.{setting_of}
+use Rattle.coco_recover.specs.Without.{IsHistoryRefusal}
 use Rattle.coco_recover.proofs.Held.{file_is, holds_committed, is_opened, refused_commits}
 use Rattle.coco_recover.proofs.files.read_commits.Goals as goal
 
@@ -16,7 +16,7 @@ returns-in_err-log-clause-refused g c file at files is told held parts =
     let same : c.in_err-log.field-0.0 ≡ NotAStore file at = cc (p.1, p.2, is) in
     let here : file ≡ chief_of (setting_of last) = c.in_err-log.ensures.here file at (ap Err same) in
     let under = c.new-reading.result.under in
-    subst (λ (f : ℕ). IsFirstRefusal files f at) (sym here)
+    subst (λ (f : ℕ). IsHistoryRefusal files f at) (sym here)
     (refused_commits files last c.args.base.entries.items under at (ap (λ r. r.under.setting) c.new-reading.ensures) (ap (λ r. r.under.base) c.new-reading.ensures) held parts
     (c.in_err-log.ensures.refused file at files (ap Err same) told))
 

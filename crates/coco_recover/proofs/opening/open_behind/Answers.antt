@@ -16,6 +16,7 @@ use Rattle.coco_recover.proofs.Held.{store_held}
 use Rattle.coco_recover.proofs.Keeping.{keeps_few}
 use Rattle.coco_recover.proofs.Resting.{all_named, left_so, left_still, rests, stands_so, stands_still}
 use Rattle.coco_recover.proofs.Sounding.{is_sound}
+use Rattle.coco_recover.proofs.LeftOut.{history_first}
 use Rattle.coco_recover.proofs.opening.open_behind.Goals as goal
 
 pub returns-clause-read : goal.returns-clause-read
@@ -23,11 +24,17 @@ returns-clause-read g c =
     read_then _ _ _ _ _ g.met.H.Host.only_now _ _ _
     (read_then _ _ _ _ _ g.met.H.Host.only_now _ _ _ c.in_ok-history.ensures.read c.in_ok-committed.ensures.read) c.in_ok-loaded.ensures.only
 
+pub returns-in_err-history-clause-refused : goal.returns-in_err-history-clause-refused
+returns-in_err-history-clause-refused g c file at files is told held =
+    let p = err_from_is_err_and c.from_residual.result c.from_residual.ensures.1 in
+    let same : c.in_err-history.field-0.0 ≡ NotAStore file at = cc (p.1, p.2, is) in
+    history_first files file at (c.in_err-history.ensures.refused file at files (ap Err same) told held)
+
 pub returns-in_err-committed-clause-refused : goal.returns-in_err-committed-clause-refused
 returns-in_err-committed-clause-refused g c file at files is told held =
     let p = err_from_is_err_and c.from_residual-in_err-committed.result c.from_residual-in_err-committed.ensures.1 in
     let same : c.in_err-committed.field-0.0 ≡ NotAStore file at = cc (p.1, p.2, is) in
-    c.in_err-committed.ensures.refused file at files (ap Err same) (c.in_ok-history.ensures.read.same ∙ told) held (c.in_ok-history.ensures.ok files told).0
+    history_first files file at (c.in_err-committed.ensures.refused file at files (ap Err same) (c.in_ok-history.ensures.read.same ∙ told) held (c.in_ok-history.ensures.ok files told).0)
 
 pub returns-in_err-loaded-clause-refused : goal.returns-in_err-loaded-clause-refused
 returns-in_err-loaded-clause-refused g c file at files is told held =

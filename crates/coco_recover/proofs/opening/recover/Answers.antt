@@ -7,6 +7,7 @@ use Rattle.coco_recover.specs.Opening.{AllStand, IsOpening, entry_in, its_keep}
 use Rattle.coco_recover.specs.Steps.{HoldsLast}
 use Rattle.coco_recover.proofs.Having.{by_its_keep, if_ok_both}
 use Rattle.coco_recover.proofs.Resting.{stands_so}
+use Rattle.coco_recover.proofs.LeftOut.{history_first}
 use Rattle.coco_recover.proofs.opening.recover.Goals as goal
 
 pub returns-clause-ok : goal.returns-clause-ok
@@ -47,11 +48,15 @@ returns-clause-rests g c =
 
 -- files that hold a store are not refused
 
-pub returns-in_err-last-clause-kept : goal.returns-in_err-last-clause-kept
-returns-in_err-last-clause-kept g c file at files d told held is =
+pub returns-in_err-last-clause-refused : goal.returns-in_err-last-clause-refused
+returns-in_err-last-clause-refused g c file at files is told =
     let p = err_from_is_err_and c.from_residual.result c.from_residual.ensures.1 in
     let same : c.in_err-last.field-0.0 ≡ NotAStore file at = cc (p.1, p.2, is) in
-    c.a_refused_store_is_none.ensures.none files file at (c.in_err-last.ensures.refused file at files (ap Err same) told) d held
+    history_first files file at (c.in_err-last.ensures.refused file at files (ap Err same) told)
+
+pub returns-in_err-last-clause-kept : goal.returns-in_err-last-clause-kept
+returns-in_err-last-clause-kept g c file at files d told held is =
+    c.a_refused_store_is_none.ensures.none files file at (returns-in_err-last-clause-refused g c file at files is told) d held
 
 pub returns-clause-kept : goal.returns-clause-kept
 returns-clause-kept g c file at files d told held is =
