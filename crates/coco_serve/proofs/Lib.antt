@@ -1,7 +1,10 @@
+pub mod AgainLemmas
 pub mod BatchLemmas
 pub mod EndLemmas
 pub mod NextLemmas
 pub mod NumberLemmas
+pub mod OnceLemmas
 pub mod ReplyLemmas
 pub mod RunLemmas
+pub mod SpentLemmas
 pub mod TextLemmas

@@ -1,3 +1,4 @@
+pub mod Again
 pub mod Endings
 pub mod Faults
 pub mod Growth

@@ -3,6 +3,7 @@
 
 mod ending;
 mod fault;
+pub mod laws;
 mod one_batch;
 mod plan;
 mod serving;
