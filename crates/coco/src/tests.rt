@@ -137,7 +137,7 @@ fn two_workers_run_side_by_side(rt: HostRuntime) -> Result<(), Fail> {
     Ok(())
 }
 
-// The first two reads give the first line with four bytes behind it, and the third one fails.
+// The first read gives the first line with four bytes behind it, and the second one fails.
 #[test]
 fn a_failing_read_leaves_whole_batches(rt: HostRuntime) -> Result<(), Fail> {
     for (words, said) in [("run --epoch 1", &ANSWERS[..36]), ("run --epoch 2", "")] {

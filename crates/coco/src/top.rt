@@ -24,8 +24,8 @@ use std::sync::Wait;
 use std::thread::Threads;
 
 /// Does what the words ask of the store in the host's files, and answers the program's status. A status other than 0
-/// has its line on the error stream, whose faults change nothing. The workers of `run` pass the gate before and after
-/// each attempt.
+/// has its line on the error stream, whose faults change nothing. Where several workers run, they pass the gate as an
+/// attempt begins and as one commits; one worker passes none.
 pub fn coco<R: Threads + Wait + Sync, H: Host, I: Source, E: Sink, G: Gate + Sync>(
     rt: &R,
     alloc: Global,
