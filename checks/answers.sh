@@ -2,7 +2,7 @@
 # The built program on real files: its answers, statuses and lines on the error stream.
 set -u
 cd "$(dirname "$0")/.." || exit 2
-program=$PWD/crates/coco/out/coco
+program=${1:-$PWD/crates/coco/out/coco}
 work=$(mktemp -d) || exit 2
 trap 'rm -rf "$work"' EXIT
 failed=0
@@ -38,6 +38,29 @@ run() {
     status=$?
 }
 
+# unsaid INPUT WORD..: the same where no byte of the answers can be written.
+unsaid() {
+    local input=$1
+    shift
+    "$program" "$work/store" "$@" <"$input" 2>"$work/errors" >/dev/full
+    status=$?
+    : >"$work/said"
+}
+
+# copied: the store's files as they are now.
+copied() {
+    rm -rf "$work/copy"
+    cp -r "$work/store" "$work/copy"
+}
+
+# unchanged NAME: each of them still has the same bytes.
+unchanged() {
+    if ! diff -r "$work/store" "$work/copy"; then
+        echo "$1: the files have changed"
+        failed=1
+    fi
+}
+
 if [ ! -x "$program" ]; then
     echo "$program isn't built: run rt ci first"
     exit 2
@@ -70,10 +93,24 @@ expect 'a word that is no text' 1 'coco: bad command line'
 run "$work" run
 expect 'an input that can not be read' 2 'coco: read fault'
 
-"$program" "$work/store" run <examples/builtin/requests.jsonl 2>"$work/errors" >/dev/full
-status=$?
-: >"$work/said"
+unsaid examples/builtin/requests.jsonl run
 expect 'an output that is full' 3 'coco: reply stream fault'
+
+new
+copied
+run /dev/null run
+expect 'no input on a new store' 0 ''
+unchanged 'no input on a new store'
+
+# A request whose answer was not taken is committed all the same, once: it is answered when it is sent again.
+echo '{"args":[5,70],"call":"put","id":1}' >"$work/lines"
+unsaid "$work/lines" run --epoch 1
+expect 'a new request, and an output that is full' 3 'coco: reply stream fault'
+copied
+echo '{"epoch":1,"id":1,"ok":70,"time":1}' >"$work/wanted"
+run "$work/lines" run --epoch 1
+expect 'that request again' 0 ''
+unchanged 'that request again'
 
 {
     head -c 65537 /dev/zero | tr '\0' x

@@ -48,6 +48,16 @@ layout 'another keep number' 010000001b01020101000000000100000002000000000000000
 
 on "$work/store" migrate --keep 1
 ends 'the first keep number again' 0
+printf '%s\n' "$before" >"$input"
+on "$work/store" run
+ends 'an id below the forgotten one' 0
+says 'an id below the forgotten one' '{"error":"old","line":1}'
+on "$work/store" dump
+ends 'dump of what is kept and forgotten' 0
+says 'dump of what is kept and forgotten' '{"args":[5,70],"call":"put","epoch":1,"id":1,"ok":70,"snapshot":false,"time":1}
+{"args":[5],"call":"get","epoch":2,"id":2,"ok":70,"snapshot":false,"time":1}
+{"row":5,"table":"main","value":70}'
+
 printf '%s\n' "$put" "$get" "$later" "$get" >"$input"
 on "$work/store" run --epoch 1
 ends 'what is forgotten' 0

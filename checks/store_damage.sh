@@ -1,6 +1,6 @@
 #!/usr/bin/env bash
 # Files of a store that are cut at each length, and whose bytes are changed one by one: the store is refused with a place
-# in a file, or it opens.
+# in a file, or it opens. A changed reply is told.
 . "$(dirname "$0")/store.bash"
 
 # Three epochs, so three entries in each of the files 1 and 2, and the layout in file 0.
@@ -106,4 +106,17 @@ for number in 0 1 2; do
     put "${bytes[@]:0:gates[-1]}" 255 1 0 0 0 1 255
 done
 verdict 'serial 3' 'bytes behind the last gates'
+
+# Two epochs, and the reply of the second one, which stands before the last gate of file 1, becomes 71: it is told.
+printf '%s\n' '{"args":[5,70],"call":"put","id":1}' '{"args":[5],"call":"get","id":2}' >"$work/lines"
+new "$work/store"
+input=$work/lines
+on "$work/store" run --epoch 1
+ends 'two epochs' 0
+file=$work/store/1.coco
+[ "$(tail -c 2 "$file" | od -An -tu1 | xargs)" = '70 0' ] || wrong 'the end of the second record'
+printf '\x47' | dd of="$file" bs=1 seek=$(($(stat -c %s "$file") - 2)) conv=notrunc status=none
+on "$work/store" verify
+ends 'a changed reply' 11 'coco: not serial at 2'
+[ "$(<"$work/said")" = '{"computed":{"ok":70},"id":2,"kept":{"ok":71},"place":2}' ] || wrong "a changed reply: $(<"$work/said")"
 ended

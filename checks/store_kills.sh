@@ -1,14 +1,15 @@
 #!/usr/bin/env bash
 # Runs that are killed at random moments and started again on the same lines, until one ends: what was said before a kill
 # stands, each request has its one answer, and the store is that of a run that nothing disturbed.
+# Words: the program, and how many kills; without a number there are 100, or as many as fit in 45 seconds.
 . "$(dirname "$0")/store.bash"
 
 size=10
 lines=150
 input=$work/lines
 span=0
-# As many lines as keep the program busy for half a second.
-while [ "$span" -lt 500000 ] && [ "$failed" -eq 0 ]; do
+# As many lines as keep the program busy for a quarter of a second.
+while [ "$span" -lt 250000 ] && [ "$failed" -eq 0 ]; do
     lines=$((lines * 2))
     adds "$lines" >"$work/lines"
     new "$work/calm" --partitions 4
@@ -57,17 +58,23 @@ standing() {
     fi
 }
 
+# going: more kills are to come.
+number=${2-}
+going() {
+    [ "$failed" -eq 0 ] && [ "$kills" -lt "${number:-100}" ] && { [ -n "$number" ] || [ "$SECONDS" -lt 45 ]; }
+}
+
 kills=0
-while [ "$kills" -lt 50 ] && [ "$SECONDS" -lt 25 ] && [ "$failed" -eq 0 ]; do
+SECONDS=0
+while going; do
     new "$work/store" --partitions 4
     : >"$work/told"
-    for (( ; ; )); do
+    while going; do
         kill_one
         [ "$status" -eq 137 ] || break
         kills=$((kills + 1))
         told
         standing
-        [ "$failed" -eq 0 ] && [ "$SECONDS" -lt 30 ] || break
     done
     on "$work/store" run --epoch "$size"
     ends 'the last run' 0
@@ -78,4 +85,5 @@ while [ "$kills" -lt 50 ] && [ "$SECONDS" -lt 25 ] && [ "$failed" -eq 0 ]; do
     on "$work/store" verify
     [ "$(cat "$work/said")" = "serial $((lines / 10 * 8))" ] || wrong 'the verdict after the last run'
 done
+[ "$kills" -gt 0 ] || wrong 'no run was killed'
 ended ", after $kills kills"

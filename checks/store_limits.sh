@@ -25,21 +25,48 @@ stands() {
     ends "the verdict: $1" 0
 }
 
-full_disk() {
-    local most input=/dev/null
-    within -f 0 "$work/full" init
-    ends 'init on a full disk' 4 'coco: disk fault'
-    on "$work/full" run
-    ends 'a run behind that' 7 'coco: not a store: file 0 at byte 0'
-    on "$work/full" init
-    ends 'init again' 0
+# limited MOST STORE WORD..: a run whose files can have so many KiB each.
+limited() {
+    within -f "$@"
+}
+
+# crowded MOST STORE WORD..: a run on the small disk, of which another file leaves so many KiB.
+crowded() {
+    head -c $(((64 - $1) * 1024)) /dev/zero >"$disk/other"
+    on "${@:2}"
+}
+
+# filled HOW STORE MOST..: a store that is made and run with no room, then with so many KiB each, and at last with enough.
+filled() {
+    local how=$1 store=$2 most input=/dev/null
+    shift 2
+    "$how" 0 "$store" init
+    ends "$how, init without room" 4 'coco: disk fault'
+    on "$store" run
+    ends "$how, a run behind that" 7 'coco: not a store: file 0 at byte 0'
+    "$how" 64 "$store" init
+    ends "$how, init again" 0
     input=$work/lines
-    for most in 1 2 3 5 8; do
-        within -f "$most" "$work/full" run --epoch "$size"
-        ends "files of $most KiB" 4 'coco: disk fault'
-        stands "files of $most KiB" "$work/full"
+    for most; do
+        "$how" "$most" "$store" run --epoch "$size"
+        ends "$how, $most KiB" 4 'coco: disk fault'
+        stands "$how, $most KiB" "$store"
     done
-    whole "$work/full"
+    "$how" 64 "$store" verify
+    ends "$how, with room again" 0
+    whole "$store"
+}
+
+# A disk of 64 KiB in memory, where one may be mounted.
+small_disk() {
+    disk=$work/disk
+    mkdir "$disk"
+    if ! mount -t tmpfs -o size=64k none "$disk" 2>"$work/errors"; then
+        echo 'skipped: a small disk, since none may be mounted here'
+        return
+    fi
+    trap 'umount "$disk"; rm -rf "$work"' EXIT
+    filled crowded "$disk/full" 12 16 20
 }
 
 # tried MOST: a new store, and a run with so much memory.
@@ -71,6 +98,7 @@ little_memory() {
     [ "$scarce" -gt 0 ] || echo 'skipped: little memory, since no limit was met here'
 }
 
-full_disk
+filled limited "$work/full" 1 2 3 5 8
+small_disk
 little_memory
 ended

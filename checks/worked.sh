@@ -1,22 +1,23 @@
 #!/usr/bin/env bash
 # Worked rows on the built program: lines of requests, and the answers that they must get.
-set -u
-cd "$(dirname "$0")/.." || exit 2
-program=${1:-$PWD/crates/coco/out/coco}
-work=$(mktemp -d) || exit 2
-trap 'rm -rf "$work"' EXIT
-failed=0
+. "$(dirname "$0")/store.bash"
 
-# answers NAME EPOCH: on a new store the lines of file 3 must get the answers of file 4.
+# says NAME: what the last run said must be the lines of file 4.
+says() {
+    diff "$work/said" - <&4 || wrong "$1: it said other lines than wanted"
+}
+
+# answers NAME EPOCH [PROCEDURES]: on a new store the lines of file 3 must get the answers of file 4.
 answers() {
+    input=${3:-/dev/null}
     rm -rf "$work/store"
-    "$program" "$work/store" init </dev/null
-    said=$("$program" "$work/store" run --epoch "$2" <&3)
-    status=$?
-    if [ "$status" -ne 0 ] || [ "$said" != "$(cat <&4)" ]; then
-        printf '%s: status %s, said\n%s\n' "$1" "$status" "$said"
-        failed=1
-    fi
+    on "$work/store" init
+    ends "$1, a new store" 0
+    input=$work/lines
+    cat <&3 >"$input"
+    on "$work/store" run --epoch "$2"
+    ends "$1" 0
+    says "$1"
 }
 
 answers 'put then get in two epochs' 1 3<<'IN' 4<<'OUT'
@@ -69,6 +70,13 @@ IN
 {"epoch":1,"id":1,"ok":70,"time":1}
 {"epoch":1,"id":1,"ok":70,"time":1}
 {"epoch":1,"id":1,"ok":70,"time":1}
+OUT
+
+on "$work/store" dump
+ends 'the dump behind a repeated line' 0
+says 'the dump behind a repeated line' 4<<'OUT'
+{"args":[5,70],"call":"put","epoch":1,"id":1,"ok":70,"snapshot":false,"time":1}
+{"row":5,"table":"main","value":70}
 OUT
 
 answers 'another call under a known id is reused' 2 3<<'IN' 4<<'OUT'
@@ -129,6 +137,16 @@ IN
 {"epoch":1,"id":1,"ok":70,"time":1}
 OUT
 
+answers 'a procedure refuses with its own number' 1 bench/bank.coco 3<<'IN' 4<<'OUT'
+{"args":[1,100],"call":"open","id":1}
+{"args":[2,0],"call":"open","id":2}
+{"args":[1,2,150],"call":"move","id":3}
+IN
+{"epoch":1,"id":1,"ok":100,"time":1}
+{"epoch":2,"id":2,"ok":0,"time":1}
+{"epoch":3,"id":3,"refused":"user 2","time":1}
+OUT
+
 answers 'the greatest and the least id, a null and a text' 1 3<<'IN' 4<<'OUT'
 {"args":[5,null],"call":"put","id":18446744073709551615}
 {"args":[5,"é"],"call":"put","id":0}
@@ -137,5 +155,12 @@ IN
 {"epoch":2,"id":0,"ok":"é","time":1}
 OUT
 
-[ "$failed" -eq 0 ] && echo 'all as wanted'
-exit "$failed"
+# In the node's file stands an entry of the greatest number that an epoch may have, so none is left for the next one.
+new "$work/store"
+printf '\x01\0\0\0\x0d\x03\0\0\0\xff\xff\xff\xff\xff\0\0\0\0\0' |
+    dd of="$work/store/2.coco" bs=1 seek=8 conv=notrunc status=none
+echo '{"args":[5,70],"call":"put","id":1}' >"$input"
+on "$work/store" run --epoch 1
+ends 'epochs used up' 8 'coco: epochs used up'
+says 'epochs used up' 4</dev/null
+ended
