@@ -1,7 +1,8 @@
 #!/usr/bin/env bash
 # Stores on real files, on a RAM disk and on a disk: bank transfers in epochs of 1, 100 and 1,000 lines, and bookings with
 # texts; then a store that keeps all those requests opened, verified and dumped; and the same transfers in SQLite, with a
-# transaction for each epoch. Each figure is of the best of so many runs, each on a new store.
+# transaction for each epoch. Each figure is of the best of so many runs, each on a new store. One worker runs them on one
+# partition; bench/workers.sh measures several of both.
 # Words: how many lines, how many runs. COCO is the program, RAM and DISK are the folders; where a batch is synced for
 # real, at most EPOCHS batches are taken.
 set -euo pipefail
