@@ -2,10 +2,10 @@
 
 ghost use Rattle.std.specs.Prelude.{◌≡◌, ◌++◌, ◌∷◌, [], All, OnOk, OnErr};
 ghost use Rattle.std.specs.Arc.{arc_value};
-ghost use Rattle.coco_bench_lock.specs.Reads.{read_of, asks};
+ghost use Rattle.coco_bench_lock.specs.Reads.{read_of, key_of, asks};
 
 use coco_journaled::{Journaled, Pass};
-use coco_shard::{Ask, Op, Shard};
+use coco_shard::{Answer, Ask, Op, Shard};
 use coco_types::{AttemptId, Key, NoMemory};
 use std::alloc::Global;
 use std::sync::{Arc, Wait};
@@ -38,13 +38,14 @@ impl Desk {
 }
 
 impl Lane {
-    /// Reads a row. Out of memory, no call is made.
-    pub fn read(&mut self, rt: &impl Wait, row: u32) -> Result<(), NoMemory>
+    /// Reads a row, and makes the answer in its place. Out of memory, no call is made.
+    pub fn read(&mut self, rt: &impl Wait, row: u32, answer: &mut Answer) -> Result<(), NoMemory>
         ensures shard { self.new.shard ≡ self.old.shard }
         ensures ok { OnOk result (asks self.new.pass.calls ≡ asks self.old.pass.calls ++ read_of row ∷ []) }
         ensures err { OnErr result (self.new.pass.calls ≡ self.old.pass.calls) }
     {
-        self.shard.step(rt, &mut self.pass, read_of(row))?;
+        let ask = read_of(row);
+        self.shard.step_lent(rt, &mut self.pass, &ask, answer)?;
         Ok(())
     }
 }
@@ -57,12 +58,18 @@ pub fn read_of(row: u32) -> Ask
         worker: 0,
         number: 0,
     };
-    let key = Key {
-        table: 0,
-        row: u64::from(row),
-    };
     Ask {
         by,
-        op: Op::Read(key),
+        op: Op::Read(key_of(row)),
+    }
+}
+
+/// The key of a row of table 0.
+pub fn key_of(row: u32) -> Key
+    ensures { result ≡ key_of row }
+{
+    Key {
+        table: 0,
+        row: u64::from(row),
     }
 }

@@ -2,11 +2,11 @@
 
 ghost use Rattle.std.specs.Prelude.{◌≡◌, ◌<◌, All};
 
-use crate::lane::{Desk, read_of};
+use crate::lane::{Desk, key_of, read_of};
 use crate::readers::{Order, ROWS, Reader, read_in_threads};
 use coco_journaled::{Journaled, Kept, Pass, Room};
 use coco_shard::{PackedAnswer, PackedAsk, Shard};
-use coco_types::{Machine, NoMemory};
+use coco_types::{Machine, NoMemory, Value};
 use std::alloc::Global;
 use std::io;
 use std::io::ErrorKind;
@@ -43,8 +43,8 @@ pub fn on_shards<R: Threads + Wait + Clock + Sync>(
     requires { 0 < run.now.threads }
 {
     let mut desks = Vec::new(alloc);
-    for _ in 0..run.shards {
-        desks.push(opened(alloc, run).map_err(refused)?)?;
+    for index in 0..run.shards {
+        desks.push(opened(alloc, run, index).map_err(refused)?)?;
     }
     on_desks(rt, alloc, run, desks.as_mut_slice())
 }
@@ -78,7 +78,7 @@ fn on_desks<R: Threads + Wait + Clock + Sync>(
 
 /// A shard without a lock, on this thread.
 pub fn on_bare(rt: &impl Clock, alloc: Global, steps: u32) -> io::Result<Duration> {
-    let mut shard = Shard::new(alloc);
+    let mut shard = loaded(alloc, 1, 0).map_err(refused)?;
     let began = Instant::now(rt)?;
     for step in 0..steps {
         shard.apply(read_of(step % ROWS)).map_err(refused)?;
@@ -86,12 +86,24 @@ pub fn on_bare(rt: &impl Clock, alloc: Global, steps: u32) -> io::Result<Duratio
     began.elapsed(rt)
 }
 
-// An empty shard behind a journaled lock, with its passes and with room as an earlier run would leave it.
-fn opened(alloc: Global, run: &Run) -> Result<Desk, NoMemory>
+// The shard of this index among so many, with its rows, each of which is a whole number.
+fn loaded(alloc: Global, shards: u32, index: u32) -> Result<Shard, NoMemory> {
+    let mut shard = Shard::new(alloc);
+    for row in 0..ROWS {
+        if shards != 0 && row % shards == index {
+            shard.load(key_of(row), Some(Value::Int(i64::from(row))))?;
+        }
+    }
+    Ok(shard)
+}
+
+// A shard with its rows behind a journaled lock, with its passes and with room as an earlier run would leave it.
+fn opened(alloc: Global, run: &Run, index: u32) -> Result<Desk, NoMemory>
     requires { 0 < run.now.threads }
 {
     let room = Room::new(alloc, run.steps as usize, run.threads)?;
-    let Ok((shard, passes)) = Journaled::start(alloc, Shard::new(alloc), run.threads, room) else {
+    let machine = loaded(alloc, run.shards, index)?;
+    let Ok((shard, passes)) = Journaled::start(alloc, machine, run.threads, room) else {
         return Err(NoMemory);
     };
     desk_of(alloc, shard, passes)

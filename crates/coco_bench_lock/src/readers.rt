@@ -3,6 +3,7 @@
 ghost use Rattle.std.specs.Prelude.{◌≡◌, ◌<◌, length, vec_len};
 
 use crate::lane::{Desk, Lane};
+use coco_shard::Answer;
 use coco_types::NoMemory;
 use std::alloc::Global;
 use std::sync::Wait;
@@ -45,6 +46,7 @@ impl Reader {
     /// Reads rows, each on the lane of its partition, until it made so many steps or is refused memory.
     pub fn read_all(&mut self, rt: &impl Wait, steps: u32, order: Order, seed: u64) {
         let mut place = seed;
+        let mut answer = Answer::Released;
         for step in 0..steps {
             let row = match order {
                 Order::Rising => step % ROWS,
@@ -58,7 +60,7 @@ impl Reader {
                 return;
             }
             let lane = row as usize % lanes.len();
-            if lanes[lane].read(rt, row).is_err() {
+            if lanes[lane].read(rt, row, &mut answer).is_err() {
                 return;
             }
         }

@@ -4,7 +4,7 @@ ghost use Rattle.std.specs.Prelude.{◌≡◌, []};
 
 use crate::lane::read_of;
 use coco_journaled::{Closed, Journal, Journaled, Pass, Room};
-use coco_shard::Shard;
+use coco_shard::{Answer, Shard};
 use std::sync::Wait;
 use std::test::Fail;
 use std::thread;
@@ -15,8 +15,10 @@ fn all_read(rt: &impl Wait, shard: &Journaled<Shard>, mut pass: Pass<Shard>) -> 
     requires { pass.lock ≡ shard.now.id }
     ensures { result.lock ≡ shard.now.id }
 {
+    let mut answer = Answer::Released;
     for row in 0..1000 {
-        if shard.step(rt, &mut pass, read_of(row)).is_err() {
+        let ask = read_of(row);
+        if shard.step_lent(rt, &mut pass, &ask, &mut answer).is_err() {
             return pass;
         }
     }

@@ -1,9 +1,11 @@
 //! The journaled lock: steps of a machine under a lock, each entered once and at its place.
 
-ghost use Rattle.std.specs.Prelude.{◌≡◌, ℕ, ◌<◌, ◌≤◌, [], ◌∷◌, ◌++◌, map, length, true, false, All, Some, slice_get, IfOk, IfErr, OnOk, sum_by, vec_len, vec_capacity};
+ghost use Rattle.std.specs.Prelude.{◌≡◌, ℕ, ◌<◌, ◌≤◌, List, [], ◌∷◌, ◌++◌, map, length, true, false, All, Some, slice_get, IfOk, IfErr, OnOk, OnErr, sum_by, vec_len, vec_capacity};
+ghost use mathlib.Core.List.{IsPrefix};
 ghost use Rattle.coco_seen.specs.Rules.{numbers, how_often, once_below};
 ghost use Rattle.coco_journaled.specs.Packing.{unpacked, unpacked_entry};
-ghost use Rattle.coco_journaled.specs.Passes.{HasPasses, placed, entry_of, places, Rises, new_pass, pass_at, Steps, Looks};
+ghost use Rattle.coco_journaled.specs.declared.entry.Entry.{Entry as Logged};
+ghost use Rattle.coco_journaled.specs.Passes.{HasPasses, placed, entry, entry_of, places, Rises, new_pass, pass_at, Steps, Looks};
 ghost use Rattle.coco_journaled.specs.Replay.{Replays};
 
 use crate::entry::Entry;
@@ -11,7 +13,7 @@ use crate::guarded::Guarded;
 use crate::journal::{Journal, Kept};
 use crate::pass::Pass;
 use crate::room::{Closed, Room};
-use coco_packs::Packs;
+use coco_packs::{AnswersInPlace, Packs};
 use coco_seen::{Note, Seen};
 use coco_types::NoMemory;
 use std::alloc::Global;
@@ -86,33 +88,20 @@ impl<M: Packs> Journaled<M> {
         ensures ok { IfOk result (λ answer. Steps M.answer_to M.state_after pass.old ask answer pass.new) }
         ensures err { IfErr result (λ _. Looks pass.old pass.new) }
     {
-        make_room(&mut pass.places)?;
-        let alloc = *pass.places.allocator();
-        let kept_ask = M::pack_ask(alloc, &ask)?;
-        let spare = spare_of::<M>(alloc, &mut pass.spare)?;
-        let mut guarded = self.seen.take(rt, &mut pass.note);
-        let Ok(()) = make_room(&mut guarded.journal) else {
-            self.seen.give(&mut pass.note, guarded);
-            return Err(NoMemory);
-        };
+        let (packed, spare) = prepared::<M>(&mut pass.places, &mut pass.spare, &ask)?;
+        let mut guarded = self.taken(rt, &mut pass.note)?;
         let Ok(answer) = guarded.machine.apply(ask) else {
             self.seen.give(&mut pass.note, guarded);
             return Err(NoMemory);
         };
-        let (kept_answer, spare) = M::pack_answer(&answer, spare);
+        let (kept, spare) = kept_of::<M>(pass.number, packed, &answer, spare);
         pass.spare = spare;
-        let kept = Kept {
-            pass: pass.number,
-            ask: kept_ask,
-            answer: kept_answer,
-        };
         let entry = Entry {
             pass: pass.number,
             ask,
             answer,
         };
-        let place = self.enter(&mut pass.note, guarded, kept, entry);
-        pass.places.push_reserved(place);
+        self.enter(&mut pass.note, &mut pass.places, guarded, kept, entry);
         Ok(answer)
     }
 
@@ -136,28 +125,113 @@ impl<M: Packs> Journaled<M> {
         }
     }
 
-    // Enters the entry, gives the machine back, and answers the entry's place. There is room in the journal.
+    // Waits for the machine, and takes it with room in its journal for one more entry.
+    #[inline(always)]
+    fn taken(&self, rt: &impl Wait, note: &mut Note<Guarded<M>>) -> Result<Guarded<M>, NoMemory>
+        requires lock { note.old.lock ≡ self.now.id }
+        requires free { note.old.holds ≡ false }
+        ensures note { IfOk result (λ g. note.new ≡ record note.old { list = unpacked M.ask_of M.answer_of g.journal.items; holds = true }) }
+        ensures seen { IfOk result (λ g. IsPrefix note.old.list (unpacked M.ask_of M.answer_of g.journal.items)) }
+        ensures from { IfOk result (λ g. (root : M) × (note.old.root ≡ Some root) × Replays M.answer_to M.state_after root (unpacked M.ask_of M.answer_of g.journal.items) g.machine) }
+        ensures room { IfOk result (λ g. vec_len g.journal < vec_capacity g.journal) }
+        ensures err { IfErr result (λ _. (between : List (Logged M.Ask M.Answer)) × (note.new ≡ record note.old { list = note.old.list ++ between })) }
+    {
+        let mut guarded = self.seen.take(rt, note);
+        let Ok(()) = make_room(&mut guarded.journal) else {
+            self.seen.give(note, guarded);
+            return Err(NoMemory);
+        };
+        Ok(guarded)
+    }
+
+    // Enters the entry, gives the machine back, and notes the entry's place. There is room for both. Inlined, it doesn't build the entry, which proofs alone want.
+    #[inline(always)]
     fn enter(
         &self,
         note: &mut Note<Guarded<M>>,
+        places: &mut Vec<u64>,
         mut guarded: Guarded<M>,
         kept: Kept<M::PackedAsk, M::PackedAnswer>,
         entry: Entry<M::Ask, M::Answer>,
-    ) -> u64
+    )
         requires lock { note.old.lock ≡ self.now.id }
         requires holds { note.old.holds ≡ true }
         requires kept { unpacked_entry M.ask_of M.answer_of kept ≡ entry }
         requires list { unpacked M.ask_of M.answer_of guarded.journal.items ≡ note.old.list }
         requires from { (root : M) × (note.old.root ≡ Some root) × Replays M.answer_to M.state_after root (unpacked M.ask_of M.answer_of guarded.journal.items ++ entry ∷ []) guarded.machine }
         requires room { vec_len guarded.journal < vec_capacity guarded.journal }
-        ensures place { result ≡ length note.old.list }
+        requires places { vec_len places.old < vec_capacity places.old }
         ensures note { note.new ≡ record note.old { list = note.old.list ++ entry ∷ []; calls = note.old.calls ++ (length note.old.list, entry) ∷ []; holds = false } }
+        ensures places { places.new.items ≡ places.old.items ++ length note.old.list ∷ [] }
     {
         guarded.journal.push_reserved(kept);
         let place = self.seen.append(note, entry);
         self.seen.give(note, guarded);
-        place
+        places.push_reserved(place);
     }
+}
+
+impl<M: AnswersInPlace> Journaled<M> {
+    /// The same, where the ask stays where it is and the answer is made where it is to stand.
+    #[inline(always)]
+    pub fn step_lent(
+        &self,
+        rt: &impl Wait,
+        pass: &mut Pass<M>,
+        ask: &M::Ask,
+        answer: &mut M::Answer,
+    ) -> Result<(), NoMemory>
+        requires { pass.old.lock ≡ self.now.id }
+        ensures ok { OnOk result (Steps M.answer_to M.state_after pass.old ask.now answer.new pass.new) }
+        ensures err { OnErr result (Looks pass.old pass.new) }
+    {
+        let (packed, spare) = prepared::<M>(&mut pass.places, &mut pass.spare, ask)?;
+        let mut guarded = self.taken(rt, &mut pass.note)?;
+        let Ok(()) = guarded.machine.answer(ask, answer) else {
+            self.seen.give(&mut pass.note, guarded);
+            return Err(NoMemory);
+        };
+        let (kept, spare) = kept_of::<M>(pass.number, packed, answer, spare);
+        pass.spare = spare;
+        let entry = Entry {
+            pass: pass.number,
+            ask: *ask,
+            answer: *answer,
+        };
+        self.enter(&mut pass.note, &mut pass.places, guarded, kept, entry);
+        Ok(())
+    }
+}
+
+// Makes room for one more place, packs the ask, and takes memory for its answer.
+#[inline(always)]
+fn prepared<M: Packs>(
+    places: &mut Vec<u64>,
+    spare: &mut Option<M::Spare>,
+    ask: &M::Ask,
+) -> Result<(M::PackedAsk, M::Spare), NoMemory>
+    ensures places { places.new.items ≡ places.old.items }
+    ensures room { OnOk result (vec_len places.new < vec_capacity places.new) }
+    ensures ask { IfOk result (λ r. M.ask_of r.0 ≡ ask.now) }
+{
+    make_room(places)?;
+    let alloc = *places.allocator();
+    let packed = M::pack_ask(alloc, ask)?;
+    Ok((packed, spare_of::<M>(alloc, spare)?))
+}
+
+// A call as it is kept, and the spare memory where it wasn't needed.
+#[inline(always)]
+fn kept_of<M: Packs>(
+    pass: u32,
+    ask: M::PackedAsk,
+    answer: &M::Answer,
+    spare: M::Spare,
+) -> (Kept<M::PackedAsk, M::PackedAnswer>, Option<M::Spare>)
+    ensures { unpacked_entry M.ask_of M.answer_of result.0 ≡ entry pass (M.ask_of ask) answer.now }
+{
+    let (answer, spare) = M::pack_answer(answer, spare);
+    (Kept { pass, ask, answer }, spare)
 }
 
 // Takes the spare memory, or makes some where there is none.

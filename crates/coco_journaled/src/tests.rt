@@ -3,7 +3,7 @@
 ghost use Rattle.std.specs.Prelude.{◌≡◌, ◌+◌, ◌%◌, ◌^◌, []};
 
 use super::*;
-use coco_packs::Packs;
+use coco_packs::{AnswersInPlace, Packs};
 use coco_types::{Machine, NoMemory};
 use std::alloc::Global;
 use std::sync::Wait;
@@ -66,13 +66,24 @@ impl Packs for Tally {
     }
 }
 
-// Asks for 1 so many times.
+impl AnswersInPlace for Tally {
+    fn answer(&mut self, ask: &u32, answer: &mut u64) -> Result<(), NoMemory> {
+        *answer = self.apply(*ask)?;
+        Ok(())
+    }
+}
+
+// Asks for 1 twice as many times, by turns with a lent ask.
 fn asked(rt: &impl Wait, tally: &Journaled<Tally>, mut pass: Pass<Tally>, times: u32) -> Pass<Tally>
     requires { pass.lock ≡ tally.now.id }
     ensures { result.lock ≡ tally.now.id }
 {
+    let mut before = 0;
     for _ in 0..times {
         if tally.step(rt, &mut pass, 1).is_err() {
+            return pass;
+        }
+        if tally.step_lent(rt, &mut pass, &1, &mut before).is_err() {
             return pass;
         }
     }
@@ -96,11 +107,11 @@ fn both<R: Threads + Wait + Sync>(
         move || -> Pass<Tally>
             requires { one.lock ≡ tally.now.id }
             ensures { result.lock ≡ tally.entry.now.id }
-        { asked(rt, tally, one, 500) },
+        { asked(rt, tally, one, 250) },
         move || -> Pass<Tally>
             requires { other.lock ≡ tally.now.id }
             ensures { result.lock ≡ tally.entry.now.id }
-        { asked(rt, tally, other, 500) },
+        { asked(rt, tally, other, 250) },
     )
 }
 

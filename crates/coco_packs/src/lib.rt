@@ -1,7 +1,7 @@
 //! How a machine's asks and answers are kept where there are many of them.
 #![tactic(auto)]
 
-ghost use Rattle.std.specs.Prelude.{◌≡◌, IfOk};
+ghost use Rattle.std.specs.Prelude.{◌≡◌, IfOk, OnOk, OnErr};
 
 use coco_types::{Machine, NoMemory};
 use std::alloc::Global;
@@ -40,4 +40,13 @@ pub trait Packs: Machine {
 
     fn unpack_answer(packed: &Self::PackedAnswer) -> Self::Answer
         ensures { result ≡ answer_of packed.now };
+}
+
+/// A machine that answers a lent ask where the answer is to stand, so that neither is copied.
+pub trait AnswersInPlace: Packs {
+    /// Answers an ask. Out of memory, the machine is as it was found.
+    fn answer(&mut self, ask: &Self::Ask, answer: &mut Self::Answer) -> Result<(), NoMemory>
+        ensures answer { OnOk result (answer.new ≡ Self.answer_to self.old ask.now) }
+        ensures state { OnOk result (self.new ≡ Self.state_after self.old ask.now) }
+        ensures err { OnErr result (self.new ≡ self.old) };
 }

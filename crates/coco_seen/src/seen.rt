@@ -87,7 +87,8 @@ impl<S: Stores> Seen<S> {
         self.sleepers.fetch_sub(1, SeqCst);
     }
 
-    /// Appends an entry, and answers its place. It takes no memory.
+    /// Appends an entry, and answers its place. It takes no memory. Inlined, it doesn't build the entry, which proofs alone want.
+    #[inline(always)]
     pub fn append(&self, note: &mut Note<S>, entry: S::Entry) -> u64
         requires lock { note.old.lock ≡ self.now.id }
         requires holds { note.old.holds ≡ true }
@@ -98,6 +99,7 @@ impl<S: Stores> Seen<S> {
         self.append_said::<Brand>(note, entry)
     }
 
+    #[inline(always)]
     fn append_said<W: Said<S::Entry>>(&self, note: &mut Note<S>, entry: S::Entry) -> u64
         requires lock { note.old.lock ≡ self.now.id }
         requires holds { note.old.holds ≡ true }

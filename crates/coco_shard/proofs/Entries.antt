@@ -168,9 +168,9 @@ leaves_made by (Release key) h = absurd (two_sides (sym h))
 leaves_made by (Past key) h = absurd (two_sides (sym h))
 
 -- an ask that is refused memory
-pub acts_refused : (es fs : List (RowKey × Kept)) (ask : Ask) (r : Result Answer NoMemory) → IsErr r → fs ≡ es → kept_at es (key_of ask.op) ≡ None → may_make_row ask.op ≡ true → Acts es fs ask r
-acts_refused es fs ask (Ok answer) is same none makes = absurd (two_sides (sym is))
-acts_refused es fs ask (Err e) is same none makes = record { answer = tt; state = tt; err = same; missing = none; makes = makes }
+pub acts_refused : {T : Type 0} (es fs : List (RowKey × Kept)) (ask : Ask) (answer : Answer) (r : Result T NoMemory) → IsErr r → fs ≡ es → kept_at es (key_of ask.op) ≡ None → may_make_row ask.op ≡ true → Acts es fs ask answer r
+acts_refused es fs ask answer (Ok x) is same none makes = absurd (two_sides (sym is))
+acts_refused es fs ask answer (Err e) is same none makes = record { answer = tt; state = tt; err = same; missing = none; makes = makes }
 
 -- the state after the row of a key is taken away
 pub dropped_view : (es fs : List (RowKey × Kept)) (k : RowKey) → ((q : RowKey) → kept_at fs q ≡ cond (is_key k q) None (kept_at es q)) → view_of fs ≡ remove (view_of es) k
@@ -184,6 +184,10 @@ dropped_view es fs k at = same_keyed _ _ (λ q.
 pub missing_on_err : {T E : Type 0} (r : Result T E) (es : List (RowKey × Kept)) (k : RowKey) → OnErr r (kept_at es k ≡ None) → OnErr r (get (view_of es) k ≡ None)
 missing_on_err (Ok x) es k h = tt
 missing_on_err (Err e) es k h = get_view es k ∙ ap state_in h
+
+pub said_on_err : {T E P : Type 0} (r : Result T E) → P → OnErr r P
+said_on_err (Ok x) says = tt
+said_on_err (Err e) says = says
 
 pub added_on_ok : {T E : Type 0} (r : Result T E) (es fs : List (RowKey × Kept)) (k : RowKey) (kept : Kept) (row : RowState) → state_of kept.row ≡ row
     → OnOk r ((q : RowKey) → kept_at fs q ≡ cond (is_key k q) (Some kept) (kept_at es q)) → OnOk r (view_of fs ≡ insert (view_of es) k row)

@@ -2,7 +2,8 @@
 use Rattle.std.proofs.Common.{◌≡◌, ℕ, zero, suc, Bool, true, false, cond, ◌==◌, max, List, [], ◌∷◌, ◌++◌, take, Option, None, Some, refl, sym, ap, ◌∙◌, subst, arith, append_assoc}
 use Rattle.std.proofs.lemmas.List.{append-nil}
 use Rattle.std.specs.Option.{option_or, option_map, option_flatten, option_to_list, unwrap_or, is_some}
-use Rattle.std.specs.List.{slice_get}
+use Rattle.std.specs.List.{AllByRecursion, slice_get}
+use Rattle.std.proofs.lemmas.Option.{same_Some}
 use Rattle.std.specs.FinMap.{get, get-insert}
 use Rattle.coco_types.specs.RowKey.{RowKey}
 use Rattle.coco_types.specs.declared.value.Value.{Value}
@@ -14,7 +15,7 @@ use Rattle.coco_shard.specs.declared.ops.Answer.{Answer}
 use Rattle.coco_shard.specs.declared.ops.Answer.TheVariants.{Locked, Marked, Changed, Extended, Installed, Released, NotMine}
 use Rattle.coco_shard.specs.RowState.{RowState, ShardState, resting, row_at, with_row, Holds}
 use Rattle.coco_shard.specs.Table.{key_of, answer_at, answer_in, after_ask, left_by, unless_marked, where_mine, is_mark_of}
-use Rattle.coco_shard.specs.Law.{Entry, installed_by, extended_by, marked_by, install_of, extension_of, mark_of, last_found, extensions_since, greatest, law_row, IsLawful, IsAnswered, asks_of, after_asks}
+use Rattle.coco_shard.specs.Law.{Entry, installed_by, extended_by, marked_by, install_of, extension_of, mark_of, last_found, extensions_since, greatest, law_row, IsLawful, IsAnswered, asks_of, after_asks, write_time, read_time, standing_mark}
 use Rattle.coco_types.proofs.Keys.{is_key, one_key, keys_total}
 
 -- ---- one entry more
@@ -57,12 +58,12 @@ greatest_more n [] t = omega arith
 greatest_more n (u ∷ ts) t = let e : greatest n (ts ++ t ∷ []) ≡ max (greatest n ts) t = greatest_more n ts t in omega arith
 
 -- what a row is after an entry that says so much of its key
-abbrev grown_rts : RowState → Option (ℕ × Option Value) → Option ℕ → ℕ
+abbrev pub grown_rts : RowState → Option (ℕ × Option Value) → Option ℕ → ℕ
 grown_rts row (Some p) x = greatest p.0 (option_to_list x)
 grown_rts row None None = row.rts
 grown_rts row None (Some t) = max row.rts t
 
-abbrev grown : RowState → Option (ℕ × Option Value) → Option ℕ → Option (Option AttemptId) → RowState
+abbrev pub grown : RowState → Option (ℕ × Option Value) → Option ℕ → Option (Option AttemptId) → RowState
 grown row i x m = record {
   newest = unwrap_or (option_map (λ p. p.1) i) row.newest;
   wts = unwrap_or (option_map (λ p. p.0) i) row.wts;
@@ -85,7 +86,7 @@ rts_more (Some p) last x ts row is = refl
 rts_more None last None ts row is = ap (greatest (unwrap_or (option_map (λ p. p.0) last) 0)) (append-nil ts) ∙ sym is
 rts_more None last (Some t) ts row is = greatest_more (unwrap_or (option_map (λ p. p.0) last) 0) ts t ∙ ap (λ n. max n t) (sym is)
 
-law_more : (opening : RowKey → Option Value) (k : RowKey) (es : List Entry) (e : Entry)
+pub law_more : (opening : RowKey → Option Value) (k : RowKey) (es : List Entry) (e : Entry)
     → law_row opening k (es ++ e ∷ []) ≡ grown (law_row opening k es) (installed_by k e) (extended_by k e) (marked_by k e)
 law_more opening k es e =
     let last : last_found (installed_by k) (es ++ e ∷ []) ≡ option_or (installed_by k e) (last_found (installed_by k) es) = last_more (installed_by k) es e in
@@ -101,6 +102,22 @@ law_more opening k es e =
     ap option_flatten (last_more (marked_by k) es e) ∙ or_flat (marked_by k e) (last_found (marked_by k) es) in
     λ i. record { newest = newest i; wts = wts i; rts = rts i; mark = mark i; stable = opening k }
 
+-- ---- the law from another opening map
+
+-- what the law says of a key depends on that key's opening value alone
+pub law_same : (f g : RowKey → Option Value) (k : RowKey) (es : List Entry) → f k ≡ g k → law_row f k es ≡ law_row g k es
+law_same f g k es same =
+    ap (λ (v : Option Value). (let row : RowState = record { newest = unwrap_or (option_map (λ (p : ℕ × Option Value). p.1) (last_found (installed_by k) es)) v; wts = write_time k es; rts = read_time k es; mark = standing_mark k es; stable = v } in row)) same
+
+all_get : {X : Type 0} (P : X → Type 0) (xs : List X) (n : ℕ) (x : X) → AllByRecursion P xs → slice_get xs n ≡ Some x → P x
+all_get P [] n x all at = absurd cc
+all_get P (y ∷ ys) zero x all at = subst P (same_Some y x at) all.0
+all_get P (y ∷ ys) (suc n) x all at = all_get P ys n x all.1 at
+
+pub lawful_as : (f g : RowKey → Option Value) (journal : List Entry) → AllByRecursion (λ e. f (key_of e.ask.op) ≡ g (key_of e.ask.op)) journal → IsLawful f journal → IsLawful g journal
+lawful_as f g journal same lawful place e at =
+    lawful place e at ∙ ap (λ (row : RowState). answer_at row e.ask.by e.ask.op) (law_same f g (key_of e.ask.op) (take place journal) (all_get (λ (d : Entry). f (key_of d.ask.op) ≡ g (key_of d.ask.op)) journal place e same at))
+
 -- ---- one step of the shard
 
 unless_cases : (P : Answer → Type 0) (mark : Option AttemptId) (by : AttemptId) (answer : Answer) → P answer → ((holder : AttemptId) → P (Marked holder)) → P (unless_marked mark by answer)
@@ -111,10 +128,10 @@ mine_cases : (P : Answer → Type 0) (mark : Option AttemptId) (by : AttemptId) 
 mine_cases P mark by answer mine other = elim (is_mark_of by mark) as (λ b. P (cond b answer (NotMine mark))) [ true ↦ mine | false ↦ other ]
 
 -- the row that an answer leaves is what the law makes of the entry
-abbrev Grows : RowState → AttemptId → Op → Answer → Type 0
+abbrev pub Grows : RowState → AttemptId → Op → Answer → Type 0
 Grows row by op answer = grown row (install_of op answer) (extension_of op answer) (mark_of by answer) ≡ unwrap_or (left_by answer by op row) row
 
-grows : (row : RowState) (by : AttemptId) (op : Op) → Grows row by op (answer_at row by op)
+pub grows : (row : RowState) (by : AttemptId) (op : Op) → Grows row by op (answer_at row by op)
 grows row by (Read key) = refl
 grows row by (Lock key) = unless_cases (Grows row by (Lock key)) row.mark by (Locked row.wts row.rts) refl (λ _. refl)
 grows row by (Extend key wts time) =

@@ -1,5 +1,5 @@
 -- How a shard keeps a row: beside it, whether its key stands in the list of touched keys.
-use Rattle.std.specs.Prelude.{◌≡◌, ℕ, ◌+◌, ◌≤◌, Bool, true, false, if◌then◌else◌, max, List, [], ◌∷◌, ◌++◌, length, map, sum_by, Option, None, Some, IsSome, Result, IfOk, OnOk, OnErr}
+use Rattle.std.specs.Prelude.{◌≡◌, ℕ, ◌+◌, ◌≤◌, Bool, true, false, if◌then◌else◌, max, List, [], ◌∷◌, ◌++◌, length, map, sum_by, Option, None, Some, IsSome, Result, OnOk, OnErr}
 use Rattle.std.specs.List.{list_any}
 use Rattle.std.specs.Option.{unwrap_or, option_map}
 use Rattle.std.specs.Map.{lookup, set_value, values_of}
@@ -92,8 +92,8 @@ most_rts es (k ∷ ks) = max (rts_of (kept_at es k)) (most_rts es ks)
 
 -- What becomes of the rows where an ask is answered: answer and rows are the table's. Out of memory nothing has
 -- changed, the key has no row, and the ask may make one.
-pub record Acts (es fs : List (RowKey × Kept)) (ask : Ask) (result : Result Answer NoMemory) : Type 0 where
-  pub answer : IfOk result (λ answer. answer ≡ answer_in (view_of es) ask)
+pub record Acts {T : Type 0} (es fs : List (RowKey × Kept)) (ask : Ask) (given : Answer) (result : Result T NoMemory) : Type 0 where
+  pub answer : OnOk result (given ≡ answer_in (view_of es) ask)
   pub state : OnOk result (view_of fs ≡ after_ask (view_of es) ask)
   pub err : OnErr result (fs ≡ es)
   pub missing : OnErr result (kept_at es (key_of ask.op) ≡ None)

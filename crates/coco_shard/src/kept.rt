@@ -52,7 +52,7 @@ pub fn act(row: &mut Row, ask: &Ask, answer: &mut Answer)
     ensures { Follows row.old row.new ask.now.by ask.now.op answer.new }
 {
     match &ask.op {
-        Op::Read(_) => *answer = read(row),
+        Op::Read(_) => read_to(row, answer),
         Op::Lock(_) => lock(row, ask.by, answer),
         Op::Extend { wts, time, .. } => extend(row, ask.by, *wts, *time, answer),
         Op::Install { time, value, .. } => install(row, ask.by, *time, value, answer),
@@ -65,10 +65,51 @@ pub fn act(row: &mut Row, ask: &Ask, answer: &mut Answer)
 pub fn read(row: &Row) -> Answer
     ensures { result ≡ Got row.now.wts row.now.rts (newest_of row.now) }
 {
-    Answer::Got {
-        wts: row.wts,
-        rts: row.rts,
-        value: *row.newest(),
+    let (wts, rts) = (row.wts, row.rts);
+    match row.newest() {
+        Some(Value::Int(number)) => Answer::Got {
+            wts,
+            rts,
+            value: Some(Value::Int(*number)),
+        },
+        value => Answer::Got {
+            wts,
+            rts,
+            value: *value,
+        },
+    }
+}
+
+// The same in its place, where one is copied over the last.
+fn read_to(row: &Row, answer: &mut Answer)
+    ensures { answer.new ≡ Got row.now.wts row.now.rts (newest_of row.now) }
+{
+    match answer {
+        Answer::Got { wts, rts, value } => {
+            *wts = row.wts;
+            *rts = row.rts;
+            copy_value(row.newest(), value);
+        }
+        _ => *answer = read(row),
+    }
+}
+
+// A number is written by itself, and no text's room is copied.
+fn copy_value(from: &Option<Value>, to: &mut Option<Value>)
+    ensures { to.new ≡ from.now }
+{
+    match from {
+        Some(Value::Int(number)) => copy_number(*number, to),
+        _ => *to = *from,
+    }
+}
+
+fn copy_number(number: i64, to: &mut Option<Value>)
+    ensures { to.new ≡ Some (Int number) }
+{
+    match to {
+        Some(Value::Int(place)) => *place = number,
+        _ => *to = Some(Value::Int(number)),
     }
 }
 

@@ -14,6 +14,7 @@ use crate::table::{act_on_missing, act_on_rows, drop_loaded, load_row, stable_of
 use crate::tail::{extend_row, mark_row, put_row, read_row};
 use crate::values::{greatest, values};
 use crate::version::{Version, version_at};
+use coco_packs::AnswersInPlace;
 use coco_types::{AttemptId, Key, Machine, MapRows, NoMemory, Value};
 use std::alloc::Global;
 use std::collections::BTreeMap;
@@ -202,8 +203,25 @@ impl Machine for Shard {
             if let Some(kept) = self.rows.get(&ask.op.key()) {
                 return Ok(read(&kept.row));
             }
-            return act_on_missing(&mut self.rows, &mut self.touched, &ask);
+            let mut answer = Answer::Released;
+            act_on_missing(&mut self.rows, &mut self.touched, &ask, &mut answer)?;
+            return Ok(answer);
         }
-        act_on_rows(&mut self.rows, &mut self.touched, &ask)
+        let mut answer = Answer::Released;
+        self.answer(&ask, &mut answer)?;
+        Ok(answer)
+    }
+}
+
+impl AnswersInPlace for Shard {
+    #[inline(always)]
+    fn answer(&mut self, ask: &Ask, answer: &mut Answer) -> Result<(), NoMemory>
+        ensures answer { OnOk result (answer.new ≡ answer_in self.old ask.now) }
+        ensures state { OnOk result (self.new ≡ after_ask self.old ask.now) }
+        ensures err { OnErr result (self.new ≡ self.old) }
+        ensures missing { OnErr result (get self.old (key_of ask.now.op) ≡ None) }
+        ensures makes { OnErr result (may_make_row ask.now.op ≡ true) }
+    {
+        act_on_rows(&mut self.rows, &mut self.touched, ask, answer)
     }
 }

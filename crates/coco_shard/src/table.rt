@@ -23,19 +23,19 @@ pub fn act_on_rows(
     rows: &mut BTreeMap<Key, Kept>,
     touched: &mut Vec<Key>,
     ask: &Ask,
-) -> Result<Answer, NoMemory>
+    answer: &mut Answer,
+) -> Result<(), NoMemory>
     requires { IsWhole rows.old.entries touched.old.items (vec_capacity touched.old) }
     ensures whole { IsWhole rows.new.entries touched.new.items (vec_capacity touched.new) }
-    ensures acts { Acts rows.old.entries rows.new.entries ask.now result }
+    ensures acts { Acts rows.old.entries rows.new.entries ask.now answer.new result }
 {
     let key = ask.op.key();
     let Some(kept) = rows.get_mut(&key) else {
-        return act_on_missing(rows, touched, ask);
+        return act_on_missing(rows, touched, ask, answer);
     };
-    let mut answer = Answer::Released;
-    act(&mut kept.row, ask, &mut answer);
+    act(&mut kept.row, ask, answer);
     list_key(touched, key, kept.touch());
-    Ok(answer)
+    Ok(())
 }
 
 // The same where the key has no row.
@@ -44,23 +44,23 @@ pub fn act_on_missing(
     rows: &mut BTreeMap<Key, Kept>,
     touched: &mut Vec<Key>,
     ask: &Ask,
-) -> Result<Answer, NoMemory>
+    answer: &mut Answer,
+) -> Result<(), NoMemory>
     requires whole { IsWhole rows.old.entries touched.old.items (vec_capacity touched.old) }
     requires missing { kept_at rows.old.entries (key_of ask.now.op) ≡ None }
     ensures whole { IsWhole rows.new.entries touched.new.items (vec_capacity touched.new) }
-    ensures acts { Acts rows.old.entries rows.new.entries ask.now result }
+    ensures acts { Acts rows.old.entries rows.new.entries ask.now answer.new result }
 {
     let mut kept = Kept {
         row: Row::at_rest(None),
         touched: true,
     };
-    let mut answer = Answer::Released;
-    act(&mut kept.row, ask, &mut answer);
-    if !leaves_row(&answer) {
-        return Ok(answer);
+    act(&mut kept.row, ask, answer);
+    if !leaves_row(answer) {
+        return Ok(());
     }
     add_row(rows, touched, ask.op.key(), kept)?;
-    Ok(answer)
+    Ok(())
 }
 
 // Whether an answer leaves a row under the key.

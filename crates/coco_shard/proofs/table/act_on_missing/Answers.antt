@@ -36,5 +36,5 @@ returns-clause-acts c =
 pub returns-in_err-add_row-clause-acts : goal.returns-in_err-add_row-clause-acts
 returns-in_err-add_row-clause-acts c =
     let told : c.act.new.answer ≡ _ = c.act.ensures.told ∙ ap (λ row. answer_at (state_of row) c.args.ask.now.by c.args.ask.now.op) c.at_rest.ensures in
-    acts_refused c.args.rows.now.entries c.add_row.new.rows.entries c.args.ask.now c.from_residual.result c.from_residual.ensures.0 c.in_err-add_row.ensures.err c.requires.missing
+    acts_refused c.args.rows.now.entries c.add_row.new.rows.entries c.args.ask.now c.act.new.answer c.from_residual.result c.from_residual.ensures.0 c.in_err-add_row.ensures.err c.requires.missing
     (leaves_made c.args.ask.now.by c.args.ask.now.op (sym (ap leaves_row told) ∙ sym c.leaves_row.ensures ∙ c.if-not-leaves_row.false))

@@ -3,7 +3,7 @@ use Rattle.std.specs.FinMap.{get}
 use Rattle.coco_shard.specs.Kept.{kept_at}
 use Rattle.coco_shard.specs.RowState.{ShardState}
 use Rattle.coco_shard.specs.Table.{key_of, answer_in, after_ask}
-use Rattle.coco_shard.proofs.Entries.{missing_on_err, read_answer, read_view}
+use Rattle.coco_shard.proofs.Entries.{missing_on_err, said_on_err, read_answer, read_view}
 use Rattle.coco_shard.proofs.shard.ShardMachine.apply.Goals as goal
 
 pub returns-in-Some-clause-answer : goal.returns-in-Some-clause-answer
@@ -16,11 +16,7 @@ returns-in-Some-clause-state c =
     subst (λ (s : ShardState). s ≡ after_ask s c.args.ask) c.self.view_is
     (read_view c.self.inside.rows.entries c.args.ask c.in-Read.field-0 c.in-Some.kept.now c.in-Read.is (ap (kept_at c.self.inside.rows.entries) (sym c.key.ensures) ∙ sym c.in-Some.ensures.value))
 
-pub returns-in-Read-clause-missing : goal.returns-in-Read-clause-missing
-returns-in-Read-clause-missing c =
-    subst (λ (s : ShardState). OnErr c.act_on_missing.result (get s (key_of c.args.ask.op) ≡ None)) c.self.view_is
-    (missing_on_err c.act_on_missing.result c.self.inside.rows.entries (key_of c.args.ask.op) c.act_on_missing.ensures.acts.missing)
-
-pub returns-clause-missing : goal.returns-clause-missing
-returns-clause-missing c =
-    subst (λ (s : ShardState). OnErr c.act_on_rows.result (get s (key_of c.args.ask.op) ≡ None)) c.self.view_is (missing_on_err c.act_on_rows.result c.self.inside.rows.entries (key_of c.args.ask.op) c.act_on_rows.ensures.acts.missing)
+pub returns-in_err-act_on_missing-clause-missing : goal.returns-in_err-act_on_missing-clause-missing
+returns-in_err-act_on_missing-clause-missing c =
+    subst (λ (s : ShardState). OnErr c.from_residual.result (get s (key_of c.args.ask.op) ≡ None)) c.self.view_is
+    (missing_on_err c.from_residual.result c.self.inside.rows.entries (key_of c.args.ask.op) (said_on_err c.from_residual.result c.in_err-act_on_missing.ensures.acts.missing))
