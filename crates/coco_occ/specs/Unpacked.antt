@@ -1,5 +1,5 @@
 -- What is kept packed, as contracts see it.
-use Rattle.std.specs.Prelude.{List, map}
+use Rattle.std.specs.Prelude.{◌≡◌, List, map}
 use Rattle.coco_types.specs.declared.call.AttemptId.{AttemptId}
 use Rattle.coco_shard.specs.declared.ops.Op.{Op}
 use Rattle.coco_shard.specs.declared.ops.Op.TheVariants.{Read, Lock, Extend, Install, Release, Past}
@@ -37,3 +37,7 @@ step_from by s = record { shard = s.shard; ask = record { by = by; op = op_of s.
 
 abbrev pub steps_of : AttemptId → List PackedStep → List Step
 steps_of by items = map (step_from by) items
+
+-- another packed step that says the same
+abbrev pub IsCopyOf : PackedStep → PackedStep → Type 0
+IsCopyOf s copy = (by : AttemptId) → step_from by copy ≡ step_from by s

@@ -8,7 +8,7 @@ ghost use Rattle.coco_occ.specs.declared.outcome.Outcome.{Outcome as End};
 ghost use Rattle.coco_occ.specs.Trying.{Ready, Waits, Ended, IsSound, IsMoveOf, answered, has_ended};
 
 use crate::course::Course;
-use crate::outcome::Move;
+use crate::outcome::{Move, Outcome};
 use crate::progress::{accept, proceed};
 use crate::script::Script;
 use coco_ast::Checked;
@@ -167,6 +167,14 @@ impl Attempt {
         ensures { IsMoveOf self.now.standing result }
     {
         self.course.last_move(self.run.reply())
+    }
+
+    /// How it has ended, as an outcome.
+    pub fn outcome(&self) -> Outcome
+        requires { has_ended self.now.standing ≡ true }
+        ensures { (writes : List Written) × (self.now.standing ≡ Ended result writes) }
+    {
+        self.course.outcome(self.run.reply())
     }
 
     /// Takes the answer to what it asked last. Out of memory, nothing has changed.

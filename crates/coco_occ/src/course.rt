@@ -12,7 +12,7 @@ ghost use Rattle.std.specs.Option.{option_map};
 ghost use Rattle.coco_occ.specs.Course.{wts_in, needs_seen, Rise, HasRoom, IsFresh, entered, outcome_by, is_ended, exchange, due_of, extension_of, IsLocking, IsExtending, IsEnding, Closes, Stands};
 ghost use Rattle.coco_occ.specs.Interleaving.{end_move};
 
-use crate::outcome::{Move, Why};
+use crate::outcome::{Move, Outcome, Why};
 use coco_shard::{Answer, Op};
 use coco_types::limits::{MOST_KEYS, MOST_TIME};
 use coco_types::{Key, NoMemory, Reply, Write};
@@ -346,6 +346,20 @@ impl Course {
         ensures { result ≡ is_ended self.now.stage }
     {
         matches!(self.stage, Stage::Ended)
+    }
+
+    /// How an attempt ends that stands here, where its run replies so.
+    pub fn outcome(&self, reply: &Reply) -> Outcome
+        ensures { result ≡ outcome_by self.now.conflict self.now.time reply.now }
+    {
+        match (self.conflict, self.time) {
+            (Some(why), _) => Outcome::Conflict(why),
+            (None, Some(time)) => Outcome::Committed {
+                time,
+                reply: *reply,
+            },
+            (None, None) => Outcome::OverTime,
+        }
     }
 
     /// The move that an attempt ends with that stands here, where its run replies so.

@@ -54,6 +54,28 @@ impl PackedOp {
         })
     }
 
+    /// The same once more.
+    pub fn try_clone(&self) -> Result<PackedOp, NoMemory>
+        ensures { IfOk result (λ copy. op_of copy ≡ op_of self.now) }
+    {
+        Ok(match self {
+            PackedOp::Read(key) => PackedOp::Read(*key),
+            PackedOp::Lock(key) => PackedOp::Lock(*key),
+            PackedOp::Extend { key, wts, time } => PackedOp::Extend {
+                key: *key,
+                wts: *wts,
+                time: *time,
+            },
+            PackedOp::Install { key, time, value } => PackedOp::Install {
+                key: *key,
+                time: *time,
+                value: value.try_clone()?,
+            },
+            PackedOp::Release(key) => PackedOp::Release(*key),
+            PackedOp::Past(key) => PackedOp::Past(*key),
+        })
+    }
+
     /// The operation.
     pub fn get(&self) -> Op
         ensures { result ≡ op_of self.now }
@@ -102,6 +124,30 @@ impl PackedAnswer {
             Answer::Released => PackedAnswer::Released,
             Answer::NotMine { mark } => PackedAnswer::NotMine { mark: *mark },
             Answer::Stood(value) => PackedAnswer::Stood(Packed::of(alloc, value)?),
+        })
+    }
+
+    /// The same once more.
+    pub fn try_clone(&self) -> Result<PackedAnswer, NoMemory>
+        ensures { IfOk result (λ copy. answer_of copy ≡ answer_of self.now) }
+    {
+        Ok(match self {
+            PackedAnswer::Got { wts, rts, value } => PackedAnswer::Got {
+                wts: *wts,
+                rts: *rts,
+                value: value.try_clone()?,
+            },
+            PackedAnswer::Locked { wts, rts } => PackedAnswer::Locked {
+                wts: *wts,
+                rts: *rts,
+            },
+            PackedAnswer::Marked { holder } => PackedAnswer::Marked { holder: *holder },
+            PackedAnswer::Changed { wts } => PackedAnswer::Changed { wts: *wts },
+            PackedAnswer::Extended => PackedAnswer::Extended,
+            PackedAnswer::Installed => PackedAnswer::Installed,
+            PackedAnswer::Released => PackedAnswer::Released,
+            PackedAnswer::NotMine { mark } => PackedAnswer::NotMine { mark: *mark },
+            PackedAnswer::Stood(value) => PackedAnswer::Stood(value.try_clone()?),
         })
     }
 

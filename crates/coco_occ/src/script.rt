@@ -24,6 +24,22 @@ pub struct PackedStep {
     pub answer: PackedAnswer,
 }
 
+impl PackedStep {
+    ghost use Rattle.std.specs.Prelude.{IfOk};
+    ghost use Rattle.coco_occ.specs.Unpacked.{IsCopyOf};
+
+    // The same once more.
+    fn try_clone(&self) -> Result<PackedStep, NoMemory>
+        ensures { IfOk result (λ copy. IsCopyOf self.now copy) }
+    {
+        Ok(PackedStep {
+            shard: self.shard,
+            op: self.op.try_clone()?,
+            answer: self.answer.try_clone()?,
+        })
+    }
+}
+
 /// What one attempt asked, step by step. Contracts see the list of its steps.
 #[derive(Debug, Drop)]
 pub struct Script {
@@ -84,6 +100,18 @@ impl Script {
         self.by = by;
         self.items.push_reserved(step);
         Ok(())
+    }
+
+    /// The same once more, in room for just its steps.
+    pub fn try_clone(&self) -> Result<Script, NoMemory>
+        ensures { IfOk result (λ copy. copy ≡ self.now) }
+    {
+        let alloc = *self.items.allocator();
+        let mut items = Vec::with_capacity(alloc, self.items.len())?;
+        for step in &self.items {
+            items.push_reserved(step.try_clone()?);
+        }
+        Ok(Script { by: self.by, items })
     }
 
     /// How many steps it has.

@@ -1,21 +1,19 @@
--- Scripts: whose their asks are, and their steps at a shard.
+-- Scripts: their steps at a shard, and what a step leaves of the attempt.
 use Rattle.std.proofs.Common.{◌≡◌, ℕ, ◌<◌, cond, List, [], ◌∷◌, ◌++◌, map, length, Result, Ok, Err, OnOk, refl, sym, ap, ◌∙◌, subst, arith, append_assoc, nat_eq, slice_index_or, slice_set}
-use Rattle.std.specs.List.{AllByRecursion, filter}
+use Rattle.std.specs.List.{filter}
 use Rattle.std.proofs.lemmas.List.{map-append}
 use Rattle.std.proofs.lemmas.List.Elements.{filter-append}
 use Rattle.std.proofs.lemmas.Bool.{eq-eqb, ne_eqb}
-use Rattle.coco_types.specs.declared.call.AttemptId.{AttemptId}
 use Rattle.coco_types.specs.declared.call.Write.{Write}
-use Rattle.coco_ast.proofs.Lists.{all_left, all_right}
 use Rattle.coco_journaled.specs.Passes.{Steps}
 use Rattle.coco_shard.specs.declared.ops.Ask.{Ask}
 use Rattle.coco_shard.specs.declared.ops.Answer.{Answer}
 use Rattle.coco_shard.specs.Table.{after_ask, answer_in, key_of}
 use Rattle.coco_shard.specs.Law.{Entry}
 use Rattle.coco_occ.proofs.OneTurn.{asks_partition}
-use Rattle.coco_occ.specs.Exchange.{Exchange, shard_of, step_of}
+use Rattle.coco_occ.specs.Exchange.{shard_of}
 use Rattle.coco_occ.specs.Script.{IsScript}
-use Rattle.coco_occ.specs.Steps.{AreBy, at_shard, taken}
+use Rattle.coco_occ.specs.Steps.{at_shard, taken}
 use Rattle.coco_occ.specs.Trying.{Trying, Ready, Waits, Ended, IsSound, IsSoundAt}
 use Rattle.coco_occ.specs.declared.outcome.Outcome.{Outcome}
 use Rattle.coco_occ.specs.declared.script.Step.{Step}
@@ -23,22 +21,6 @@ use Rattle.coco_occ.specs.declared.outcome.Tried.{Tried}
 use Rattle.coco_order.specs.Execution.{all_at_shard}
 use Rattle.coco_worker.specs.Gains.{AreSame, Make, ShardPass, entered}
 use Rattle.coco_worker.proofs.GainLemmas.{gain_as, gain_set, gain_then, stepped_calls}
-
-all_by : (by : AttemptId) (partitions : ℕ) (asked : List Exchange) → AreBy by (map (step_of by partitions) asked)
-all_by by partitions [] = tt
-all_by by partitions (e ∷ asked) = (refl, all_by by partitions asked)
-
--- the steps so far are by the attempt that asks
-pub asks_by : (t : Trying) (shard : ℕ) (ask : Ask) → IsSound t → t.standing ≡ Waits shard ask → AreBy ask.by t.script
-asks_by t shard ask sound waits =
-    let s : IsSoundAt t (Waits shard ask) = subst (IsSoundAt t) waits sound in
-    let begun = s.2 in
-    let step : Step = record { shard = shard; ask = ask; answer = s.0 } in
-    let P : Step → Type 0 = λ s. s.ask.by ≡ t.by in
-    let all : AllByRecursion P ((t.script ++ step ∷ []) ++ begun.rest) = subst (AllByRecursion P) (sym begun.whole.steps) (all_by t.by t.partitions begun.whole.asked) in
-    let so_far : AllByRecursion P (t.script ++ step ∷ []) = all_left P (t.script ++ step ∷ []) begun.rest all in
-    let mine : ask.by ≡ t.by = (all_right P t.script (step ∷ []) so_far).0 in
-    subst (λ (by : AttemptId). AreBy by t.script) (sym mine) (all_left P t.script (step ∷ []) so_far)
 
 pub at_shard_append : (shard : ℕ) (xs ys : List Step) → at_shard shard (xs ++ ys) ≡ at_shard shard xs ++ at_shard shard ys
 at_shard_append shard xs ys =
@@ -49,9 +31,10 @@ all_at_shard_append shard [] us = refl
 all_at_shard_append shard (t ∷ ts) us =
     ap (λ (es : List Entry). at_shard shard t.script ++ es) (all_at_shard_append shard ts us) ∙ sym (append_assoc (at_shard shard t.script) (all_at_shard shard ts) (all_at_shard shard us))
 
-pub always_ok : {X E A : Type 0} (r : Result X E) → A → OnOk r A
-always_ok (Ok x) a = a
-always_ok (Err e) a = tt
+-- what a step that may fail says, by what it ensures where it didn't
+pub by_ok : {X E A B : Type 0} (r : Result X E) → OnOk r A → (A → B) → OnOk r B
+by_ok (Ok x) a then = then a
+by_ok (Err e) a then = tt
 
 -- ---- one ask
 
@@ -88,6 +71,19 @@ made_on a b c xs ys zs same first next is =
 -- what a move leaves of the attempt, but for where it stands
 pub moved_on : (a b t : Trying) (script : List Step) → b ≡ record a { script = script; standing = Ready } → t ≡ record b { standing = t.standing } → t ≡ record a { script = script; standing = t.standing }
 moved_on a b t script left others = others ∙ ap (λ (u : Trying). record u { standing = t.standing }) left
+
+-- a move leaves the script
+pub same_script : (b t : Trying) → t ≡ record b { standing = t.standing } → t.script ≡ b.script
+same_script b t others = ap (λ (u : Trying). u.script) others
+
+pub moved_left : (a b t : Trying) → b ≡ record a { script = b.script; standing = Ready } → t ≡ record b { standing = t.standing } → t ≡ record a { script = t.script; standing = t.standing }
+moved_left a b t left others = moved_on a b t b.script left others ∙ ap (λ (xs : List Step). record a { script = xs; standing = t.standing }) (sym (same_script b t others))
+
+-- what a taken answer leaves of the attempt
+pub took_left : (a b t u : Trying) (script : List Step) → b ≡ record a { script = b.script; standing = Ready } → t ≡ record b { standing = t.standing } → u ≡ record t { script = script; standing = Ready } → u ≡ record a { script = u.script; standing = Ready }
+took_left a b t u script left others took =
+    let moved : u ≡ record a { script = script; standing = Ready } = took ∙ ap (λ (v : Trying). record v { script = script; standing = Ready }) (moved_on a b t b.script left others) in
+    moved ∙ ap (λ (xs : List Step). record a { script = xs; standing = Ready }) (sym (ap (λ (v : Trying). v.script) took))
 
 -- the script of an attempt that has ended is whole
 pub ended_script : (a t : Trying) (script : List Step) (outcome : Outcome) (writes : List Write) → t ≡ record a { script = script; standing = t.standing } → IsSound t → t.standing ≡ Ended outcome writes

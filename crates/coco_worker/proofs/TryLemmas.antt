@@ -3,16 +3,20 @@ use Rattle.std.proofs.Common.{◌≡◌, ℕ, suc, ◌+◌, ◌<◌, true, List,
 use Rattle.std.specs.List.{AllByRecursion, filter_map}
 use Rattle.std.proofs.lemmas.List.{append-nil, length-append}
 use Rattle.std.proofs.lemmas.List.Elements.{filter_map-append}
+use Rattle.coco_types.specs.declared.call.AttemptId.{AttemptId}
 use Rattle.coco_types.specs.declared.call.Request.{Request}
 use Rattle.coco_types.specs.declared.call.Write.{Write}
 use Rattle.coco_ast.proofs.Lists.{all_append, all_weaker}
 use Rattle.coco_ast.specs.Tree.{Procedures}
-use Rattle.coco_occ.specs.Trying.{Trying, has_ended}
+use Rattle.coco_occ.specs.Script.{IsScript}
+use Rattle.coco_occ.specs.Steps.{at_shard}
+use Rattle.coco_occ.specs.Trying.{Trying, Ready, Ended, has_ended}
 use Rattle.coco_occ.specs.declared.outcome.Ended.{Ended as Unmade}
 use Rattle.coco_occ.specs.declared.outcome.Outcome.{Outcome}
 use Rattle.coco_occ.specs.declared.outcome.Tried.{Tried}
+use Rattle.coco_occ.specs.declared.script.Step.{Step}
 use Rattle.coco_order.specs.Execution.{all_at_shard, is_conflict}
-use Rattle.coco_worker.specs.Gains.{AreSame, entered}
+use Rattle.coco_worker.specs.Gains.{AreSame, Make, entered}
 use Rattle.coco_worker.specs.Trying.{Adds, AreNumbered, HasEnded, IsAt, IsOver, IsTriedAt, TriesOnce, TriesOut, ends_of, time_of, unmade_of}
 use Rattle.coco_worker.specs.declared.slot.Slot.{Slot}
 use Rattle.coco_worker.proofs.GainLemmas.{gain_as, gain_none, gain_then}
@@ -50,6 +54,37 @@ adds_weaker P Q a b ts weaker adds = record {
   whole = all_weaker P Q weaker ts adds.whole;
   numbered = adds.numbered;
 }
+
+-- ---- one attempt at a request
+
+-- an attempt that was ready has ended, and its script is added
+pub tries_once : (procs : Procedures) (request : Request) (place partitions : ℕ) (a b : Slot) (t u : Trying) (by : AttemptId) (script : List Step) (tried : Tried) (outcome : Outcome) (writes : List Write)
+    → t ≡ record { procs = procs; call = request.call; by = by; partitions = partitions; script = []; standing = Ready } → IsScript t.procs t.call t.by t.partitions u.script outcome writes → u.standing ≡ Ended outcome writes
+    → script ≡ u.script → tried ≡ record { place = place; by = by; script = script; outcome = outcome } → by.worker ≡ a.worker → by.number ≡ length a.transcript → b.transcript ≡ a.transcript ++ tried ∷ []
+    → Make a.passes.items b.passes.items (λ shard. at_shard shard u.script) → TriesOnce procs request place partitions a b (Some u) outcome
+tries_once procs request place partitions a b t u by script tried outcome writes ready whole ended copied is worker number more made =
+    let mine : IsScript procs request.call by partitions u.script outcome writes = subst (λ (v : Trying). IsScript v.procs v.call v.by v.partitions u.script outcome writes) ready whole in
+    let own : IsScript procs request.call by partitions script outcome writes = subst (λ (xs : List Step). IsScript procs request.call by partitions xs outcome writes) (sym copied) mine in
+    let at : IsAt procs request a.worker place partitions tried writes = record {
+      at = ap (λ (v : Tried). v.place) is;
+      by_worker = ap (λ (v : Tried). v.by.worker) is ∙ worker;
+      script = subst (λ (v : Tried). IsScript procs request.call v.by partitions v.script v.outcome writes) (sym is) own;
+    } in
+    let same : tried.script ≡ u.script = ap (λ (v : Tried). v.script) is ∙ copied in
+    record {
+      tried = tried;
+      writes = writes;
+      adds = record {
+        transcript = more;
+        made = gain_as entered a.passes.items b.passes.items (λ shard. at_shard shard u.script) (λ shard. all_at_shard shard (tried ∷ [])) made
+            (λ shard _. ap (at_shard shard) (sym same) ∙ sym (append-nil (at_shard shard tried.script)));
+        whole = ((writes, at), tt);
+        numbered = (ap (λ (v : Tried). v.by.number) is ∙ number, tt);
+      };
+      is = at;
+      outcome_is = ap (λ (v : Tried). v.outcome) is;
+      ended = ended;
+    }
 
 -- ---- the attempts at a request
 

@@ -279,7 +279,3 @@ no_commit OverTime none is = let h : false ≡ true = is in cc
 pub by_both : {X E A B C : Type 0} (r : Result X E) → OnOk r A → OnOk r B → (A → B → C) → OnOk r C
 by_both (Ok x) a b then = then a b
 by_both (Err e) a b then = tt
-
-pub by_ok : {X E A B : Type 0} (r : Result X E) → OnOk r A → (A → B) → OnOk r B
-by_ok (Ok x) a then = then a
-by_ok (Err e) a then = tt

@@ -92,9 +92,10 @@ fn try_once<G: Gate>(
     make_ready(alloc, room, procs, request, by, shards.len() as u8)?;
     gate.pass(slot.worker, 1);
     let Some(attempt) = room else { unreachable!() };
-    let mut script = Script::with_room(alloc, STEPS)?;
     let passes = slot.passes.as_mut_slice();
-    let outcome = run_attempt(rt, procs, shards, passes, attempt, &mut script)?;
+    run_attempt(rt, procs, shards, passes, attempt)?;
+    let script = attempt.script().try_clone()?;
+    let outcome = attempt.outcome();
     let entry = tried(place, by, script, &outcome);
     slot.transcript.push(entry)?;
     Ok(outcome)
@@ -131,6 +132,3 @@ fn make_ready(
     }
     Ok(())
 }
-
-// For how many steps a script begins with room.
-const STEPS: usize = 8;

@@ -1,21 +1,16 @@
-use Rattle.std.proofs.Common.{◌∷◌, ◌++◌, [], ap, ◌∙◌, subst}
-use Rattle.coco_occ.specs.Steps.{AreBy}
-use Rattle.coco_occ.specs.Trying.{Ready, Trying}
-use Rattle.coco_occ.specs.declared.outcome.Outcome.TheVariants.{Committed, Conflict, OverTime}
+use Rattle.std.proofs.Common.{◌∷◌, ◌++◌, [], List, sym, ap, ◌∙◌, subst}
+use Rattle.coco_occ.specs.Steps.{at_shard}
+use Rattle.coco_occ.specs.Trying.{Trying}
 use Rattle.coco_occ.specs.declared.script.Step.{Step}
+use Rattle.coco_worker.specs.Gains.{Make}
 use Rattle.coco_worker.proofs.GainLemmas.{still_of}
-use Rattle.coco_worker.proofs.ScriptLemmas.{asks_by, below_shards, ended_script, made_on, moved_on}
+use Rattle.coco_worker.proofs.ScriptLemmas.{below_shards, ended_script, made_on, moved_left, same_script, took_left}
 use Rattle.coco_worker.proofs.steps.run_attempt.Goals as goal
 
 pub ask_shard-requires-clause-below : goal.ask_shard-requires-clause-below
-ask_shard-requires-clause-below g c =
-    below_shards c.loop.attempt c.next-in-loop.new.self _ c.in-Ask.shard c.in-Ask.ask (ap (λ (t : Trying). t.partitions) c.loop.invariant.left ∙ c.requires.partitions) c.requires.some
-    c.next-in-loop.ensures.others c.next-in-loop.ensures.sound c.in-Ask.ensures.told
-
-pub ask_shard-requires-clause-by : goal.ask_shard-requires-clause-by
-ask_shard-requires-clause-by g c =
-    subst (AreBy c.in-Ask.ask.by) (ap (λ (t : Trying). t.script) (moved_on c.args.attempt.now c.loop.attempt c.next-in-loop.new.self c.loop.script c.loop.invariant.left c.next-in-loop.ensures.others))
-    (asks_by c.next-in-loop.new.self c.in-Ask.shard c.in-Ask.ask c.next-in-loop.ensures.sound c.in-Ask.ensures.told)
+ask_shard-requires-clause-below g c shard ask waits =
+    below_shards c.loop.attempt c.go_on.new.self _ shard ask (ap (λ (t : Trying). t.partitions) c.loop.invariant.left ∙ c.requires.partitions) c.requires.some
+    c.go_on.ensures.others c.go_on.ensures.sound waits
 
 pub ask_shard-requires-clause-locks : goal.ask_shard-requires-clause-locks
 ask_shard-requires-clause-locks g c = still_of c.args.shards.now c.args.passes.now c.loop.passes c.requires.locks c.loop.invariant.same
@@ -23,39 +18,23 @@ ask_shard-requires-clause-locks g c = still_of c.args.shards.now c.args.passes.n
 pub loop-preserved : goal.loop-preserved
 loop-preserved g c =
     let before = c.loop.invariant in
-    let asked = c.in_ok-ask_shard-in-Ask.ensures in
-    let step : Step = record { shard = c.in-Ask.shard; ask = c.in-Ask.ask; answer = asked.step.0 } in
-    let moved = moved_on c.args.attempt.now c.loop.attempt c.next-in-loop.new.self c.loop.script before.left c.next-in-loop.ensures.others in
+    let asked = c.in_ok-ask_shard.ensures.step in
+    let step : Step = record { shard = asked.0; ask = asked.1; answer = asked.2 } in
     record {
-      left = asked.took ∙ ap (λ (t : Trying). record t { script = c.ask_shard.new.script; standing = Ready }) moved;
+      left = took_left c.args.attempt.now c.loop.attempt c.go_on.new.self c.ask_shard.new.attempt _ before.left c.go_on.ensures.others asked.3;
       same = c.ask_shard.ensures.same ∙ before.same;
-      made = made_on c.args.passes.now c.loop.passes c.ask_shard.new.passes c.loop.script (step ∷ []) c.ask_shard.new.script before.same before.made asked.step.2
-          (asked.step.1 ∙ ap (λ (t : Trying). t.script ++ step ∷ []) moved);
+      made = made_on c.args.passes.now c.loop.passes c.ask_shard.new.passes c.loop.attempt.script (step ∷ []) c.ask_shard.new.attempt.script before.same before.made asked.4
+          (ap (λ (t : Trying). t.script) asked.3 ∙ ap (λ (xs : List Step). xs ++ step ∷ []) (same_script c.loop.attempt c.go_on.new.self c.go_on.ensures.others));
     }
 
-pub returns-in-Committed-clause-ended : goal.returns-in-Committed-clause-ended
-returns-in-Committed-clause-ended g c =
-    let told = c.in-Committed.ensures.told in (
-      told.0,
-      told.1,
-      ended_script c.args.attempt.now c.next-in-loop.new.self c.loop.script (Committed c.in-Committed.time c.in-Committed.reply) told.0
-          (moved_on c.args.attempt.now c.loop.attempt c.next-in-loop.new.self c.loop.script c.loop.invariant.left c.next-in-loop.ensures.others) c.next-in-loop.ensures.sound told.1,
-    )
+pub returns-then-not-go_on-clause-left : goal.returns-then-not-go_on-clause-left
+returns-then-not-go_on-clause-left g c = moved_left c.args.attempt.now c.loop.attempt c.go_on.new.self c.loop.invariant.left c.go_on.ensures.others
 
-pub returns-in-Conflict-clause-ended : goal.returns-in-Conflict-clause-ended
-returns-in-Conflict-clause-ended g c =
-    let told = c.in-Conflict.ensures.told in (
-      told.0,
-      told.1,
-      ended_script c.args.attempt.now c.next-in-loop.new.self c.loop.script (Conflict c.in-Conflict.why) told.0
-          (moved_on c.args.attempt.now c.loop.attempt c.next-in-loop.new.self c.loop.script c.loop.invariant.left c.next-in-loop.ensures.others) c.next-in-loop.ensures.sound told.1,
-    )
+pub returns-then-not-go_on-clause-whole : goal.returns-then-not-go_on-clause-whole
+returns-then-not-go_on-clause-whole g c outcome writes ended =
+    ended_script c.args.attempt.now c.go_on.new.self c.go_on.new.self.script outcome writes
+    (moved_left c.args.attempt.now c.loop.attempt c.go_on.new.self c.loop.invariant.left c.go_on.ensures.others) c.go_on.ensures.sound ended
 
-pub returns-in-OverTime-clause-ended : goal.returns-in-OverTime-clause-ended
-returns-in-OverTime-clause-ended g c =
-    let told = c.in-OverTime.ensures.told in (
-      told.0,
-      told.1,
-      ended_script c.args.attempt.now c.next-in-loop.new.self c.loop.script OverTime told.0
-          (moved_on c.args.attempt.now c.loop.attempt c.next-in-loop.new.self c.loop.script c.loop.invariant.left c.next-in-loop.ensures.others) c.next-in-loop.ensures.sound told.1,
-    )
+pub returns-then-not-go_on-clause-made : goal.returns-then-not-go_on-clause-made
+returns-then-not-go_on-clause-made g c =
+    subst (λ (xs : List Step). Make c.args.passes.now c.loop.passes (λ shard. at_shard shard xs)) (sym (same_script c.loop.attempt c.go_on.new.self c.go_on.ensures.others)) c.loop.invariant.made

@@ -4,10 +4,10 @@ use Rattle.coco_occ.specs.Trying.{Ready}
 use Rattle.coco_worker.specs.Gains.{AreSame, Make}
 use Rattle.coco_worker.proofs.steps.run_attempt.Given as goal
 
--- the attempt is ready, what it asked is written down, and the passes made just that
+-- the attempt is ready, and the passes made just what it asked
 abbrev pub invariant-loop : goal.invariant-loop
 invariant-loop g l = record {
-  left : l.attempt ≡ record l.fn.attempt { script = l.script; standing = Ready };
+  left : l.attempt ≡ record l.fn.attempt { script = l.attempt.script; standing = Ready };
   same : AreSame l.fn.passes l.passes;
-  made : Make l.fn.passes l.passes (λ shard. at_shard shard l.script);
+  made : Make l.fn.passes l.passes (λ shard. at_shard shard l.attempt.script);
 }

@@ -8,7 +8,8 @@ use Rattle.coco_worker.specs.Gains.{Gain}
 use Rattle.coco_worker.specs.Trying.{TriesOut}
 use Rattle.coco_worker.specs.Working.{Job, commit_at}
 use Rattle.coco_worker.specs.declared.slot.Slot.{Slot}
-use Rattle.coco_worker.proofs.WorkLemmas.{by_both, by_ok, lands_commit, lands_tail, no_commit, the_job, worked_by, works_one}
+use Rattle.coco_worker.proofs.WorkLemmas.{by_both, lands_commit, lands_tail, no_commit, the_job, worked_by, works_one}
+use Rattle.coco_worker.proofs.ScriptLemmas.{by_ok}
 use Rattle.coco_worker.proofs.worker.work_off.Goals as goal
 
 pub returns-in-Some-clause-worked : goal.returns-in-Some-clause-worked
