@@ -1,5 +1,5 @@
 //! A map of rows, and the calls that are run on it.
-ghost use Rattle.std.specs.Prelude.{◌≡◌, ◌≤◌, [], Some, IfOk, OnOk, OnErr};
+ghost use Rattle.std.specs.Prelude.{◌≡◌, ◌≤◌, [], Ok, Some, IfOk, OnOk, OnErr};
 ghost use Rattle.std.specs.FinMap.{empty};
 ghost use Rattle.std.specs.HashMap.{spare};
 ghost use Rattle.coco_ast.specs.Fitting.{Fits};
@@ -67,7 +67,7 @@ impl Executor {
             Some(last) => {
                 last.restart(procs, call)?;
                 finish(last, procs, &mut self.rows);
-                Ok(*last.reply())
+                answered(last.reply())
             }
             None => first_reply(self.alloc, procs, call, &mut self.last, &mut self.rows),
         }
@@ -124,4 +124,22 @@ fn first_reply(
     let reply = *running.reply();
     *last = Some(running);
     Ok(reply)
+}
+
+// What a call answers that has this reply. Of a whole number no text's room is copied.
+fn answered(reply: &Reply) -> Result<Reply, NoMemory>
+    ensures { result ≡ Ok reply.now }
+{
+    if let Reply::Ok(Some(Value::Int(number))) = reply {
+        return Ok(Reply::Ok(Some(Value::Int(*number))));
+    }
+    answered_whole(reply)
+}
+
+// It stands apart, so that a number has no room for a copy to clear.
+#[inline(never)]
+fn answered_whole(reply: &Reply) -> Result<Reply, NoMemory>
+    ensures { result ≡ Ok reply.now }
+{
+    Ok(*reply)
 }

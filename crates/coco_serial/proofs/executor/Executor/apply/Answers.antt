@@ -16,19 +16,19 @@ pub returns-in_ok-restart-in-Some-clause-reply : goal.returns-in_ok-restart-in-S
 returns-in_ok-restart-in-Some-clause-reply c =
     let rows : rows_of c.reserve.new.self ≡ c.args.self.now.rows = hash_same c.self.inside.rows.entries c.reserve.new.self.entries c.reserve.ensures.entries.2 ∙ ap (λ (a : Applied). a.rows) c.self.view_is in
     let same = same_run c.restart.new.self c.args.procs.now c.args.call.now (rows_of c.reserve.new.self) c.args.self.now.rows c.in_ok-restart-in-Some.ensures.ok rows in
-    same_reply c.reply.result.now _ c.reply.ensures.0 _ c.finish.new.running.standing c.reply.ensures.1 c.finish.ensures.ended ∙ ap (λ (r : Run). r.reply) same
+    rw c.answered.ensures (same_reply c.reply.result.now _ c.reply.ensures.0 _ c.finish.new.running.standing c.reply.ensures.1 c.finish.ensures.ended ∙ ap (λ (r : Run). r.reply) same)
 
 pub returns-in_ok-restart-in-Some-clause-rows : goal.returns-in_ok-restart-in-Some-clause-rows
 returns-in_ok-restart-in-Some-clause-rows c =
     let rows : rows_of c.reserve.new.self ≡ c.args.self.now.rows = hash_same c.self.inside.rows.entries c.reserve.new.self.entries c.reserve.ensures.entries.2 ∙ ap (λ (a : Applied). a.rows) c.self.view_is in
     let same = same_run c.restart.new.self c.args.procs.now c.args.call.now (rows_of c.reserve.new.self) c.args.self.now.rows c.in_ok-restart-in-Some.ensures.ok rows in
-    c.finish.ensures.rows ∙ ap (λ (r : Run). r.rows) same
+    rw c.answered.ensures (c.finish.ensures.rows ∙ ap (λ (r : Run). r.rows) same)
 
 pub returns-in_ok-restart-in-Some-clause-writes : goal.returns-in_ok-restart-in-Some-clause-writes
 returns-in_ok-restart-in-Some-clause-writes c =
     let rows : rows_of c.reserve.new.self ≡ c.args.self.now.rows = hash_same c.self.inside.rows.entries c.reserve.new.self.entries c.reserve.ensures.entries.2 ∙ ap (λ (a : Applied). a.rows) c.self.view_is in
     let same = same_run c.restart.new.self c.args.procs.now c.args.call.now (rows_of c.reserve.new.self) c.args.self.now.rows c.in_ok-restart-in-Some.ensures.ok rows in
-    ap writes_in c.finish.ensures.ended ∙ ap (λ (r : Run). r.writes) same
+    rw c.answered.ensures (ap writes_in c.finish.ensures.ended ∙ ap (λ (r : Run). r.writes) same)
 
 pub returns-in-None-clause-reply : goal.returns-in-None-clause-reply
 returns-in-None-clause-reply c =
