@@ -20,15 +20,6 @@ module _ (shards new : List ShardState) (key : RowKey) (row : RowState) (some : 
   kept_either (Ok x) ok err = kept_at ok
   kept_either (Err e) ok err = subst (KeepStable shards) (sym err) (keeps_itself shards of)
 
--- ---- all shards
-
--- as many shards with the same row at each key are the same
-pub same_shards : (xs ys : List ShardState) → length xs ≡ length ys → ((p : ℕ) (k : RowKey) → get (shard_at xs p) k ≡ get (shard_at ys p) k) → xs ≡ ys
-same_shards xs ys count same = same_lists xs ys count (λ p d lt. sym (read xs p d lt) ∙ same_keyed (shard_at xs p) (shard_at ys p) (same p) ∙ read ys p d (subst (λ (n : ℕ). p < n) count lt))
-  where
-    read : (shards : List ShardState) (p : ℕ) (d : ShardState) → p < length shards → shard_at shards p ≡ get_or shards p d
-    read shards p d lt = unwrap_or-slice_get shards p empty ∙ get_or_default shards p empty d lt
-
 -- ---- a key that is read
 
 put_stays : (s : ShardState) (k : RowKey) → get s k ≡ Some (row_at s k) → insert s k (row_at s k) ≡ s

@@ -10,9 +10,8 @@ use Rattle.coco_types.proofs.KeyMaps.{get_put}
 use Rattle.coco_shard.specs.RowState.{RowState, ShardState}
 use Rattle.coco_shard.specs.Table.{marked_by}
 use Rattle.coco_epoch.specs.Shards.{row_in, shard_at, shard_of, with_row_in}
-use Rattle.coco_epoch.proofs.ShardLemmas.{at_set, length_set, row_in_set}
+use Rattle.coco_epoch.proofs.ShardLemmas.{at_set, length_set, row_in_set, same_shards}
 use Rattle.coco_alone.specs.Asked.{changed_in, is_written, marked, marks_on}
-use Rattle.coco_alone.proofs.AskLemmas.{same_shards}
 use Rattle.coco_alone.proofs.Leads.{row_then}
 
 -- ---- two rows that are set

@@ -31,14 +31,14 @@ use Rattle.coco_order.specs.OneKey.{Among}
 use Rattle.coco_order.specs.Order.{AreInOrder}
 use Rattle.coco_order.specs.Outcome.{IsGreatestRead, IsOutcome, commit_of, commits, done_of, is_commit, tail_dones, tail_requests, uncommitted}
 use Rattle.coco_pieces.specs.Pieces.{request_pieces}
-use Rattle.coco_shard.proofs.LawLemmas.{answers_lawful, answers_rows}
+use Rattle.coco_shard.proofs.LawLemmas.{answers_lawful, answers_rows, law_same, lawful_as}
 use Rattle.coco_shard.specs.Law.{Entry, IsLawful, law_row, read_time}
 use Rattle.coco_shard.specs.RowState.{RowState, ShardState, row_at, stable_at}
 use Rattle.coco_shard.specs.Table.{key_of}
 use Rattle.coco_alone.specs.Epochs.{AloneIsSerial, Ended, HaveFinished, IsMade, Made, dones_of, ended_of, made_done, pieces_in, scripts_of}
 use Rattle.coco_alone.proofs.Executing.{all_placed, all_there, commits_are, committed_at, concat_made, execution_of, journal_at, journal_found, journals_count, one_at, one_try, pass_there, rise_from, scripts_home, steps_there, tried_of, tries_of}
 use Rattle.coco_alone.proofs.Scripts.{all_over, map_twice}
-use Rattle.coco_alone.proofs.Serving.{AtHome, Answers, IsOn, keys_asked, law_same, lawful_as, on_shard, served, untouched}
+use Rattle.coco_alone.proofs.Serving.{AtHome, Answers, IsOn, keys_asked, on_shard, served, untouched}
 use Rattle.coco_alone.proofs.Settling.{settled_row}
 
 -- ---- lists

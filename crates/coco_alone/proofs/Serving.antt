@@ -116,19 +116,3 @@ untouched first last (s ∷ steps) k some lead none =
     neither : (a b : Bool) → (a || b) ≡ false → (a ≡ false) × (b ≡ false)
     neither true b h = absurd (let e : true ≡ false = h in cc)
     neither false b h = (refl, h)
-
--- ---- the law from another opening map
-
--- what the law says of a key depends on that key's opening value alone
-pub law_same : (f g : RowKey → Option Value) (k : RowKey) (es : List Entry) → f k ≡ g k → law_row f k es ≡ law_row g k es
-law_same f g k es same =
-    ap (λ (v : Option Value). (let row : RowState = record { newest = unwrap_or (option_map (λ (p : ℕ × Option Value). p.1) (last_found (installed_by k) es)) v; wts = write_time k es; rts = read_time k es; mark = standing_mark k es; stable = v } in row)) same
-
-all_get : {X : Type 0} (P : X → Type 0) (xs : List X) (n : ℕ) (x : X) → AllByRecursion P xs → slice_get xs n ≡ Some x → P x
-all_get P [] n x all at = absurd cc
-all_get P (y ∷ ys) zero x all at = subst P (same_Some y x at) all.0
-all_get P (y ∷ ys) (suc n) x all at = all_get P ys n x all.1 at
-
-pub lawful_as : (f g : RowKey → Option Value) (journal : List Entry) → AllByRecursion (λ e. f (key_of e.ask.op) ≡ g (key_of e.ask.op)) journal → IsLawful f journal → IsLawful g journal
-lawful_as f g journal same lawful place e at =
-    lawful place e at ∙ ap (λ (row : RowState). answer_at row e.ask.by e.ask.op) (law_same f g (key_of e.ask.op) (take place journal) (all_get (λ (d : Entry). f (key_of d.ask.op) ≡ g (key_of d.ask.op)) journal place e same at))

@@ -4,9 +4,9 @@ use Rattle.std.specs.Option.{option_map, unwrap_or}
 use Rattle.coco_types.specs.RowKey.{RowKey}
 use Rattle.coco_types.specs.declared.value.Value.{Value}
 use Rattle.coco_shard.specs.RowState.{RowState, ShardState, resting, stable_at}
+use Rattle.coco_epoch.proofs.ShardLemmas.{same_shards}
 use Rattle.coco_epoch.specs.Shards.{AreSettled, KeepStable, SettleOn, row_in, stable_in}
 use Rattle.coco_alone.specs.Asked.{AreCalm}
-use Rattle.coco_alone.proofs.AskLemmas.{same_shards}
 
 pub settled_row : (shards : List ShardState) → AreSettled shards → (k : RowKey) → row_in shards k ≡ resting (stable_in shards k)
 settled_row shards settled k = ap (λ (o : Option RowState). unwrap_or o (resting None)) (settled (k.row % length shards) k) ∙ choose (stable_in shards k)

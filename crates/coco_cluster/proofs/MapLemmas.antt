@@ -9,14 +9,8 @@ use Rattle.coco_types.specs.declared.value.Value.{Value}
 use Rattle.coco_types.proofs.KeyMaps.{same_keyed}
 use Rattle.coco_ast.specs.Keyed.{Rows, value_at}
 use Rattle.coco_shard.specs.RowState.{RowState, resting, stable_at, ShardState}
+use Rattle.coco_epoch.proofs.ShardLemmas.{same_shards}
 use Rattle.coco_epoch.specs.Shards.{AreOfPartitions, HaveStable, HoldMap, shard_at}
-
--- as many shards with the same row at each key are the same
-same_shards : (xs ys : List ShardState) → length xs ≡ length ys → ((p : ℕ) (k : RowKey) → get (shard_at xs p) k ≡ get (shard_at ys p) k) → xs ≡ ys
-same_shards xs ys count same = same_lists xs ys count (λ p d lt. sym (read xs p d lt) ∙ same_keyed (shard_at xs p) (shard_at ys p) (same p) ∙ read ys p d (subst (λ (n : ℕ). p < n) count lt))
-  where
-    read : (shards : List ShardState) (p : ℕ) (d : ShardState) → p < length shards → shard_at shards p ≡ get_or shards p d
-    read shards p d lt = unwrap_or-slice_get shards p empty ∙ get_or_default shards p empty d lt
 
 -- what is the same where either is there is the same
 same_if_some : {X : Type 0} (a b : Option X) → (IsSome a → a ≡ b) → (IsSome b → a ≡ b) → a ≡ b

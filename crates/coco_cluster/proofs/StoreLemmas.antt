@@ -7,22 +7,11 @@ use Rattle.coco_host.specs.Moments.{Observation, SeesOnly}
 use Rattle.coco_entry.specs.declared.prepared.Row.{Row}
 use Rattle.coco_log.specs.declared.fault.LogFault.{LogFault}
 use Rattle.coco_log.specs.LogState.{LogState, with_entry}
+use Rattle.coco_log.proofs.OnlyRead.{sees_then}
 use Rattle.coco_append.specs.Gaining.{Gains, ShowsEither}
 use Rattle.coco_append.proofs.GainLemmas.{sees_weaker}
 use Rattle.coco_store.specs.Contents.{Contents}
 use Rattle.coco_cluster.specs.Storing.{ShowsOneOf, Stores, with_epoch, with_rows}
-
--- ---- moments
-
-module _ {H : Type 0} (moment : H → ℕ) (observed : H → ℕ → Observation → Type 0) where
-  -- one run of calls behind another. It says nothing of stores: its home is to be coco_host
-  pub sees_then : (first mid new : H) (P Q : Observation → Type 0) → SeesOnly moment observed first mid P → SeesOnly moment observed mid new Q → ((seen : Observation) → Q seen → P seen) → SeesOnly moment observed first new P
-  sees_then first mid new P Q one two here = record {
-    later = omega (arith, one.later, two.later);
-    each = λ seen since. ⊎_elim (one.each seen) (here seen) (two.before (moment first) seen one.later since);
-    before = λ t seen le since. ⊎_elim (one.before t seen le) (λ new_one. inr (here seen new_one)) (two.before t seen (omega (arith, le, one.later)) since);
-    keeps = λ t seen le since. two.keeps t seen (omega (arith, le, one.later)) (one.keeps t seen le since);
-  }
 
 -- ---- answers
 

@@ -3,13 +3,13 @@ use Rattle.std.proofs.Common.{◌≡◌, ℕ, ◌<◌, ◌≤◌, ◌%◌, Bool,
 use Rattle.std.specs.FinMap.{get, insert, empty, get-empty}
 use Rattle.std.specs.Option.{option_map, unwrap_or}
 use Rattle.std.proofs.lemmas.Bool.{eqb-true, eq-eqb, ltb-true, ltb-false}
-use Rattle.std.proofs.lemmas.List.{get_or-set_same, get_or-set_other}
+use Rattle.std.proofs.lemmas.List.{get_or_default, get_or-set_same, get_or-set_other, same_lists}
 use Rattle.std.proofs.lemmas.Option.{slice_get_past, unwrap_or-slice_get}
 use Rattle.std.proofs.Math.ListN.{length-set}
 use Rattle.coco_types.specs.RowKey.{RowKey, key_cmp}
 use Rattle.coco_types.specs.declared.value.Value.{Value}
 use Rattle.coco_types.proofs.Keys.{is_key, key_swap, one_key}
-use Rattle.coco_types.proofs.KeyMaps.{get_put}
+use Rattle.coco_types.proofs.KeyMaps.{get_put, same_keyed}
 use Rattle.coco_ast.specs.Keyed.{Rows, value_at, write_at}
 use Rattle.coco_ast.proofs.Writing.{value_written}
 use Rattle.coco_shard.specs.RowState.{RowState, ShardState, Holds, IsOfPartition, newest_at, resting, row_at, stable_at}
@@ -23,6 +23,13 @@ two_sides h = cc
 
 at_place : (shards : List ShardState) (p : ℕ) → shard_at shards p ≡ get_or shards p empty
 at_place shards p = unwrap_or-slice_get shards p empty
+
+-- as many shards with the same row at each key are the same
+pub same_shards : (xs ys : List ShardState) → length xs ≡ length ys → ((p : ℕ) (k : RowKey) → get (shard_at xs p) k ≡ get (shard_at ys p) k) → xs ≡ ys
+same_shards xs ys count same = same_lists xs ys count (λ p d lt. sym (read xs p d lt) ∙ same_keyed (shard_at xs p) (shard_at ys p) (same p) ∙ read ys p d (subst (λ (n : ℕ). p < n) count lt))
+  where
+    read : (shards : List ShardState) (p : ℕ) (d : ShardState) → p < length shards → shard_at shards p ≡ get_or shards p d
+    read shards p d lt = at_place shards p ∙ get_or_default shards p empty d lt
 
 pub at_set : (shards : List ShardState) (i p : ℕ) (s : ShardState) → i < length shards → shard_at (slice_set shards i s) p ≡ cond (nat_eq i p) s (shard_at shards p)
 at_set shards i p s lt = elim (nat_eq i p) as (λ b. nat_eq i p ≡ b → shard_at (slice_set shards i s) p ≡ cond b s (shard_at shards p)) [

@@ -24,7 +24,8 @@ use Rattle.coco_parallel.specs.Ending.{HasEnded, HasWorked, Start, beginning_of,
 use Rattle.coco_parallel.specs.Laws.{AreAnExecution, AtEachEnd, IsStart, ShardsHaveRows}
 use Rattle.coco_parallel.specs.Tails.{HaveTails, left_of}
 use Rattle.coco_parallel.proofs.SlotLemmas.{all_tried, drawn_tried, of_worker, transcript_is}
-use Rattle.coco_parallel.proofs.LockLemmas.{IsOn, Keeps, all_sent_here, as_many_passes, at_worker, by_passes, each_pass, law_same, lawful_as}
+use Rattle.coco_shard.proofs.LawLemmas.{law_same, lawful_as}
+use Rattle.coco_parallel.proofs.LockLemmas.{IsOn, Keeps, all_sent_here, as_many_passes, at_worker, by_passes, each_pass}
 
 abbrev worker_of : Slot → ℕ
 worker_of slot = slot.worker
