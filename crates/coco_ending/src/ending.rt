@@ -36,7 +36,7 @@ pub enum Ending {
     /// Where a store was to be made, file 0 has so many bytes.
     AlreadyThere { bytes: u64 },
     /// The reply at this place, counted from 1, isn't that of a serial run.
-    NotSerial { place: u32 },
+    NotSerial { place: u64 },
 }
 
 impl Ending {

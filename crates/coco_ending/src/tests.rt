@@ -24,7 +24,7 @@ const CHECK: CheckError = CheckError {
     kind: CheckKind::NoReply,
 };
 
-const ROWS: [(Ending, u8, &str); 14] = [
+const ROWS: [(Ending, u8, &str); 15] = [
     (Ending::Finished, 0, ""),
     (Ending::BadCommandLine, 1, "coco: bad command line\n"),
     (Ending::ReadFault, 2, "coco: read fault\n"),
@@ -66,6 +66,13 @@ const ROWS: [(Ending, u8, &str); 14] = [
         Ending::NotSerial { place: 2 },
         11,
         "coco: not serial at 2\n",
+    ),
+    (
+        Ending::NotSerial {
+            place: 4_294_967_296,
+        },
+        11,
+        "coco: not serial at 4294967296\n",
     ),
 ];
 

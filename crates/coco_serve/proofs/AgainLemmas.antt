@@ -1,6 +1,6 @@
 -- Lines that come again on the history that they left.
 use Rattle.std.proofs.Common.{◌≡◌, refl, sym, ap, subst, ◌∙◌, ℕ, suc, ◌+◌, Bool, true, false, ◌||◌, ◌&&◌, nat_eq, nat_le, nat_lt, List, [], ◌∷◌, ◌++◌, map, length, Option, None, Some, append_assoc, append-nil, arith, inl, inr, ◌⊎◌, IsPermutation}
-use Rattle.std.specs.Prelude.{if◌then◌else◌}
+use Rattle.std.specs.Prelude.{⊤, if◌then◌else◌}
 use Rattle.std.specs.Cmp.{nat_eq_equiv}
 use Rattle.std.specs.List.{AllByRecursion, list_any}
 use Rattle.std.proofs.lemmas.Bool.Decides.{nat_tests}
@@ -36,9 +36,17 @@ use Rattle.coco_lines.proofs.ReplyLemmas.{IsNewTo, answers_still}
 abbrev pub Tests : Type 0
 Tests = List (Bool × Class)
 
+-- the line alone is refused by it
+abbrev pub IsOwn : LineError → Type 0
+IsOwn error.Reused = ⊥
+IsOwn error.Full = ⊥
+IsOwn error.Old = ⊥
+IsOwn e = ⊤
+
 -- it is refused whatever is known
 pub record IsSettled (decide : Tests → Option Class) (c : Class) : Type 0 where
   pub fault : LineError
+  pub own : IsOwn fault
   pub is : c ≡ Refused fault
   pub whatever : (ts : Tests) → decide ts ≡ Some c
 
@@ -56,14 +64,14 @@ settled e c h = cc
 abbrev tried : Bool → LineError → List (Bool × LineError) → Tests → Option Class
 tried b e xs ts = if b then Some (Refused e) else behind xs ts
 
-decided_by : (b : Bool) (e : LineError) (xs : List (Bool × LineError)) (ts : Tests) (c : Class) → (behind xs ts ≡ Some c → IsSettled (behind xs) c ⊎ IsOpen (behind xs) ts c) → tried b e xs ts ≡ Some c
-    → IsSettled (tried b e xs) c ⊎ IsOpen (tried b e xs) ts c
-decided_by true e xs ts c rest h = inl (record { fault = e; is = settled e c h; whatever = λ us. h })
-decided_by false e xs ts c rest h = rest h
+decided_by : (b : Bool) (e : LineError) (xs : List (Bool × LineError)) (ts : Tests) (c : Class) → IsOwn e → (behind xs ts ≡ Some c → IsSettled (behind xs) c ⊎ IsOpen (behind xs) ts c)
+    → tried b e xs ts ≡ Some c → IsSettled (tried b e xs) c ⊎ IsOpen (tried b e xs) ts c
+decided_by true e xs ts c own rest h = inl (record { fault = e; own = own; is = settled e c h; whatever = λ us. h })
+decided_by false e xs ts c own rest h = rest h
 
-decided : (xs : List (Bool × LineError)) (ts : Tests) (c : Class) → behind xs ts ≡ Some c → IsSettled (behind xs) c ⊎ IsOpen (behind xs) ts c
-decided [] ts c h = inr (record { fits = h; whichever = λ us d e. e })
-decided (x ∷ xs) ts c h = decided_by x.0 x.1 xs ts c (decided xs ts c) h
+decided : (xs : List (Bool × LineError)) (ts : Tests) (c : Class) → AllByRecursion (λ (x : Bool × LineError). IsOwn x.1) xs → behind xs ts ≡ Some c → IsSettled (behind xs) c ⊎ IsOpen (behind xs) ts c
+decided [] ts c own h = inr (record { fits = h; whichever = λ us d e. e })
+decided (x ∷ xs) ts c own h = decided_by x.0 x.1 xs ts c own.0 (decided xs ts c own.1) h
 
 abbrev pub asked : Procedures → Line → Option Request
 asked procs line = request_in procs (json_of line)
@@ -74,7 +82,12 @@ class_by procs line = behind ((nat_lt MOST_LINE_BYTES (length line), error.Long)
 
 pub class_decided : (procs : Procedures) (k : Known) (line : Line) (c : Class) → IsClass procs k line c → IsSettled (class_by procs line) c ⊎ IsOpen (class_by procs line) (request_tests k (asked procs line)) c
 unfolding class_tests
-class_decided procs k line c is = decided ((nat_lt MOST_LINE_BYTES (length line), error.Long) ∷ reading_tests procs (json_of line)) (request_tests k (asked procs line)) c is
+class_decided procs k line c is =
+    decided ((nat_lt MOST_LINE_BYTES (length line), error.Long) ∷ reading_tests procs (json_of line)) (request_tests k (asked procs line)) c (tt, (tt, (tt, (tt, (tt, (tt, tt)))))) is
+
+pub class_is : (procs : Procedures) (k : Known) (line : Line) (c : Class) → IsClass procs k line c → class_by procs line (request_tests k (asked procs line)) ≡ Some c
+unfolding class_tests
+class_is procs k line c is = is
 
 class_from : (procs : Procedures) (k : Known) (line : Line) (c : Class) → class_by procs line (request_tests k (asked procs line)) ≡ Some c → IsClass procs k line c
 unfolding class_tests
@@ -181,7 +194,7 @@ new_asked_is k (Some q) r h = ap Some (new_by k q r (is_same k q) (is_known k q)
 not_new : (r : Request) (e : LineError) → ◌≡◌ {A = Class} (New r) (Refused e) → ⊥
 not_new r e h = cc
 
-new_class : (procs : Procedures) (k : Known) (line : Line) (r : Request) → IsClass procs k line (New r) → IsNewTo k r × (is_full k ≡ false)
+pub new_class : (procs : Procedures) (k : Known) (line : Line) (r : Request) → IsClass procs k line (New r) → IsNewTo k r × (is_full k ≡ false)
 new_class procs k line r is =
     elim (class_decided procs k line (New r) is) [
       | inl s ↦ absurd (not_new r s.fault s.is)
@@ -191,11 +204,11 @@ new_class procs k line r is =
 still_new : (k : Known) (rs : List Request) (q : Request) → IsNewTo (and_known k rs) q → IsNewTo k q
 still_new k rs q new = record { unknown = (neither (is_known k q) (has q.id rs) (sym (list_any-append (λ (p : Request). nat_eq q.id p.id) k.requests rs) ∙ new.unknown)).0; above = new.above }
 
-all_still_new : (k : Known) (rs qs : List Request) → AllByRecursion (IsNewTo (and_known k rs)) qs → AllByRecursion (IsNewTo k) qs
+pub all_still_new : (k : Known) (rs qs : List Request) → AllByRecursion (IsNewTo (and_known k rs)) qs → AllByRecursion (IsNewTo k) qs
 all_still_new k rs [] all = tt
 all_still_new k rs (q ∷ qs) all = (still_new k rs q all.0, all_still_new k rs qs all.1)
 
-news_are_new : (procs : Procedures) (k : Known) (lines : List Line) (cs : List Class) → AreClasses procs k lines cs → AllByRecursion (IsNewTo k) (new_of cs)
+pub news_are_new : (procs : Procedures) (k : Known) (lines : List Line) (cs : List Class) → AreClasses procs k lines cs → AllByRecursion (IsNewTo k) (new_of cs)
 news_are_new procs k [] cs are = subst (λ l. AllByRecursion (IsNewTo k) (new_of l)) (sym are) tt
 news_are_new procs k (line ∷ lines) [] are = absurd are
 news_are_new procs k (line ∷ lines) (Refused e ∷ cs) are = all_still_new k [] (new_of cs) (news_are_new procs (and_known k []) lines cs are.1)
@@ -222,7 +235,7 @@ either_true false c h = h
 pub first_true : (b c : Bool) → b ≡ true → (b || c) ≡ true
 first_true b c h = ap (λ x. x || c) h
 
-both_false : (b c : Bool) → b ≡ false → c ≡ false → (b || c) ≡ false
+pub both_false : (b c : Bool) → b ≡ false → c ≡ false → (b || c) ≡ false
 both_false b c p q = ap (λ x. x || c) p ∙ q
 
 and_false : (b c : Bool) → b ≡ false → (b && c) ≡ false
@@ -232,14 +245,14 @@ pub clash : (a b : Bool) → a ≡ b → a ≡ true → b ≡ false → ⊥
 clash a b e p q = let f : true ≡ false = sym p ∙ e ∙ q in cc
 
 -- requests of other ids
-abbrev AreApart : Request → List Request → Type 0
+abbrev pub AreApart : Request → List Request → Type 0
 AreApart r qs = AllByRecursion (λ q. nat_eq r.id q.id ≡ false) qs
 
 pub apart_by : (r q : Request) (f : ℕ → Bool) → f r.id ≡ true → f q.id ≡ false → (b : Bool) → nat_eq r.id q.id ≡ b → b ≡ false
 apart_by r q f here there true e = let same : r.id ≡ q.id = grind (arith, nat_tests) in absurd (clash (f r.id) (f q.id) (ap f same) here there)
 apart_by r q f here there false e = refl
 
-known_apart : (k : Known) (r : Request) (qs : List Request) → is_known k r ≡ true → AllByRecursion (IsNewTo k) qs → AreApart r qs
+pub known_apart : (k : Known) (r : Request) (qs : List Request) → is_known k r ≡ true → AllByRecursion (IsNewTo k) qs → AreApart r qs
 known_apart k r [] known all = tt
 known_apart k r (q ∷ qs) known all = (apart_by r q (λ n. list_any (λ (p : Request). nat_eq n p.id) k.requests) known all.0.unknown (nat_eq r.id q.id) refl, known_apart k r qs known all.1)
 
@@ -251,29 +264,29 @@ old_is : (f : Option ℕ) (r : Request) → is_old f r ≡ old_by f r.id
 old_is None r = refl
 old_is (Some m) r = refl
 
-old_apart : (k : Known) (r : Request) (qs : List Request) → is_old k.floor r ≡ true → AllByRecursion (IsNewTo k) qs → AreApart r qs
+pub old_apart : (k : Known) (r : Request) (qs : List Request) → is_old k.floor r ≡ true → AllByRecursion (IsNewTo k) qs → AreApart r qs
 old_apart k r [] old all = tt
 old_apart k r (q ∷ qs) old all =
     (apart_by r q (old_by k.floor) (sym (old_is k.floor r) ∙ old) (sym (old_is k.floor q) ∙ all.0.above) (nat_eq r.id q.id) refl, old_apart k r qs old all.1)
 
-none_has : (r : Request) (qs : List Request) → AreApart r qs → has r.id qs ≡ false
+pub none_has : (r : Request) (qs : List Request) → AreApart r qs → has r.id qs ≡ false
 none_has r [] all = refl
 none_has r (q ∷ qs) all = both_false (nat_eq r.id q.id) (has r.id qs) all.0 (none_has r qs all.1)
 
 abbrev pub equals : Request → Request → Bool
 equals r q = nat_eq r.id q.id && call.ghosts.eq q.call r.call
 
-none_equals : (r : Request) (qs : List Request) → AreApart r qs → list_any (equals r) qs ≡ false
+pub none_equals : (r : Request) (qs : List Request) → AreApart r qs → list_any (equals r) qs ≡ false
 none_equals r [] all = refl
 none_equals r (q ∷ qs) all = both_false (equals r q) (list_any (equals r) qs) (and_false (nat_eq r.id q.id) (call.ghosts.eq q.call r.call) all.0) (none_equals r qs all.1)
 
-same_with : (k : Known) (r : Request) (qs : List Request) → is_same (and_known k qs) r ≡ (is_same k r || list_any (equals r) qs)
+pub same_with : (k : Known) (r : Request) (qs : List Request) → is_same (and_known k qs) r ≡ (is_same k r || list_any (equals r) qs)
 same_with k r qs = list_any-append (equals r) k.requests qs
 
-known_with : (k : Known) (r : Request) (qs : List Request) → is_known (and_known k qs) r ≡ (is_known k r || has r.id qs)
+pub known_with : (k : Known) (r : Request) (qs : List Request) → is_known (and_known k qs) r ≡ (is_known k r || has r.id qs)
 known_with k r qs = list_any-append (λ (q : Request). nat_eq r.id q.id) k.requests qs
 
-equals_itself : (r : Request) → equals r r ≡ true
+pub equals_itself : (r : Request) → equals r r ≡ true
 equals_itself r = both_true (nat_eq r.id r.id) (call.ghosts.eq r.call r.call) (nat_eq_equiv.refl r.id) ((call_Decides r.call r.call).1 refl)
   where
     both_true : (b c : Bool) → b ≡ true → c ≡ true → (b && c) ≡ true
@@ -283,7 +296,7 @@ equals_itself r = both_true (nat_eq r.id r.id) (call.ghosts.eq r.call r.call) (n
 abbrev Behind : Known → List Request → Class → Type 0
 Behind k later c = AllByRecursion (IsNewTo (and_known k (new_in c))) later × (is_full (and_known k (new_in c)) ≡ true → later ≡ [])
 
-tests_are : (k : Known) (r : Request) (a b c d : Bool) (is : Class) → is_same k r ≡ a → is_known k r ≡ b → is_old k.floor r ≡ c → is_full k ≡ d → first_that_fits (tests_by r a b c d) ≡ Some is
+pub tests_are : (k : Known) (r : Request) (a b c d : Bool) (is : Class) → is_same k r ≡ a → is_known k r ≡ b → is_old k.floor r ≡ c → is_full k ≡ d → first_that_fits (tests_by r a b c d) ≡ Some is
     → first_that_fits (request_tests k (Some r)) ≡ Some is
 tests_are k r a b c d is p q s t h =
     ap (λ x. first_that_fits (tests_by r x (is_known k r) (is_old k.floor r) (is_full k))) p ∙ ap (λ x. first_that_fits (tests_by r a x (is_old k.floor r) (is_full k))) q

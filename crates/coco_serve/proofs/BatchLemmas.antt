@@ -19,7 +19,7 @@ use Rattle.coco_cluster.specs.Standing.{ClusterState, StandsAt}
 use Rattle.coco_cluster.specs.Turning.{Grown, HasRoom, IsUntouched, ShowsStore, Turns, beginning_on}
 use Rattle.coco_cluster.specs.declared.fault.TurnFault.{TurnFault}
 use Rattle.coco_cluster.specs.declared.fault.TurnFault.TheVariants as turn
-use Rattle.coco_cluster.proofs.StoreLemmas.{sees_then}
+use Rattle.coco_log.proofs.OnlyRead.{sees_then}
 use Rattle.coco_commits.specs.EpochEntries.{HasRoomFor}
 use Rattle.coco_host.specs.Files.{Files, NoMore}
 use Rattle.coco_host.specs.Moments.{IsNew, IsSaidBetween, Observation, SeesOnly}

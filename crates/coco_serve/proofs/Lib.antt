@@ -1,10 +1,13 @@
 pub mod AgainLemmas
 pub mod BatchLemmas
 pub mod EndLemmas
+pub mod LeftLemmas
 pub mod NextLemmas
 pub mod NumberLemmas
 pub mod OnceLemmas
+pub mod RepeatLemmas
 pub mod ReplyLemmas
+pub mod ReturnLemmas
 pub mod RunLemmas
 pub mod SpentLemmas
 pub mod TextLemmas

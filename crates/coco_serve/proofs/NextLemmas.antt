@@ -41,7 +41,7 @@ use Rattle.coco_serve.specs.declared.fault.BatchFault.{BatchFault}
 use Rattle.coco_serve.specs.declared.fault.BatchFault.TheVariants as fault
 use Rattle.coco_serve.specs.declared.plan.Plan.{Plan}
 use Rattle.coco_serve.specs.Endings.{ending_of}
-use Rattle.coco_cluster.proofs.StoreLemmas.{sees_then}
+use Rattle.coco_log.proofs.OnlyRead.{sees_then}
 use Rattle.coco_serve.proofs.NumberLemmas.{adds_more}
 use Rattle.coco_serve.proofs.ReplyLemmas.{keeps_some, no_later_done, texts_are_answers}
 use Rattle.coco_serve.proofs.RunLemmas.{AreServed, SeenNow, added_by, all_served, answers-append, batches_more, classes_at, classes_length, cut_more, epochs_used_up, first_more, joined-more, left_by, map-more, more_served, paired, size_more, turns_more, moved}

@@ -31,19 +31,19 @@ use Rattle.coco_serve.proofs.OnceLemmas.{gains, has_none}
 -- ---- what a line has left
 
 -- the line is not new to this history
-abbrev IsSpent : Procedures → History → Line → Type 0
+abbrev pub IsSpent : Procedures → History → Line → Type 0
 IsSpent procs g line = (r : Request) → IsClass procs (known_in g) line (New r) → ⊥
 
--- what was known before a line is in the history: the requests by their ids, and what was forgotten
-record Leads (k : Known) (g : History) : Type 0 where
-  pub have : (id : ℕ) → has id k.requests ≡ true → has id (map request_of (all_dones g)) ≡ true
+-- what was known before a line is in the history: the requests, and what was forgotten
+pub record Leads (k : Known) (g : History) : Type 0 where
+  pub have : (p : Request → Bool) → list_any p k.requests ≡ true → list_any p (map request_of (all_dones g)) ≡ true
   pub below : (ids : List ℕ) → AreAbove (floor g) ids → AreAbove k.floor ids
 
 -- the id is there, or may have been forgotten
 abbrev IsTaken : Known → Request → Type 0
 IsTaken k r = (has r.id k.requests ≡ true) ⊎ (is_old k.floor r ≡ true)
 
-same_has : (r : Request) (qs : List Request) → list_any (equals r) qs ≡ true → has r.id qs ≡ true
+pub same_has : (r : Request) (qs : List Request) → list_any (equals r) qs ≡ true → has r.id qs ≡ true
 same_has r [] h = h
 same_has r (q ∷ qs) h = by (nat_eq r.id q.id) (call.ghosts.eq q.call r.call) h (same_has r qs)
   where
@@ -72,7 +72,7 @@ taken_by k r c false false false false same known old h fits =
     subst (λ x. IsTaken (and_known k (new_in x)) r) is
     (inl (list_any-append (λ (q : Request). nat_eq r.id q.id) k.requests (r ∷ []) ∙ either_true (has r.id k.requests) (has r.id (r ∷ [])) (first_true (nat_eq r.id r.id) false (nat_eq_equiv.refl r.id))))
 
-old_above : (f : Option ℕ) (r : Request) → is_old f r ≡ true → AreAbove f (r.id ∷ []) → ⊥
+pub old_above : (f : Option ℕ) (r : Request) → is_old f r ≡ true → AreAbove f (r.id ∷ []) → ⊥
 old_above None r old above = let e : false ≡ true = old in cc
 old_above (Some n) r old above = let test : nat_le r.id n ≡ true = old in let low : n < r.id = above.0 in grind (arith, nat_tests)
 
@@ -81,7 +81,7 @@ taken_is_spent : (procs : Procedures) (k : Known) (g : History) (line : Line) (r
 taken_is_spent procs k g line r leads taken is =
     let new : AreNew g (r ∷ []) = are_new procs g (line ∷ []) (New r ∷ []) (is, refl) in
     elim taken [
-      | inl there ↦ clash (has r.id (map request_of (all_dones g))) (has r.id (map request_of (all_dones g))) refl (leads.have r.id there) (has_none r.id (all_dones g) (new_have_no_done g (r ∷ []) new).0)
+      | inl there ↦ clash (has r.id (map request_of (all_dones g))) (has r.id (map request_of (all_dones g))) refl (leads.have (λ (q : Request). nat_eq r.id q.id) there) (has_none r.id (all_dones g) (new_have_no_done g (r ∷ []) new).0)
       | inr old ↦ old_above k.floor r old (leads.below (r.id ∷ []) new.above)
     ]
 
@@ -105,9 +105,9 @@ line_spent procs k g line c is fits leads r new =
 
 -- ---- the lines of a batch, and of all of them
 
-fewer : (k : Known) (rs : List Request) (g : History) → Leads (and_known k rs) g → Leads k g
+pub fewer : (k : Known) (rs : List Request) (g : History) → Leads (and_known k rs) g → Leads k g
 fewer k rs g leads = record {
-  have = λ id h. leads.have id (list_any-append (λ (q : Request). nat_eq id q.id) k.requests rs ∙ first_true (has id k.requests) (has id rs) h);
+  have = λ p h. leads.have p (list_any-append p k.requests rs ∙ first_true (list_any p k.requests) (list_any p rs) h);
   below = leads.below;
 }
 
@@ -125,48 +125,49 @@ falls procs h [] cs g grows ids above = subst (λ x. AreAbove (floor x) ids) gro
 falls procs h (b ∷ bs) [] g grows ids above = absurd grows
 falls procs h (b ∷ bs) (c ∷ cs) g grows ids above = (gains procs h (new_of c) grows.0 grows.1.grows).below ids (falls procs grows.0 bs cs g grows.2 ids above)
 
-has_passing : (id : ℕ) (p : Done → Bool) (ds : List Done) → has id (map request_of (filter p ds)) ≡ true → has id (map request_of ds) ≡ true
-has_passing id p [] h = h
-has_passing id p (d ∷ ds) h = by (p d) h (has_passing id p ds)
+pub any_passing : (p : Request → Bool) (held : Done → Bool) (ds : List Done) → list_any p (map request_of (filter held ds)) ≡ true → list_any p (map request_of ds) ≡ true
+any_passing p held [] h = h
+any_passing p held (d ∷ ds) h = by (held d) h (any_passing p held ds)
   where
-    by : (b : Bool) → has id (map request_of (cond b (d ∷ filter p ds) (filter p ds))) ≡ true → (has id (map request_of (filter p ds)) ≡ true → has id (map request_of ds) ≡ true) → has id (map request_of (d ∷ ds)) ≡ true
-    by true e rest = one (nat_eq id d.id) (has id (map request_of (filter p ds))) (has id (map request_of ds)) rest e
-      where
-        one : (a b c : Bool) → (b ≡ true → c ≡ true) → (a || b) ≡ true → (a || c) ≡ true
-        one true b c f e = refl
-        one false b c f e = f e
-    by false e rest = either_true (nat_eq id d.id) (has id (map request_of ds)) (rest e)
+    one : (a b c : Bool) → (b ≡ true → c ≡ true) → (a || b) ≡ true → (a || c) ≡ true
+    one true b c f e = refl
+    one false b c f e = f e
 
-has_front : (id : ℕ) (xs ys : List Done) → has id (map request_of xs) ≡ true → has id (map request_of (xs ++ ys)) ≡ true
-has_front id xs ys h =
-    ap (has id) (map-append request_of xs ys) ∙ list_any-append (λ (q : Request). nat_eq id q.id) (map request_of xs) (map request_of ys)
-    ∙ first_true (has id (map request_of xs)) (has id (map request_of ys)) h
+    by : (b : Bool) → list_any p (map request_of (cond b (d ∷ filter held ds) (filter held ds))) ≡ true → (list_any p (map request_of (filter held ds)) ≡ true → list_any p (map request_of ds) ≡ true)
+        → list_any p (map request_of (d ∷ ds)) ≡ true
+    by true e rest = one (p (request_of d)) (list_any p (map request_of (filter held ds))) (list_any p (map request_of ds)) rest e
+    by false e rest = either_true (p (request_of d)) (list_any p (map request_of ds)) (rest e)
 
-has_back : (id : ℕ) (xs ys : List Done) → has id (map request_of ys) ≡ true → has id (map request_of (xs ++ ys)) ≡ true
-has_back id xs ys h =
-    ap (has id) (map-append request_of xs ys) ∙ list_any-append (λ (q : Request). nat_eq id q.id) (map request_of xs) (map request_of ys)
-    ∙ either_true (has id (map request_of xs)) (has id (map request_of ys)) h
+any_front : (p : Request → Bool) (xs ys : List Done) → list_any p (map request_of xs) ≡ true → list_any p (map request_of (xs ++ ys)) ≡ true
+any_front p xs ys h =
+    ap (list_any p) (map-append request_of xs ys) ∙ list_any-append p (map request_of xs) (map request_of ys)
+    ∙ first_true (list_any p (map request_of xs)) (list_any p (map request_of ys)) h
 
-either : (b c : Bool) → (b || c) ≡ true → (b ≡ true) ⊎ (c ≡ true)
+any_back : (p : Request → Bool) (xs ys : List Done) → list_any p (map request_of ys) ≡ true → list_any p (map request_of (xs ++ ys)) ≡ true
+any_back p xs ys h =
+    ap (list_any p) (map-append request_of xs ys) ∙ list_any-append p (map request_of xs) (map request_of ys)
+    ∙ either_true (list_any p (map request_of xs)) (list_any p (map request_of ys)) h
+
+pub either : (b c : Bool) → (b || c) ≡ true → (b ≡ true) ⊎ (c ≡ true)
 either true c e = inl refl
 either false c e = inr e
 
-leads_on : (procs : Procedures) (h m : History) (rs : List Request) (bs : List Batch) (cs : List (List Class)) (g : History) → GrowsBy h rs m → GrowsByBatches procs m bs cs g → Leads (and_known (known_in h) rs) g
+pub leads_on : (procs : Procedures) (h m : History) (rs : List Request) (bs : List Batch) (cs : List (List Class)) (g : History) → GrowsBy h rs m → GrowsByBatches procs m bs cs g → Leads (and_known (known_in h) rs) g
 leads_on procs h m rs bs cs g one rest =
     let now = gains procs h rs m one in
     let then_ = all_added procs m bs cs g rest in
-    let in_m : (id : ℕ) → has id (map request_of (kept h) ++ rs) ≡ true → has id (map request_of (all_dones m)) ≡ true = λ id e.
-    ap (λ l. has id (map request_of l)) now.dones
-    ∙ elim (either (has id (map request_of (kept h))) (has id rs) (sym (list_any-append (λ (q : Request). nat_eq id q.id) (map request_of (kept h)) rs) ∙ e)) [
-      | inl old ↦ has_front id (all_dones h) now.more (has_passing id (is_held h.keep (all_dones h)) (all_dones h) old)
-      | inr new ↦ has_back id (all_dones h) now.more (sym (list_any-IsPermutation (λ (q : Request). nat_eq id q.id) rs (map request_of now.more) now.each) ∙ new)
+    let in_m : (p : Request → Bool) → list_any p (map request_of (kept h) ++ rs) ≡ true → list_any p (map request_of (all_dones m)) ≡ true = λ p e.
+    ap (λ l. list_any p (map request_of l)) now.dones
+    ∙ elim (either (list_any p (map request_of (kept h))) (list_any p rs) (sym (list_any-append p (map request_of (kept h)) rs) ∙ e)) [
+      | inl old ↦ any_front p (all_dones h) now.more (any_passing p (is_held h.keep (all_dones h)) (all_dones h) old)
+      | inr new ↦ any_back p (all_dones h) now.more (sym (list_any-IsPermutation p rs (map request_of now.more) now.each) ∙ new)
     ] in
     record {
-      have = λ id e. ap (λ l. has id (map request_of l)) then_.1 ∙ has_front id (all_dones m) then_.0 (in_m id e);
+      have = λ p e. ap (λ l. list_any p (map request_of l)) then_.1 ∙ any_front p (all_dones m) then_.0 (in_m p e);
       below = λ ids above. now.below ids (falls procs m bs cs g rest ids above);
     }
 
-all_spent : (procs : Procedures) (h : History) (bs : List Batch) (cs : List (List Class)) (g : History) → GrowsByBatches procs h bs cs g → AllByRecursion IsNotFull (joined cs)
+pub all_spent : (procs : Procedures) (h : History) (bs : List Batch) (cs : List (List Class)) (g : History) → GrowsByBatches procs h bs cs g → AllByRecursion IsNotFull (joined cs)
     → AllByRecursion (IsSpent procs g) (joined bs)
 all_spent procs h [] cs g grows fit = tt
 all_spent procs h (b ∷ bs) [] g grows fit = absurd grows

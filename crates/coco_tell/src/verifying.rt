@@ -71,14 +71,11 @@ fn serial_verdict(alloc: Global, count: u64) -> Result<Verdict, NoMemory>
 fn not_serial_verdict(alloc: Global, found: &NotSerial) -> Result<Verdict, NoMemory>
     ensures { IfOk result (λ verdict. (verdict.ending ≡ Ending.NotSerial found.now.place) × (verdict.text.items ≡ not_serial_text found.now)) }
 {
-    let Ok(place) = u32::try_from(found.place) else {
-        return Err(NoMemory);
-    };
     let mut text = Vec::new(alloc);
     write_not_serial(&mut text, found)?;
     Ok(Verdict {
         text,
-        ending: Ending::NotSerial { place },
+        ending: Ending::NotSerial { place: found.place },
     })
 }
 
