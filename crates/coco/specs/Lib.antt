@@ -1,2 +1,3 @@
 pub mod Arguments
 pub mod Commands
+pub mod Success

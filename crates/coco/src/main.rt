@@ -2,6 +2,7 @@
 #![tactic(auto)]
 
 pub mod arguments;
+pub mod laws;
 #[cfg(test)]
 mod tests;
 pub mod top;

@@ -221,6 +221,60 @@ fn a_fuse_loses_nothing(rt: HostRuntime) -> Result<(), Fail> {
     Ok(())
 }
 
+// After a crash the history is found serial, and the first line is answered, which says this.
+fn goes_on_with<R: Threads + Wait + Sync>(
+    rt: &R,
+    alloc: Global,
+    host: MemoryHost,
+    said: &str,
+) -> Result<bool, NoMemory> {
+    let mut host = host.crash(0)?;
+    call(rt, alloc, &mut host, "verify", "", NEVER)?;
+    let left = call(rt, alloc, &mut host, "run --epoch 1", FIRST, NEVER)?;
+    Ok(left.status == 0 && host.said() == said.as_bytes())
+}
+
+const LEFT_OUT: &str = r#"serial 0
+{"epoch":2,"id":1,"ok":70,"time":1}
+"#;
+
+// Opening syncs three files, and a prepared entry takes two writes and two syncs. So the host is given up at the first
+// write of the commit entry: its epoch is left out, and its number isn't given again.
+#[test]
+fn an_epoch_without_its_commit_entry_is_left_out(rt: HostRuntime) -> Result<(), Fail> {
+    let mut host = new_host(rt.alloc(), NEVER)?;
+    call(&rt, rt.alloc(), &mut host, "init", "", NEVER)?;
+    let mut host = FuseHost::new(host, 7);
+    let left = call(&rt, rt.alloc(), &mut host, "run --epoch 1", FIRST, NEVER)?;
+    let host = host.inner();
+    let is_silent = host.said().is_empty() && ended(&left, 4, "coco: disk fault\n");
+    let is_well = is_silent && goes_on_with(&rt, rt.alloc(), host, LEFT_OUT)?;
+    assert!(rt; is_well);
+    Ok(())
+}
+
+const KEPT: &str = r#"serial 1
+{"epoch":1,"id":1,"ok":70,"time":1}
+"#;
+
+const UNSAID: &str = "coco: reply stream fault\n";
+
+// Ten bytes are said at a time, and the call of the host that fails, counted from 0, is the first or the second one that
+// says. What was said stays, and so does the epoch.
+#[test]
+fn a_failing_say_leaves_a_front_of_the_answer(rt: HostRuntime) -> Result<(), Fail> {
+    for (failing, front) in [(32, ""), (33, "{\"epoch\":1")] {
+        let mut host = new_host(rt.alloc(), failing)?;
+        host.short_says(10);
+        call(&rt, rt.alloc(), &mut host, "init", "", NEVER)?;
+        let left = call(&rt, rt.alloc(), &mut host, "run --epoch 1", FIRST, NEVER)?;
+        let is_front = host.said() == front.as_bytes() && ended(&left, 3, UNSAID);
+        let is_well = is_front && goes_on_with(&rt, rt.alloc(), host, KEPT)?;
+        assert!(rt; is_well, "call {failing} fails");
+    }
+    Ok(())
+}
+
 // Each cut: the file, its length, and the byte at which it is no store.
 #[test]
 fn a_cut_file_is_refused_at_its_place(rt: HostRuntime) -> Result<(), Fail> {

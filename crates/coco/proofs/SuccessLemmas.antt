@@ -1,0 +1,222 @@
+-- A command whose faults have no cause is done, or memory ran out.
+use Rattle.std.proofs.Common.{◌≡◌, ◌⊎◌, ⊎_elim, inl, inr, ℕ, ◌+◌, ◌^◌, ◌<◌, ◌≤◌, List, [], ◌∷◌, ◌++◌, length, Option, Some, Result, Ok, Err, refl, sym, ap, subst, ◌∙◌, arith}
+use Rattle.std.specs.Io.KnownBytes.{append_known}
+use Rattle.std.specs.Option.{IfSome}
+use Rattle.std.proofs.lemmas.List.{append_cancel_left, length-append}
+use Rattle.coco_types.specs.declared.call.Done.{Done}
+use Rattle.coco_types.specs.declared.call.Request.{Request}
+use Rattle.coco_append.specs.Gaining.{Gains, RestsOn}
+use Rattle.coco_ast.specs.History.{History, IsSerial, RepliesAreRuns, epoch_dones, rows_after}
+use Rattle.coco_ast.specs.Keyed.{Rows}
+use Rattle.coco_ast.specs.Meaning.{run as run_of}
+use Rattle.coco_ast.specs.Tree.{Procedures}
+use Rattle.coco_audit.specs.Differing.{IsFirstUnlike}
+use Rattle.coco_audit.specs.Texts.{serial_text}
+use Rattle.coco_audit.specs.declared.verify.NotSerial.{NotSerial}
+use Rattle.coco_ending.specs.declared.ending.Ending.{Ending}
+use Rattle.coco_ending.specs.declared.ending.Ending.TheVariants as ending
+use Rattle.coco_entry.specs.declared.layout.Layout.{Layout}
+use Rattle.coco_host.specs.Files.{Files}
+use Rattle.coco_host.specs.Moments.{Observation}
+use Rattle.coco_init.specs.Counts.{CountsDisk, CountsReads}
+use Rattle.coco_init.specs.Initiating.{Initiates}
+use Rattle.coco_init.specs.Texts.{HasOneAnswer}
+use Rattle.coco_io.specs.Counts.{Rose}
+use Rattle.coco_lines.specs.Batches.{Batch, joined}
+use Rattle.coco_lines.specs.Classes.{known_in, new_of}
+use Rattle.coco_lines.specs.Growing.{GrowsByBatches}
+use Rattle.coco_lines.specs.Reads.{Gives, SourceMoment}
+use Rattle.coco_lines.specs.declared.class.Class.{Class}
+use Rattle.coco_log.specs.Faults.{CountsFault}
+use Rattle.coco_log.specs.declared.fault.LogFault.{LogFault}
+use Rattle.coco_log.specs.declared.fault.LogFault.TheVariants as fault
+use Rattle.coco_make.specs.NewStore.{new_layout}
+use Rattle.coco_migrate.specs.Keeping.{contents_keeping}
+use Rattle.coco_migrate.specs.Migrating.{ending_of_adding}
+use Rattle.coco_run.specs.Opening.{FailsToOpen, IsRefusedInRun, RefusedIsNotRun}
+use Rattle.coco_run.specs.Running.{Opens, ending_of_run}
+use Rattle.coco_serve.specs.Faults.{Counts}
+use Rattle.coco_serve.specs.Growth.{epochs_of}
+use Rattle.coco_serve.specs.Serving.{HasCause, Outside, Serves}
+use Rattle.coco_serve.specs.declared.ending.Ending.{Ending as Served}
+use Rattle.coco_serve.specs.declared.ending.Ending.TheVariants as served
+use Rattle.coco_serve.specs.declared.plan.Plan.{Plan}
+use Rattle.coco_serve.proofs.RunLemmas.{added_by, classes_length, few_new, joined-more}
+use Rattle.coco_store.specs.Contents.{Contents, history_of}
+use Rattle.coco_store.specs.Refusals.{IsFirstRefusal, RefusedIsNone}
+use Rattle.coco_store.specs.Texts.{IsAcceptedText}
+use Rattle.coco_tell.specs.Telling.{IsVerdict, SaysText}
+use Rattle.coco_words.specs.declared.Command.TheVariants.{Dump, Init, Migrate, Run, Verify}
+use Rattle.coco.specs.Commands.{counts_of, ending_in, plan_of}
+use Rattle.coco.specs.Success.{AnswersAll, DumpSucceeds, FewLinesHaveNumbers, HaveNumbers, InitSucceeds, DoneOrNoMemory, MigrateSucceeds, NoneRose, ReadsEmpty, RunSucceeds, VerifySucceeds}
+
+-- ---- numbers
+
+few_epochs_of : (rs : List Request) → epochs_of rs ≤ length rs
+few_epochs_of [] = omega arith
+few_epochs_of (r ∷ rs) = omega arith
+
+-- a history has no more epochs more than the batches have lines
+gains_few : (procs : Procedures) (before : History) (bs : List Batch) (cs : List (List Class)) (after : History) → GrowsByBatches procs before bs cs after
+    → length after.epochs ≤ length before.epochs + length (joined bs)
+gains_few procs before [] cs after grows = (let same = ap (λ (h : History). length h.epochs) grows.1 in omega (arith, same))
+gains_few procs before (b ∷ bs) [] after grows = absurd grows
+gains_few procs before (b ∷ bs) (cs ∷ classes) after grows =
+    let gained = added_by before (new_of cs) grows.0 grows.1.grows in
+    let more = ap length gained.1 ∙ length-append before.epochs gained.0 in
+    let epochs = few_epochs_of (new_of cs) in
+    let fresh = few_new cs in
+    let lines = classes_length procs (known_in before) b cs grows.1.are in
+    let rest = gains_few procs grows.0 bs classes after grows.2 in
+    omega (arith, gained.2, more, epochs, fresh, lines, rest, length-append b (joined bs))
+
+pub few_lines_have_numbers : FewLinesHaveNumbers
+few_lines_have_numbers c next plan bytes few p used =
+    let gained = gains_few c.setting.tree (history_of c) p.batches p.classes p.history p.grown.grown in
+    let more = ap length p.numbers.epochs ∙ length-append (history_of c).epochs p.numbers.added in
+    let all = ap length used.first.lines ∙ length-append (joined (p.batches ++ used.batch ∷ [])) used.first.others in
+    let both = ap length (joined-more p.batches used.batch) ∙ length-append (joined p.batches) used.batch in
+    let fresh = few_new used.classes in
+    let lines = classes_length c.setting.tree (known_in p.history) used.batch used.classes used.are in
+    let end = used.end in
+    let some = used.some in
+    omega (arith, few, gained, more, all, both, fresh, lines, end, some)
+
+-- ---- openings and texts
+
+-- a store that isn't refused is opened, unless memory runs out
+opened_or_memory : (Refused : Files → ℕ → ℕ → Type 0) (how : Ending) (told : Option Files) (files : Files) (before after : ℕ) → told ≡ Some files → ((file at : ℕ) → ¬ (Refused files file at))
+    → ¬ (Rose before after) → FailsToOpen Refused how told before after → how ≡ ending.NoMemory
+opened_or_memory Refused ending.DiskFault told files before after are sound faultless cause = absurd (faultless cause)
+opened_or_memory Refused (ending.NotAStore file at) told files before after are sound faultless cause =
+    absurd (sound file at (subst (λ (r : Option Files). IfSome r (λ fs. Refused fs file at)) are cause.1))
+opened_or_memory Refused ending.NoMemory told files before after are sound faultless cause = refl
+opened_or_memory Refused how told files before after are sound faultless cause = absurd cause
+
+-- a text is said whole, unless memory runs out
+said_or_memory : (text : List ℕ) (own how : Ending) (before now : Option (List ℕ)) (old new : Counts) → ¬ (Rose old.say new.say) → SaysText text own how before now old new
+    → ((how ≡ own) × (now ≡ append_known before text)) ⊎ (how ≡ ending.NoMemory)
+said_or_memory text own ending.SayFault before now old new faultless says = absurd (faultless says.0)
+said_or_memory text own ending.NoMemory before now old new faultless says = inr refl
+said_or_memory text own how before now old new faultless says = inl (says.1, says.2)
+
+-- a source gave one list of bytes
+one_giving : (before after : SourceMoment) (xs ys : List ℕ) → Gives before after xs → Gives before after ys → xs ≡ ys
+one_giving before after xs ys some others = append_cancel_left before.given xs ys (sym some.given ∙ others.given)
+
+-- ---- serial histories
+
+reply_is_run : (procs : Procedures) (rows : Rows) (before : List Done) (d : Done) (behind : List Done) → RepliesAreRuns procs rows (before ++ d ∷ behind)
+    → d.reply ≡ (run_of procs d.call (rows_after procs rows before)).reply
+reply_is_run procs rows [] d behind runs = runs.0
+reply_is_run procs rows (e ∷ before) d behind runs = reply_is_run procs (run_of procs e.call rows).rows before d behind runs.1
+
+none_is_unlike : (procs : Procedures) (rows : Rows) (dones : List Done) (found : NotSerial) → RepliesAreRuns procs rows dones → ¬ (IsFirstUnlike procs rows dones found)
+none_is_unlike procs rows dones found runs unlike =
+    unlike.differ (unlike.kept ∙ reply_is_run procs rows unlike.before unlike.done unlike.behind (subst (RepliesAreRuns procs rows) unlike.whole runs) ∙ sym unlike.computed)
+
+verdict_is_serial : (c : Contents) (text : List ℕ) (own : Ending) → IsSerial c.setting.tree (history_of c) → IsVerdict c text own
+    → (own ≡ ending.Finished) × (text ≡ serial_text (length (epoch_dones (history_of c))))
+verdict_is_serial c text ending.Finished serial verdict = (refl, verdict.1)
+verdict_is_serial c text (ending.NotSerial place) serial verdict =
+    absurd (none_is_unlike c.setting.tree (history_of c).base.rows (epoch_dones (history_of c)) verdict.0 serial.replies verdict.1)
+verdict_is_serial c text own serial verdict = absurd verdict
+
+-- ---- each command
+
+module _ {H : Type 0} (moment : H → ℕ) (observed : H → ℕ → Observation → Type 0) (said : H → Option (List ℕ)) (reads : H → Option Files) (may_leave : H → Files → Type 0) where
+  served_or_memory : (c : Contents) (next : ℕ) (plan : Plan) (bytes : List ℕ) (how : Ending) (before after : Outside) (old opened new : H) (s : Served)
+      → how ≡ ending_of_run s → NoneRose before after → length bytes < 2 ^ 62 → HaveNumbers c next plan bytes → HasCause next bytes before after s
+      → Serves moment observed said reads may_leave c next plan bytes s opened new
+      → DoneOrNoMemory how (HasCause next bytes before after served.Finished × Serves moment observed said reads may_leave c next plan bytes served.Finished opened new)
+  served_or_memory c next plan bytes how before after old opened new served.Finished ends faultless few numbers cause serves = inl (ends, (cause, serves))
+  served_or_memory c next plan bytes how before after old opened new served.ReadFault ends faultless few numbers cause serves =
+      absurd (⊎_elim faultless.source (λ full. omega (arith, few, full)) cause)
+  served_or_memory c next plan bytes how before after old opened new served.SayFault ends faultless few numbers cause serves = absurd (faultless.stream cause)
+  served_or_memory c next plan bytes how before after old opened new served.DiskFault ends faultless few numbers cause serves = absurd (faultless.disk cause)
+  served_or_memory c next plan bytes how before after old opened new served.EpochsUsedUp ends faultless few numbers cause serves = absurd (numbers serves.progress serves.ends.2)
+  served_or_memory c next plan bytes how before after old opened new served.NoMemory ends faultless few numbers cause serves = inr ends
+
+  pub run_succeeds : RefusedIsNotRun → RunSucceeds moment observed said reads may_leave
+  run_succeeds refused run how before after old new c bytes faultless store gives may =
+      ⊎_elim
+      (λ does. ⊎_elim (λ closed. inr (opened_or_memory IsRefusedInRun how (reads old) store.files before.disk_faults after.disk_faults store.are one faultless.none_rose.disk closed.cause)) answered does)
+      (λ lacks. inr lacks.0) (faultless.obeyed.command (Run run) faultless.is)
+    where
+      one : (file at : ℕ) → ¬ (IsRefusedInRun store.files file at)
+      one file at is = refused store.files file at is (record { contents = c; holds = store.good.holds; one = may.one })
+
+      answered : Opens moment observed said reads may_leave (plan_of run) how before after old new → DoneOrNoMemory how (AnswersAll moment observed said reads may_leave c (plan_of run) bytes after old new)
+      answered opens =
+          let next = opens.is_next store.files c store.are store.good.holds in
+          let same = one_giving before.source after.source opens.bytes bytes opens.gives gives in
+          let cause = subst (λ (b : List ℕ). HasCause opens.next b before after opens.served) same opens.cause in
+          let serves = subst (λ (b : List ℕ). Serves moment observed said reads may_leave c opens.next (plan_of run) b opens.served opens.opened new) same (opens.serves store.files c store.are store.good) in
+          ⊎_elim
+          (λ done. inl (done.0, record { opened = opens.opened; opening = opens.opening; next = opens.next; is_next = next; spent = done.1.0; serves = done.1.1 })) inr
+          (served_or_memory c opens.next (plan_of run) bytes how before after old opens.opened new opens.served opens.ends faultless.none_rose may.few (may.numbers opens.next next) cause serves)
+
+  made_or_memory : (layout : Layout) (text : List ℕ) (tree : Procedures) (how : Ending) (before after : Outside) (old new : H) (result : Result (Unit {0}) Ending)
+      → how ≡ ending_in result → HasOneAnswer text → IsAcceptedText text tree → ReadsEmpty (reads old) → NoneRose before after
+      → CountsReads result before.source_faults after.source_faults → CountsDisk result before.disk_faults after.disk_faults
+      → Initiates moment observed said reads may_leave result layout text after.source old new
+      → DoneOrNoMemory how (Initiates moment observed said reads may_leave (Ok tt) layout text after.source old new)
+  made_or_memory layout text tree how before after old new (Ok u) ends one accepted empty faultless reading disk makes = inl (ends, makes)
+  made_or_memory layout text tree how before after old new (Err ending.ReadFault) ends one accepted empty faultless reading disk makes = absurd (faultless.source reading)
+  made_or_memory layout text tree how before after old new (Err ending.DiskFault) ends one accepted empty faultless reading disk makes = absurd (faultless.disk disk)
+  made_or_memory layout text tree how before after old new (Err ending.NoMemory) ends one accepted empty faultless reading disk makes = inr ends
+  made_or_memory layout text tree how before after old new (Err (ending.Refused e)) ends one accepted empty faultless reading disk makes =
+      (let same = one (Ok tree) (Err e) accepted makes.0 in cc)
+  made_or_memory layout text tree how before after old new (Err (ending.AlreadyThere bytes)) ends one accepted empty faultless reading disk makes =
+      let some = makes.0 in
+      let counted = subst (λ (r : Option Files). IfSome r (λ files. bytes ≡ length (files 0))) empty.are makes.1 in
+      let none = ap length empty.empty in
+      absurd (omega (arith, some, counted, none))
+  made_or_memory layout text tree how before after old new (Err e) ends one accepted empty faultless reading disk makes = absurd makes
+
+  pub init_succeeds : ((text : List ℕ) → HasOneAnswer text) → InitSucceeds moment observed said reads may_leave
+  init_succeeds one nodes partitions copies how before after old new text tree faultless empty gives accepted =
+      ⊎_elim
+      (λ inits.
+      let same = one_giving before.source after.source inits.text text inits.gives gives in
+      made_or_memory (new_layout nodes partitions copies text) text tree how before after old new inits.result inits.ends (one text) accepted empty faultless.none_rose inits.reading inits.disk
+      (subst (λ (t : List ℕ). Initiates moment observed said reads may_leave inits.result (new_layout nodes partitions copies t) t after.source old new) same inits.initiates))
+      (λ lacks. inr lacks.0) (faultless.obeyed.command (Init nodes partitions copies) faultless.is)
+
+  pub dump_succeeds : RefusedIsNone → DumpSucceeds moment observed said reads may_leave
+  dump_succeeds refused how before after old new c faultless store =
+      ⊎_elim
+      (λ does. ⊎_elim
+      (λ closed. inr (opened_or_memory IsFirstRefusal how (reads old) store.files before.disk_faults after.disk_faults store.are (λ file at is. refused store.files file at is c store.good.holds) faultless.none_rose.disk closed.cause))
+      (λ tells.
+      let is = tells.of_store store.files c store.are store.good.holds store.good.rows in
+      ⊎_elim (λ done. inl (done.0 ∙ tells.ends, done.1 ∙ ap (append_known (said old)) is)) inr
+      (said_or_memory tells.text tells.own how (said old) (said new) (counts_of before) (counts_of after) faultless.none_rose.stream tells.says)) does.1)
+      (λ lacks. inr lacks.0) (faultless.obeyed.command Dump faultless.is)
+
+  pub verify_succeeds : RefusedIsNone → VerifySucceeds moment observed said reads may_leave
+  verify_succeeds refused how before after old new c faultless store =
+      ⊎_elim
+      (λ does. ⊎_elim
+      (λ closed. inr (opened_or_memory IsFirstRefusal how (reads old) store.files before.disk_faults after.disk_faults store.are (λ file at is. refused store.files file at is c store.good.holds) faultless.none_rose.disk closed.cause))
+      (λ tells.
+      let is = verdict_is_serial c tells.text tells.own store.good.serial (tells.of_store store.files c store.are store.good.holds tt) in
+      ⊎_elim (λ done. inl (done.0 ∙ is.0, done.1 ∙ ap (append_known (said old)) is.1)) inr
+      (said_or_memory tells.text tells.own how (said old) (said new) (counts_of before) (counts_of after) faultless.none_rose.stream tells.says)) does.1)
+      (λ lacks. inr lacks.0) (faultless.obeyed.command Verify faultless.is)
+
+  kept_or_memory : (keep : ℕ) (c : Contents) (how : Ending) (before after : ℕ) (opened new : H) (added : Result (Unit {0}) LogFault) → how ≡ ending_of_adding added → ¬ (Rose before after)
+      → CountsFault added before after → Gains moment observed said reads may_leave added c (contents_keeping keep c) opened new
+      → DoneOrNoMemory how (RestsOn (contents_keeping keep c) (reads new) (may_leave new))
+  kept_or_memory keep c how before after opened new (Ok u) ends faultless cause gains = inl (ends, gains.ok)
+  kept_or_memory keep c how before after opened new (Err fault.Disk) ends faultless cause gains = absurd (faultless cause)
+  kept_or_memory keep c how before after opened new (Err fault.NoMemory) ends faultless cause gains = inr ends
+  kept_or_memory keep c how before after opened new (Err (fault.NotALog at)) ends faultless cause gains = absurd cause
+
+  pub migrate_succeeds : RefusedIsNone → MigrateSucceeds moment observed said reads may_leave
+  migrate_succeeds refused keep how before after old new c faultless store =
+      ⊎_elim
+      (λ does. ⊎_elim
+      (λ closed. inr (opened_or_memory IsFirstRefusal how (reads old) store.files before.disk_faults after.disk_faults store.are (λ file at is. refused store.files file at is c store.good.holds) faultless.none_rose.disk closed.cause))
+      (λ sets. kept_or_memory keep c how before.disk_faults after.disk_faults sets.opened new sets.added sets.ends faultless.none_rose.disk sets.cause (sets.gains store.files c store.are store.good)) does.1)
+      (λ lacks. inr lacks.0) (faultless.obeyed.command (Migrate keep) faultless.is)

@@ -1,0 +1,20 @@
+use Rattle.coco.proofs.SuccessLemmas.{dump_succeeds, few_lines_have_numbers, init_succeeds, migrate_succeeds, run_succeeds, verify_succeeds}
+use Rattle.coco.proofs.laws.commands_succeed.Goals as goal
+
+pub returns-clause-run : goal.returns-clause-run
+returns-clause-run g c = run_succeeds g.H.Host.moment g.H.Host.observed g.H.Host.said g.H.Host.reads g.H.Host.may_leave c.a_refused_store_is_not_run.ensures.none
+
+pub returns-clause-init : goal.returns-clause-init
+returns-clause-init g c = init_succeeds g.H.Host.moment g.H.Host.observed g.H.Host.said g.H.Host.reads g.H.Host.may_leave c.one_answer.ensures
+
+pub returns-clause-dump : goal.returns-clause-dump
+returns-clause-dump g c = dump_succeeds g.H.Host.moment g.H.Host.observed g.H.Host.said g.H.Host.reads g.H.Host.may_leave c.a_refused_store_is_none.ensures.none
+
+pub returns-clause-verify : goal.returns-clause-verify
+returns-clause-verify g c = verify_succeeds g.H.Host.moment g.H.Host.observed g.H.Host.said g.H.Host.reads g.H.Host.may_leave c.a_refused_store_is_none.ensures.none
+
+pub returns-clause-migrate : goal.returns-clause-migrate
+returns-clause-migrate g c = migrate_succeeds g.H.Host.moment g.H.Host.observed g.H.Host.said g.H.Host.reads g.H.Host.may_leave c.a_refused_store_is_none.ensures.none
+
+pub returns-clause-numbers : goal.returns-clause-numbers
+returns-clause-numbers g c = few_lines_have_numbers

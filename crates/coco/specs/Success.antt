@@ -1,0 +1,122 @@
+-- Where a command can't fail but for want of memory, and what it leaves then.
+use Rattle.std.specs.Prelude.{◌≡◌, ◌⊎◌, ℕ, ◌+◌, ◌^◌, ◌<◌, ◌≤◌, List, [], length, Option, Some, Ok}
+use Rattle.std.specs.Io.KnownBytes.{append_known}
+use Rattle.coco_types.specs.Limits.{epochs_end}
+use Rattle.coco_append.specs.Gaining.{RestsOn}
+use Rattle.coco_ast.specs.History.{epoch_dones}
+use Rattle.coco_ast.specs.Tree.{Procedures}
+use Rattle.coco_audit.specs.Texts.{serial_text}
+use Rattle.coco_host.specs.Files.{Files}
+use Rattle.coco_host.specs.Moments.{Observation}
+use Rattle.coco_io.specs.Counts.{Rose}
+use Rattle.coco_ending.specs.declared.ending.Ending.{Ending}
+use Rattle.coco_ending.specs.declared.ending.Ending.TheVariants as ending
+use Rattle.coco_init.specs.Initiating.{Initiates}
+use Rattle.coco_lines.specs.Lines.{lines_of}
+use Rattle.coco_lines.specs.Reads.{Gives, IsSpent}
+use Rattle.coco_load.specs.Epochs.{IsNextOf}
+use Rattle.coco_log.specs.LogState.{IsOnlyRead}
+use Rattle.coco_make.specs.NewStore.{new_layout}
+use Rattle.coco_migrate.specs.Keeping.{contents_keeping}
+use Rattle.coco_serve.specs.Growth.{manner_of}
+use Rattle.coco_serve.specs.Serving.{AreUsedUp, Outside, Progress, Serves}
+use Rattle.coco_serve.specs.declared.ending.Ending.TheVariants as served
+use Rattle.coco_serve.specs.declared.plan.Plan.{Plan}
+use Rattle.coco_store.specs.Contents.{Contents, IsGoodStore, history_of}
+use Rattle.coco_store.specs.Texts.{IsAcceptedText}
+use Rattle.coco_tell.specs.Telling.{dump_in}
+use Rattle.coco_words.specs.Commands.{IsCommand}
+use Rattle.coco_words.specs.declared.Command.{Command}
+use Rattle.coco_words.specs.declared.Command.TheVariants.{Init, Run, Dump, Verify, Migrate}
+use Rattle.coco_words.specs.declared.RunOptions.{RunOptions}
+use Rattle.coco.specs.Commands.{Obeys, plan_of}
+
+-- ---- premises
+
+-- no count of faults rose: the source's, that of the reply stream, or that of the files
+pub record NoneRose (before after : Outside) : Type 0 where
+  pub source : ¬ (Rose before.source_faults after.source_faults)
+  pub stream : ¬ (Rose before.say_faults after.say_faults)
+  pub disk : ¬ (Rose before.disk_faults after.disk_faults)
+
+-- the files read as a good store with these contents
+pub record ReadsAs (c : Contents) (reads : Option Files) : Type 0 where
+  pub files : Files
+  pub are : reads ≡ Some files
+  pub good : IsGoodStore files c
+
+-- the files hold no store yet: the first one is empty
+pub record ReadsEmpty (reads : Option Files) : Type 0 where
+  pub files : Files
+  pub are : reads ≡ Some files
+  pub empty : files 0 ≡ []
+
+-- behind whichever first batches of these bytes a next one has a new request, there is a number for its epoch
+abbrev pub HaveNumbers : Contents → ℕ → Plan → List ℕ → Type 0
+HaveNumbers c next plan bytes = (p : Progress (manner_of c.setting plan) (history_of c) next plan.size bytes)
+    → ¬ (AreUsedUp (manner_of c.setting plan) (history_of c) next plan.size bytes p)
+
+-- so it is where each line could have a number of its own
+abbrev pub FewLinesHaveNumbers : Type 0
+FewLinesHaveNumbers = (c : Contents) (next : ℕ) (plan : Plan) (bytes : List ℕ) → next + length (lines_of bytes) ≤ epochs_end → HaveNumbers c next plan bytes
+
+-- a store of one node may take all lines of these bytes
+pub record MayTake (c : Contents) (plan : Plan) (bytes : List ℕ) : Type 0 where
+  pub one : c.setting.entry.layout.nodes ≡ 1
+  pub few : length bytes < 2 ^ 62
+  pub numbers : (next : ℕ) → IsNextOf c next → HaveNumbers c next plan bytes
+
+-- ---- what is left
+
+-- the call is done, with this left behind it, or memory ran out
+abbrev pub DoneOrNoMemory : Ending → Type 0 → Type 0
+DoneOrNoMemory how Left = ((how ≡ ending.Finished) × Left) ⊎ (how ≡ ending.NoMemory)
+
+module _ {H : Type 0} (moment : H → ℕ) (observed : H → ℕ → Observation → Type 0) (said : H → Option (List ℕ)) (reads : H → Option Files) (may_leave : H → Files → Type 0) where
+  -- the words are this command and were obeyed, and no count of faults rose
+  pub record IsFaultless (command : Command) (how : Ending) (before after : Outside) (old new : H) : Type 0 where
+    pub words : List (List ℕ)
+    pub is : IsCommand words command
+    pub obeyed : Obeys moment observed said reads may_leave words how before after old new
+    pub none_rose : NoneRose before after
+
+  -- the input was read to its end, and all its lines are committed and answered
+  pub record AnswersAll (c : Contents) (plan : Plan) (bytes : List ℕ) (after : Outside) (old new : H) : Type 0 where
+    pub opened : H
+    pub opening : IsOnlyRead moment observed said reads may_leave old opened
+    pub next : ℕ
+    pub is_next : IsNextOf c next
+    pub spent : IsSpent after.source
+    pub serves : Serves moment observed said reads may_leave c next plan bytes served.Finished opened new
+
+  -- this text was said
+  abbrev pub Says : List ℕ → H → H → Type 0
+  Says text old new = said new ≡ append_known (said old) text
+
+  -- ---- each command
+
+  -- `run` on a good store of one node that may take all lines of the bytes given
+  abbrev pub RunSucceeds : Type 0
+  RunSucceeds = (run : RunOptions) (how : Ending) (before after : Outside) (old new : H) (c : Contents) (bytes : List ℕ)
+      → IsFaultless (Run run) how before after old new → ReadsAs c (reads old) → Gives before.source after.source bytes → MayTake c (plan_of run) bytes
+      → DoneOrNoMemory how (AnswersAll c (plan_of run) bytes after old new)
+
+  -- `init` where no store is, with an accepted text given
+  abbrev pub InitSucceeds : Type 0
+  InitSucceeds = (nodes partitions copies : ℕ) (how : Ending) (before after : Outside) (old new : H) (text : List ℕ) (tree : Procedures)
+      → IsFaultless (Init nodes partitions copies) how before after old new → ReadsEmpty (reads old) → Gives before.source after.source text → IsAcceptedText text tree
+      → DoneOrNoMemory how (Initiates moment observed said reads may_leave (Ok tt) (new_layout nodes partitions copies text) text after.source old new)
+
+  -- `dump` of a good store
+  abbrev pub DumpSucceeds : Type 0
+  DumpSucceeds = (how : Ending) (before after : Outside) (old new : H) (c : Contents) → IsFaultless Dump how before after old new → ReadsAs c (reads old) → DoneOrNoMemory how (Says (dump_in c) old new)
+
+  -- `verify` of a good store, whose history is serial
+  abbrev pub VerifySucceeds : Type 0
+  VerifySucceeds = (how : Ending) (before after : Outside) (old new : H) (c : Contents) → IsFaultless Verify how before after old new → ReadsAs c (reads old)
+      → DoneOrNoMemory how (Says (serial_text (length (epoch_dones (history_of c)))) old new)
+
+  -- `migrate` of a good store
+  abbrev pub MigrateSucceeds : Type 0
+  MigrateSucceeds = (keep : ℕ) (how : Ending) (before after : Outside) (old new : H) (c : Contents) → IsFaultless (Migrate keep) how before after old new → ReadsAs c (reads old)
+      → DoneOrNoMemory how (RestsOn (contents_keeping keep c) (reads new) (may_leave new))
