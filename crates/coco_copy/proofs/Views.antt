@@ -80,6 +80,9 @@ pub added_view : {T E : Type 0} (r : Result T E) (es fs : List (RowKey × Kept))
 added_view (Ok x) es fs rising rises k value none sets = loaded_view es fs rising rises k _ sets value refl (sym (ap (option_and_then pending_of) none))
 added_view (Err e) es fs rising rises k value none sets = tt
 
+abbrev pub written : RowKey → Option Value → Write
+written k value = record { key = k; value = value }
+
 -- the answer to a put of the current epoch
 pub answer_view : (es : List (RowKey × Kept)) (epoch time : ℕ) (write : Write) → IsRising es
     → by_time (option_and_then pending_of (kept_at es write.key)) time ≡ answer_in (view_of epoch es) (Put epoch time write)

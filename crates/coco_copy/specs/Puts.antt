@@ -1,7 +1,8 @@
 -- What a put is answered, and what it makes of the table.
-use Rattle.std.specs.Prelude.{◌≡◌, ℕ, ◌==◌, nat_le, List, [], ◌∷◌, Option, None, Some, if◌then◌else◌}
+use Rattle.std.specs.Prelude.{◌≡◌, ℕ, ◌==◌, nat_le, List, [], ◌∷◌, Option, None, Some, if◌then◌else◌, ◌⊎◌}
 use Rattle.std.specs.FinMap.{get, insert}
 use Rattle.coco_types.specs.RowKey.{RowKey}
+use Rattle.coco_types.specs.Packing.{IsText}
 use Rattle.coco_types.specs.declared.value.Value.{Value}
 use Rattle.coco_copy.specs.declared.ops.CopyAsk.{CopyAsk}
 use Rattle.coco_copy.specs.declared.ops.CopyAsk.TheVariants.{Put}
@@ -9,8 +10,15 @@ use Rattle.coco_copy.specs.declared.ops.CopyAnswer.{CopyAnswer}
 use Rattle.coco_copy.specs.declared.ops.CopyAnswer.TheVariants.{Applied, Older, OtherEpoch}
 use Rattle.coco_copy.specs.CopyState.{CopyState}
 
+-- the put of this value under this key
+abbrev pub put_at : ℕ → ℕ → RowKey → Option Value → CopyAsk
+put_at epoch time key value = Put epoch time (record { key = key; value = value })
+
 abbrev pub key_of : CopyAsk → RowKey
 key_of (Put epoch time write) = write.key
+
+abbrev pub value_of : CopyAsk → Option Value
+value_of (Put epoch time write) = write.value
 
 abbrev pub epoch_of : CopyAsk → ℕ
 epoch_of (Put epoch time write) = epoch
@@ -43,3 +51,7 @@ after_asks s (ask ∷ asks) = after_asks (after_ask s ask) asks
 -- the key has no value, and nothing pends for it
 abbrev pub HasNothing : CopyState → RowKey → Type 0
 HasNothing s k = (get s.stable k ≡ None) × (get s.pending k ≡ None)
+
+-- what takes memory to keep under a key: any value where the key has nothing, and elsewhere a text
+abbrev pub TakesMemory : CopyState → RowKey → Option Value → Type 0
+TakesMemory s k value = HasNothing s k ⊎ IsText value

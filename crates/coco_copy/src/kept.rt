@@ -6,21 +6,22 @@ ghost use Rattle.coco_copy.specs.Kept.{version_of, rested};
 ghost use Rattle.coco_copy.specs.declared.ops.CopyAnswer.TheVariants.{Applied as Took};
 
 use crate::ops::CopyAnswer;
-use coco_types::Value;
+use coco_types::{Packed, Value};
+use std::mem;
 
 // A key's row: its stable value, and the time and value that pend for it.
 #[derive(Debug, Drop)]
 pub struct Kept {
-    pub stable: Option<Value>,
-    pub pending: Option<(u64, Option<Value>)>,
+    pub stable: Packed,
+    pub pending: Option<(u64, Packed)>,
 }
 
 impl Kept {
     // Takes a write of the current epoch, unless one of an equal or a greater time pends.
-    pub fn put(&mut self, time: u64, value: &Option<Value>) -> CopyAnswer
+    pub fn put(&mut self, time: u64, value: Packed) -> CopyAnswer
         ensures answer { result ≡ by_time self.old.pending time }
         ensures stable { self.new.stable ≡ self.old.stable }
-        ensures applied { result ≡ Took → self.new.pending ≡ Some (time, value.now) }
+        ensures applied { result ≡ Took → self.new.pending ≡ Some (time, value) }
         ensures unchanged { (result ≡ Took → ⊥) → self.new ≡ self.old }
         ensures pends { is_some self.new.pending ≡ true }
     {
@@ -29,7 +30,7 @@ impl Kept {
         {
             return CopyAnswer::Older { time: *greatest };
         }
-        self.pending = Some((time, *value));
+        self.pending = Some((time, value));
         CopyAnswer::Applied
     }
 
@@ -38,10 +39,20 @@ impl Kept {
         ensures kept { self.new ≡ rested (version_of promotes self.old) }
         ensures stands { result ≡ is_some (version_of promotes self.old) }
     {
-        if promotes && let Some((_, value)) = &self.pending {
-            self.stable = *value;
+        if promotes && let Some((_, value)) = &mut self.pending {
+            mem::swap(&mut self.stable, value);
         }
         self.pending = None;
         self.stable.is_some()
+    }
+
+    // What pends for it.
+    pub fn what_pends(&self) -> Option<(u64, Option<Value>)>
+        ensures { result ≡ self.now.pending }
+    {
+        match &self.pending {
+            Some((time, value)) => Some((*time, value.get())),
+            None => None,
+        }
     }
 }

@@ -1,17 +1,16 @@
 //! The rows of a copy under their keys, beside the list of those that were put in this epoch.
 
-ghost use Rattle.std.specs.Prelude.{◌≡◌, ◌||◌, ℕ, ◌+◌, ◌^◌, ◌<◌, ◌≤◌, ◌++◌, ◌∷◌, [], if◌then◌else◌, cond, true, false, None, Some, IsSome, is_some, IfOk, OnOk, OnErr, option_and_then, length, vec_len, vec_capacity};
+ghost use Rattle.std.specs.Prelude.{◌≡◌, ◌||◌, ℕ, ◌+◌, ◌^◌, ◌<◌, ◌≤◌, ◌++◌, ◌∷◌, [], if◌then◌else◌, cond, true, false, None, Some, IsSome, is_some, IfOk, IfSome, IfNone, OnOk, OnErr, option_and_then, length, vec_len, vec_capacity};
 ghost use Rattle.std.specs.BTreeMap.{is_at};
 ghost use Rattle.coco_types.specs.RowKey.{RowKey, key_cmp};
-ghost use Rattle.coco_copy.specs.declared.ops.CopyAsk.TheVariants.{Put};
 ghost use Rattle.coco_copy.specs.Kept.{IsWhole, entry_of, SetsStable, kept_at, part_of, pending_of, stable_of, view_of};
 ghost use Rattle.coco_copy.specs.CopyState.{with_value};
-ghost use Rattle.coco_copy.specs.Puts.{HasNothing, answer_in, after_ask, key_of};
+ghost use Rattle.coco_copy.specs.Puts.{HasNothing, TakesMemory, answer_in, after_ask, put_at};
 
 use crate::kept::Kept;
 use crate::ops::CopyAnswer;
 use crate::settle::drop_row;
-use coco_types::{Key, NoMemory, Value, Write};
+use coco_types::{Key, NoMemory, Packed, Value};
 use std::alloc::Global;
 use std::collections::BTreeMap;
 use std::collections::btree_map::Entry;
@@ -22,23 +21,23 @@ pub fn put(
     listed: &mut Vec<Key>,
     epoch: u64,
     time: u64,
-    write: &Write,
+    key: Key,
+    value: Packed,
 ) -> Result<CopyAnswer, NoMemory>
     requires { IsWhole rows.old.entries listed.old.items (vec_capacity listed.old) }
     ensures whole { IsWhole rows.new.entries listed.new.items (vec_capacity listed.new) }
-    ensures answer { IfOk result (λ answer. answer ≡ answer_in (view_of epoch rows.old.entries) (Put epoch time write.now)) }
-    ensures state { OnOk result (view_of epoch rows.new.entries ≡ after_ask (view_of epoch rows.old.entries) (Put epoch time write.now)) }
+    ensures answer { IfOk result (λ answer. answer ≡ answer_in (view_of epoch rows.old.entries) (put_at epoch time key value)) }
+    ensures state { OnOk result (view_of epoch rows.new.entries ≡ after_ask (view_of epoch rows.old.entries) (put_at epoch time key value)) }
     ensures err { OnErr result (rows.new.entries ≡ rows.old.entries) }
-    ensures missing { OnErr result (HasNothing (view_of epoch rows.old.entries) (key_of (Put epoch time write.now))) }
+    ensures missing { OnErr result (HasNothing (view_of epoch rows.old.entries) key) }
 {
-    let key = write.key;
     // Want of this room matters only where the key is new.
     let has_room = make_room(listed, rows.len()).is_ok();
     match rows.entry(key)? {
         Entry::Occupied(entry) => {
             let kept = entry.into_mut();
             let first = kept.pending.is_none();
-            let answer = kept.put(time, &write.value);
+            let answer = kept.put(time, value);
             list_key(listed, key, first);
             Ok(answer)
         }
@@ -47,8 +46,8 @@ pub fn put(
                 return Err(NoMemory);
             }
             entry.insert(Kept {
-                stable: None,
-                pending: Some((time, write.value)),
+                stable: Packed::none(),
+                pending: Some((time, value)),
             });
             list_key(listed, key, true);
             Ok(CopyAnswer::Applied)
@@ -111,20 +110,23 @@ pub fn load(
     ensures whole { IsWhole rows.new.entries listed.new.items (vec_capacity listed.new) }
     ensures state { OnOk result ((epoch : ℕ) → view_of epoch rows.new.entries ≡ record (view_of epoch rows.old.entries) { stable = with_value (view_of epoch rows.old.entries).stable key value.now }) }
     ensures err { OnErr result (rows.new.entries ≡ rows.old.entries) }
-    ensures missing { OnErr result ((epoch : ℕ) → HasNothing (view_of epoch rows.old.entries) key) }
+    ensures missing { OnErr result ((epoch : ℕ) → TakesMemory (view_of epoch rows.old.entries) key value.now) }
 {
     if !keeps_row(rows, key, value) {
         drop_row(rows, key);
         return Ok(());
     }
-    if load_at(rows, key, value) {
-        return Ok(());
+    let packed = Packed::of(*listed.allocator(), value)?;
+    match load_at(rows, key, packed) {
+        Some(stable) => {
+            let made = Kept {
+                stable,
+                pending: None,
+            };
+            add_row(rows, listed, key, made)
+        }
+        None => Ok(()),
     }
-    let made = Kept {
-        stable: *value,
-        pending: None,
-    };
-    add_row(rows, listed, key, made)
 }
 
 // Whether anything stands in the key's row with this stable value.
@@ -138,17 +140,17 @@ fn keeps_row(rows: &BTreeMap<Key, Kept>, key: Key, value: &Option<Value>) -> boo
     value.is_some() || pends
 }
 
-// Sets the stable value of a row that is there, and says whether one is.
-fn load_at(rows: &mut BTreeMap<Key, Kept>, key: Key, value: &Option<Value>) -> bool
-    ensures missing { result ≡ false → (kept_at rows.old.entries key ≡ None) × (rows.new.entries ≡ rows.old.entries) }
-    ensures set { result ≡ true → SetsStable rows.old.entries rows.new.entries key value.now }
+// Sets the stable value of a row that is there. Where none is, the value comes back.
+fn load_at(rows: &mut BTreeMap<Key, Kept>, key: Key, value: Packed) -> Option<Packed>
+    ensures missing { IfSome result (λ back. (back ≡ value) × (kept_at rows.old.entries key ≡ None) × (rows.new.entries ≡ rows.old.entries)) }
+    ensures set { IfNone result (SetsStable rows.old.entries rows.new.entries key value) }
 {
     match rows.get_mut(&key) {
         Some(kept) => {
-            kept.stable = *value;
-            true
+            kept.stable = value;
+            None
         }
-        None => false,
+        None => Some(value),
     }
 }
 
@@ -163,15 +165,11 @@ pub fn stable_rows(alloc: Global, rows: &BTreeMap<Key, Kept>) -> Result<Vec<(Key
     Ok(values)
 }
 
-fn push_value(
-    values: &mut Vec<(Key, Value)>,
-    key: Key,
-    value: &Option<Value>,
-) -> Result<(), NoMemory>
+fn push_value(values: &mut Vec<(Key, Value)>, key: Key, value: &Packed) -> Result<(), NoMemory>
     ensures { OnOk result (values.new.items ≡ values.old.items ++ entry_of key value.now) }
 {
-    if let Some(value) = value {
-        values.push((key, *value))?;
+    if let Some(value) = value.get() {
+        values.push((key, value))?;
     }
     Ok(())
 }

@@ -4,13 +4,14 @@ ghost use Rattle.std.specs.Prelude.{◌≡◌, IfOk, OnOk, OnErr};
 ghost use Rattle.std.specs.FinMap.{get, empty, entries};
 ghost use Rattle.coco_types.specs.RowKey.{RowKey};
 ghost use Rattle.coco_copy.specs.CopyState.{begun, promoted_at, with_value};
-ghost use Rattle.coco_copy.specs.Puts.{HasNothing, after_ask, answer_in, epoch_of, key_of};
+ghost use Rattle.coco_copy.specs.declared.ops.CopyAsk.TheVariants.{Put};
+ghost use Rattle.coco_copy.specs.Puts.{HasNothing, TakesMemory, after_ask, answer_in, epoch_of, key_of, value_of};
 
 use crate::kept::Kept;
 use crate::ops::{CopyAnswer, CopyAsk};
 use crate::rows::{load, put, stable_rows};
 use crate::settle::settle;
-use coco_types::{Key, Machine, MapRows, NoMemory, Value};
+use coco_types::{Key, Machine, MapRows, NoMemory, Packed, PackedWrite, Value, Write};
 use std::alloc::Global;
 use std::collections::BTreeMap;
 use std::marker::Model;
@@ -56,7 +57,7 @@ impl CopyTable {
     pub fn load(&mut self, key: Key, value: Option<Value>) -> Result<(), NoMemory>
         ensures ok { OnOk result (self.new ≡ record self.old { stable = with_value self.old.stable key value }) }
         ensures err { OnErr result (self.new ≡ self.old) }
-        ensures missing { OnErr result (HasNothing self.old key) }
+        ensures missing { OnErr result (TakesMemory self.old key value) }
     {
         load(&mut self.rows, &mut self.listed, key, &value)
     }
@@ -74,7 +75,7 @@ impl CopyTable {
         ensures { result ≡ get self.now.stable key }
     {
         match self.rows.get(&key) {
-            Some(kept) => kept.stable,
+            Some(kept) => kept.stable.get(),
             None => None,
         }
     }
@@ -84,8 +85,27 @@ impl CopyTable {
         ensures { result ≡ get self.now.pending key }
     {
         match self.rows.get(&key) {
-            Some(kept) => kept.pending,
+            Some(kept) => kept.what_pends(),
             None => None,
+        }
+    }
+
+    /// Answers a put whose write is packed, and keeps it as it is. Out of memory, it was of the current epoch, the key
+    /// has no row, and nothing has changed.
+    pub fn put(&mut self, epoch: u64, time: u64, write: PackedWrite) -> Result<CopyAnswer, NoMemory>
+        ensures answer { IfOk result (λ answer. answer ≡ answer_in self.old (Put epoch time write)) }
+        ensures state { IfOk result (λ _. self.new ≡ after_ask self.old (Put epoch time write)) }
+        ensures err { OnErr result (self.new ≡ self.old) }
+        ensures current { OnErr result (epoch ≡ self.old.epoch) }
+        ensures missing { OnErr result (HasNothing self.old write.key) }
+    {
+        let (key, value) = write.into_parts();
+        if epoch == self.epoch {
+            put(&mut self.rows, &mut self.listed, epoch, time, key, value)
+        } else {
+            Ok(CopyAnswer::OtherEpoch {
+                current: self.epoch,
+            })
         }
     }
 
@@ -124,13 +144,14 @@ impl Machine for CopyTable {
 
     ghost state_after = { after_ask };
 
-    /// Answers a put. Out of memory, it was of the current epoch, the key has no row, and nothing has changed.
+    /// Answers a put. Out of memory, it was of the current epoch, the key has no row or the value is a text, and nothing
+    /// has changed.
     fn apply(&mut self, ask: CopyAsk) -> Result<CopyAnswer, NoMemory>
         ensures answer { IfOk result (λ answer. answer ≡ answer_in self.old ask) }
         ensures state { IfOk result (λ _. self.new ≡ after_ask self.old ask) }
         ensures err { OnErr result (self.new ≡ self.old) }
         ensures current { OnErr result (epoch_of ask ≡ self.old.epoch) }
-        ensures missing { OnErr result (HasNothing self.old (key_of ask)) }
+        ensures missing { OnErr result (TakesMemory self.old (key_of ask) (value_of ask)) }
     {
         let CopyAsk::Put { epoch, time, write } = ask;
         if epoch != self.epoch {
@@ -138,6 +159,8 @@ impl Machine for CopyTable {
                 current: self.epoch,
             });
         }
-        put(&mut self.rows, &mut self.listed, epoch, time, &write)
+        let Write { key, value } = write;
+        let packed = Packed::of(*self.listed.allocator(), &value)?;
+        put(&mut self.rows, &mut self.listed, epoch, time, key, packed)
     }
 }

@@ -2,7 +2,7 @@
 
 use crate::*;
 use coco_packs::Packs;
-use coco_types::{Key, Machine, Text, Value, Write};
+use coco_types::{Key, Machine, NoMemory, PackedWrite, Text, Value, Write};
 use std::alloc::Global;
 use std::process::Abort;
 use std::test::Fail;
@@ -81,6 +81,43 @@ fn a_revert_forgets_what_pends(rt: HostRuntime) -> Result<(), Fail> {
     );
     table.load(FIVE, None)?;
     assert!(rt; table.rows()?.is_empty());
+    Ok(())
+}
+
+fn packed(alloc: Global, key: Key, value: Option<Value>) -> Result<PackedWrite, NoMemory> {
+    PackedWrite::of(alloc, &Write { key, value })
+}
+
+#[test]
+fn a_packed_write_is_put(rt: HostRuntime) -> Result<(), Fail> {
+    let text = Text::of("fifty").ok_or("no text")?;
+    let fifty = Some(Value::Text(text));
+    let mut table = written(&rt, rt.alloc())?;
+    let older = packed(rt.alloc(), FIVE, fifty)?;
+    assert_eq!(rt; table.put(3, 1, older)?, CopyAnswer::Older { time: 2 });
+    let newer = packed(rt.alloc(), FIVE, fifty)?;
+    assert_eq!(rt; table.put(3, 3, newer)?, CopyAnswer::Applied);
+    assert_eq!(rt; table.pending(FIVE), Some((3, fifty)));
+    table.promote();
+    assert_eq!(rt; table.stable(FIVE), fifty);
+    let late = packed(rt.alloc(), SIX, None)?;
+    assert_eq!(rt;
+        table.put(4, 1, late)?,
+        CopyAnswer::OtherEpoch { current: 3 }
+    );
+    Ok(())
+}
+
+#[test]
+fn a_text_is_put_and_loaded_over_a_row(rt: HostRuntime) -> Result<(), Fail> {
+    let text = Text::of("fifty").ok_or("no text")?;
+    let fifty = Some(Value::Text(text));
+    let mut table = written(&rt, rt.alloc())?;
+    table.load(FIVE, fifty)?;
+    assert_eq!(rt; table.stable(FIVE), fifty);
+    assert_eq!(rt; table.apply(put(3, 6, SIX, fifty))?, CopyAnswer::Applied);
+    table.promote();
+    assert_eq!(rt; table.stable(SIX), fifty);
     Ok(())
 }
 

@@ -30,3 +30,8 @@ impl<T> Trace<T> {
         ensures { self.new.items ≡ self.old.items ++ _items.now }
     {}
 }
+
+// It has no bytes.
+unsafe impl<T> Send for Trace<T> {}
+
+unsafe impl<T> Sync for Trace<T> {}

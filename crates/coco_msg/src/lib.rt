@@ -11,7 +11,7 @@ mod writing;
 pub use action::{Action, add, one, two};
 pub use fault::MessageFault;
 pub use message::{Message, Places};
-pub use reading::read_message;
+pub use reading::{read_message, read_message_in};
 pub use writing::{message_bytes, ship_bytes};
 
 #[cfg(test)]

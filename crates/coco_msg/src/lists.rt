@@ -79,16 +79,18 @@ fn get_write(alloc: Global, from: &[u8], at: usize) -> Result<(PackedWrite, usiz
 // The bytes of a write without a value, which is the shortest.
 const SHORTEST: usize = 11;
 
-// No writes yet, with room for so many.
-fn with_room(alloc: Global, count: usize) -> Result<PackedWrites, NoMemory>
+// No writes yet, in a list's room, which holds so many.
+fn emptied(mut room: Vec<PackedWrite>, count: usize) -> Result<PackedWrites, NoMemory>
     ensures { IfOk result (λ writes. writes ≡ []) }
 {
-    Ok(Sequence::from_vec(Vec::with_capacity(alloc, count)?))
+    room.clear();
+    room.reserve(count)?;
+    Ok(Sequence::from_vec(room))
 }
 
 // So many writes, one behind another.
 fn get_each_write(
-    alloc: Global,
+    room: Vec<PackedWrite>,
     from: &[u8],
     at: usize,
     count: u32,
@@ -98,7 +100,8 @@ fn get_each_write(
     ensures within { IfOk result (λ r. r.1 ≤ length from.now) }
 {
     let most = (from.len() - at) / SHORTEST;
-    let mut writes = with_room(alloc, most.min(count as usize))?;
+    let alloc = *room.allocator();
+    let mut writes = emptied(room, most.min(count as usize))?;
     let mut end = at;
     for _ in 0..count {
         let (write, after) = get_write(alloc, from, end)?;
@@ -108,10 +111,10 @@ fn get_each_write(
     Ok((writes, end))
 }
 
-/// The counted writes at a place.
+/// The counted writes at a place, in a list's room.
 #[tactic(auto, unfolding(coco_bytes::specs::Lists::counted_at))]
 pub fn get_writes(
-    alloc: Global,
+    room: Vec<PackedWrite>,
     from: &[u8],
     at: usize,
 ) -> Result<(PackedWrites, usize), MessageFault>
@@ -120,7 +123,7 @@ pub fn get_writes(
     ensures within { IfOk result (λ r. r.1 ≤ length from.now) }
 {
     let (count, next) = get_u32(from, at)?;
-    get_each_write(alloc, from, next, count)
+    get_each_write(room, from, next, count)
 }
 
 // Whether a place is above the one before it.

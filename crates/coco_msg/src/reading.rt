@@ -9,6 +9,7 @@ use crate::MessageFault;
 use crate::lists::{get_places, get_writes};
 use crate::message::{Message, Places};
 use coco_bytes::{get_u8, get_u32, get_u64};
+use coco_types::PackedWrite;
 use std::alloc::Global;
 
 #[tactic(auto, unfolding(crate::specs::Reading::flag_at))]
@@ -26,7 +27,11 @@ fn get_flag(from: &[u8], at: usize) -> Result<(bool, usize), MessageFault>
 }
 
 #[tactic(auto, unfolding(crate::specs::Reading::ship_at))]
-fn get_ship(alloc: Global, from: &[u8], at: usize) -> Result<(Message, usize), MessageFault>
+fn get_ship(
+    room: Vec<PackedWrite>,
+    from: &[u8],
+    at: usize,
+) -> Result<(Message, usize), MessageFault>
     requires { at ≤ length from.now }
     ensures read { Answers result (ship_at from.now at) }
     ensures within { IfOk result (λ r. r.1 ≤ length from.now) }
@@ -35,7 +40,7 @@ fn get_ship(alloc: Global, from: &[u8], at: usize) -> Result<(Message, usize), M
     let (partition, at) = get_u8(from, at)?;
     let (place, at) = get_u32(from, at)?;
     let (time, at) = get_u64(from, at)?;
-    let (writes, end) = get_writes(alloc, from, at)?;
+    let (writes, end) = get_writes(room, from, at)?;
     let ship = Message::Ship {
         epoch,
         partition,
@@ -145,7 +150,7 @@ fn get_decision(from: &[u8], at: usize, tag: u8) -> Result<(Message, usize), Mes
 
 #[tactic(auto, unfolding(crate::specs::Reading::fields_at))]
 fn get_fields(
-    alloc: Global,
+    room: Vec<PackedWrite>,
     from: &[u8],
     at: usize,
     tag: u8,
@@ -157,8 +162,9 @@ fn get_fields(
     if tag == 0 || tag > 11 {
         return Err(MessageFault::Bad { at: 0 });
     }
+    let alloc = *room.allocator();
     match tag {
-        1 => get_ship(alloc, from, at),
+        1 => get_ship(room, from, at),
         2 => get_total(alloc, from, at),
         3 => get_missing(alloc, from, at),
         4 => get_all(from, at),
@@ -168,11 +174,11 @@ fn get_fields(
 
 // The message that all of the bytes are.
 #[tactic(auto, unfolding(crate::specs::Reading::message_in))]
-fn get_message(alloc: Global, bytes: &[u8]) -> Result<Message, MessageFault>
+fn get_message(room: Vec<PackedWrite>, bytes: &[u8]) -> Result<Message, MessageFault>
     ensures { Answers result (message_in bytes.now) }
 {
     let (tag, at) = get_u8(bytes, 0)?;
-    let (message, end) = get_fields(alloc, bytes, at, tag)?;
+    let (message, end) = get_fields(room, bytes, at, tag)?;
     if bytes.len() == end {
         Ok(message)
     } else {
@@ -190,5 +196,15 @@ pub fn read_message(alloc: Global, bytes: &[u8]) -> Result<Message, MessageFault
     // Other bytes are bad at the first field that can't stand, or at the first byte that is left over.
     ensures read { Answers result (message_in bytes.now) }
 {
-    get_message(alloc, bytes)
+    read_message_in(Vec::new(alloc), bytes)
+}
+
+/// The same. The writes of a Ship take the room of this list, whose items go.
+pub fn read_message_in(room: Vec<PackedWrite>, bytes: &[u8]) -> Result<Message, MessageFault>
+    ensures found { IfOk result (λ message. IsMessage message × (bytes.now ≡ bytes_of message)) }
+    ensures only { (message : Letter) → IsMessage message → bytes.now ≡ bytes_of message
+        → Answers result (Ok message) }
+    ensures read { Answers result (message_in bytes.now) }
+{
+    get_message(room, bytes)
 }

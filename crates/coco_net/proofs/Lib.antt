@@ -1,3 +1,4 @@
 pub mod MailLemmas
 pub mod GivingLemmas
 pub mod ChoiceLemmas
+pub mod PassingLemmas

@@ -1,3 +1,4 @@
 pub mod Mail
 pub mod Giving
 pub mod Rounds
+pub mod Passing

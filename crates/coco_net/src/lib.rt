@@ -6,6 +6,7 @@ pub mod letter;
 pub mod net;
 mod post;
 pub mod quiet;
+mod quiet_post;
 pub mod script;
 pub mod seeded;
 

@@ -1,4 +1,4 @@
-//! What every net in memory keeps: the letters sent, the numbers of those given, and the boxes of the places.
+//! What a net keeps that may give letters again: those sent, the numbers of those given, and the boxes of places.
 
 ghost use Rattle.std.specs.Prelude.{◌≡◌, ◌+◌, ◌-◌, ◌^◌, ◌<◌, ◌≤◌, ◌≢◌, ◌==◌, ◌||◌, ℕ, All, List, Option, Some, [], ◌∷◌, ◌++◌, drop, length, map, replicate, true, false, MatchOption, IfOk, OnOk, OnErr, if◌then◌else◌};
 ghost use Rattle.std.specs.List.{slice_index_or};
@@ -179,7 +179,7 @@ pub fn push_times(numbers: &mut Vec<usize>, number: usize, times: u8) -> Result<
     Ok(())
 }
 
-fn count(boxes: &[VecDeque<Letter>], to: u8) -> u32
+pub fn count(boxes: &[VecDeque<Letter>], to: u8) -> u32
     requires { IsFew (map (λ q. q.items) boxes.now) }
     ensures { result ≡ length (slice_index_or (map (λ q. q.items) boxes.now) to []) }
 {
@@ -189,7 +189,7 @@ fn count(boxes: &[VecDeque<Letter>], to: u8) -> u32
     }
 }
 
-fn take_first(boxes: &mut Vec<VecDeque<Letter>>, to: u8) -> Option<Letter>
+pub fn take_first(boxes: &mut Vec<VecDeque<Letter>>, to: u8) -> Option<Letter>
     requires { IsFew (map (λ q. q.items) boxes.old.items) }
     ensures few { IsFew (map (λ q. q.items) boxes.new.items) }
     ensures first { MatchOption result ((slice_index_or (map (λ q. q.items) boxes.old.items) to [] ≡ []) × (slice_index_or (map (λ q. q.items) boxes.new.items) to [] ≡ []))
@@ -203,7 +203,7 @@ fn take_first(boxes: &mut Vec<VecDeque<Letter>>, to: u8) -> Option<Letter>
 }
 
 // The letters for each place.
-fn boxes_of(
+pub fn boxes_of(
     alloc: Global,
     sent: &[Posted],
     chosen: &[usize],

@@ -5,7 +5,7 @@ ghost use Rattle.coco_net.specs.Giving.{GivesMore};
 ghost use Rattle.coco_net.specs.Mail.{fresh, no_mail, waiting_at};
 ghost use Rattle.coco_net.specs.Rounds.{after_quiet};
 
-use crate::post::{Post, numbers_from};
+use crate::quiet_post::QuietPost;
 use crate::{Letter, Net};
 use coco_types::NoMemory;
 use std::alloc::Global;
@@ -13,7 +13,7 @@ use std::alloc::Global;
 /// Every letter comes in the next round, once and in order, and every early delivery arrives.
 #[derive(Drop)]
 pub struct QuietNet {
-    post: Post,
+    post: QuietPost,
 }
 
 impl QuietNet {
@@ -21,18 +21,9 @@ impl QuietNet {
         ensures { result.post ≡ no_mail }
     {
         QuietNet {
-            post: Post::new(alloc),
+            post: QuietPost::new(alloc),
         }
     }
-}
-
-// A round in which every letter sent since the last one is given once.
-pub fn quiet_round(alloc: Global, post: &mut Post) -> Result<(), NoMemory>
-    ensures ok { OnOk result (post.new ≡ after_quiet post.old) }
-    ensures err { OnErr result (post.new ≡ post.old) }
-{
-    let numbers = numbers_from(alloc, post.sent(), post.since())?;
-    post.give(numbers.as_slice(), &[], false)
 }
 
 impl Net for QuietNet {
@@ -64,8 +55,7 @@ impl Net for QuietNet {
         ensures seed { self.new.post.seed ≡ self.old.post.seed }
         ensures quiet { OnOk result (self.new.post ≡ after_quiet self.old.post) }
     {
-        let alloc = self.post.allocator();
-        quiet_round(alloc, &mut self.post)
+        self.post.round()
     }
 
     fn waiting(&self, to: u8) -> u32 {

@@ -9,8 +9,7 @@ ghost use Rattle.rand_pcg.specs.Pcg.{pcg32_of_seed};
 ghost use Rattle.rand_core.specs.Pcg32Seed.{pcg32_seed};
 ghost use Rattle.coco_net.specs.Rounds.{after_places, after_quiet, after_seeded, after_words, by_words, loses_by, next_generator, place_words, seed_carries, times_by, words};
 
-use crate::post::{PLACES, Post, either, push_times};
-use crate::quiet::quiet_round;
+use crate::post::{PLACES, Post, either, numbers_from, push_times};
 use crate::{Letter, Net, Posted};
 use coco_types::NoMemory;
 use rand_core::SeedableRng;
@@ -91,6 +90,15 @@ fn turns(alloc: Global, generator: &mut Lcg64Xsh32) -> Result<Vec<bool>, NoMemor
         turns.push(generator.next_word() % 2 == 1)?;
     }
     Ok(turns)
+}
+
+// A round in which every letter sent since the last one is given once.
+fn quiet_round(alloc: Global, post: &mut Post) -> Result<(), NoMemory>
+    ensures ok { OnOk result (post.new ≡ after_quiet post.old) }
+    ensures err { OnErr result (post.new ≡ post.old) }
+{
+    let numbers = numbers_from(alloc, post.sent(), post.since())?;
+    post.give(numbers.as_slice(), &[], false)
 }
 
 // A count of faults at its end loses no more.

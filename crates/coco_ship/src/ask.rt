@@ -1,6 +1,6 @@
 //! What primaries send: the pieces that a copy may lack, and the places of all.
 
-ghost use Rattle.std.specs.Prelude.{◌≡◌, ◌*◌, ◌<◌, ◌^◌, [], ◌∷◌, ◌++◌, All, length, IfOk, OnOk};
+ghost use Rattle.std.specs.Prelude.{◌≡◌, ◌*◌, ◌<◌, ◌^◌, ◌⊎◌, [], ◌∷◌, ◌++◌, All, length, IfOk, OnOk};
 ghost use Rattle.coco_bytes.specs.Values.{IsKey};
 ghost use Rattle.coco_msg.specs.Bytes.{bytes_of, IsMessage, IsWrite};
 ghost use Rattle.coco_msg.specs.declared.message.Message.TheVariants.{Total as Told};
@@ -10,13 +10,14 @@ ghost use Rattle.coco_ship.specs.Sending.{ask_of, AreAsks, AreNoneOr, ShipsPiece
 
 use crate::Ring;
 use crate::line::Line;
-use crate::mail::{add_copy, write_letter};
+use crate::mail::{add_letter, write_letter};
 use coco_bytes::packed_fits;
 use coco_msg::{Message, Places, ship_bytes};
 use coco_net::Posted;
 use coco_types::{Key, NoMemory, PackedWrite, Piece};
 use std::alloc::Global;
 use std::collections::VecDeque;
+use std::mem;
 
 // A key's numbers are those of its fields.
 fn key_fits(key: &Key)
@@ -68,6 +69,18 @@ fn write_ship(alloc: Global, epoch: u64, piece: &Piece, bytes: &mut Vec<u8>) -> 
     Ok(())
 }
 
+// The bytes, or a copy of them where they are needed again.
+fn taken_or_copied(alloc: Global, bytes: &mut Vec<u8>, again: bool) -> Result<Vec<u8>, NoMemory>
+    ensures taken { IfOk result (λ taken. taken.items ≡ bytes.old.items) }
+    ensures left { (bytes.new.items ≡ []) ⊎ (bytes.new.items ≡ bytes.old.items) }
+{
+    if again {
+        Ok(bytes.as_slice().to_vec(alloc)?)
+    } else {
+        Ok(mem::replace(bytes, Vec::new(alloc)))
+    }
+}
+
 // Ships a piece to a copy. The bytes are those of its Ship, for all copies.
 fn ship(
     alloc: Global,
@@ -87,7 +100,9 @@ fn ship(
     write_ship(alloc, epoch, piece, bytes)?;
     let from = ring.primary(piece.partition);
     let to = ring.holder(piece.partition, copy);
-    add_copy(alloc, letters, from, to, bytes.as_slice())
+    let again = u16::from(copy) + 1 < u16::from(ring.copies);
+    let taken = taken_or_copied(alloc, bytes, again)?;
+    add_letter(letters, from, to, taken)
 }
 
 // Ships a piece to each copy of which its primary doesn't know that it is there.

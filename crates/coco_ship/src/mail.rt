@@ -6,11 +6,12 @@ ghost use Rattle.coco_msg.specs.declared.message.Message.{Message as Told};
 ghost use Rattle.coco_net.specs.declared.letter.Posted.{Posted as Sent};
 ghost use Rattle.coco_ship.specs.Letters.{posted_of, AreInside};
 
-use coco_msg::{Message, MessageFault, message_bytes, read_message};
+use coco_msg::{Message, MessageFault, message_bytes, read_message_in};
 use coco_net::{Letter, Net, Posted};
-use coco_types::{Bytes, NoMemory};
+use coco_types::{Bytes, NoMemory, PackedWrite};
 use std::alloc::Global;
 use std::collections::VecDeque;
+use std::mem;
 
 // Adds a letter of these bytes.
 pub(crate) fn add_letter(
@@ -27,20 +28,6 @@ pub(crate) fn add_letter(
         letter: Letter { from, bytes },
     })?;
     Ok(())
-}
-
-// Adds a letter with a copy of these bytes.
-pub(crate) fn add_copy(
-    alloc: Global,
-    letters: &mut VecDeque<Posted>,
-    from: u8,
-    to: u8,
-    bytes: &[u8],
-) -> Result<(), NoMemory>
-    ensures { OnOk result (letters.new.items ≡ letters.old.items ++ record { to = to; letter = record { from = from; bytes = bytes.now } } ∷ []) }
-{
-    let copy = bytes.to_vec(alloc)?;
-    add_letter(letters, from, to, copy)
 }
 
 // Writes a letter.
@@ -97,12 +84,16 @@ pub(crate) fn take_all<N: Net>(
     Ok(letters)
 }
 
-// The message of a letter, none where it is no message.
-pub(crate) fn message_of(alloc: Global, letter: &Letter) -> Result<Option<Message>, NoMemory>
+// The message of a letter, none where it is no message. The writes of a Ship take the room's list.
+pub(crate) fn message_of(
+    room: &mut Vec<PackedWrite>,
+    letter: &Letter,
+) -> Result<Option<Message>, NoMemory>
     ensures found { IfOk result (λ found. IfSome found (λ m. IsMessage m × (letter.now.bytes ≡ bytes_of m))) }
     ensures only { IfOk result (λ found. (m : Told) → IsMessage m → letter.now.bytes ≡ bytes_of m → found ≡ Some m) }
 {
-    match read_message(alloc, letter.bytes.as_slice()) {
+    let none = Vec::new(*room.allocator());
+    match read_message_in(mem::replace(room, none), letter.bytes.as_slice()) {
         Ok(message) => Ok(Some(message)),
         Err(MessageFault::Bad { .. }) => Ok(None),
         Err(MessageFault::NoMemory) => Err(NoMemory),

@@ -43,6 +43,13 @@ impl PlaceSet {
     pub fn has(&self, place: u32) -> bool
         ensures { result ≡ is_in self.now place }
     {
+        stands_by_count(self.places.as_slice(), place) || self.finds(place)
+    }
+
+    // Whether a search finds a place.
+    fn finds(&self, place: u32) -> bool
+        ensures { result ≡ is_in self.now place }
+    {
         self.places.binary_search(&place).is_ok()
     }
 
@@ -78,6 +85,16 @@ impl PlaceSet {
             return Err(NoMemory);
         }
         Ok(places.to_vec(alloc)?)
+    }
+}
+
+// Whether a place stands where it does if none before it is left out, as is mostly so.
+fn stands_by_count(places: &[u32], place: u32) -> bool
+    ensures { result ≡ true → is_in places.now place ≡ true }
+{
+    match places.first() {
+        Some(first) => places.get(place.wrapping_sub(*first) as usize) == Some(&place),
+        None => false,
     }
 }
 

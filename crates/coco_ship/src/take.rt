@@ -12,10 +12,10 @@ use crate::Ring;
 use crate::line::Line;
 use crate::mail::message_of;
 use crate::places::{add, kept};
-use coco_copy::{CopyAsk, CopyTable};
+use coco_copy::CopyTable;
 use coco_msg::{Message, Places};
 use coco_net::Letter;
-use coco_types::{Machine, NoMemory, PackedWrite, PackedWrites};
+use coco_types::{NoMemory, PackedWrite, PackedWrites};
 use std::alloc::Global;
 
 // Puts the writes of a piece.
@@ -30,8 +30,7 @@ pub(crate) fn put_all(
     ensures pend { OnOk result (covers table.new time writes.now ≡ true) }
 {
     for write in writes {
-        let write = write.get();
-        table.apply(CopyAsk::Put { epoch, time, write })?;
+        table.put(epoch, time, write.try_clone()?)?;
     }
     Ok(())
 }
@@ -99,9 +98,10 @@ fn spoken_of(ring: Ring, node: u8, from: u8, message: &Message) -> Option<usize>
     }
 }
 
-// A line and its table take a message.
+// A line and its table take a message. The list of a Ship's writes goes back to the room.
 fn take_at(
     alloc: Global,
+    room: &mut Vec<PackedWrite>,
     line: &mut Line,
     table: &mut CopyTable,
     message: Message,
@@ -117,7 +117,11 @@ fn take_at(
             time,
             writes,
             ..
-        } => take_ship(line, table, epoch, place, time, &writes),
+        } => {
+            take_ship(line, table, epoch, place, time, &writes)?;
+            *room = writes.into_vec();
+            Ok(())
+        }
         Message::Total { places, .. } => {
             take_total(line, places);
             Ok(())
@@ -134,6 +138,7 @@ fn take_at(
 // What a node does with a message of this epoch.
 fn take_message(
     alloc: Global,
+    room: &mut Vec<PackedWrite>,
     ring: Ring,
     node: u8,
     from: u8,
@@ -151,17 +156,21 @@ fn take_message(
     ensures begun { Each (λ t. t.epoch ≡ epoch_of message) copies.new }
 {
     match spoken_of(ring, node, from, &message) {
-        Some(t) => take_at(alloc, &mut lines[t], &mut copies[t], message),
+        Some(t) => take_at(alloc, room, &mut lines[t], &mut copies[t], message),
         None => Ok(()),
     }
 }
 
 // The message of a letter, none where it is none of this epoch.
-fn message_now(alloc: Global, epoch: u64, letter: &Letter) -> Result<Option<Message>, NoMemory>
+fn message_now(
+    room: &mut Vec<PackedWrite>,
+    epoch: u64,
+    letter: &Letter,
+) -> Result<Option<Message>, NoMemory>
     ensures found { IfOk result (λ found. IfSome found (λ m. IsMessage m × (letter.now.bytes ≡ bytes_of m) × (epoch_of m ≡ epoch))) }
     ensures only { IfOk result (λ found. (m : Told) → IsMessage m → letter.now.bytes ≡ bytes_of m → epoch_of m ≡ epoch → found ≡ Some m) }
 {
-    match message_of(alloc, letter)? {
+    match message_of(room, letter)? {
         Some(message) if message.epoch() == epoch => Ok(Some(message)),
         _ => Ok(None),
     }
@@ -170,6 +179,7 @@ fn message_now(alloc: Global, epoch: u64, letter: &Letter) -> Result<Option<Mess
 // What a node does with a letter. One that is no message, or of another epoch, changes nothing.
 fn take_letter(
     alloc: Global,
+    room: &mut Vec<PackedWrite>,
     ring: Ring,
     epoch: u64,
     node: u8,
@@ -185,8 +195,8 @@ fn take_letter(
     ensures tables { OfTables ring (Brings ring epoch (at_node node (letter.now ∷ []))) copies.old copies.new }
     ensures begun { Each (λ t. t.epoch ≡ epoch) copies.new }
 {
-    match message_now(alloc, epoch, letter)? {
-        Some(message) => take_message(alloc, ring, node, letter.from, message, lines, copies),
+    match message_now(room, epoch, letter)? {
+        Some(message) => take_message(alloc, room, ring, node, letter.from, message, lines, copies),
         None => Ok(()),
     }
 }
@@ -209,8 +219,9 @@ pub(crate) fn take_letters(
     ensures tables { OfTables ring (Brings ring epoch (at_node node (letters.now))) copies.old copies.new }
     ensures begun { Each (λ t. t.epoch ≡ epoch) copies.new }
 {
+    let mut room = Vec::new(alloc);
     for letter in letters {
-        take_letter(alloc, ring, epoch, node, letter, lines, copies)?;
+        take_letter(alloc, &mut room, ring, epoch, node, letter, lines, copies)?;
     }
     Ok(())
 }

@@ -17,3 +17,9 @@ unpacked (packed.Text text) = Some (Text text.value)
 abbrev pub lent_value : Lent → Value
 lent_value (lent.Int n) = Int n
 lent_value (lent.Text text) = Text text.now
+
+-- the value is a text, the one that takes memory to keep
+abbrev pub IsText : Option Value → Type 0
+IsText None = ⊥
+IsText (Some (Int n)) = ⊥
+IsText (Some (Text text)) = Unit {0}

@@ -1,9 +1,9 @@
 //! A value or none, packed: a number in place, a text on the heap.
-ghost use Rattle.std.specs.Prelude.{◌≡◌, Some, IfOk};
+ghost use Rattle.std.specs.Prelude.{◌≡◌, None, Some, is_some, IfOk, OnErr};
 ghost use Rattle.std.specs.Option.{option_map};
 ghost use Rattle.coco_types.specs.Arguments.{int_of};
 ghost use Rattle.coco_types.specs.declared.value.Value.TheVariants as datum;
-ghost use Rattle.coco_types.specs.Packing.{unpacked, lent_value};
+ghost use Rattle.coco_types.specs.Packing.{unpacked, lent_value, IsText};
 
 use crate::{NoMemory, Text, Value};
 use std::alloc::Global;
@@ -39,9 +39,10 @@ impl Model for Packed {
 }
 
 impl Packed {
-    /// The value, its text on this heap.
+    /// The value, its text on this heap. Only a text takes memory.
     pub fn of(alloc: Global, value: &Option<Value>) -> Result<Packed, NoMemory>
-        ensures { IfOk result (λ packed. packed ≡ value.now) }
+        ensures packed { IfOk result (λ packed. packed ≡ value.now) }
+        ensures missing { OnErr result (IsText value.now) }
     {
         let kind = match value {
             None => Kind::Absent,
@@ -57,6 +58,23 @@ impl Packed {
     {
         Packed {
             kind: Kind::Int(number),
+        }
+    }
+
+    /// No value. It takes no memory.
+    pub fn none() -> Packed
+        ensures { result ≡ None }
+    {
+        Packed { kind: Kind::Absent }
+    }
+
+    /// Whether it is a value.
+    pub fn is_some(&self) -> bool
+        ensures { result ≡ is_some self.now }
+    {
+        match self.kind {
+            Kind::Absent => false,
+            Kind::Int(_) | Kind::Text(_) => true,
         }
     }
 

@@ -1,5 +1,6 @@
 //! A write whose value is packed.
-ghost use Rattle.std.specs.Prelude.{◌≡◌, IfOk};
+ghost use Rattle.std.specs.Prelude.{◌≡◌, IfOk, OnErr};
+ghost use Rattle.coco_types.specs.Packing.{IsText};
 
 use crate::{Key, NoMemory, Packed, Sequence, Write};
 use std::alloc::Global;
@@ -24,9 +25,10 @@ impl Model for PackedWrite {
 }
 
 impl PackedWrite {
-    /// The write, its text on this heap.
+    /// The write, its text on this heap. Only a text takes memory.
     pub fn of(alloc: Global, write: &Write) -> Result<PackedWrite, NoMemory>
-        ensures { IfOk result (λ packed. packed ≡ write.now) }
+        ensures packed { IfOk result (λ packed. packed ≡ write.now) }
+        ensures missing { OnErr result (IsText write.now.value) }
     {
         let value = Packed::of(alloc, &write.value)?;
         Ok(PackedWrite::new(write.key, value))
@@ -37,6 +39,14 @@ impl PackedWrite {
         ensures { result ≡ record { key = key; value = value } }
     {
         PackedWrite { key, value }
+    }
+
+    /// Its key and its value.
+    pub fn into_parts(self) -> (Key, Packed)
+        ensures { result ≡ (self.key, self.value) }
+    {
+        let PackedWrite { key, value } = self;
+        (key, value)
     }
 
     pub fn key(&self) -> Key
@@ -50,6 +60,14 @@ impl PackedWrite {
         ensures { result.now ≡ self.now.value }
     {
         &self.value
+    }
+
+    /// The same once more.
+    pub fn try_clone(&self) -> Result<PackedWrite, NoMemory>
+        ensures { IfOk result (λ copy. copy ≡ self.now) }
+    {
+        let value = self.value.try_clone()?;
+        Ok(PackedWrite::new(self.key, value))
     }
 
     pub fn get(&self) -> Write

@@ -1,8 +1,8 @@
 //! Texts, arguments, calls, records and keys on their happy paths.
 
 use crate::{
-    Args, Call, Cause, Done, Failed, KeptReply, Key, NoMemory, OutFault, PackedWrite, Reply,
-    Sequence, Text, Value, Write,
+    Args, Call, Cause, Done, Failed, KeptReply, Key, NoMemory, OutFault, Packed, PackedWrite,
+    Reply, Sequence, Text, Value, Write,
 };
 use std::alloc::Global;
 use std::test::Fail;
@@ -153,7 +153,12 @@ fn a_packed_write_is_the_write(rt: HostRuntime) -> Result<(), Fail> {
         assert_eq!(rt; packed.value().get(), value);
         let value = packed.value().try_clone()?;
         assert_eq!(rt; PackedWrite::new(key, value).get(), write);
+        assert_eq!(rt; packed.try_clone()?.get(), write);
+        let (key, value) = packed.into_parts();
+        assert_eq!(rt; value.is_some(), write.value.is_some());
+        assert_eq!(rt; PackedWrite::new(key, value).get(), write);
     }
+    assert_eq!(rt; Packed::none().get(), None);
     Ok(())
 }
 

@@ -1,9 +1,10 @@
-use Rattle.std.proofs.Common.{◌≡◌, ◌∙◌, ap, sym, Some, None, cond, refl, subst, vec_capacity, arith, OnOk}
+use Rattle.std.proofs.Common.{◌≡◌, ◌∙◌, ap, sym, List, Option, Some, None, IsSome, cond, refl, subst, vec_capacity, arith, inl, inr, OnOk}
 use Rattle.std.specs.Option.{option_and_then}
 use Rattle.std.specs.BTreeMap.{is_at}
 use Rattle.coco_types.specs.RowKey.{RowKey, key_cmp}
 use Rattle.coco_copy.specs.declared.kept.Kept.{Kept}
-use Rattle.coco_copy.specs.Kept.{kept_at, pending_of, view_of}
+use Rattle.coco_types.specs.declared.value.Value.{Value}
+use Rattle.coco_copy.specs.Kept.{kept_at, pending_of, view_of, SetsStable}
 use Rattle.coco_copy.proofs.Parts.{set_at}
 use Rattle.coco_copy.proofs.Views.{added_view, dropped_view, loaded_view, none_there, on_err_of}
 use Rattle.coco_copy.proofs.Whole.{dropped_whole, loaded_whole, nothing_kept, set_rises, stands_alone, whole_kept}
@@ -20,16 +21,19 @@ returns-then-not-keeps_row-clause-state c =
     let nothing = nothing_kept c.args.value.now (kept_at c.args.rows.now.entries c.args.key) (sym c.keeps_row.ensures ∙ c.if-not-keeps_row.true) in
     dropped_view c.args.rows.now.entries c.drop_row.new.rows.entries c.requires.rising c.drop_row.ensures.rising c.args.key c.args.value.now c.drop_row.ensures.at nothing.0 nothing.1
 
-pub returns-then-load_at-clause-whole : goal.returns-then-load_at-clause-whole
-returns-then-load_at-clause-whole c =
-    let set = c.load_at.ensures.set c.if-load_at.true in
+pub returns-in_err-packed-clause-missing : goal.returns-in_err-packed-clause-missing
+returns-in_err-packed-clause-missing c = on_err_of c.from_residual.result (λ _. inr c.in_err-packed.ensures.missing)
+
+pub returns-in-None-clause-whole : goal.returns-in-None-clause-whole
+returns-in-None-clause-whole c =
+    let set = subst (SetsStable c.args.rows.now.entries c.load_at.new.rows.entries c.args.key) c.in_ok-packed.ensures.packed c.in-None.ensures.set in
     whole_kept _ c.load_at.new.rows.entries _ c.args.listed.now.items _ _
     (loaded_whole c.args.rows.now.entries c.args.listed.now.items (vec_capacity c.args.listed.now) c.args.key c.args.value.now set.before c.requires set.was (sym c.keeps_row.ensures ∙ c.if-not-keeps_row.false))
     set.put refl (omega arith)
 
-pub returns-then-load_at-clause-state : goal.returns-then-load_at-clause-state
-returns-then-load_at-clause-state c = λ epoch.
-    let set = c.load_at.ensures.set c.if-load_at.true in
+pub returns-in-None-clause-state : goal.returns-in-None-clause-state
+returns-in-None-clause-state c = λ epoch.
+    let set = subst (SetsStable c.args.rows.now.entries c.load_at.new.rows.entries c.args.key) c.in_ok-packed.ensures.packed c.in-None.ensures.set in
     let after : Kept = record set.before { stable = c.args.value.now } in
     ap (view_of epoch) set.put
     ∙ loaded_view c.args.rows.now.entries _ c.requires.rising (set_rises c.args.rows.now.entries c.args.key after c.requires.rising) c.args.key (Some after)
@@ -37,13 +41,18 @@ returns-then-load_at-clause-state c = λ epoch.
 
 pub add_row-requires-clause-stands : goal.add_row-requires-clause-stands
 add_row-requires-clause-stands c = λ _.
-    stands_alone c.args.value.now (kept_at c.args.rows.now.entries c.args.key) (sym c.keeps_row.ensures ∙ c.if-not-keeps_row.false) (c.load_at.ensures.missing c.if-load_at.false).0
+    let missing = c.in-Some.ensures.missing in
+    subst (λ o. IsSome o) (sym (missing.0 ∙ c.in_ok-packed.ensures.packed))
+    (stands_alone c.args.value.now (kept_at c.args.rows.now.entries c.args.key) (sym c.keeps_row.ensures ∙ c.if-not-keeps_row.false) missing.1)
 
-pub returns-clause-state : goal.returns-clause-state
-returns-clause-state c =
-    let missing = c.load_at.ensures.missing c.if-load_at.false in
-    added_view c.add_row.result c.args.rows.now.entries c.add_row.new.rows.entries c.requires.rising c.add_row.ensures.whole.rising c.args.key c.args.value.now missing.0
-    (subst (λ es. OnOk c.add_row.result ((q : RowKey) → kept_at c.add_row.new.rows.entries q ≡ cond (is_at (key_cmp c.args.key) q) (Some (record { stable = c.args.value.now; pending = None })) (kept_at es q))) missing.1 c.add_row.ensures.ok)
+pub returns-in-Some-clause-state : goal.returns-in-Some-clause-state
+returns-in-Some-clause-state c =
+    let missing = c.in-Some.ensures.missing in
+    let Made : Option Value → List (RowKey × Kept) → Type 0 = λ v es.
+    OnOk c.add_row.result ((q : RowKey) → kept_at c.add_row.new.rows.entries q ≡ cond (is_at (key_cmp c.args.key) q) (Some (record { stable = v; pending = None })) (kept_at es q)) in
+    added_view c.add_row.result c.args.rows.now.entries c.add_row.new.rows.entries c.requires.rising c.add_row.ensures.whole.rising c.args.key c.args.value.now missing.1
+    (subst (λ v. Made v c.args.rows.now.entries) (missing.0 ∙ c.in_ok-packed.ensures.packed) (subst (Made c.in-Some.stable) missing.2 c.add_row.ensures.ok))
 
-pub returns-clause-missing : goal.returns-clause-missing
-returns-clause-missing c = on_err_of c.add_row.result (none_there c.args.rows.now.entries c.args.key c.requires.rising (c.load_at.ensures.missing c.if-load_at.false).0)
+pub returns-in-Some-clause-missing : goal.returns-in-Some-clause-missing
+returns-in-Some-clause-missing c =
+    on_err_of c.add_row.result (λ epoch. inl (none_there c.args.rows.now.entries c.args.key c.requires.rising c.in-Some.ensures.missing.1 epoch))

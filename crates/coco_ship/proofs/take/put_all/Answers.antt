@@ -15,11 +15,11 @@ loop-write-preserved c =
     let i = c.loop-write.write-index in
     let w = c.write-item.result in
     let s = c.loop-write.table in
-    let t = c.apply.new.self in
+    let t = c.put.new.self in
     let within : i < length ws = search rules in
     let put = one_put s c.args.epoch c.args.time w (c.loop-write.invariant.puts.epoch_stays ∙ c.requires) in
     let state : t ≡ after_ask s (Put c.args.epoch c.args.time w) =
-    c.in_ok-apply.ensures.state ∙ ap (λ (v : Write). after_ask s (Put c.args.epoch c.args.time v)) c.get-write.ensures in
+    c.in_ok-put.ensures.state ∙ ap (λ (v : Write). after_ask s (Put c.args.epoch c.args.time v)) c.in_ok-try_clone.ensures in
     let puts : Puts c.args.time (w ∷ []) s t = subst (Puts c.args.time (w ∷ []) s) (sym state) put.0 in
     let here : covers_at (get t.pending w.key) c.args.time ≡ true = ap (λ (z : CopyState). covers_at (get z.pending w.key) c.args.time) state ∙ put.1 in
     record {

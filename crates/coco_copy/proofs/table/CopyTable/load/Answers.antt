@@ -1,7 +1,7 @@
 use Rattle.std.proofs.Common.{◌∙◌, ap, subst}
 use Rattle.std.proofs.lemmas.Result.{on_err_weaker, on_ok_weaker}
 use Rattle.coco_copy.specs.CopyState.{CopyState, with_value}
-use Rattle.coco_copy.specs.Puts.{HasNothing}
+use Rattle.coco_copy.specs.Puts.{TakesMemory}
 use Rattle.coco_copy.proofs.table.CopyTable.load.Goals as goal
 
 pub returns-clause-ok : goal.returns-clause-ok
@@ -10,4 +10,4 @@ returns-clause-ok c =
 
 pub returns-clause-missing : goal.returns-clause-missing
 returns-clause-missing c =
-    on_err_weaker c.load.result (λ h. subst (λ (s : CopyState). HasNothing s c.args.key) c.self.view_is (h c.self.inside.epoch)) c.load.ensures.missing
+    on_err_weaker c.load.result (λ h. subst (λ (s : CopyState). TakesMemory s c.args.key c.args.value) c.self.view_is (h c.self.inside.epoch)) c.load.ensures.missing

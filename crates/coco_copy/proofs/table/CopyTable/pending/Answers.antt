@@ -8,7 +8,7 @@ use Rattle.coco_copy.proofs.table.CopyTable.pending.Goals as goal
 
 pub returns-in-Some : goal.returns-in-Some
 returns-in-Some c =
-    ap (option_and_then pending_of) c.in-Some.ensures.value ∙ sym (get_part pending_of c.self.inside.rows.entries c.args.key c.self.invariant.rising) ∙ ap (λ (s : CopyState). get s.pending c.args.key) c.self.view_is
+    c.what_pends.ensures ∙ ap (option_and_then pending_of) c.in-Some.ensures.value ∙ sym (get_part pending_of c.self.inside.rows.entries c.args.key c.self.invariant.rising) ∙ ap (λ (s : CopyState). get s.pending c.args.key) c.self.view_is
 
 pub returns-in-None : goal.returns-in-None
 returns-in-None c =

@@ -8,7 +8,7 @@ use Rattle.coco_copy.proofs.table.CopyTable.stable.Goals as goal
 
 pub returns-in-Some : goal.returns-in-Some
 returns-in-Some c =
-    ap (option_and_then stable_of) c.in-Some.ensures.value ∙ sym (get_part stable_of c.self.inside.rows.entries c.args.key c.self.invariant.rising) ∙ ap (λ (s : CopyState). get s.stable c.args.key) c.self.view_is
+    c.get-in-Some.ensures ∙ ap (option_and_then stable_of) c.in-Some.ensures.value ∙ sym (get_part stable_of c.self.inside.rows.entries c.args.key c.self.invariant.rising) ∙ ap (λ (s : CopyState). get s.stable c.args.key) c.self.view_is
 
 pub returns-in-None : goal.returns-in-None
 returns-in-None c =

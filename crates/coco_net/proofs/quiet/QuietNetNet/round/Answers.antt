@@ -7,7 +7,7 @@ use Rattle.coco_net.proofs.quiet.QuietNetNet.round.Goals as goal
 
 pub returns-clause-ok : goal.returns-clause-ok
 returns-clause-ok c =
-    on_ok_weaker c.quiet_round.result (λ is. gives c.args.self.now.post c.quiet_round.new.post (fresh c.args.self.now.post) [] false is (fresh_sent c.args.self.now.post) (λ _. All-contains_itself (fresh c.args.self.now.post))) c.quiet_round.ensures.ok
+    on_ok_weaker c.round.result (λ is. gives c.args.self.now.post c.round.new.self (fresh c.args.self.now.post) [] false is (fresh_sent c.args.self.now.post) (λ _. All-contains_itself (fresh c.args.self.now.post))) c.round.ensures.ok
 
 pub returns-clause-fresh : goal.returns-clause-fresh
-returns-clause-fresh c = on_ok_weaker c.quiet_round.result (none_fresh c.args.self.now.post c.quiet_round.new.post (fresh c.args.self.now.post) [] false) c.quiet_round.ensures.ok
+returns-clause-fresh c = on_ok_weaker c.round.result (none_fresh c.args.self.now.post c.round.new.self (fresh c.args.self.now.post) [] false) c.round.ensures.ok

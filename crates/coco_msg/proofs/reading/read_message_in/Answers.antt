@@ -6,7 +6,7 @@ use Rattle.coco_msg.specs.declared.message.Message.{Message}
 use Rattle.coco_msg.specs.Bytes.{bytes_of, IsMessage}
 use Rattle.coco_msg.specs.Reading.{message_in, Answers}
 use Rattle.coco_msg.proofs.MessageLemmas.{message_found, message_again}
-use Rattle.coco_msg.proofs.reading.read_message.Goals as goal
+use Rattle.coco_msg.proofs.reading.read_message_in.Goals as goal
 
 is_found : (bytes : List ℕ) (r : Result Message MessageFault) → AreBytes bytes → Answers r (message_in bytes) → IfOk r (λ m. IsMessage m × (bytes ≡ bytes_of m))
 is_found bytes (Ok m) fits given = message_found bytes m fits given

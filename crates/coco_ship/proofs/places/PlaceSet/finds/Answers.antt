@@ -3,7 +3,7 @@ use Rattle.std.specs.List.Sorted.{IsBinarySearchResult}
 use Rattle.std.specs.Ordering.{nat_cmp}
 use Rattle.coco_ship.specs.Sets.{is_in}
 use Rattle.coco_ship.proofs.SetLemmas.{looked_up}
-use Rattle.coco_ship.proofs.places.PlaceSet.has.Goals as goal
+use Rattle.coco_ship.proofs.places.PlaceSet.finds.Goals as goal
 
 pub returns : goal.returns
 returns c =
