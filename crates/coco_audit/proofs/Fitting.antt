@@ -1,4 +1,4 @@
--- What holds of all records holds of those that are kept of them and one more, and of those from a place on.
+-- What holds of all Dones holds of those that are kept of them and one more, and of those from a place on.
 use Rattle.std.proofs.Common.{ℕ, List, [], ◌∷◌, ◌++◌, drop, Option}
 use Rattle.std.specs.List.{AllByRecursion}
 use Rattle.std.proofs.lemmas.List.Elements.{All-drop, All-filter, All-from_recursion, recursion_from_All}

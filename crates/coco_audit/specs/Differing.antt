@@ -1,4 +1,4 @@
--- The first record whose kept reply isn't that of its run.
+-- The first Done whose kept reply isn't that of its run.
 use Rattle.std.specs.Prelude.{◌≡◌, ◌≢◌, ◌+◌, List, ◌∷◌, ◌++◌, length}
 use Rattle.std.specs.List.{AllByRecursion}
 use Rattle.coco_types.specs.declared.call.Done.{Done}
@@ -9,7 +9,7 @@ use Rattle.coco_ast.specs.Meaning.{run}
 use Rattle.coco_ast.specs.Tree.{Procedures}
 use Rattle.coco_audit.specs.declared.verify.NotSerial.{NotSerial}
 
--- the replies of the records before it are their runs', from this map on, and its own is another than that of its run on what
+-- the replies of the Dones before it are their runs', from this map on, and its own is another than that of its run on what
 -- they leave; places count from 1
 pub record IsFirstUnlike (procs : Procedures) (rows : Rows) (dones : List Done) (found : NotSerial) : Type 0 where
   pub before : List Done

@@ -30,7 +30,7 @@ abbrev pub args_json : List (Option Value) → Items
 args_json [] = no_items
 args_json (a ∷ others) = item (value_json a) (args_json others)
 
--- a record as an object, its members in sorted order
+-- a Done as an object, its members in sorted order
 abbrev pub dump_done_json : Procedures → Done → Data
 dump_done_json procs done = object (member (codes "args") (array (args_json done.call.args)) (member (codes "call") (string (proc_name procs done.call.proc_no))
     (member (codes "epoch") (count_json done.epoch) (member (codes "id") (count_json done.id) (member (reply_key done.reply) (reply_json done.reply)
@@ -46,7 +46,7 @@ dump_done_text procs done = compact_text (dump_done_json procs done) ++ 10 ∷ [
 unfoldable pub dump_row_text : Procedures → RowKey × Value → List ℕ
 dump_row_text procs row = compact_text (dump_row_json procs row) ++ 10 ∷ []
 
--- all records in order, and then all rows, by table and row
+-- all Dones in order, and then all rows, by table and row
 abbrev pub dump_text : Procedures → List Done → Rows → List ℕ
 dump_text procs dones rows = flat_map (dump_done_text procs) dones ++ flat_map (dump_row_text procs) (entries rows)
 

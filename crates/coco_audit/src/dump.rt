@@ -1,4 +1,4 @@
-//! The dump of a store: a line for each record, in order of commit, and then one for each row, by table and row.
+//! The dump of a store: a line for each Done, in order of commit, and then one for each row, by table and row.
 
 ghost use Rattle.std.specs.Prelude.{◌≡◌, ◌<◌, ◌++◌, ◌∷◌, [], codes, flat_map, length, slice_get, Some, IfOk, OnOk, OnErr};
 ghost use Rattle.std.specs.FinMap.{entries};
@@ -18,7 +18,7 @@ use coco_types::{Args, Done, KeptReply, Key, MapRows, NoMemory, Value};
 use json::Writer;
 use std::alloc::{AllocError, Global};
 
-/// The text of all records, in order of commit, and then of the map that the lists of rows make together, by table
+/// The text of all Dones, in order of commit, and then of the map that the lists of rows make together, by table
 /// and row. Of two values of a key that of the later list counts.
 pub fn dump_of(
     alloc: Global,
@@ -35,7 +35,7 @@ pub fn dump_of(
     Ok(out)
 }
 
-/// Puts the line of a record at the end of a buffer, whole or not at all.
+/// Puts the line of a Done at the end of a buffer, whole or not at all.
 pub fn write_dump_done(out: &mut Vec<u8>, procs: &Checked, done: &Done) -> Result<(), NoMemory>
     ensures ok { OnOk result (out.new.items ≡ out.old.items ++ dump_done_text procs.now done.now) }
     ensures err { OnErr result (out.new.items ≡ out.old.items) }

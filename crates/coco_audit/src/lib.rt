@@ -1,4 +1,4 @@
-//! What a store says of itself: its records and rows line by line, and whether its replies are those of a serial run.
+//! What a store says of itself: its Dones and rows line by line, and whether its replies are those of a serial run.
 #![tactic(auto)]
 
 pub mod dump;

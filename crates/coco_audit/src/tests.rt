@@ -46,7 +46,7 @@ fn done_of(alloc: Global, procs: &Checked, record: &Record<'_>) -> Result<Done, 
     })
 }
 
-// Keeps one more record.
+// Keeps one more Done.
 fn keep(procs: &Checked, kept: &mut Kept, done: Done) -> Result<(), Fail>
     requires fits { Fits procs.now done.call }
     requires all { AllFit procs.now kept.old.dones }

@@ -17,7 +17,7 @@ use coco_types::{Done, KeptReply, MapRows, NoMemory, Reply};
 use json::Writer;
 use std::alloc::{AllocError, Global};
 
-/// A record whose kept reply isn't the computed one. Places count from 1.
+/// A Done whose kept reply isn't the computed one. Places count from 1.
 #[derive(Clone, Copy, Debug, PartialEq, Eq)]
 pub struct NotSerial {
     pub place: u64,
@@ -26,7 +26,7 @@ pub struct NotSerial {
     pub computed: Reply,
 }
 
-/// Runs the calls of the records from a place on, in order, from the map of the base's rows, and answers the first
+/// Runs the calls of the Dones from a place on, in order, from the map of the base's rows, and answers the first
 /// whose kept reply isn't that of its run. None is answered exactly where all replies are their runs'.
 pub fn verify_of(
     alloc: Global,

@@ -1,4 +1,4 @@
-//! The class of a line, by the kept records and the new requests of its batch before it.
+//! The class of a line, by the kept Dones and the new requests of its batch before it.
 
 ghost use Rattle.std.specs.Prelude.{◌≡◌, ◌+◌, ℕ, List, length, None, IfOk};
 ghost use Rattle.coco_ast.specs.Fitting.{Fits};

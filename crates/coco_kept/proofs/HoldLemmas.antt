@@ -1,4 +1,4 @@
--- How the records are held once one more has come, or the first has gone.
+-- How the Dones are held once one more has come, or the first has gone.
 use Rattle.std.proofs.Common.{◌≡◌, ℕ, suc, ◌+◌, ◌-◌, ◌<◌, ◌≤◌, ◌%◌, ◌^◌, Bool, true, false, cond, not, ◌||◌, max, List, [], ◌∷◌, ◌++◌, length, nat_eq, Option, None, Some, slice_get, refl, sym, ap, ◌∙◌, arith, subst}
 use Rattle.std.specs.Cmp.{unsigned_Decides}
 use Rattle.std.specs.List.{AllByRecursion}
@@ -46,7 +46,7 @@ above_all : (m n : ℕ) (ds : List Done) → m < n → AllByRecursion (λ e. n �
 above_all m n [] less h = tt
 above_all m n (d ∷ ds) less h = (omega (arith, h.0), above_all m n ds less h.1)
 
--- the first one's epoch goes on exactly where the next record is of it
+-- the first one's epoch goes on exactly where the next Done is of it
 goes_on : (d : Done) (ds : List Done) → NeverFall (d ∷ ds) → is_in d.epoch (epochs_of ds) ≡ first_is d.epoch ds
 goes_on d [] rising = refl
 goes_on d (x ∷ xs) rising = by (nat_eq x.epoch d.epoch) refl
@@ -122,7 +122,7 @@ newest_in d (x ∷ xs) rising =
     either true h = refl
     either false h = h
 
--- an epoch up to which the records are is the greatest one exactly where one is of it
+-- an epoch up to which the Dones are is the greatest one exactly where one is of it
 pub newest_is : (e : ℕ) (d : Done) (ds : List Done) → NeverFall (d ∷ ds) → AreUpTo e (d ∷ ds) → nat_eq (newest_epoch (d ∷ ds)) e ≡ is_in e (epochs_of (d ∷ ds))
 newest_is e d ds rising up = by (nat_eq (newest_epoch (d ∷ ds)) e) refl
   where

@@ -1,4 +1,4 @@
--- What one more record makes of the kept ones and the floor.
+-- What one more Done makes of the kept ones and the floor.
 use Rattle.std.proofs.Common.{◌≡◌, ℕ, ◌+◌, ◌<◌, ◌≤◌, Bool, true, false, cond, not, ◌||◌, List, [], ◌∷◌, ◌++◌, nat_eq, nat_lt, Option, None, Some, refl, sym, ap, ◌∙◌, arith, append-nil, true≢false}
 use Rattle.std.specs.Cmp.{unsigned_Decides}
 use Rattle.std.specs.List.{filter, AllByRecursion}
@@ -11,7 +11,7 @@ use Rattle.coco_kept.specs.Keeping.{Keeping, HoldsKept}
 use Rattle.coco_kept.proofs.Counts.{is_in, count, above, fresh, count-push, above-push, above_none, above_fewer, above_fewer_still, above_no_more, above_least}
 use Rattle.coco_kept.proofs.Filters.{Agree, Within, filter_same, filter_all, filter_none, filter_within, greatest_left}
 
--- ---- each record's epoch is among the epochs
+-- ---- each Done's epoch is among the epochs
 
 abbrev AreAmong : List ℕ → List Done → Type 0
 AreAmong ns ds = AllByRecursion (λ d. is_in d.epoch ns ≡ true) ds
@@ -28,7 +28,7 @@ all_among : (ds : List Done) → AreAmong (epochs_of ds) ds
 all_among [] = tt
 all_among (d ∷ ds) = (ap (λ b. b || is_in d.epoch (epochs_of ds)) ((unsigned_Decides d.epoch d.epoch).1 refl), more_among d.epoch (epochs_of ds) ds (all_among ds))
 
--- tests that agree at what is true of each record
+-- tests that agree at what is true of each Done
 agree : (P : Done → Type 0) (p q : Done → Bool) → ((d : Done) → P d → p d ≡ q d) → (ds : List Done) → AllByRecursion P ds → Agree p q ds
 agree P p q f [] h = tt
 agree P p q f (d ∷ ds) h = (f d h.0, agree P p q f ds h.1)
@@ -47,9 +47,9 @@ epochs-push ds d = map-append (λ (x : Done). x.epoch) ds (d ∷ [])
 pub epoch_count-push : (ds : List Done) (d : Done) → epoch_count (ds ++ d ∷ []) ≡ epoch_count ds + fresh d.epoch (epochs_of ds)
 epoch_count-push ds d = ap count (epochs-push ds d) ∙ count-push (epochs_of ds) d.epoch
 
--- ---- one more record of the last epoch or a later one
+-- ---- one more Done of the last epoch or a later one
 
--- whether a record is still kept once one of this epoch is there too
+-- whether a Done is still kept once one of this epoch is there too
 abbrev pub stays : ℕ → List Done → ℕ → Done → Bool
 stays k ds e x = nat_lt (above x.epoch (epochs_of ds) + fresh e (epochs_of ds)) k
 
@@ -106,7 +106,7 @@ pub forgotten-room : (k : ℕ) (ds : List Done) (d : Done) → 0 < k → AreUpTo
 forgotten-room k ds d some up few =
     forgotten-push k ds d some up ∙ filter_same (λ x. not (stays k ds d.epoch x)) (λ x. false) ds (agree_not (stays k ds d.epoch) (λ x. true) ds (all_stay k ds d.epoch few)) ∙ filter_none ds
 
--- ---- where a new epoch is one too many, the least one's records go
+-- ---- where a new epoch is one too many, the least one's Dones go
 
 least_goes : (k : ℕ) (ds : List Done) (m e : ℕ) → epoch_count ds ≡ k → fresh e (epochs_of ds) ≡ 1 → AllByRecursion (λ x. m ≤ x.epoch) ds → is_in m (epochs_of ds) ≡ true
     → Agree (stays k ds e) (λ x. not (nat_eq x.epoch m)) ds
@@ -160,7 +160,7 @@ forgotten-full k (x ∷ xs) d some up rising full new =
     (agree_not (stays k (x ∷ xs) d.epoch) (λ y. not (nat_eq y.epoch x.epoch)) (x ∷ xs) (least_goes k (x ∷ xs) x.epoch d.epoch full new (least_in x xs rising) (first_in x xs)))
     ∙ not_twice (λ y. nat_eq y.epoch x.epoch) (x ∷ xs)
 
--- ---- what is kept of all records that were added
+-- ---- what is kept of all Dones that were added
 
 above_kept : (n : ℕ) (p : Done → Bool) (ds : List Done) → ((x : Done) → n < x.epoch → p x ≡ true) → filter (λ m. nat_lt n m) (epochs_of (filter p ds)) ≡ filter (λ m. nat_lt n m) (epochs_of ds)
 above_kept n p [] h = refl
@@ -202,7 +202,7 @@ passing p (d ∷ ds) = by (p d) refl (passing p ds)
     by true e rest = (e, rest)
     by false e rest = rest
 
--- among the kept ones a record stays exactly where it does among all
+-- among the kept ones a Done stays exactly where it does among all
 stays_alike : (k : ℕ) (ds : List Done) (e : ℕ) → 0 < k → AreUpTo e ds → Agree (stays k (kept_of (Some k) ds) e) (stays k ds e) (kept_of (Some k) ds)
 stays_alike k ds e some up =
     agree (λ x. is_held (Some k) ds x ≡ true) (stays k (kept_of (Some k) ds) e) (stays k ds e)
@@ -220,7 +220,7 @@ stays_alike k ds e some up =
         let none : above y.epoch (epochs_of ds) ≡ 0 = ap (λ n. above n (epochs_of ds)) is ∙ above_none e (epochs_of ds) (epochs_up_to e ds up) in
         ap (λ n. nat_lt n k) none ∙ (let yes : nat_lt 0 k ≡ true = grind arith in yes)
 
--- the records that were added so far may be taken for the kept ones and the floor
+-- the Dones that were added so far may be taken for the kept ones and the floor
 kept_more : (k : ℕ) (ds : List Done) (d : Done) → 0 < k → AreUpTo d.epoch ds → kept_of (Some k) (kept_of (Some k) ds ++ d ∷ []) ≡ kept_of (Some k) (ds ++ d ∷ [])
 kept_more k ds d some up =
     kept-push k (kept_of (Some k) ds) d some (up_to_kept d.epoch (is_held (Some k) ds) ds up)

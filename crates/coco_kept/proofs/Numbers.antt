@@ -1,4 +1,4 @@
--- The numbers of records, as they come and go.
+-- The numbers of Dones, as they come and go.
 use Rattle.std.proofs.Common.{◌≡◌, ℕ, suc, ◌+◌, ◌-◌, ◌<◌, ◌≤◌, ◌%◌, ◌^◌, Bool, true, false, cond, List, [], ◌∷◌, ◌++◌, length, nat_eq, Option, None, Some, slice_get, Bor, refl, sym, ap, ◌∙◌, arith, true≢false}
 use Rattle.std.specs.Cmp.{unsigned_Decides}
 use Rattle.std.specs.List.{AllByRecursion, IsDistinct}
@@ -16,7 +16,7 @@ eq_swap m n = grind arith
 some_none : {X : Type 0} {x : X} → Some x ≡ None → ⊥
 some_none h = cc
 
--- an id without a record has no number, and the other way round
+-- an id without a Done has no number, and the other way round
 pub no_number : (id first : ℕ) (ds : List Done) → done_of id ds ≡ None → number_of id first ds ≡ None
 no_number id first [] h = refl
 no_number id first (d ∷ ds) h = by (nat_eq id d.id) h (no_number id (first + 1) ds)
@@ -57,7 +57,7 @@ number_leads id first n (d ∷ ds) h = by (nat_eq id d.id) refl h (number_leads 
           record_is = more.record_is ∙ ap (λ b. cond b (Some d) (done_of id ds)) (sym e);
         }
 
--- the record at the place that a number says
+-- the Done at the place that a number says
 pub found : (id first n : ℕ) (ds : List Done) → first < 2 ^ 64 → length ds ≤ 2 ^ 64 → number_of id first ds ≡ Some n → slice_get ds ((n + (2 ^ 64 - first)) % 2 ^ 64) ≡ done_of id ds
 found id first n ds low few h =
     let at = number_leads id first n ds h in
@@ -87,7 +87,7 @@ number-push id first (x ∷ xs) d new =
         rest none ∙ ap (λ b. cond b (Some ((first + 1 + length xs) % 2 ^ 64)) (number_of id (first + 1) xs)) f
         ∙ ap (λ n. cond c (Some (n % 2 ^ 64)) (number_of id (first + 1) xs)) (let same : first + 1 + length xs ≡ first + length (x ∷ xs) = omega arith in same)
 
--- an id that is apart from those of all records has none
+-- an id that is apart from those of all Dones has none
 not_there : (id : ℕ) (ds : List Done) → AllByRecursion (λ y. nat_eq id y ≡ false) (ids_of ds) → done_of id ds ≡ None
 not_there id [] h = refl
 not_there id (d ∷ ds) h = ap (λ b. cond b (Some d) (done_of id ds)) h.0 ∙ not_there id ds h.1
@@ -100,7 +100,7 @@ pub others_apart : (d : Done) (ds : List Done) → HasDistinctIds (d ∷ ds) →
 unfolding IsDistinct
 others_apart d ds once = once.1
 
--- the numbers once the first record is gone
+-- the numbers once the first Done is gone
 pub number-pop : (id first : ℕ) (d : Done) (ds : List Done) → HasDistinctIds (d ∷ ds) → number_of id ((first + 1) % 2 ^ 64) ds ≡ cond (nat_eq d.id id) None (number_of id first (d ∷ ds))
 number-pop id first d ds once =
     number_wraps id ((first + 1) % 2 ^ 64) (first + 1) ds (omega arith) ∙ by (nat_eq d.id id) refl

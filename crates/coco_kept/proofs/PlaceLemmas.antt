@@ -1,4 +1,4 @@
--- How room is made for records of an epoch.
+-- How room is made for Dones of an epoch.
 use Rattle.std.proofs.Common.{◌≡◌, ℕ, ◌+◌, ◌<◌, ◌≤◌, Bool, true, false, cond, not, List, [], ◌∷◌, ◌++◌, nat_eq, nat_lt, None, Some, slice_get, refl, sym, ap, ◌∙◌, arith, subst}
 use Rattle.std.specs.List.{filter, AllByRecursion}
 use Rattle.std.proofs.lemmas.Option.{same_Some}
@@ -13,7 +13,7 @@ use Rattle.coco_kept.proofs.Filters.{Agree, filter_same, filter_all, filter_none
 none_some : {X : Type 0} {x : X} → None ≡ Some x → ⊥
 none_some h = cc
 
--- a record of the epoch
+-- a Done of the epoch
 of_epoch : (epoch : ℕ) (d : Done) (ds : List Done) → d.epoch ≡ epoch → AreUpTo epoch ds → AreUpTo d.epoch ds
 of_epoch epoch d ds is up = subst (λ n. AreUpTo n ds) (sym is) up
 
@@ -108,7 +108,7 @@ place_full epoch n old new up rising is some full one dones floor keep room = re
     new_one : (d : Done) → d.epoch ≡ epoch → fresh d.epoch (epochs_of old.dones) ≡ 1
     new_one d same = ap (λ e. fresh e (epochs_of old.dones)) same ∙ one
 
--- ---- as records of the least epoch go
+-- ---- as Dones of the least epoch go
 
 later_all : (m n : ℕ) (ds : List Done) → m < n → AllByRecursion (λ x. n ≤ x.epoch) ds → Agree (λ d. nat_eq d.epoch m) (λ d. false) ds
 later_all m n [] less h = tt

@@ -1,4 +1,4 @@
--- What an id and a call are to the kept records.
+-- What an id and a call are to the kept Dones.
 use Rattle.std.specs.Prelude.{◌≡◌, ℕ, Bool, true, false, nat_le, Option, None, Some}
 use Rattle.coco_types.specs.declared.call.Call.{Call}
 use Rattle.coco_types.specs.declared.call.Done.{Done}
@@ -12,7 +12,7 @@ abbrev pub is_up_to : Option ℕ → ℕ → Bool
 is_up_to None id = false
 is_up_to (Some floor) id = nat_le id floor
 
--- a held id goes by the call of its record, and any other one by the floor
+-- a held id goes by the call of its Done, and any other one by the floor
 abbrev pub IsFound : Keeping → ℕ → Call → Found → Type 0
 IsFound k id call New = (done_of id k.dones ≡ None) × (is_up_to k.floor id ≡ false)
 IsFound k id call Same = (done : Done) × (done_of id k.dones ≡ Some done) × (done.call ≡ call)

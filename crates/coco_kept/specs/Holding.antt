@@ -1,4 +1,4 @@
--- How the records are held: a number goes with each place, and an index from each id to its record's number.
+-- How the Dones are held: a number goes with each place, and an index from each id to its Done's number.
 use Rattle.std.specs.Prelude.{◌≡◌, ⊤, ℕ, ◌+◌, ◌<◌, ◌≤◌, ◌%◌, ◌^◌, Bool, false, not, nat_eq, if◌then◌else◌, List, [], ◌∷◌, ◌++◌, map, Option, None, Some}
 use Rattle.std.specs.List.{filter, AllByRecursion}
 use Rattle.std.specs.Set.{distinct_count, is_member}
@@ -6,27 +6,27 @@ use Rattle.coco_types.specs.declared.call.Done.{Done}
 use Rattle.coco_ast.specs.History.{kept_of, floor_of, done_of}
 use Rattle.coco_kept.specs.Keeping.{Keeping, HasDistinctIds}
 
--- the number of an id's record, where the first has this one; behind the greatest number of 64 bits comes 0
+-- the number of an id's Done, where the first has this one; behind the greatest number of 64 bits comes 0
 abbrev pub number_of : ℕ → ℕ → List Done → Option ℕ
 number_of id first [] = None
 number_of id first (d ∷ ds) = if nat_eq id d.id then Some (first % 2 ^ 64) else number_of id (first + 1) ds
 
--- no epoch of the records is above this one
+-- no epoch of the Dones is above this one
 abbrev pub AreUpTo : ℕ → List Done → Type 0
 AreUpTo n dones = AllByRecursion (λ d. d.epoch ≤ n) dones
 
 abbrev pub epochs_of : List Done → List ℕ
 epochs_of dones = map (λ d. d.epoch) dones
 
--- whether a record is of the epoch
+-- whether a Done is of the epoch
 abbrev pub has_epoch : ℕ → List Done → Bool
 has_epoch epoch dones = is_member nat_eq (epochs_of dones) epoch
 
--- how many epochs stand in the records
+-- how many epochs stand in the Dones
 abbrev pub epoch_count : List Done → ℕ
 epoch_count dones = distinct_count nat_eq (epochs_of dones)
 
--- no record is of an earlier epoch than one before it
+-- no Done is of an earlier epoch than one before it
 abbrev pub NeverFall : List Done → Type 0
 NeverFall [] = ⊤
 NeverFall (d ∷ ds) = AllByRecursion (λ e. d.epoch ≤ e.epoch) ds × NeverFall ds
@@ -42,7 +42,7 @@ abbrev pub first_is : ℕ → List Done → Bool
 first_is epoch [] = false
 first_is epoch (d ∷ ds) = nat_eq d.epoch epoch
 
--- the records of the first one's epoch, and the others
+-- the Dones of the first one's epoch, and the others
 abbrev pub least_of : List Done → List Done
 least_of [] = []
 least_of (d ∷ ds) = filter (λ e. nat_eq e.epoch d.epoch) (d ∷ ds)
@@ -51,7 +51,7 @@ abbrev pub behind_least : List Done → List Done
 behind_least [] = []
 behind_least (d ∷ ds) = filter (λ e. not (nat_eq e.epoch d.epoch)) (d ∷ ds)
 
--- room is made for records of an epoch: with one more of it there are those that are to be kept
+-- room is made for Dones of an epoch: with one more of it there are those that are to be kept
 pub record MakesPlace (epoch : ℕ) (old new : Keeping) : Type 0 where
   pub kept : (d : Done) → d.epoch ≡ epoch → new.dones ++ d ∷ [] ≡ kept_of old.keep (old.dones ++ d ∷ [])
   pub floor : (d : Done) → d.epoch ≡ epoch → new.floor ≡ floor_of old.keep old.floor (old.dones ++ d ∷ [])

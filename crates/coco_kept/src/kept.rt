@@ -1,4 +1,4 @@
-//! The records whose replies are kept.
+//! The Dones whose replies are kept.
 ghost use Rattle.std.specs.Prelude.{◌≡◌, ◌+◌, ◌<◌, ◌≤◌, ◌↔◌, ℕ, List, Option, [], ◌∷◌, ◌++◌, not, length, slice_get, None, Some, IfSome, IsTrue, OnOk};
 ghost use Rattle.std.specs.Iterator.Runs.{YieldsRefsInOrder};
 ghost use Rattle.std.specs.VecDeque.Iter.{deque_iter_rest, deque_iter_steps};
@@ -30,7 +30,7 @@ pub enum Found {
     Old,
 }
 
-/// The records of committed requests in order of commit, each under its id. Where there is a keep number, those of
+/// The Dones of committed requests in order of commit, each under its id. Where there is a keep number, those of
 /// so many of the last epochs are held, and the floor is the greatest id that was forgotten.
 #[derive(Drop)]
 pub struct Kept {
@@ -62,7 +62,7 @@ impl Model for Kept {
 }
 
 impl Kept {
-    /// No records, with the floor that earlier ones left. A keep number is at least 1. It takes no memory.
+    /// No Dones, with the floor that earlier ones left. A keep number is at least 1. It takes no memory.
     pub fn new(alloc: Global, keep: Option<u16>, floor: Option<u64>) -> Kept
         requires { IfSome keep (λ n. 0 < n) }
         ensures dones { result.dones ≡ [] }
@@ -80,7 +80,7 @@ impl Kept {
         }
     }
 
-    /// How many records are held.
+    /// How many Dones are held.
     pub fn len(&self) -> u64
         ensures len { result ≡ length self.now.dones }
         ensures distinct { HasDistinctIds self.now.dones }
@@ -94,7 +94,7 @@ impl Kept {
         self.dones.is_empty()
     }
 
-    /// Whether as many records are held as a store without a keep number keeps.
+    /// Whether as many Dones are held as a store without a keep number keeps.
     pub fn is_full(&self) -> bool
         ensures { IsTrue result ↔ (most_kept ≤ length self.now.dones) }
     {
@@ -108,7 +108,7 @@ impl Kept {
         self.floor
     }
 
-    /// The greatest epoch of the records, and 0 where there is none.
+    /// The greatest epoch of the Dones, and 0 where there is none.
     pub fn newest_epoch(&self) -> u64
         ensures { result ≡ newest_epoch self.now.dones }
     {
@@ -118,7 +118,7 @@ impl Kept {
         }
     }
 
-    /// The record of an id, if it is held. It takes no memory.
+    /// The Done of an id, if it is held. It takes no memory.
     pub fn get(&self, id: u64) -> Option<&Done>
         ensures { option_copied result ≡ done_of id self.now.dones }
     {
@@ -128,14 +128,14 @@ impl Kept {
         }
     }
 
-    /// The record at a place in order of commit, counted from 0.
+    /// The Done at a place in order of commit, counted from 0.
     pub fn nth(&self, place: u64) -> Option<&Done>
         ensures { option_copied result ≡ slice_get self.now.dones place }
     {
         self.dones.get(place as usize)
     }
 
-    /// The records, in order of commit.
+    /// The Dones, in order of commit.
     pub fn iter(&self) -> Iter<'_, Done>
         ensures rest { deque_iter_rest result ≡ self.now.dones }
         ensures runs { YieldsRefsInOrder (deque_iter_steps {X = Record}) deque_iter_rest }
@@ -165,7 +165,7 @@ impl Kept {
         }
     }
 
-    /// Makes room for the records of these ids.
+    /// Makes room for the Dones of these ids.
     pub fn reserve(&mut self, ids: &[u64]) -> Result<(), NoMemory>
         ensures dones { self.new.dones ≡ self.old.dones }
         ensures floor { self.new.floor ≡ self.old.floor }
@@ -178,7 +178,7 @@ impl Kept {
         Ok(())
     }
 
-    /// Adds a record at the end. Where the epochs held would be more than the keep number, those of the least one are
+    /// Adds a Done at the end. Where the epochs held would be more than the keep number, those of the least one are
     /// forgotten first. It takes no memory.
     pub fn add(&mut self, done: Done)
         requires new { done_of done.id self.old.dones ≡ None }
@@ -196,7 +196,7 @@ impl Kept {
         self.push(done);
     }
 
-    // Forgets the records of the least epoch, where one of this epoch is one epoch too many.
+    // Forgets the Dones of the least epoch, where one of this epoch is one epoch too many.
     fn make_place(&mut self, epoch: u64)
         requires { AreUpTo epoch self.old.dones }
         ensures { MakesPlace epoch self.old self.new }
@@ -212,7 +212,7 @@ impl Kept {
         }
     }
 
-    // Whether no record is of this epoch, the last one or a later one.
+    // Whether no Done is of this epoch, the last one or a later one.
     fn begins_epoch(&self, epoch: u64) -> bool
         requires { AreUpTo epoch self.now.dones }
         ensures { result ≡ not (has_epoch epoch self.now.dones) }
@@ -220,7 +220,7 @@ impl Kept {
         self.dones.is_empty() || self.newest_epoch() != epoch
     }
 
-    // Forgets the records of the least epoch.
+    // Forgets the Dones of the least epoch.
     fn forget_least(&mut self)
         ensures dones { self.new.dones ≡ behind_least self.old.dones }
         ensures floor { self.new.floor ≡ greatest_with self.old.floor (ids_of (least_of self.old.dones)) }
@@ -253,7 +253,7 @@ impl Kept {
         }
     }
 
-    // Adds a record at the end, of which there may be one more epoch.
+    // Adds a Done at the end, of which there may be one more epoch.
     fn push(&mut self, done: Done)
         requires new { done_of done.id self.old.dones ≡ None }
         requires last { AreUpTo done.epoch self.old.dones }
@@ -275,7 +275,7 @@ impl Kept {
     }
 }
 
-// Whether the first record is of this epoch.
+// Whether the first Done is of this epoch.
 fn begins_with(dones: &VecDeque<Done>, epoch: u64) -> bool
     ensures { result ≡ first_is epoch dones.now.items }
 {

@@ -1,4 +1,4 @@
-//! The kept replies: one record for each request id, looked up by id, in order of commit.
+//! The kept replies: one Done for each request id, looked up by id, in order of commit.
 #![tactic(auto)]
 
 pub mod kept;

@@ -39,7 +39,7 @@ reply_json (reply.Refused cause) = string (cause_word cause)
 abbrev pub count_json : ℕ → Data
 count_json n = number (unsigned n)
 
--- a record as an object, its members in sorted order
+-- a Done as an object, its members in sorted order
 abbrev pub done_json : Done → Data
 done_json done = object (member (codes "epoch") (count_json done.epoch) (member (codes "id") (count_json done.id)
     (member (reply_key done.reply) (reply_json done.reply) (member (codes "time") (count_json done.time) no_members))))
@@ -58,7 +58,7 @@ error_word error.Old = codes "old"
 abbrev pub error_json : LineError → ℕ → Data
 error_json e line = object (member (codes "error") (string (error_word e)) (member (codes "line") (count_json line) no_members))
 
--- what is said for a record: compact JSON and a line feed
+-- what is said for a Done: compact JSON and a line feed
 unfoldable pub done_text : Done → List ℕ
 done_text done = compact_text (done_json done) ++ 10 ∷ []
 

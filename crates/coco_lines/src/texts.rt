@@ -12,7 +12,7 @@ use itoa::Buffer;
 use json::Writer;
 use std::alloc::Global;
 
-/// The text that is said for a record.
+/// The text that is said for a Done.
 pub fn done_text(alloc: Global, done: &Done) -> Result<Vec<u8>, NoMemory>
     ensures { IfOk result (λ text. text.items ≡ done_text done.now) }
 {
@@ -30,7 +30,7 @@ pub fn error_text(alloc: Global, error: LineError, number: u64) -> Result<Vec<u8
     Ok(out)
 }
 
-/// Puts the text of a record at the end of a buffer, whole or not at all.
+/// Puts the text of a Done at the end of a buffer, whole or not at all.
 pub fn write_done(out: &mut Vec<u8>, done: &Done) -> Result<(), NoMemory>
     ensures ok { OnOk result (out.new.items ≡ out.old.items ++ done_text done.now) }
     ensures err { OnErr result (out.new.items ≡ out.old.items) }

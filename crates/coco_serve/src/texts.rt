@@ -1,4 +1,4 @@
-//! The texts of a batch's answers, made in two steps: those of kept records before its epoch, which may make the store
+//! The texts of a batch's answers, made in two steps: those of kept Dones before its epoch, which may make the store
 //! forget one of them, and the others behind it.
 ghost use Rattle.std.specs.Prelude.{◌≡◌, ◌++◌, ℕ, List, Vec, map, IfOk, OnOk};
 ghost use Rattle.std.specs.Option.{option_map};
@@ -11,7 +11,7 @@ use coco_lines::done_text;
 use coco_types::NoMemory;
 use std::alloc::Global;
 
-/// For each answer its text, where it replies with a record that is kept.
+/// For each answer its text, where it replies with a Done that is kept.
 pub fn early_texts(
     alloc: Global,
     kept: &Kept,

@@ -1,4 +1,4 @@
--- Which of a store's records are those of its base: the first ones, up to the base's epoch.
+-- Which of a store's Dones are those of its base: the first ones, up to the base's epoch.
 use Rattle.std.proofs.Common.{◌≡◌, ℕ, ◌+◌, ◌<◌, ◌≤◌, Bool, true, false, cond, nat_eq, nat_le, List, [], ◌∷◌, ◌++◌, length, map, drop, Option, None, Some, refl, sym, ap, subst, ◌∙◌, arith}
 use Rattle.std.specs.List.{AllByRecursion, prefix_len}
 use Rattle.std.proofs.Math.Seq.{drop-append_seam}

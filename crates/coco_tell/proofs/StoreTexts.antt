@@ -16,7 +16,7 @@ use Rattle.coco_tell.specs.Telling.{dump_in}
 use Rattle.coco_tell.proofs.MapLists.{AreLists, lists_make}
 
 module _ (c : Contents) (store : Opened) (has : Has None c store) where
-  -- by the history's map, the records of the store are all of the history's
+  -- by the history's map, the Dones of the store are all of the history's
   text_with : (m : Rows) → m ≡ map_in c → dump_text store.procs store.kept.dones m ≡ dump_in c
   text_with m same =
       ap (λ (procs : Procedures). dump_text procs store.kept.dones m) has.procs

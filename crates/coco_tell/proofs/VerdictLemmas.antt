@@ -24,13 +24,13 @@ use Rattle.coco_store.specs.Rules.{kept_dones}
 use Rattle.coco_tell.specs.Telling.{IsVerdict}
 use Rattle.coco_tell.proofs.BaseLemmas.{base_passes, behind_passing, commits_fail, commits_timed}
 
--- whether a record is of the epochs up to this one
+-- whether a Done is of the epochs up to this one
 abbrev is_early : ℕ → Done → Bool
 is_early n d = nat_le d.epoch n
 
 module _ (files : Files) (c : Contents) (holds : Holds files c) (store : Opened) (has : Has None c store)
     (first : ℕ) (first_is : first ≡ prefix_len (is_early store.layout.base_epoch) store.kept.dones) where
-  -- the records of the epochs
+  -- the Dones of the epochs
   abbrev late : List Done
   late = epoch_dones (history_of c)
 
@@ -54,7 +54,7 @@ module _ (files : Files) (c : Contents) (holds : Holds files c) (store : Opened)
     rows_are : map_with base ≡ (history_of c).base.rows
     rows_are = ap map_with (base_is ∙ has.base)
 
-    -- what holds of the store's records behind its base's holds of those of the epochs
+    -- what holds of the store's Dones behind its base's holds of those of the epochs
     of_epochs : (F : Procedures → Rows → List Done → Type 0) → F store.procs (map_with base) (drop first store.kept.dones) → F c.setting.tree (history_of c).base.rows late
     of_epochs F is =
         subst (λ (procs : Procedures). F procs (history_of c).base.rows late) has.procs

@@ -19,11 +19,11 @@ use Rattle.coco_store.specs.Refusals.{IsFirstRefusal}
 
 -- ---- what a store's contents say
 
--- their records in order of commit, and then their rows
+-- their Dones in order of commit, and then their rows
 abbrev pub dump_in : Contents → List ℕ
 dump_in c = dump_text c.setting.tree (all_dones (history_of c)) (map_in c)
 
--- the line of a verdict, and the ending that goes with it: all replies are those of a serial run, or this record's isn't, the first
+-- the line of a verdict, and the ending that goes with it: all replies are those of a serial run, or this Done's isn't, the first
 abbrev pub IsVerdict : Contents → List ℕ → Ending → Type 0
 IsVerdict c text ending.Finished = IsSerial c.setting.tree (history_of c) × (text ≡ serial_text (length (epoch_dones (history_of c))))
 IsVerdict c text (ending.NotSerial place) = (found : NotSerial) × IsFirstUnlike c.setting.tree (history_of c).base.rows (epoch_dones (history_of c)) found

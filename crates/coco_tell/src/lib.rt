@@ -1,4 +1,4 @@
-//! The commands that say what a store has: `dump` its records and rows, `verify` whether its replies are those of a
+//! The commands that say what a store has: `dump` its Dones and rows, `verify` whether its replies are those of a
 //! serial run.
 #![tactic(auto)]
 

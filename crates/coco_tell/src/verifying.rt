@@ -90,7 +90,7 @@ fn joined(alloc: Global, lists: &[MapRows]) -> Result<MapRows, NoMemory>
     Ok(MapRows::from_vec(rows))
 }
 
-// How many of the kept records, from the first on, are of the epochs up to this one: those of the base.
+// How many of the kept Dones, from the first on, are of the epochs up to this one: those of the base.
 fn kept_until(kept: &Kept, epoch: u64) -> u64
     ensures { result ≡ prefix_len (λ d. nat_le d.epoch epoch) kept.now.dones }
 {

@@ -31,7 +31,7 @@ pub enum Command {
     },
     /// Run request lines.
     Run(RunOptions),
-    /// Say the records and the rows.
+    /// Say the Dones and the rows.
     Dump,
     /// Say whether the replies are those of a serial run.
     Verify,

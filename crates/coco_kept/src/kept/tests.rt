@@ -1,4 +1,4 @@
-//! Records that come, are found and go, by tables.
+//! Dones that come, are found and go, by tables.
 use super::*;
 use coco_types::{Args, KeptReply, Reply, Value};
 use std::test::Fail;
@@ -15,7 +15,7 @@ fn call(alloc: Global, row: Option<i64>) -> Result<Call, NoMemory> {
     })
 }
 
-// Adds a record of this epoch and says true, where the id is new and the epoch isn't too low.
+// Adds a Done of this epoch and says true, where the id is new and the epoch isn't too low.
 fn keep(
     alloc: Global,
     kept: &mut Kept,
@@ -82,7 +82,7 @@ fn a_known_id_is_the_same_only_with_an_equal_call(rt: HostRuntime) -> Result<(),
 #[test]
 fn the_last_epochs_are_kept(rt: HostRuntime) -> Result<(), Fail> {
     let alloc = rt.alloc();
-    // A keep number, records as (id, epoch), and then which are held, and the floor.
+    // A keep number, Dones as (id, epoch), and then which are held, and the floor.
     let cases: [(u16, &[(u64, u64)], &[u64], Option<u64>); 6] = [
         (1, &[(1, 1)], &[1], None),
         (1, &[(1, 1), (2, 2)], &[2], Some(1)),

@@ -2,6 +2,6 @@ use Rattle.coco_audit.specs.Maps.{map_with}
 use Rattle.coco_audit.proofs.Replies.{RanTo}
 use Rattle.coco_audit.proofs.verify.verify_of.Given as goal
 
--- the records before this place ran as they were kept
+-- the Dones before this place ran as they were kept
 abbrev pub invariant-loop-place : goal.invariant-loop-place
 invariant-loop-place l = RanTo l.procs (map_with l.base) l.kept.dones l.first l.place l.executor.rows
