@@ -1,4 +1,4 @@
-//! Calls of procedures, what they answer and write, and their records once they are committed.
+//! Calls of procedures, what they answer and write, and their Dones once they are committed.
 ghost use Rattle.std.specs.Prelude.{◌≡◌, IfOk};
 
 use crate::{Args, KeptReply, Key, NoMemory, PackedWrites, Sequence, Value};
@@ -73,7 +73,7 @@ pub struct Done {
 pub type Dones = Sequence<Done>;
 
 impl Done {
-    /// An equal record.
+    /// An equal Done.
     pub fn try_clone(&self) -> Result<Done, NoMemory>
         ensures { IfOk result (λ copy. copy ≡ self.now) }
     {

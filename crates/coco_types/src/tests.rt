@@ -1,4 +1,4 @@
-//! Texts, arguments, calls, records and keys on their happy paths.
+//! Texts, arguments, calls, Dones and keys on their happy paths.
 
 use crate::{
     Args, Call, Cause, Done, Failed, KeptReply, Key, NoMemory, OutFault, Packed, PackedWrite,
