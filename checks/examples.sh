@@ -42,7 +42,7 @@ example() {
         same 'answers without epoch and time' <(without_place "$work/said") <(without_place "$folder/replies.jsonl")
         "$program" "$work/store" dump </dev/null >"$work/dump" || failed=1
         same rows <(grep '^{"row"' "$work/dump") "$folder/rows.jsonl"
-        # A record is its request and its answer.
+        # A Done is said as its request and its answer.
         grep -v '^{"row"' "$work/dump" | sed 's/^{"args":.*,"call":"[a-z]*",/{/; s/"snapshot":[a-z]*,//' | sort >"$work/records"
         grep -v '^{"error"' "$work/said" | sort -u >"$work/replies"
         same records "$work/records" "$work/replies"

@@ -39,7 +39,7 @@ ends() {
     fi
 }
 
-# new STORE WORD..: a store without records.
+# new STORE WORD..: a store without Dones.
 new() {
     local input=/dev/null
     rm -rf "$1"
@@ -47,7 +47,7 @@ new() {
     ends 'a new store' 0
 }
 
-# bare FILE: answers or records without the numbers of their epochs, of which one that was begun in vain uses one up.
+# bare FILE: answers or Dones without the numbers of their epochs, of which one that was begun in vain uses one up.
 bare() {
     sed 's/"epoch":[0-9]*,//' "$1"
 }

@@ -46,7 +46,7 @@ told() {
     [ "$whole" -le "$before" ] || cp "$work/front" "$work/told"
 }
 
-# standing: after a kill the records of all batches that were answered are there.
+# standing: after a kill the Dones of all batches that were answered are there.
 standing() {
     local records
     on "$work/store" verify
