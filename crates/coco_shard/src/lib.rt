@@ -20,7 +20,8 @@ pub use version::Version;
 #[cfg(test)]
 mod tests {
     use super::*;
-    use coco_types::{AttemptId, Key, Machine, Value};
+    use coco_packs::Packs;
+    use coco_types::{AttemptId, Key, Machine, Text, Value};
     use std::alloc::Global;
     use std::process::Abort;
     use std::test::Fail;
@@ -124,6 +125,47 @@ mod tests {
         shard.extend(FIVE, 9)?;
         let version = shard.version(FIVE).ok_or("no row")?;
         assert_eq!(rt; (version.wts, version.rts), (0, 9));
+        Ok(())
+    }
+
+    fn install(value: Option<Value>) -> Op {
+        Op::Install {
+            key: FIVE,
+            time: 3,
+            value,
+        }
+    }
+
+    fn got(value: Option<Value>) -> Answer {
+        Answer::Got {
+            wts: 1,
+            rts: 2,
+            value,
+        }
+    }
+
+    fn ask_is_read_back(alloc: Global, op: Op) -> Result<bool, Fail> {
+        let asked = ask(2, op);
+        let packed = Shard::pack_ask(alloc, &asked)?;
+        Ok(Shard::unpack_ask(&packed) == asked)
+    }
+
+    fn answer_is_read_back(alloc: Global, answer: Answer) -> Result<bool, Fail> {
+        let (packed, _left) = Shard::pack_answer(&answer, Shard::spare(alloc)?);
+        Ok(Shard::unpack_answer(&packed) == answer)
+    }
+
+    #[test]
+    fn what_is_packed_is_read_back(rt: HostRuntime) -> Result<(), Fail> {
+        let alloc = rt.alloc();
+        let text = Text::of("seven").ok_or("no text")?;
+        let mut is_same = ask_is_read_back(alloc, Op::Past(FIVE))?;
+        for value in [None, int(7), Some(Value::Text(text))] {
+            let asked = ask_is_read_back(alloc, install(value))?;
+            let answered = answer_is_read_back(alloc, got(value))?;
+            is_same = is_same && asked && answered;
+        }
+        assert!(rt; is_same);
         Ok(())
     }
 }
