@@ -32,7 +32,7 @@ sign_of op.Or = sign.Or
 -- one level, with each expression inside already seen as its tree
 abbrev pub expression_step : Expr-F Expression → Expression
 expression_step (Expr-F.Number n) = Number n
-expression_step (Expr-F.Text text) = Quoted text.value
+expression_step (Expr-F.Text text) = Quoted text
 expression_step Expr-F.None = Nothing
 expression_step (Expr-F.Var name) = Variable name
 expression_step (Expr-F.Not e) = Not e.value

@@ -6,12 +6,14 @@ pub mod checked;
 pub mod error;
 mod index;
 pub mod laws;
+pub mod literal;
 pub mod name;
 pub mod tree;
 
 pub use builtin::builtins;
 pub use checked::Checked;
 pub use error::{CheckError, CheckKind};
+pub use literal::Literal;
 pub use name::{MOST_NAME_BYTES, Name, continues_word, starts_word};
 pub use tree::{Block, Expr, Names, Place, Proc, ProcList, Procs, Stmt, TwoOp};
 

@@ -1,6 +1,7 @@
-//! Names, built-in procedures and expressions as they are made.
+//! Names, built-in procedures, literals and expressions as they are made.
 
-use crate::{Expr, Name, TwoOp, builtins};
+use crate::{Expr, Literal, Name, TwoOp, builtins};
+use coco_types::Text;
 use std::test::Fail;
 
 #[test]
@@ -38,5 +39,16 @@ fn expressions_are_made_of_operands(rt: HostRuntime) -> Result<(), Fail> {
     let right = Expr::not(alloc, Expr::None)?;
     let sum = Expr::two(alloc, TwoOp::Add, left, right)?;
     assert!(rt; matches!(&sum, Expr::Two { .. }));
+    Ok(())
+}
+
+#[test]
+fn a_literal_has_its_text(rt: HostRuntime) -> Result<(), Fail> {
+    for written in ["", "Zürich"] {
+        let text = Text::of(written).expect(&rt, "at most 256 bytes");
+        let literal = Literal::of(rt.alloc(), &text)?;
+        assert_eq!(rt; literal.as_str(), written);
+        assert!(rt; literal.text() == text);
+    }
     Ok(())
 }

@@ -4,7 +4,7 @@ ghost use Rattle.std.specs.Prelude.{◌≡◌, IfOk};
 ghost use Rattle.coco_ast.specs.Tree.{Quoted, Not, Negate, Two};
 ghost use Rattle.coco_ast.specs.Views.{expression_of, sign_of};
 
-use crate::Name;
+use crate::{Literal, Name};
 use coco_types::{NoMemory, Sequence, Text};
 use std::alloc::Global;
 
@@ -26,12 +26,11 @@ pub enum TwoOp {
     Or,
 }
 
-/// An expression. `None` is the word `none`. A text stands on the heap, since most expressions have
-/// none.
+/// An expression. `None` is the word `none`.
 #[derive(Debug, Drop)]
 pub enum Expr {
     Number(i64),
-    Text(Box<Text>),
+    Text(Literal),
     None,
     Var(Name),
     Not(Box<Expr>),
@@ -47,7 +46,7 @@ impl Expr {
     pub fn text(alloc: Global, text: Text) -> Result<Expr, NoMemory>
         ensures { IfOk result (λ e. expression_of e ≡ Quoted text) }
     {
-        let text = Box::new(alloc, text)?;
+        let text = Literal::of(alloc, &text)?;
         Ok(Expr::Text(text))
     }
 

@@ -10,6 +10,7 @@ abbrev pub datum_of : Operand → Datum
 datum_of operand.None = None
 datum_of (operand.Int n) = Some (Int n)
 datum_of (operand.Text text) = Some (Text text.now)
+datum_of (operand.Literal text) = Some (Text text.now)
 
 -- what was computed, by the value that was lent
 abbrev pub computed_of : Result Operand Cause → Computed Datum

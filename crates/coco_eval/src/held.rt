@@ -4,6 +4,7 @@ ghost use Rattle.coco_types.specs.declared.value.Value.TheVariants.{Int, Text as
 ghost use Rattle.coco_eval.specs.Lending.{datum_of};
 
 use crate::operand::Operand;
+use coco_ast::Literal;
 use coco_types::{Text, Value};
 use std::marker::Model;
 
@@ -42,6 +43,10 @@ impl Held {
                 is_set: true,
                 value: Value::Text(**text),
             },
+            Operand::Literal(literal) => Held {
+                is_set: true,
+                value: Value::Text(literal.text()),
+            },
         }
     }
 
@@ -76,6 +81,10 @@ impl Held {
                 store_text(&mut self.value, text);
                 self.is_set = true;
             }
+            Operand::Literal(literal) => {
+                store_literal(&mut self.value, literal);
+                self.is_set = true;
+            }
         }
     }
 
@@ -97,10 +106,17 @@ fn set_number(place: &mut Value, number: i64)
     }
 }
 
-// It stands apart, so that a number needs no room of a text.
+// It stands apart, as `store_literal` does, so that a number needs no room of a text.
 #[inline(never)]
 fn store_text(place: &mut Value, text: &Text)
     ensures { place.new ≡ Quoted text.now }
 {
     *place = Value::Text(*text);
+}
+
+#[inline(never)]
+fn store_literal(place: &mut Value, literal: &Literal)
+    ensures { place.new ≡ Quoted literal.now }
+{
+    *place = Value::Text(literal.text());
 }

@@ -49,7 +49,7 @@ fn row_key(table: u16, row: &Operand<'_>) -> Result<Key, Cause>
 {
     match row {
         Operand::Int(row) => numbered_key(table, *row),
-        Operand::None | Operand::Text(_) => Err(Cause::Kind),
+        Operand::None | Operand::Text(_) | Operand::Literal(_) => Err(Cause::Kind),
     }
 }
 

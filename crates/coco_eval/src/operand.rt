@@ -3,16 +3,18 @@ ghost use Rattle.std.specs.Prelude.{◌≡◌, Some, nat_eq};
 ghost use Rattle.std.specs.Cmp.Lexicographic.{pointwise};
 ghost use Rattle.coco_eval.specs.Lending.{datum_of};
 ghost use Rattle.coco_ast.specs.Meaning.{number_of, same};
-ghost use Rattle.coco_types.specs.declared.value.Value.TheVariants.{Int};
+ghost use Rattle.coco_types.specs.declared.value.Value.TheVariants.{Int, Text as Quoted};
 
+use coco_ast::Literal;
 use coco_types::{Cause, Text, Value};
 
-/// A value, or none. Its text stays where it stands.
+/// A value, or none. Its text stays where it stands: in a value, or in a procedure.
 #[derive(Clone, Copy)]
 pub enum Operand<'a> {
     None,
     Int(i64),
     Text(&'a Text),
+    Literal(&'a Literal),
 }
 
 /// A value, lent.
@@ -34,7 +36,16 @@ pub fn owned(value: &Operand<'_>) -> Option<Value>
         Operand::None => None,
         Operand::Int(number) => Some(Value::Int(*number)),
         Operand::Text(text) => Some(Value::Text(**text)),
+        Operand::Literal(literal) => quoted(literal),
     }
+}
+
+// It stands apart, as `store_literal` does, so that a number needs no room of a text.
+#[inline(never)]
+fn quoted(literal: &Literal) -> Option<Value>
+    ensures { result ≡ Some (Quoted literal.now) }
+{
+    Some(Value::Text(literal.text()))
 }
 
 /// Puts the value into a place, of which only what changes is written.
@@ -45,7 +56,15 @@ pub fn store(slot: &mut Option<Value>, value: &Operand<'_>)
         Operand::None => *slot = None,
         Operand::Int(number) => store_number(slot, *number),
         Operand::Text(text) => *slot = Some(Value::Text(**text)),
+        Operand::Literal(literal) => store_literal(slot, literal),
     }
+}
+
+#[inline(never)]
+fn store_literal(slot: &mut Option<Value>, literal: &Literal)
+    ensures { slot.new ≡ Some (Quoted literal.now) }
+{
+    *slot = Some(Value::Text(literal.text()));
 }
 
 fn store_number(slot: &mut Option<Value>, number: i64)
@@ -62,7 +81,7 @@ pub fn number(value: &Operand<'_>) -> Result<i64, Cause>
 {
     match value {
         Operand::Int(number) => Ok(*number),
-        Operand::None | Operand::Text(_) => Err(Cause::Kind),
+        Operand::None | Operand::Text(_) | Operand::Literal(_) => Err(Cause::Kind),
     }
 }
 
@@ -73,12 +92,23 @@ pub fn are_same(left: &Operand<'_>, right: &Operand<'_>) -> bool
     match (left, right) {
         (Operand::None, Operand::None) => true,
         (Operand::Int(left), Operand::Int(right)) => left == right,
-        (Operand::Text(left), Operand::Text(right)) => are_same_text(left, right),
+        (Operand::Text(left), Operand::Text(right)) => {
+            are_same_text(left.as_str(), right.as_str())
+        }
+        (Operand::Text(left), Operand::Literal(right)) => {
+            are_same_text(left.as_str(), right.as_str())
+        }
+        (Operand::Literal(left), Operand::Text(right)) => {
+            are_same_text(left.as_str(), right.as_str())
+        }
+        (Operand::Literal(left), Operand::Literal(right)) => {
+            are_same_text(left.as_str(), right.as_str())
+        }
         _ => false,
     }
 }
 
-fn are_same_text(left: &Text, right: &Text) -> bool
+fn are_same_text(left: &str, right: &str) -> bool
     ensures { result ≡ pointwise nat_eq left.now right.now }
 {
     left == right

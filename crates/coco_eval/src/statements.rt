@@ -237,15 +237,14 @@ impl Machine {
             (with (kept_of self.old) (value_of (kept_of self.old).variables (expression_of value.now)) (λ d. Goes (with_variable (kept_of self.old) name.now d)))
             0 self.old self.new }
     {
-        match crate::values::value(value, self.variables.as_slice()) {
-            Ok(Operand::None) => self.set(name, &Operand::None),
-            Ok(Operand::Int(number)) => self.set(name, &Operand::Int(number)),
-            Ok(Operand::Text(text)) => {
-                let text = *text;
-                self.set(name, &Operand::Text(&text))
-            }
-            Err(cause) => self.refuse(cause),
-        }
+        let text = match crate::values::value(value, self.variables.as_slice()) {
+            Ok(Operand::None) => return self.set(name, &Operand::None),
+            Ok(Operand::Int(number)) => return self.set(name, &Operand::Int(number)),
+            Ok(Operand::Text(text)) => *text,
+            Ok(Operand::Literal(literal)) => literal.text(),
+            Err(cause) => return self.refuse(cause),
+        };
+        self.set(name, &Operand::Text(&text))
     }
 
     fn set(&mut self, name: &Name, value: &Operand<'_>) -> Stop

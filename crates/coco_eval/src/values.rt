@@ -81,7 +81,7 @@ pub fn leaf(expr: &Expr, variables: &[Variable]) -> Option<i64>
         Expr::Number(number) => Some(*number),
         Expr::Var(name) => match value_at(variables, name) {
             Operand::Int(number) => Some(number),
-            Operand::None | Operand::Text(_) => None,
+            Operand::None | Operand::Text(_) | Operand::Literal(_) => None,
         },
         _ => None,
     }
@@ -143,7 +143,7 @@ fn computed<'a>(expr: &'a Expr, variables: &'a [Variable]) -> Result<Operand<'a>
 {
     match expr {
         Expr::Number(number) => Ok(Operand::Int(*number)),
-        Expr::Text(text) => Ok(Operand::Text(text.as_ref())),
+        Expr::Text(literal) => Ok(Operand::Literal(literal)),
         Expr::None => Ok(Operand::None),
         Expr::Var(name) => Ok(value_at(variables, name)),
         Expr::Not(operand) => match computed(operand, variables) {
