@@ -38,8 +38,8 @@ use Rattle.coco_run.specs.Running.{Opens, ending_of_run}
 use Rattle.coco_serve.specs.Faults.{Counts}
 use Rattle.coco_serve.specs.Growth.{epochs_of}
 use Rattle.coco_serve.specs.Serving.{HasCause, Outside, Serves}
-use Rattle.coco_serve.specs.declared.ending.Ending.{Ending as Served}
-use Rattle.coco_serve.specs.declared.ending.Ending.TheVariants as served
+use Rattle.coco_serve.specs.declared.ending.Served.{Served}
+use Rattle.coco_serve.specs.declared.ending.Served.TheVariants as served
 use Rattle.coco_serve.specs.declared.plan.Plan.{Plan}
 use Rattle.coco_serve.proofs.RunLemmas.{added_by, classes_length, few_new, joined-more}
 use Rattle.coco_store.specs.Contents.{Contents, history_of}

@@ -20,7 +20,7 @@ use Rattle.coco_make.specs.NewStore.{new_layout}
 use Rattle.coco_migrate.specs.Keeping.{contents_keeping}
 use Rattle.coco_serve.specs.Growth.{manner_of}
 use Rattle.coco_serve.specs.Serving.{AreUsedUp, Outside, Progress, Serves}
-use Rattle.coco_serve.specs.declared.ending.Ending.TheVariants as served
+use Rattle.coco_serve.specs.declared.ending.Served.TheVariants as served
 use Rattle.coco_serve.specs.declared.plan.Plan.{Plan}
 use Rattle.coco_store.specs.Contents.{Contents, IsGoodStore, history_of}
 use Rattle.coco_store.specs.Texts.{IsAcceptedText}

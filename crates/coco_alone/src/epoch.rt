@@ -13,7 +13,7 @@ ghost use Rattle.coco_alone.specs.Epochs.{HavePlaces, IsSameOutside, all_ended, 
 
 use crate::laws::alone_is_serial;
 use crate::progress::{Finished, Progress};
-use crate::room::Room;
+use crate::room::AloneRoom;
 use coco_ast::Checked;
 use coco_epoch::revert_all;
 use coco_shard::Shard;
@@ -35,7 +35,7 @@ pub struct Ran {
 /// epoch before, or new.
 pub fn run_alone(
     alloc: Global,
-    room: &mut Room,
+    room: &mut AloneRoom,
     shards: &mut [Shard],
     procs: &Checked,
     requests: Vec<Request>,
@@ -62,7 +62,7 @@ pub fn run_alone(
 
 fn run_requests(
     alloc: Global,
-    room: &mut Room,
+    room: &mut AloneRoom,
     shards: &mut [Shard],
     procs: &Checked,
     requests: Vec<Request>,
@@ -80,7 +80,7 @@ fn run_requests(
         × IsSerialEpoch procs.now requests.items epoch m shards.new ran.dones ran.pieces) }
     ensures kept { KeepStable shards.old shards.new }
 {
-    let used = mem::replace(room, Room::new(alloc));
+    let used = mem::replace(room, AloneRoom::new(alloc));
     let mut progress = Progress::start(alloc, epoch, used, requests.len())?;
     progress.run_all(procs, shards, requests)?;
     let Progress {
@@ -90,7 +90,7 @@ fn run_requests(
         pieces,
         ..
     } = progress;
-    *room = Room { running, seen };
+    *room = AloneRoom { running, seen };
     let mut pieces = pieces.into_vec();
     alone_is_serial();
     gather(alloc, in_commit_order(finished), pieces.as_mut_slice())

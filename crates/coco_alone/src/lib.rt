@@ -10,7 +10,7 @@ mod progress;
 mod room;
 
 pub use epoch::{Ran, run_alone};
-pub use room::Room;
+pub use room::AloneRoom;
 
 #[cfg(test)]
 mod tests;

@@ -11,7 +11,7 @@ ghost use Rattle.coco_alone.specs.Epochs.{HasFinished, HaveFinished, HavePlaces,
 
 use crate::asks::Seen;
 use crate::calls::run_call;
-use crate::room::Room;
+use crate::room::AloneRoom;
 use coco_ast::Checked;
 use coco_eval::Run;
 use coco_pieces::add_pieces;
@@ -45,14 +45,14 @@ impl Progress {
     pub fn start(
         alloc: Global,
         epoch: u64,
-        room: Room,
+        room: AloneRoom,
         requests: usize,
     ) -> Result<Progress, NoMemory>
         ensures epoch { IfOk result (λ progress. progress.epoch ≡ epoch) }
         ensures over { IfOk result (λ progress. IsOver progress.running) }
         ensures finished { IfOk result (λ progress. progress.finished.items ≡ []) }
     {
-        let Room { running, seen } = room;
+        let AloneRoom { running, seen } = room;
         Ok(Progress {
             alloc,
             epoch,

@@ -7,12 +7,12 @@ use std::marker::Model;
 
 /// The run of the last call, which is over, and the list of what it read. Contracts see nothing of it.
 #[derive(Drop)]
-pub struct Room {
+pub struct AloneRoom {
     pub(crate) running: Option<Run>,
     pub(crate) seen: Vec<Seen>,
 }
 
-impl Model for Room {
+impl Model for AloneRoom {
     ghost use Rattle.std.specs.Prelude.{⊤};
     ghost use Rattle.coco_epoch.specs.Running.{IsOver};
 
@@ -23,10 +23,10 @@ impl Model for Room {
     ghost invariant = { λ r. IsOver r.running };
 }
 
-impl Room {
+impl AloneRoom {
     /// Room in which nothing has run. It takes no memory.
-    pub fn new(alloc: Global) -> Room {
-        Room {
+    pub fn new(alloc: Global) -> AloneRoom {
+        AloneRoom {
             running: None,
             seen: Vec::new(alloc),
         }

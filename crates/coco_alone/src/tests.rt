@@ -4,7 +4,7 @@ ghost use Rattle.std.specs.Prelude.{◌≡◌, ◌<◌, ◌≤◌, length, IfOk,
 ghost use Rattle.coco_ast.specs.Fitting.{Fits};
 ghost use Rattle.coco_epoch.specs.Shards.{AreOfPartitions, AreSettled};
 
-use crate::{Ran, Room, run_alone};
+use crate::{AloneRoom, Ran, run_alone};
 use coco_ast::Checked;
 use coco_epoch::promote_all;
 use coco_shard::Shard;
@@ -79,7 +79,14 @@ fn run_two(
         id: 2,
         call: second,
     })?;
-    run_alone(alloc, &mut Room::new(alloc), shards, procs, requests, 1)
+    run_alone(
+        alloc,
+        &mut AloneRoom::new(alloc),
+        shards,
+        procs,
+        requests,
+        1,
+    )
 }
 
 // Runs two calls, and compares each Done's id, time and reply, each piece's place, partition and time, and then row 5.

@@ -2,15 +2,15 @@ use Rattle.std.proofs.Common.{◌≡◌, ◌<◌, ◌+◌, ℕ, List, [], ◌∷
 use Rattle.std.proofs.lemmas.List.{take_more}
 use Rattle.coco_types.specs.declared.call.Done.{Done}
 use Rattle.coco_batches.specs.Answering.{answers_text, answer_text}
-use Rattle.coco_batches.specs.declared.answer.Answer.{Answer}
+use Rattle.coco_batches.specs.declared.answer.LineAnswer.{LineAnswer}
 
-texts-append : (dones : List Done) (xs : List Answer) (y : Answer) → answers_text dones (xs ++ y ∷ []) ≡ answers_text dones xs ++ answer_text dones y
+texts-append : (dones : List Done) (xs : List LineAnswer) (y : LineAnswer) → answers_text dones (xs ++ y ∷ []) ≡ answers_text dones xs ++ answer_text dones y
 texts-append dones [] y = append-nil (answer_text dones y)
 texts-append dones (x ∷ xs) y =
     ap (λ (t : List ℕ). answer_text dones x ++ t) (texts-append dones xs y) ∙ sym (append_assoc (answer_text dones x) (answers_text dones xs) (answer_text dones y))
 
 -- the texts of the first answers go on with the next answer's
-pub texts-more : (dones : List Done) (answers : List Answer) (n : ℕ) (d : Answer) (before so_far now : List ℕ) → n < length answers → so_far ≡ before ++ answers_text dones (take n answers)
+pub texts-more : (dones : List Done) (answers : List LineAnswer) (n : ℕ) (d : LineAnswer) (before so_far now : List ℕ) → n < length answers → so_far ≡ before ++ answers_text dones (take n answers)
     → now ≡ so_far ++ answer_text dones (get_or answers n d) → now ≡ before ++ answers_text dones (take (n + 1) answers)
 texts-more dones answers n d before so_far now below is grown =
     grown ∙ ap (λ (t : List ℕ). t ++ answer_text dones (get_or answers n d)) is

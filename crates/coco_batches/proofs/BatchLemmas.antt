@@ -15,7 +15,7 @@ use Rattle.coco_lines.specs.declared.error.LineFault.TheVariants as fault
 use Rattle.coco_lines.specs.declared.reader.Line.{Line as Given}
 use Rattle.coco_lines.proofs.GatheringLemmas.{gives_both, gives_none}
 use Rattle.coco_lines.proofs.LinesLemmas.{first_both, none_first, one_first}
-use Rattle.coco_batches.specs.declared.answer.Answer.{Answer}
+use Rattle.coco_batches.specs.declared.answer.LineAnswer.{LineAnswer}
 use Rattle.coco_batches.specs.declared.batch.Batch.{Batch}
 use Rattle.coco_batches.specs.Answering.{answer_of, answers_from}
 use Rattle.coco_batches.specs.Asking.{MayCommit}
@@ -86,7 +86,7 @@ taking_start procs k s m batch answers fresh = record {
   lines = [];
   classes = [];
   takes = takes_none s m;
-  as_many = sym (ap (length {A = Answer}) answers);
+  as_many = sym (ap (length {A = LineAnswer}) answers);
   are = refl;
   answers = answers;
   fresh = fresh;
@@ -141,13 +141,13 @@ taking_more procs held old mid new a b c batch grown line found is place reads t
     let bytes = read.0 in
     let took = takes bytes (ap (λ (l : Given). l.body) read.2) in
     let count = answers_from-length (old.given + 1) t.classes in
-    let many : length t.classes ≡ length batch.answers.items = sym count ∙ sym (ap (length {A = Answer}) t.answers) in
+    let many : length t.classes ≡ length batch.answers.items = sym count ∙ sym (ap (length {A = LineAnswer}) t.answers) in
     let number : line.number ≡ old.given + 1 + length t.classes = omega (arith, ap (λ (l : Given). l.number) read.2, place, many) in
     record {
       lines = t.lines ++ bytes ∷ [];
       classes = t.classes ++ took.class ∷ [];
       takes = takes_both old mid new a b c t.lines (bytes ∷ []) new.pending t.takes read.1;
-      as_many = omega (arith, t.as_many, length-append t.lines (bytes ∷ []), ap (length {A = Answer}) took.answers, length-append batch.answers.items (answer_of line.number took.class ∷ []));
+      as_many = omega (arith, t.as_many, length-append t.lines (bytes ∷ []), ap (length {A = LineAnswer}) took.answers, length-append batch.answers.items (answer_of line.number took.class ∷ []));
       are = classes_more procs (known_of held []) t.lines t.classes bytes took.class t.are (known_again procs held batch.fresh (new_of t.classes) bytes took.class t.fresh took.is);
       answers = took.answers ∙ ap (λ others. others ++ answer_of line.number took.class ∷ []) t.answers ∙ ap (λ k. answers_from (old.given + 1) t.classes ++ answer_of k took.class ∷ []) number
           ∙ sym (answers_from-more (old.given + 1) t.classes took.class);

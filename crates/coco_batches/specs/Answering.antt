@@ -6,23 +6,23 @@ use Rattle.coco_lines.specs.Answers.{text_of}
 use Rattle.coco_lines.specs.Texts.{error_text}
 use Rattle.coco_lines.specs.declared.class.Class.{Class}
 use Rattle.coco_lines.specs.declared.class.Class.TheVariants.{Refused, Same, New}
-use Rattle.coco_batches.specs.declared.answer.Answer.{Answer}
-use Rattle.coco_batches.specs.declared.answer.Answer.TheVariants.{Error, Reply}
+use Rattle.coco_batches.specs.declared.answer.LineAnswer.{LineAnswer}
+use Rattle.coco_batches.specs.declared.answer.LineAnswer.TheVariants.{Error, Reply}
 
 -- the answer of the line with this number
-abbrev pub answer_of : ℕ → Class → Answer
+abbrev pub answer_of : ℕ → Class → LineAnswer
 answer_of n (Refused e) = Error e n
 answer_of n (Same id) = Reply id
 answer_of n (New r) = Reply r.id
 
-abbrev pub answers_from : ℕ → List Class → List Answer
+abbrev pub answers_from : ℕ → List Class → List LineAnswer
 answers_from n [] = []
 answers_from n (c ∷ cs) = answer_of n c ∷ answers_from (n + 1) cs
 
-abbrev pub answer_text : List Done → Answer → List ℕ
+abbrev pub answer_text : List Done → LineAnswer → List ℕ
 answer_text dones (Error e n) = error_text e n
 answer_text dones (Reply id) = text_of (done_of id dones)
 
-abbrev pub answers_text : List Done → List Answer → List ℕ
+abbrev pub answers_text : List Done → List LineAnswer → List ℕ
 answers_text dones [] = []
 answers_text dones (a ∷ answers) = answer_text dones a ++ answers_text dones answers

@@ -9,7 +9,7 @@ ghost use Rattle.coco_batches.specs.Asking.{MayCommit};
 ghost use Rattle.coco_batches.specs.BatchReading.{BreaksOff, ReadsBatch};
 ghost use Rattle.coco_batches.specs.Asking.{known_of};
 
-use crate::answer::Answer;
+use crate::answer::LineAnswer;
 use crate::classify::class_of;
 use crate::new_requests::NewRequests;
 use coco_ast::Checked;
@@ -22,7 +22,7 @@ use std::alloc::Global;
 /// A batch of lines: what each is answered with, and the new requests among them.
 #[derive(Drop)]
 pub struct Batch {
-    pub answers: Vec<Answer>,
+    pub answers: Vec<LineAnswer>,
     pub fresh: NewRequests,
 }
 
@@ -56,15 +56,15 @@ impl Batch {
         ensures new { OnOk result (MayCommit procs.now kept.now self.new.fresh) }
     {
         let answer = match class_of(alloc, scratch, procs, kept, &self.fresh, &line.body)? {
-            Class::Refused(error) => Answer::Error {
+            Class::Refused(error) => LineAnswer::Error {
                 error,
                 number: line.number,
             },
-            Class::Same(id) => Answer::Reply(id),
+            Class::Same(id) => LineAnswer::Reply(id),
             Class::New(request) => {
                 let id = request.id;
                 self.fresh.push(request)?;
-                Answer::Reply(id)
+                LineAnswer::Reply(id)
             }
         };
         self.answers.push(answer)?;

@@ -6,6 +6,6 @@ pub mod batch;
 pub mod classify;
 pub mod new_requests;
 
-pub use answer::{Answer, write_answers};
+pub use answer::{LineAnswer, write_answers};
 pub use batch::{Batch, read_batch};
 pub use new_requests::NewRequests;

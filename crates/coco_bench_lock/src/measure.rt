@@ -4,7 +4,7 @@ ghost use Rattle.std.specs.Prelude.{◌≡◌, ◌<◌, All};
 
 use crate::lane::{Desk, key_of, read_of};
 use crate::readers::{Order, ROWS, Reader, read_in_threads};
-use coco_journaled::{Journaled, Kept, Pass, Room};
+use coco_journaled::{Journaled, KeptEntry, Pass, Room};
 use coco_shard::{PackedAnswer, PackedAsk, Shard};
 use coco_types::{Machine, NoMemory, Value};
 use std::alloc::Global;
@@ -16,7 +16,7 @@ use std::thread::Threads;
 use std::time::{Duration, Instant};
 
 // A kept entry takes at most 100 bytes, but for a text.
-const _: () = prove!(size_of::<Kept<PackedAsk, PackedAnswer>>() <= 100);
+const _: () = prove!(size_of::<KeptEntry<PackedAsk, PackedAnswer>>() <= 100);
 
 /// How many steps are made, and how.
 #[derive(Clone, Copy, Debug)]

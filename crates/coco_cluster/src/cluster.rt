@@ -28,7 +28,7 @@ use std::thread::Threads;
 /// What an opened store of one node has in memory: its procedures, kept replies and rows, the logs that it is written
 /// to, the partitions that the node holds, and the number of the next epoch.
 #[derive(Drop)]
-pub struct Opened {
+pub struct InHand {
     pub procs: Checked,
     pub kept: Kept,
     pub shards: Vec<Shard>,
@@ -68,7 +68,7 @@ impl Model for Cluster {
 
 impl Cluster {
     /// The cluster of an opened store. It takes no memory.
-    pub fn of(alloc: Global, store: Opened) -> Cluster
+    pub fn of(alloc: Global, store: InHand) -> Cluster
         requires { IsSound store.kept store.shards.items store.chief store.node store.next_epoch false }
         ensures { result ≡ record { procs = store.procs; kept = store.kept; shards = store.shards.items; chief = store.chief; node = store.node; held = store.held.items; next_epoch = store.next_epoch; spent = false } }
     {

@@ -6,7 +6,7 @@ mod fault;
 mod running;
 mod storing;
 
-pub use cluster::{Cluster, Opened};
+pub use cluster::{Cluster, InHand};
 pub use fault::TurnFault;
 
 #[cfg(test)]

@@ -10,7 +10,7 @@ ghost use Rattle.coco_parallel.specs.Epochs.{beginning_with};
 ghost use Rattle.coco_prepared.specs.LastWrites.{AreLastWrites};
 ghost use Rattle.coco_cluster.specs.Turning.{HasWorked, MayWork, RanOn};
 
-use coco_alone::{Room, run_alone};
+use coco_alone::{AloneRoom, run_alone};
 use coco_ast::Checked;
 use coco_entry::Row;
 use coco_epoch::{promote_all, revert_all};
@@ -46,7 +46,7 @@ struct Worked {
 /// and transcripts.
 #[derive(Drop)]
 pub struct EpochRoom {
-    alone: Room,
+    alone: AloneRoom,
     locks: Rooms,
 }
 
@@ -54,7 +54,7 @@ impl EpochRoom {
     /// Room in which nothing has run. It takes no memory.
     pub fn new(alloc: Global) -> EpochRoom {
         EpochRoom {
-            alone: Room::new(alloc),
+            alone: AloneRoom::new(alloc),
             locks: Rooms::new(alloc),
         }
     }

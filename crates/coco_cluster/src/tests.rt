@@ -7,7 +7,7 @@ ghost use Rattle.coco_log.specs.LogState.{without_entries};
 ghost use Rattle.coco_cluster.specs.Standing.{ClusterState};
 ghost use Rattle.coco_cluster.specs.Turning.{MayTurn};
 
-use crate::{Cluster, Opened};
+use crate::{Cluster, InHand};
 use coco_ast::Checked;
 use coco_gate::OpenGate;
 use coco_host::{Host, MemoryHost};
@@ -55,7 +55,7 @@ fn new_cluster(alloc: Global, chief: Log, node: Log) -> Result<Cluster, NoMemory
     held.push(true)?;
     Ok(Cluster::of(
         alloc,
-        Opened {
+        InHand {
             procs,
             kept: Kept::new(alloc, None, None),
             shards,

@@ -14,9 +14,9 @@ use Rattle.coco_epoch.specs.Pieces.{pieces_of, place_of}
 use Rattle.coco_pieces.specs.Pieces.{request_pieces}
 use Rattle.coco_epoch.specs.Running.{AreAtTheirPlaces, requests_of}
 use Rattle.coco_epoch.specs.Shards.{HaveNewest}
-use Rattle.coco_epoch.specs.declared.placed.Placed.{Placed}
+use Rattle.coco_epoch.specs.declared.placed.PlacedRequest.{PlacedRequest}
 
-pub no_more : (left : List Placed) → length left ≡ 0 → left ≡ []
+pub no_more : (left : List PlacedRequest) → length left ≡ 0 → left ≡ []
 no_more [] h = refl
 no_more (p ∷ left) h = absurd (omega arith)
 
@@ -28,9 +28,9 @@ pieces_step ps epoch count all m time r rs =
     ap (λ (n : Rows). request_pieces count (place_of all r.id) (suc time) (run ps r.call m).writes ++ pieces_of ps count all n (tail_dones ps epoch (put_over m (run ps r.call m).writes) (suc time) rs)) (run_puts_writes ps r.call m)
 
 -- from a map on, after some Dones and pieces
-module _ (ps : Procedures) (epoch count : ℕ) (m : Rows) (after : ℕ) (all : List Placed) (first : List Done) (parts : List Piece) where
+module _ (ps : Procedures) (epoch count : ℕ) (m : Rows) (after : ℕ) (all : List PlacedRequest) (first : List Done) (parts : List Piece) where
   -- the requests that are left come to what all of them do
-  pub record TailLeft (time : ℕ) (left : List Placed) (ds : List Done) (qs : List Piece) (shards : List ShardState) : Type 0 where
+  pub record TailLeft (time : ℕ) (left : List PlacedRequest) (ds : List Done) (qs : List Piece) (shards : List ShardState) : Type 0 where
     pub rows : Rows
     pub newest : HaveNewest rows shards
     pub dones : ds ++ tail_dones ps epoch rows time (requests_of left) ≡ first ++ tail_dones ps epoch m after (requests_of all)
@@ -44,10 +44,10 @@ module _ (ps : Procedures) (epoch count : ℕ) (m : Rows) (after : ℕ) (all : L
   abbrev pub done_at : Rows → ℕ → Request → Done
   done_at n time r = record { id = r.id; call = r.call; epoch = epoch; time = time; reply = (run ps r.call n).reply }
 
-  abbrev pub pieces_at : Rows → ℕ → Placed → List Piece
+  abbrev pub pieces_at : Rows → ℕ → PlacedRequest → List Piece
   pieces_at n time p = request_pieces count p.place time (run ps p.request.call n).writes
 
-  pub tail_more : (time : ℕ) (p : Placed) (rest : List Placed) (ds es : List Done) (qs rs : List Piece) (old new : List ShardState) → TailLeft time (p ∷ rest) ds qs old
+  pub tail_more : (time : ℕ) (p : PlacedRequest) (rest : List PlacedRequest) (ds es : List Done) (qs rs : List Piece) (old new : List ShardState) → TailLeft time (p ∷ rest) ds qs old
       → ((n : Rows) → HaveNewest n old → es ≡ ds ++ done_at n (time + 1) p.request ∷ [])
       → ((n : Rows) → HaveNewest n old → rs ≡ qs ++ pieces_at n (time + 1) p)
       → ((n : Rows) → HaveNewest n old → HaveNewest (put_over n (run ps p.request.call n).writes) new)

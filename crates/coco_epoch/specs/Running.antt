@@ -8,7 +8,7 @@ use Rattle.coco_ast.specs.Fitting.{Fits}
 use Rattle.coco_ast.specs.Meaning.{Run}
 use Rattle.coco_ast.specs.Tree.{Procedures}
 use Rattle.coco_eval.specs.Standing.{Ended, Evaluation}
-use Rattle.coco_epoch.specs.declared.placed.Placed.{Placed}
+use Rattle.coco_epoch.specs.declared.placed.PlacedRequest.{PlacedRequest}
 use Rattle.coco_epoch.specs.Pieces.{place_of}
 
 -- ---- the last run
@@ -34,13 +34,13 @@ CameTo r (Some e) = e.standing ≡ Ended r.reply r.writes
 
 -- ---- requests
 
-abbrev pub requests_of : List Placed → List Request
-requests_of = map (λ (p : Placed). p.request)
+abbrev pub requests_of : List PlacedRequest → List Request
+requests_of = map (λ (p : PlacedRequest). p.request)
 
 -- each of these is taken
 abbrev pub FitAll : Procedures → List Request → Type 0
 FitAll ps = AllByRecursion (λ (r : Request). Fits ps r.call)
 
 -- each has its place among the requests
-abbrev pub AreAtTheirPlaces : List Request → List Placed → Type 0
-AreAtTheirPlaces requests = AllByRecursion (λ (p : Placed). p.place ≡ place_of requests p.request.id)
+abbrev pub AreAtTheirPlaces : List Request → List PlacedRequest → Type 0
+AreAtTheirPlaces requests = AllByRecursion (λ (p : PlacedRequest). p.place ≡ place_of requests p.request.id)

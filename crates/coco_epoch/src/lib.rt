@@ -8,7 +8,7 @@ mod progress;
 mod shards;
 
 pub use ends::{promote_all, revert_all};
-pub use placed::Placed;
+pub use placed::PlacedRequest;
 pub use progress::Progress;
 
 #[cfg(test)]

@@ -4,7 +4,7 @@ use coco_types::Request;
 
 /// A request with its place in its epoch, counted from 0.
 #[derive(Drop)]
-pub struct Placed {
+pub struct PlacedRequest {
     pub place: u32,
     pub request: Request,
 }

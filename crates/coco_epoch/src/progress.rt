@@ -12,7 +12,7 @@ ghost use Rattle.coco_epoch.specs.Running.{AreAtTheirPlaces, CameTo, FitAll, IsO
 ghost use Rattle.coco_epoch.specs.Shards.{AreOfPartitions, AreQuietAfter, HaveNewest, KeepStable};
 
 use crate::calls::run_newest;
-use crate::placed::Placed;
+use crate::placed::PlacedRequest;
 use coco_ast::Checked;
 use coco_eval::Run;
 use coco_pieces::add_pieces;
@@ -53,7 +53,7 @@ impl Progress {
         &mut self,
         procs: &Checked,
         shards: &mut [Shard],
-        tail: Vec<Placed>,
+        tail: Vec<PlacedRequest>,
         after: u64,
     ) -> Result<(), NoMemory>
         requires fit { FitAll procs.now (requests_of tail.items) }
@@ -84,7 +84,7 @@ impl Progress {
         &mut self,
         procs: &Checked,
         shards: &mut [Shard],
-        placed: Placed,
+        placed: PlacedRequest,
         time: u64,
     ) -> Result<(), NoMemory>
         requires fits { Fits procs.now placed.request.call }
@@ -104,7 +104,7 @@ impl Progress {
         ensures kept { KeepStable shards.old shards.new }
         ensures epoch { OnOk result (self.new.epoch ≡ self.old.epoch) }
     {
-        let Placed { place, request } = placed;
+        let PlacedRequest { place, request } = placed;
         run_newest(
             self.alloc,
             &mut self.running,

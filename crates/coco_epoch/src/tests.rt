@@ -4,7 +4,7 @@ ghost use Rattle.std.specs.Prelude.{◌≡◌, length, IfOk, IfSome};
 ghost use Rattle.coco_ast.specs.Fitting.{Fits};
 ghost use Rattle.coco_epoch.specs.Shards.{AreOfPartitions, AreQuietAfter};
 
-use crate::{Placed, Progress, promote_all, revert_all};
+use crate::{PlacedRequest, Progress, promote_all, revert_all};
 use coco_ast::Checked;
 use coco_shard::Shard;
 use coco_types::limits::MOST_ARGUMENTS;
@@ -66,12 +66,12 @@ fn run_two(
 {
     let mut tail = Vec::with_capacity(alloc, 2)?;
     let request = Request { id: 7, call: first };
-    tail.push(Placed { place: 0, request })?;
+    tail.push(PlacedRequest { place: 0, request })?;
     let request = Request {
         id: 8,
         call: second,
     };
-    tail.push(Placed { place: 4, request })?;
+    tail.push(PlacedRequest { place: 4, request })?;
     let mut progress = Progress::start(alloc, 1, 2)?;
     progress.run_tail(procs, shards, tail, 3)?;
     Ok(progress)

@@ -11,14 +11,14 @@ use std::marker::Model;
 
 /// An entry as it is kept.
 #[derive(Drop)]
-pub struct Kept<P, B> {
+pub struct KeptEntry<P, B> {
     pub(crate) pass: u32,
     pub(crate) ask: P,
     pub(crate) answer: B,
 }
 
 /// A list of packed entries.
-pub(crate) type KeptOf<M> = Vec<Kept<<M as Packs>::PackedAsk, <M as Packs>::PackedAnswer>>;
+pub(crate) type KeptOf<M> = Vec<KeptEntry<<M as Packs>::PackedAsk, <M as Packs>::PackedAnswer>>;
 
 /// The calls of a machine, in order. Contracts see the list of their entries.
 #[derive(Drop)]

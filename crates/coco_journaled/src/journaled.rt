@@ -10,7 +10,7 @@ ghost use Rattle.coco_journaled.specs.Replay.{Replays};
 
 use crate::entry::Entry;
 use crate::guarded::Guarded;
-use crate::journal::{Journal, Kept};
+use crate::journal::{Journal, KeptEntry};
 use crate::pass::Pass;
 use crate::room::{Closed, Room};
 use coco_packs::{AnswersInPlace, Packs};
@@ -151,7 +151,7 @@ impl<M: Packs> Journaled<M> {
         note: &mut Note<Guarded<M>>,
         places: &mut Vec<u64>,
         mut guarded: Guarded<M>,
-        kept: Kept<M::PackedAsk, M::PackedAnswer>,
+        kept: KeptEntry<M::PackedAsk, M::PackedAnswer>,
         entry: Entry<M::Ask, M::Answer>,
     )
         requires lock { note.old.lock ≡ self.now.id }
@@ -227,11 +227,11 @@ fn kept_of<M: Packs>(
     ask: M::PackedAsk,
     answer: &M::Answer,
     spare: M::Spare,
-) -> (Kept<M::PackedAsk, M::PackedAnswer>, Option<M::Spare>)
+) -> (KeptEntry<M::PackedAsk, M::PackedAnswer>, Option<M::Spare>)
     ensures { unpacked_entry M.ask_of M.answer_of result.0 ≡ entry pass (M.ask_of ask) answer.now }
 {
     let (answer, spare) = M::pack_answer(answer, spare);
-    (Kept { pass, ask, answer }, spare)
+    (KeptEntry { pass, ask, answer }, spare)
 }
 
 // Takes the spare memory, or makes some where there is none.

@@ -9,7 +9,7 @@ pub mod pass;
 pub mod room;
 
 pub use entry::{Entry, Placed};
-pub use journal::{Journal, Kept};
+pub use journal::{Journal, KeptEntry};
 pub use journaled::Journaled;
 pub use pass::Pass;
 pub use room::{Closed, Room};

@@ -8,7 +8,7 @@ ghost use Rattle.coco_store.specs.Contents.{Contents, IsGoodStore};
 ghost use Rattle.coco_cluster.specs.Standing.{StandsAt};
 ghost use Rattle.coco_recover.specs.Opening.{IsOpening, IsSoundStore, its_keep, node_log};
 
-use coco_cluster::{Cluster, Opened as InHand};
+use coco_cluster::{Cluster, InHand};
 use coco_log::Log;
 use coco_recover::{Logs, Opened};
 use coco_types::NoMemory;

@@ -7,7 +7,7 @@ use Rattle.coco_types.specs.declared.call.Request.{Request}
 use Rattle.coco_ast.proofs.Lists.{all_append}
 use Rattle.coco_epoch.specs.Pieces.{place_of}
 use Rattle.coco_epoch.specs.Running.{AreAtTheirPlaces, requests_of}
-use Rattle.coco_epoch.specs.declared.placed.Placed.{Placed}
+use Rattle.coco_epoch.specs.declared.placed.PlacedRequest.{PlacedRequest}
 use Rattle.coco_order.specs.Execution.{Execution}
 use Rattle.coco_order.specs.Outcome.{is_committed, uncommitted}
 use Rattle.coco_parallel.proofs.SlotLemmas.{by_bool}
@@ -32,15 +32,15 @@ module _ (x : Execution) where
       ∙ ap (λ (n : ℕ). uncommitted x 0 (take place rs) ++ uncommitted x n (slice_index_or rs place d ∷ [])) (omega (arith, length-take-le place rs (omega (arith, lt))))
 
   -- a request of a committed place doesn't go to the tail, each other one does
-  pub skipped : (tail : List Placed) (rs : List Request) (place : ℕ) → place < length rs → is_committed x place ≡ true → requests_of tail ≡ uncommitted x 0 (take place rs) → requests_of tail ≡ uncommitted x 0 (take (place + 1) rs)
+  pub skipped : (tail : List PlacedRequest) (rs : List Request) (place : ℕ) → place < length rs → is_committed x place ≡ true → requests_of tail ≡ uncommitted x 0 (take place rs) → requests_of tail ≡ uncommitted x 0 (take (place + 1) rs)
   skipped tail [] place lt is was = absurd (omega (arith, lt))
   skipped tail (r ∷ rs) place lt is was = was ∙ sym (append-nil (uncommitted x 0 (take place (r ∷ rs))))
       ∙ ap (λ b. uncommitted x 0 (take place (r ∷ rs)) ++ cond b [] (slice_index_or (r ∷ rs) place r ∷ [])) (sym is) ∙ sym (left_more (r ∷ rs) place r lt)
 
-  pub added : (tail : List Placed) (rs : List Request) (place : ℕ) (p : Placed) → place < length rs → is_committed x place ≡ false → p.request ≡ slice_index_or rs place p.request → requests_of tail ≡ uncommitted x 0 (take place rs)
+  pub added : (tail : List PlacedRequest) (rs : List Request) (place : ℕ) (p : PlacedRequest) → place < length rs → is_committed x place ≡ false → p.request ≡ slice_index_or rs place p.request → requests_of tail ≡ uncommitted x 0 (take place rs)
       → requests_of (tail ++ p ∷ []) ≡ uncommitted x 0 (take (place + 1) rs)
   added tail rs place p lt none there was =
-      map-append (λ (q : Placed). q.request) tail (p ∷ [])
+      map-append (λ (q : PlacedRequest). q.request) tail (p ∷ [])
       ∙ ap (λ (ls : List Request). ls ++ p.request ∷ []) was
       ∙ ap (λ (r : Request). uncommitted x 0 (take place rs) ++ r ∷ []) there
       ∙ ap (λ b. uncommitted x 0 (take place rs) ++ cond b [] (slice_index_or rs place p.request ∷ [])) (sym none) ∙ sym (left_more rs place p.request lt)
@@ -88,7 +88,7 @@ stands_at (r ∷ rs) distinct (suc place) d lt =
     ap suc (stands_at rs distinct.1 place d (omega (arith, lt)))
     ∙ ap (λ b. cond b 0 (suc (place_of rs (slice_index_or rs place d).id))) (sym (apart_at r.id rs distinct.0 place d (omega (arith, lt))))
 
-pub placed_more : (requests : List Request) (tail : List Placed) (p : Placed) (place : ℕ) → IsDistinct nat_eq (ids_of requests) → place < length requests → p.place ≡ place → p.request ≡ slice_index_or requests place p.request → AreAtTheirPlaces requests tail
+pub placed_more : (requests : List Request) (tail : List PlacedRequest) (p : PlacedRequest) (place : ℕ) → IsDistinct nat_eq (ids_of requests) → place < length requests → p.place ≡ place → p.request ≡ slice_index_or requests place p.request → AreAtTheirPlaces requests tail
     → AreAtTheirPlaces requests (tail ++ p ∷ [])
-placed_more requests tail p place distinct lt at there all = all_append (λ (q : Placed). q.place ≡ place_of requests q.request.id) tail (p ∷ []) all
+placed_more requests tail p place distinct lt at there all = all_append (λ (q : PlacedRequest). q.place ≡ place_of requests q.request.id) tail (p ∷ []) all
     (at ∙ stands_at requests distinct place p.request lt ∙ ap (λ (r : Request). place_of requests r.id) (sym there), tt)

@@ -6,7 +6,7 @@ ghost use Rattle.coco_seen.specs.Notes.{Lock};
 ghost use Rattle.coco_worker.specs.Gains.{AreOf};
 ghost use Rattle.coco_parallel.specs.Desks.{AreBackBy, AreEmpty, HasRoom, IsOpen};
 
-use crate::locks::{Ended, Started, close_all, start_all};
+use crate::locks::{EndedLocks, Started, close_all, start_all};
 use crate::rows::turn;
 use coco_journaled::{Journaled, Pass, Room};
 use coco_packs::Packs;
@@ -19,7 +19,7 @@ pub struct Desk<M: Packs> {
     pub locks: Vec<Journaled<M>>,
     pub trays: Vec<Vec<Pass<M>>>,
     pub back: Vec<Vec<Pass<M>>>,
-    pub ended: Ended<M>,
+    pub ended: EndedLocks<M>,
 }
 
 /// Puts each machine behind a lock, and deals the passes: a row for each worker, with one pass of each lock. Out of
@@ -54,7 +54,7 @@ fn room_for<M: Packs + Drop>(
     alloc: Global,
     workers: u32,
     count: usize,
-) -> Result<(Vec<Vec<Pass<M>>>, Vec<Vec<Pass<M>>>, Ended<M>), NoMemory>
+) -> Result<(Vec<Vec<Pass<M>>>, Vec<Vec<Pass<M>>>, EndedLocks<M>), NoMemory>
     ensures rows { IfOk result (λ r. (vec_len r.0 ≡ workers) × All (λ row. (row.items ≡ []) × (vec_capacity row ≡ count)) r.0.items) }
     ensures back { IfOk result (λ r. HasRoom workers r.1) }
     ensures machines { IfOk result (λ r. HasRoom count r.2.machines) }
@@ -65,7 +65,7 @@ fn room_for<M: Packs + Drop>(
         rows.push_reserved(Vec::with_capacity(alloc, count)?);
     }
     let back = Vec::with_capacity(alloc, workers as usize)?;
-    let ended = Ended {
+    let ended = EndedLocks {
         machines: Vec::with_capacity(alloc, count)?,
         journals: Vec::with_capacity(alloc, count)?,
         lists: Vec::with_capacity(alloc, count)?,
@@ -74,7 +74,7 @@ fn room_for<M: Packs + Drop>(
 }
 
 /// Ends the locks, once the workers' rows are back. No memory is taken.
-pub fn close<M: Packs + Drop>(desk: Desk<M>) -> Ended<M>
+pub fn close<M: Packs + Drop>(desk: Desk<M>) -> EndedLocks<M>
     requires rows { All (λ row. AreOf desk.locks.items row.items) desk.back.items }
     requires notes { All (λ (lock : Lock). lock.notes ≡ vec_len desk.back) desk.locks.items }
     requires trays { vec_len desk.trays ≡ vec_len desk.locks }

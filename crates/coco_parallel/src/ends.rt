@@ -13,7 +13,7 @@ ghost use Rattle.coco_parallel.specs.Laws.{IsGreatestIn};
 
 use crate::pieces::in_done_order;
 use coco_ast::Checked;
-use coco_epoch::{Placed, Progress};
+use coco_epoch::{PlacedRequest, Progress};
 use coco_occ::{Outcome, Transcript, Tried};
 use coco_order::ordered;
 use coco_shard::Shard;
@@ -125,7 +125,7 @@ fn tail_of(
     alloc: Global,
     requests: &[Request],
     transcripts: &[Transcript],
-) -> Result<Vec<Placed>, NoMemory>
+) -> Result<Vec<PlacedRequest>, NoMemory>
     requires few { length requests.now ≤ MOST_BATCH_LINES }
     requires distinct { IsDistinct nat_eq (map (λ r. r.id) requests.now) }
     ensures requests { IfOk result (λ tail. (journals : List Journal) → requests_of tail.items ≡ uncommitted (execution_with journals transcripts.now) 0 requests.now) }
@@ -142,14 +142,14 @@ fn tail_of(
 }
 
 // The request of a place.
-fn placed(requests: &[Request], place: usize) -> Result<Placed, NoMemory>
+fn placed(requests: &[Request], place: usize) -> Result<PlacedRequest, NoMemory>
     requires within { place < length requests.now }
     requires few { length requests.now ≤ MOST_BATCH_LINES }
     ensures place { IfOk result (λ p. p.place ≡ place) }
     ensures request { IfOk result (λ p. p.request ≡ slice_index_or requests.now place p.request) }
 {
     let request = &requests[place];
-    Ok(Placed {
+    Ok(PlacedRequest {
         place: place as u32,
         request: Request {
             id: request.id,

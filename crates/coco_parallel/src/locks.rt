@@ -19,7 +19,7 @@ pub struct Started<M: Packs> {
 
 /// What locks leave: the machines with their journals and the lists of their passes, in the locks' order.
 #[derive(Drop)]
-pub struct Ended<M: Packs> {
+pub struct EndedLocks<M: Packs> {
     pub machines: Vec<M>,
     pub journals: Vec<Journal<M>>,
     pub lists: Vec<Vec<Vec<u64>>>,
@@ -29,7 +29,7 @@ pub struct Ended<M: Packs> {
 pub fn close_all<M: Packs + Drop>(
     locks: Vec<Journaled<M>>,
     trays: Vec<Vec<Pass<M>>>,
-    ended: &mut Ended<M>,
+    ended: &mut EndedLocks<M>,
 )
     requires back { AreBack locks.items trays.items }
     requires machines { vec_len ended.old.machines + vec_len locks ≤ vec_capacity ended.old.machines }
@@ -87,7 +87,7 @@ pub fn start_all<M: Packs + Drop>(
 fn room_for<M: Packs + Drop>(
     alloc: Global,
     count: usize,
-) -> Result<(Started<M>, Ended<M>), NoMemory>
+) -> Result<(Started<M>, EndedLocks<M>), NoMemory>
     ensures locks { IfOk result (λ r. (r.0.locks.items ≡ []) × (vec_len r.0.locks ≡ 0) × (vec_capacity r.0.locks ≡ count)) }
     ensures trays { IfOk result (λ r. (r.0.trays.items ≡ []) × (vec_len r.0.trays ≡ 0) × (vec_capacity r.0.trays ≡ count)) }
     ensures machines { IfOk result (λ r. (r.1.machines.items ≡ []) × (vec_len r.1.machines ≡ 0) × (vec_capacity r.1.machines ≡ count)) }
@@ -97,7 +97,7 @@ fn room_for<M: Packs + Drop>(
         locks: Vec::with_capacity(alloc, count)?,
         trays: Vec::with_capacity(alloc, count)?,
     };
-    let ended = Ended {
+    let ended = EndedLocks {
         machines: Vec::with_capacity(alloc, count)?,
         journals: Vec::with_capacity(alloc, count)?,
         lists: Vec::with_capacity(alloc, count)?,
@@ -132,7 +132,7 @@ fn start_one<M: Packs + Drop>(
 // The machines of locks by which nothing was done, then this one and the rest.
 fn take_back<M: Packs + Drop>(
     started: Started<M>,
-    mut ended: Ended<M>,
+    mut ended: EndedLocks<M>,
     workers: u32,
     machine: M,
     rest: IntoIter<M>,

@@ -12,7 +12,7 @@ ghost use Rattle.coco_parallel.specs.Stations.{IsCrew};
 ghost use Rattle.coco_parallel.specs.Worked.{HaveWorked, KeepValues, begun_all, emptied, start_of};
 
 use crate::desks::{Desk, close, open};
-use crate::locks::Ended;
+use crate::locks::EndedLocks;
 use crate::rooms::Rooms;
 use crate::stations::{Left, all_done, dismiss, man};
 use crate::workers::{Station, run_all};
@@ -193,8 +193,8 @@ fn run_crew<R: Threads + Wait + Sync, G: Gate + Sync, N: Net + Sync>(
 
 // What the workers came to. The lists of the locks are left to the rooms.
 fn worked_of(
-    shards: Ended<Shard>,
-    copies: Ended<CopyTable>,
+    shards: EndedLocks<Shard>,
+    copies: EndedLocks<CopyTable>,
     left: Left,
     rooms: &mut Rooms,
 ) -> Worked

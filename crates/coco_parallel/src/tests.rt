@@ -7,7 +7,7 @@ ghost use Rattle.coco_epoch.specs.Running.{FitAll};
 ghost use Rattle.coco_epoch.specs.Shards.{AreOfPartitions, AreSettled};
 
 use crate::epoch::{EpochDone, run_epoch};
-use crate::locks::{Ended, close_all, start_all};
+use crate::locks::{EndedLocks, close_all, start_all};
 use crate::rooms::Rooms;
 use crate::rows::turn;
 use coco_ast::Checked;
@@ -230,7 +230,7 @@ fn shards_come_back_from_their_locks_in_order(rt: HostRuntime) -> Result<(), Fai
     let Ok(started) = start_all(alloc, shards, 3, &mut Vec::new(alloc)) else {
         panic!(rt; "out of memory")
     };
-    let mut ended = Ended {
+    let mut ended = EndedLocks {
         machines: Vec::with_capacity(alloc, 2)?,
         journals: Vec::with_capacity(alloc, 2)?,
         lists: Vec::with_capacity(alloc, 2)?,

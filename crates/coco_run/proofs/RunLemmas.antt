@@ -3,7 +3,7 @@ use Rattle.std.proofs.Common.{◌≡◌, ℕ, List, Option, None, Some, refl, su
 use Rattle.std.specs.Option.{IfSome}
 use Rattle.coco_lines.specs.Reads.{SourceMoment}
 use Rattle.coco_serve.specs.Serving.{HasCause, Outside}
-use Rattle.coco_serve.specs.declared.ending.Ending.{Ending as Served}
+use Rattle.coco_serve.specs.declared.ending.Served.{Served}
 
 -- what holds of each value that there is
 pub if_some : {A : Type 0} (P : A → Type 0) (x : Option A) → ((y : A) → x ≡ Some y → P y) → IfSome x P

@@ -8,8 +8,8 @@ use Rattle.coco_lines.specs.Reads.{Gives}
 use Rattle.coco_load.specs.Epochs.{IsNextOf}
 use Rattle.coco_log.specs.LogState.{IsOnlyRead}
 use Rattle.coco_serve.specs.Serving.{HasCause, Outside, Serves}
-use Rattle.coco_serve.specs.declared.ending.Ending.{Ending as Served}
-use Rattle.coco_serve.specs.declared.ending.Ending.TheVariants as served
+use Rattle.coco_serve.specs.declared.ending.Served.{Served}
+use Rattle.coco_serve.specs.declared.ending.Served.TheVariants as served
 use Rattle.coco_serve.specs.declared.plan.Plan.{Plan}
 use Rattle.coco_store.specs.Contents.{Contents, Holds, IsGoodStore}
 use Rattle.coco_run.specs.Opening.{HasOneNode, IsRefusedInRun, IsUnopened}

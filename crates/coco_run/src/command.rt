@@ -9,7 +9,7 @@ use coco_ending::Ending;
 use coco_gate::Gate;
 use coco_host::Host;
 use coco_io::Source;
-use coco_serve::{Ending as Served, Plan, answer_lines};
+use coco_serve::{Plan, Served, answer_lines};
 use std::alloc::Global;
 use std::sync::Wait;
 use std::thread::Threads;

@@ -13,7 +13,7 @@ use Rattle.coco_append.specs.Gaining.{RestsOn}
 use Rattle.coco_append.proofs.GainLemmas.{sees_weaker}
 use Rattle.coco_ast.specs.History.{History, all_dones, kept}
 use Rattle.coco_ast.proofs.KeptLemmas.{keeps_all}
-use Rattle.coco_batches.specs.declared.answer.Answer.{Answer}
+use Rattle.coco_batches.specs.declared.answer.LineAnswer.{LineAnswer}
 use Rattle.coco_batches.specs.declared.batch.Batch.{Batch}
 use Rattle.coco_cluster.specs.Standing.{ClusterState, StandsAt}
 use Rattle.coco_cluster.specs.Turning.{Grown, HasRoom, IsUntouched, ShowsStore, Turns, beginning_on}
@@ -250,7 +250,7 @@ module _ {H : Type 0} (moment : H → ℕ) (observed : H → ℕ → Observation
 -- ---- texts
 
 -- the early texts, and those of after, are those of the two stores
-pub texts_are : (c d : Contents) (k after : ClusterState) (batch : Batch) (was now : List Done) (answers : List Answer) (piece : List ℕ) → StandsAt c k → StandsAt d after
+pub texts_are : (c d : Contents) (k after : ClusterState) (batch : Batch) (was now : List Done) (answers : List LineAnswer) (piece : List ℕ) → StandsAt c k → StandsAt d after
     → was ≡ k.kept.dones → now ≡ after.kept.dones → answers ≡ batch.answers.items → piece ≡ texts_over was now answers → piece ≡ texts_of c d batch
 texts_are c d k after batch was now answers piece stands then_stands before behind same is =
     is ∙ ap (λ ds. texts_over ds now answers) (before ∙ stands.dones) ∙ ap (λ ds. texts_over (kept (history_of c)) ds answers) (behind ∙ then_stands.dones) ∙ ap (texts_over (kept (history_of c)) (kept (history_of d))) same

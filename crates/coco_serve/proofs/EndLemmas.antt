@@ -25,8 +25,8 @@ use Rattle.coco_serve.specs.Faults.{Counts, CountsBatch}
 use Rattle.coco_serve.specs.Growth.{epochs_of}
 use Rattle.coco_serve.specs.OneBatch.{Answers, IsRefused}
 use Rattle.coco_serve.specs.Serving.{HasCause, Outside, Serves}
-use Rattle.coco_serve.specs.declared.ending.Ending.{Ending}
-use Rattle.coco_serve.specs.declared.ending.Ending.TheVariants as ending
+use Rattle.coco_serve.specs.declared.ending.Served.{Served}
+use Rattle.coco_serve.specs.declared.ending.Served.TheVariants as ending
 use Rattle.coco_serve.specs.declared.fault.BatchFault.{BatchFault}
 use Rattle.coco_serve.specs.declared.fault.BatchFault.TheVariants as fault
 use Rattle.coco_serve.specs.declared.plan.Plan.{Plan}
@@ -61,7 +61,7 @@ module _ {H : Type 0} (moment : H → ℕ) (observed : H → ℕ → Observation
     pub served : (c : Contents) → RestsOn c (reads first) (may_leave first) → StandsAt c start → AreServed moment observed said reads may_leave c next plan taken.lines k first host
 
   -- at the end
-  pub record RunsTo (next : ℕ) (plan : Plan) (reader : ReaderState) (before now : SourceMoment) (start k : ClusterState) (e : Ending) (first host : H) : Type 0 where
+  pub record RunsTo (next : ℕ) (plan : Plan) (reader : ReaderState) (before now : SourceMoment) (start k : ClusterState) (e : Served) (first host : H) : Type 0 where
     pub bytes : List ℕ
     pub gives : Gives before now bytes
     pub count : reader.taken ≡ length bytes
@@ -89,7 +89,7 @@ module _ {H : Type 0} (moment : H → ℕ) (observed : H → ℕ → Observation
         omega (arith, all, low, length-append (run.taken.lines ++ more) (lines_of behind), length-append run.taken.lines more)
 
     -- ends without a turn
-    ends_here : (e : Ending) (more : List Line) (behind : List ℕ) → (takes : TakesLines reader reader' m n more behind)
+    ends_here : (e : Served) (more : List Line) (behind : List ℕ) → (takes : TakesLines reader reader' m n more behind)
         → ((c : Contents) → AreServed moment observed said reads may_leave c next plan run.taken.lines k first mid → Serves moment observed said reads may_leave c next plan (takes_on more behind takes).bytes e first mid)
         → RunsTo next plan reader' before n start k e first mid
     ends_here e more behind takes ends =

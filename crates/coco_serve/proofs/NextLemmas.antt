@@ -35,8 +35,8 @@ use Rattle.coco_serve.specs.OneBatch.{Answers, BatchEnds, SaysPart, texts_of}
 use Rattle.coco_serve.specs.Texts.{texts_over}
 use Rattle.coco_serve.specs.Seen.{IsServed, LeavesEither, ShowsBatch}
 use Rattle.coco_serve.specs.Serving.{LeavesLast, Progress, RestsAt, RunEnds, SaysAll, SaysUpTo, Serves}
-use Rattle.coco_serve.specs.declared.ending.Ending.{Ending}
-use Rattle.coco_serve.specs.declared.ending.Ending.TheVariants as ending
+use Rattle.coco_serve.specs.declared.ending.Served.{Served}
+use Rattle.coco_serve.specs.declared.ending.Served.TheVariants as ending
 use Rattle.coco_serve.specs.declared.fault.BatchFault.{BatchFault}
 use Rattle.coco_serve.specs.declared.fault.BatchFault.TheVariants as fault
 use Rattle.coco_serve.specs.declared.plan.Plan.{Plan}
@@ -204,7 +204,7 @@ module _ {H : Type 0} (moment : H → ℕ) (observed : H → ℕ → Observation
       abbrev progress' : Progress manner opening next plan.size bytes
       progress' = record { batches = batches'; classes = classes'; history = g; grown = grown'; numbers = numbers'; first = firsts }
 
-      ends_so : (e : Ending) → RunEnds c next plan bytes progress' (said first) (said host) (reads host) (may_leave host) e → Serves moment observed said reads may_leave c next plan bytes e first host
+      ends_so : (e : Served) → RunEnds c next plan bytes progress' (said first) (said host) (reads host) (may_leave host) e → Serves moment observed said reads may_leave c next plan bytes e first host
       ends_so e ends = record {
         progress = progress';
         moments = moments';

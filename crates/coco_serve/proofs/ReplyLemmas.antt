@@ -17,7 +17,7 @@ use Rattle.coco_ast.proofs.Growths.{kept_are_dones}
 use Rattle.coco_ast.proofs.KeptLemmas.{follows, keeps_all}
 use Rattle.coco_ast.proofs.Lists.{all_append, all_weaker}
 use Rattle.coco_batches.specs.Answering.{answer_of, answers_from}
-use Rattle.coco_batches.specs.declared.answer.Answer.TheVariants.{Reply}
+use Rattle.coco_batches.specs.declared.answer.LineAnswer.TheVariants.{Reply}
 use Rattle.coco_lines.specs.Answers.{answer_by, answers_by, replied_id, text_of}
 use Rattle.coco_lines.specs.Classes.{AreClasses, known_in, new_of}
 use Rattle.coco_lines.specs.Lines.{Line}

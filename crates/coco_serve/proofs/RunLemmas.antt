@@ -34,8 +34,8 @@ use Rattle.coco_store.specs.Contents.{Contents, history_of}
 use Rattle.coco_serve.specs.Growth.{AddsFrom, AreFirstBatches, GrowsByExecution, HaveSize, IsGrown, Manner, answers_of, epochs_of, manner_of}
 use Rattle.coco_serve.specs.Seen.{IsServed, LeavesEither}
 use Rattle.coco_serve.specs.Serving.{LeavesLast, Progress, RestsAt, RunEnds, SaysAll, SaysUpTo, Serves}
-use Rattle.coco_serve.specs.declared.ending.Ending.{Ending}
-use Rattle.coco_serve.specs.declared.ending.Ending.TheVariants as ending
+use Rattle.coco_serve.specs.declared.ending.Served.{Served}
+use Rattle.coco_serve.specs.declared.ending.Served.TheVariants as ending
 use Rattle.coco_serve.specs.declared.plan.Plan.{Plan}
 use Rattle.coco_serve.proofs.NumberLemmas.{adds_none}
 
@@ -267,7 +267,7 @@ module _ {H : Type 0} (moment : H → ℕ) (observed : H → ℕ → Observation
       first = record { others = others; lines = all ∙ ap (λ ls. ls ++ others) a.lines_are; cut = inl a.whole };
     }
 
-    ended_so : (e : Ending) → RunEnds c next plan bytes still (said first) (said host) (reads host) (may_leave host) e → Serves moment observed said reads may_leave c next plan bytes e first host
+    ended_so : (e : Served) → RunEnds c next plan bytes still (said first) (said host) (reads host) (may_leave host) e → Serves moment observed said reads may_leave c next plan bytes e first host
     ended_so e ends = record {
       progress = still;
       moments = a.moments;

@@ -3,15 +3,15 @@ use Rattle.std.proofs.Common.{◌≡◌, ℕ, List, ◌∷◌, ◌++◌, map, Op
 use Rattle.std.specs.Option.{unwrap_or}
 use Rattle.coco_types.specs.declared.call.Done.{Done}
 use Rattle.coco_batches.specs.Answering.{answer_text}
-use Rattle.coco_batches.specs.declared.answer.Answer.{Answer}
+use Rattle.coco_batches.specs.declared.answer.LineAnswer.{LineAnswer}
 use Rattle.coco_serve.specs.Texts.{early_text, texts_over}
 
 -- some answers have their texts in the buffer; these are left, with their early texts
-pub record AreWritten (before after : List Done) (all left : List Answer) (out : List ℕ) (early : List (Option (List ℕ))) : Type 0 where
+pub record AreWritten (before after : List Done) (all left : List LineAnswer) (out : List ℕ) (early : List (Option (List ℕ))) : Type 0 where
   pub early_are : early ≡ map (early_text before) left
   pub texts : out ++ texts_over before after left ≡ texts_over before after all
 
-pub written_more : (before after : List Done) (all left rest : List Answer) (out now : List ℕ) (early more : List (Option (List ℕ))) (a : Answer) (e : Option (List ℕ)) → left ≡ a ∷ rest → early ≡ e ∷ more
+pub written_more : (before after : List Done) (all left rest : List LineAnswer) (out now : List ℕ) (early more : List (Option (List ℕ))) (a : LineAnswer) (e : Option (List ℕ)) → left ≡ a ∷ rest → early ≡ e ∷ more
     → now ≡ out ++ unwrap_or e (answer_text after a) → AreWritten before after all left out early → AreWritten before after all rest now more
 written_more before after all left rest out now early more a e next next_early grown w =
     let are : ◌≡◌ {A = List (Option (List ℕ))} (e ∷ more) (early_text before a ∷ map (early_text before) rest) = sym next_early ∙ w.early_are ∙ ap (map (early_text before)) next in

@@ -17,9 +17,9 @@ use Rattle.coco_store.specs.Contents.{Contents, history_of}
 use Rattle.coco_store.specs.Rules.{Setting}
 use Rattle.coco_serve.specs.Growth.{AddsFrom, AreFirstBatches, HaveSize, IsGrown, Manner, answers_of, manner_of}
 use Rattle.coco_serve.specs.Seen.{IsServed, LeavesEither}
-use Rattle.coco_serve.specs.declared.ending.Ending.{Ending}
+use Rattle.coco_serve.specs.declared.ending.Served.{Served}
 use Rattle.coco_serve.specs.declared.plan.Plan.{Plan}
-use Rattle.coco_serve.specs.declared.ending.Ending.TheVariants.{Finished, ReadFault, SayFault, DiskFault, EpochsUsedUp, NoMemory}
+use Rattle.coco_serve.specs.declared.ending.Served.TheVariants.{Finished, ReadFault, SayFault, DiskFault, EpochsUsedUp, NoMemory}
 
 -- ---- causes
 
@@ -32,7 +32,7 @@ pub record Outside : Type 0 where
 
 -- why a run ended so, by the bytes that the source gave; epochs are used up where the number of the next one and the lines reach the end. Want of memory
 -- needs no cause
-abbrev pub HasCause : ℕ → List ℕ → Outside → Outside → Ending → Type 0
+abbrev pub HasCause : ℕ → List ℕ → Outside → Outside → Served → Type 0
 HasCause next bytes before after Finished = IsSpent after.source
 HasCause next bytes before after ReadFault = Rose before.source_faults after.source_faults ⊎ (length bytes ≡ 2 ^ 62)
 HasCause next bytes before after SayFault = Rose before.say_faults after.say_faults
@@ -101,7 +101,7 @@ pub record AreUsedUp (m : Manner) (opening : History) (next size : ℕ) (bytes :
 
 -- by its ending: an input that was read to its end is committed and answered whole; after a fault of reading so are all whole batches; a fault of saying
 -- leaves all batches committed, the last one said in part; and after a fault of the disk, or out of memory, one batch more may be committed than is said
-abbrev pub RunEnds : (c : Contents) → (next : ℕ) → (plan : Plan) → (bytes : List ℕ) → Progress (manner_of c.setting plan) (history_of c) next plan.size bytes → Option (List ℕ) → Option (List ℕ) → Option Files → (Files → Type 0) → Ending → Type 0
+abbrev pub RunEnds : (c : Contents) → (next : ℕ) → (plan : Plan) → (bytes : List ℕ) → Progress (manner_of c.setting plan) (history_of c) next plan.size bytes → Option (List ℕ) → Option (List ℕ) → Option Files → (Files → Type 0) → Served → Type 0
 RunEnds c next plan bytes p before now reads may_leave Finished = AreAll plan.size bytes p.batches × RestsAt c.setting p.history reads may_leave × SaysAll before now p.history p.classes
 RunEnds c next plan bytes p before now reads may_leave ReadFault = AreAllWhole plan.size bytes p.batches × RestsAt c.setting p.history reads may_leave × SaysAll before now p.history p.classes
 RunEnds c next plan bytes p before now reads may_leave SayFault = RestsAt c.setting p.history reads may_leave × SaysUpTo before now p.history p.classes
@@ -115,7 +115,7 @@ RunEnds c next plan bytes p before now reads may_leave NoMemory =
 -- of a host that rested on these contents: what was seen in the run and is left behind it, and how it ended. Each history seen begins the whole one, so its
 -- epochs are numbered from `next` on too
 pub record Serves {H : Type 0} (moment : H → ℕ) (observed : H → ℕ → Observation → Type 0) (said : H → Option (List ℕ)) (reads : H → Option Files) (may_leave : H → Files → Type 0)
-    (c : Contents) (next : ℕ) (plan : Plan) (bytes : List ℕ) (ending : Ending) (old new : H) : Type 0 where
+    (c : Contents) (next : ℕ) (plan : Plan) (bytes : List ℕ) (ending : Served) (old new : H) : Type 0 where
   pub progress : Progress (manner_of c.setting plan) (history_of c) next plan.size bytes
   pub moments : SeesOnly moment observed old new (IsServed c.setting plan (history_of c) progress.batches progress.classes progress.history (said old))
   pub left : (seen : Observation) → said new ≡ Some seen.said → may_leave new seen.image → IsServed c.setting plan (history_of c) progress.batches progress.classes progress.history (said old) seen
@@ -123,7 +123,7 @@ pub record Serves {H : Type 0} (moment : H → ℕ) (observed : H → ℕ → Ob
 
 -- the bytes that the source gave, why the run ended so, and what it made of each store that the cluster stood at
 pub record Runs {H : Type 0} (moment : H → ℕ) (observed : H → ℕ → Observation → Type 0) (said : H → Option (List ℕ)) (reads : H → Option Files) (may_leave : H → Files → Type 0)
-    (cluster : ClusterState) (plan : Plan) (before after : Outside) (ending : Ending) (old new : H) : Type 0 where
+    (cluster : ClusterState) (plan : Plan) (before after : Outside) (ending : Served) (old new : H) : Type 0 where
   pub bytes : List ℕ
   pub gives : Gives before.source after.source bytes
   pub cause : HasCause cluster.next_epoch bytes before after ending

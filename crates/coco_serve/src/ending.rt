@@ -6,7 +6,7 @@ use crate::fault::BatchFault;
 
 /// How a run over request lines ends.
 #[derive(Clone, Copy, Debug, PartialEq, Eq)]
-pub enum Ending {
+pub enum Served {
     /// The input was read to its end, and all lines are answered.
     Finished,
     /// The input failed, or is longer than may be read.
@@ -20,15 +20,15 @@ pub enum Ending {
     NoMemory,
 }
 
-impl From<BatchFault> for Ending {
+impl From<BatchFault> for Served {
     ghost from_gives = { λ f e. e ≡ ending_of f };
 
-    fn from(fault: BatchFault) -> Ending {
+    fn from(fault: BatchFault) -> Served {
         match fault {
-            BatchFault::Say => Ending::SayFault,
-            BatchFault::Disk => Ending::DiskFault,
-            BatchFault::EpochsUsedUp => Ending::EpochsUsedUp,
-            BatchFault::NoMemory => Ending::NoMemory,
+            BatchFault::Say => Served::SayFault,
+            BatchFault::Disk => Served::DiskFault,
+            BatchFault::EpochsUsedUp => Served::EpochsUsedUp,
+            BatchFault::NoMemory => Served::NoMemory,
         }
     }
 }

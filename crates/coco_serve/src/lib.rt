@@ -11,7 +11,7 @@ mod serving;
 mod tests;
 mod texts;
 
-pub use ending::Ending;
+pub use ending::Served;
 pub use fault::BatchFault;
 pub use plan::Plan;
 pub use serving::answer_lines;

@@ -4,7 +4,7 @@ ghost use Rattle.coco_types.specs.Limits.{most_batch_lines, most_kept};
 ghost use Rattle.coco_append.specs.Gaining.{Stands};
 ghost use Rattle.coco_serve.specs.Serving.{Runs};
 
-use crate::ending::Ending;
+use crate::ending::Served;
 use crate::one_batch::turn_and_say;
 use crate::plan::Plan;
 use coco_batches::read_batch;
@@ -27,7 +27,7 @@ pub fn answer_lines<R: Threads + Wait + Sync, H: Host, S: Source, G: Gate + Sync
     input: &mut S,
     plan: Plan,
     gate: &G,
-) -> Ending
+) -> Served
     requires some { 0 < plan.size }
     requires few { plan.size ≤ most_batch_lines }
     requires workers { 0 < plan.workers }
@@ -53,20 +53,20 @@ pub fn answer_lines<R: Threads + Wait + Sync, H: Host, S: Source, G: Gate + Sync
             plan.size,
         ) {
             Ok(batch) => batch,
-            Err(LineFault::NoMemory) => return Ending::NoMemory,
-            Err(LineFault::Failed) => return Ending::ReadFault,
-            Err(LineFault::TooMuch) => return Ending::ReadFault,
+            Err(LineFault::NoMemory) => return Served::NoMemory,
+            Err(LineFault::Failed) => return Served::ReadFault,
+            Err(LineFault::TooMuch) => return Served::ReadFault,
         };
         let count = batch.answers.len();
         if count == 0 {
-            return Ending::Finished;
+            return Served::Finished;
         }
         match turn_and_say(rt, alloc, host, cluster, batch, plan, gate) {
             Ok(()) => {}
-            Err(fault) => return Ending::from(fault),
+            Err(fault) => return Served::from(fault),
         }
         if count < plan.size as usize {
-            return Ending::Finished;
+            return Served::Finished;
         }
     }
 }

@@ -5,9 +5,9 @@ ghost use Rattle.coco_append.specs.Gaining.{Stands};
 ghost use Rattle.coco_log.specs.LogState.{without_entries};
 ghost use Rattle.coco_types.specs.Limits.{most_batch_lines};
 
-use crate::{Ending, Plan, answer_lines};
+use crate::{Plan, Served, answer_lines};
 use coco_ast::Checked;
-use coco_cluster::{Cluster, Opened};
+use coco_cluster::{Cluster, InHand};
 use coco_gate::OpenGate;
 use coco_host::{Host, MemoryHost};
 use coco_io::MemorySource;
@@ -45,7 +45,7 @@ fn new_cluster(alloc: Global, chief: Log, node: Log, keep: Option<u16>) -> Resul
     held.push(true)?;
     Ok(Cluster::of(
         alloc,
-        Opened {
+        InHand {
             procs,
             kept: Kept::new(alloc, keep, None),
             shards,
@@ -65,7 +65,7 @@ fn answer<R: Threads + Wait + Sync, H: Host>(
     keep: Option<u16>,
     size: u32,
     text: &str,
-) -> Result<Ending, Fail>
+) -> Result<Served, Fail>
     requires keep { IfSome keep (λ n. 0 < n) }
     requires some { 0 < size }
     requires few { size ≤ most_batch_lines }
@@ -126,7 +126,7 @@ fn lines_are_answered(rt: HostRuntime) -> Result<(), Fail> {
     ] {
         let mut host = MemoryHost::new(rt.alloc(), Vec::new(rt.alloc()));
         let ending = answer(&rt, rt.alloc(), &mut host, keep, size, lines)?;
-        assert_eq!(rt; ending, Ending::Finished);
+        assert_eq!(rt; ending, Served::Finished);
         assert_eq!(rt; host.said(), said.as_bytes());
     }
     Ok(())
@@ -141,9 +141,9 @@ fn a_failing_call_leaves_the_answers_before_it(rt: HostRuntime) -> Result<(), Fa
         let mut host = MemoryHost::new(rt.alloc(), fails);
         let ending = answer(&rt, rt.alloc(), &mut host, None, 1, LINES)?;
         let expected = match call {
-            12 | 21 | 30 | 31 => Ending::SayFault,
-            32.. => Ending::Finished,
-            _ => Ending::DiskFault,
+            12 | 21 | 30 | 31 => Served::SayFault,
+            32.. => Served::Finished,
+            _ => Served::DiskFault,
         };
         assert_eq!(rt; ending, expected);
         let said = match call {

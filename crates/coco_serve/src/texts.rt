@@ -5,7 +5,7 @@ ghost use Rattle.std.specs.Option.{option_map};
 ghost use Rattle.coco_types.specs.declared.call.Done.{Done as Record};
 ghost use Rattle.coco_serve.specs.Texts.{early_text, texts_over};
 
-use coco_batches::{Answer, write_answers};
+use coco_batches::{LineAnswer, write_answers};
 use coco_kept::Kept;
 use coco_lines::done_text;
 use coco_types::NoMemory;
@@ -15,7 +15,7 @@ use std::alloc::Global;
 pub fn early_texts(
     alloc: Global,
     kept: &Kept,
-    answers: &[Answer],
+    answers: &[LineAnswer],
 ) -> Result<Vec<Option<Vec<u8>>>, NoMemory>
     ensures { IfOk result (λ early. map (option_map (λ t. t.items)) early.items ≡ map (early_text kept.now.dones) answers.now) }
 {
@@ -26,10 +26,10 @@ pub fn early_texts(
     Ok(early)
 }
 
-fn early_text(alloc: Global, kept: &Kept, answer: Answer) -> Result<Option<Vec<u8>>, NoMemory>
+fn early_text(alloc: Global, kept: &Kept, answer: LineAnswer) -> Result<Option<Vec<u8>>, NoMemory>
     ensures { IfOk result (λ early. option_map (λ t. t.items) early ≡ early_text kept.now.dones answer) }
 {
-    let Answer::Reply(id) = answer else {
+    let LineAnswer::Reply(id) = answer else {
         return Ok(None);
     };
     match kept.get(id) {
@@ -42,7 +42,7 @@ fn early_text(alloc: Global, kept: &Kept, answer: Answer) -> Result<Option<Vec<u
 pub fn late_texts(
     alloc: Global,
     kept: &Kept,
-    answers: &[Answer],
+    answers: &[LineAnswer],
     early: Vec<Option<Vec<u8>>>,
 ) -> Result<Vec<u8>, NoMemory>
     ensures { (before : List Record) → map (option_map (λ t. t.items)) early.items ≡ map (early_text before) answers.now

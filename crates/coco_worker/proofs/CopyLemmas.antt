@@ -14,7 +14,7 @@ use Rattle.coco_journaled.specs.Passes.{Passing, Steps}
 use Rattle.coco_worker.specs.Copying.{asked, node_of, partition_of, put, puts_at}
 use Rattle.coco_worker.specs.Gains.{AreSame, Gain}
 use Rattle.coco_pieces.specs.Pieces.{writes_on}
-use Rattle.coco_worker.specs.declared.copies.Commit.{Commit}
+use Rattle.coco_worker.specs.declared.copies.WorkerCommit.{WorkerCommit}
 use Rattle.coco_worker.proofs.GainLemmas.{gain_as, gain_set, gain_then, stepped_calls}
 
 abbrev pub Carries : Type 0
@@ -22,10 +22,10 @@ Carries = ℕ → ℕ → ℕ → ℕ → Bool
 
 -- ---- from one write to the next
 
-pub puts_none : (carries : Carries) (c : Commit) (table : ℕ) → puts_at carries c table [] ≡ []
+pub puts_none : (carries : Carries) (c : WorkerCommit) (table : ℕ) → puts_at carries c table [] ≡ []
 puts_none carries c table = elim (carries c.config.epoch c.worker c.place (node_of c.config table)) as (λ b. cond {A = List CopyAsk} b [] [] ≡ []) [ true ↦ refl | false ↦ refl ]
 
-pub puts_append : (carries : Carries) (c : Commit) (table : ℕ) (xs ys : List Write) → puts_at carries c table (xs ++ ys) ≡ puts_at carries c table xs ++ puts_at carries c table ys
+pub puts_append : (carries : Carries) (c : WorkerCommit) (table : ℕ) (xs ys : List Write) → puts_at carries c table (xs ++ ys) ≡ puts_at carries c table xs ++ puts_at carries c table ys
 puts_append carries c table xs ys = by_net (carries c.config.epoch c.worker c.place (node_of c.config table))
   where
     on : List Write → List CopyAsk
@@ -40,14 +40,14 @@ puts_append carries c table xs ys = by_net (carries c.config.epoch c.worker c.pl
 -- ---- one write, from one copy to the next
 
 -- what the first n copies of each partition are asked
-abbrev pub puts_below : ℕ → Carries → Commit → ℕ → List Write → List CopyAsk
+abbrev pub puts_below : ℕ → Carries → WorkerCommit → ℕ → List Write → List CopyAsk
 puts_below n carries c table ws = cond (nat_lt (table % c.config.copies) n) (puts_at carries c table ws) []
 
-pub below_none : (carries : Carries) (c : Commit) (table : ℕ) (ws : List Write) → puts_below 0 carries c table ws ≡ []
+pub below_none : (carries : Carries) (c : WorkerCommit) (table : ℕ) (ws : List Write) → puts_below 0 carries c table ws ≡ []
 below_none carries c table ws = ap (λ b. cond b (puts_at carries c table ws) []) (le-ltb (table % c.config.copies) 0 (omega arith))
 
 -- a write elsewhere isn't put there
-elsewhere : (carries : Carries) (c : Commit) (table : ℕ) (w : Write) → (w.key.row % c.partitions ≡ partition_of c.config table → ⊥) → puts_at carries c table (w ∷ []) ≡ []
+elsewhere : (carries : Carries) (c : WorkerCommit) (table : ℕ) (w : Write) → (w.key.row % c.partitions ≡ partition_of c.config table → ⊥) → puts_at carries c table (w ∷ []) ≡ []
 elsewhere carries c table w away =
     elim (nat_eq (w.key.row % c.partitions) (partition_of c.config table)) as (λ b. nat_eq (w.key.row % c.partitions) (partition_of c.config table) ≡ b → cond (carries c.config.epoch c.worker c.place (node_of c.config table)) (map (put c) (cond {A = List Write} b (w ∷ []) [])) [] ≡ []) [
       | true ↦ λ is. absurd (away (eqb-true (w.key.row % c.partitions) (partition_of c.config table) is))
@@ -55,26 +55,26 @@ elsewhere carries c table w away =
     ] refl
 
 -- a write is put where the net carries it
-here : (carries : Carries) (c : Commit) (table : ℕ) (w : Write) (carried : Bool) → w.key.row % c.partitions ≡ partition_of c.config table → carried ≡ carries c.config.epoch c.worker c.place (node_of c.config table) → puts_at carries c table (w ∷ []) ≡ cond {A = List CopyAsk} carried (put c w ∷ []) []
+here : (carries : Carries) (c : WorkerCommit) (table : ℕ) (w : Write) (carried : Bool) → w.key.row % c.partitions ≡ partition_of c.config table → carried ≡ carries c.config.epoch c.worker c.place (node_of c.config table) → puts_at carries c table (w ∷ []) ≡ cond {A = List CopyAsk} carried (put c w ∷ []) []
 here carries c table w carried is net =
     ap (λ b. cond (carries c.config.epoch c.worker c.place (node_of c.config table)) (map (put c) (cond {A = List Write} b (w ∷ []) [])) []) (eq-eqb (w.key.row % c.partitions) (partition_of c.config table) is)
     ∙ ap (λ b. cond {A = List CopyAsk} b (put c w ∷ []) []) (sym net)
 
 -- the table of a copy, and what stands at it
-pub at_table : (c : Commit) (p k : ℕ) → k < c.config.copies → partition_of c.config (p * c.config.copies + k) ≡ p
+pub at_table : (c : WorkerCommit) (p k : ℕ) → k < c.config.copies → partition_of c.config (p * c.config.copies + k) ≡ p
 at_table c p k lt = div-mul-add p c.config.copies k lt
 
-pub at_copy : (c : Commit) (p k : ℕ) → k < c.config.copies → (p * c.config.copies + k) % c.config.copies ≡ k
+pub at_copy : (c : WorkerCommit) (p k : ℕ) → k < c.config.copies → (p * c.config.copies + k) % c.config.copies ≡ k
 at_copy c p k lt = mod-mul-add p c.config.copies k lt
 
-pub at_node : (c : Commit) (p k : ℕ) → k < c.config.copies → node_of c.config (p * c.config.copies + k) ≡ (p + k + 1) % c.config.nodes
+pub at_node : (c : WorkerCommit) (p k : ℕ) → k < c.config.copies → node_of c.config (p * c.config.copies + k) ≡ (p + k + 1) % c.config.nodes
 at_node c p k lt = ap (λ q. (q + (p * c.config.copies + k) % c.config.copies + 1) % c.config.nodes) (at_table c p k lt) ∙ ap (λ q. (p + q + 1) % c.config.nodes) (at_copy c p k lt)
 
-is_table : (c : Commit) (table p k : ℕ) → partition_of c.config table ≡ p → table % c.config.copies ≡ k → table ≡ p * c.config.copies + k
+is_table : (c : WorkerCommit) (table p k : ℕ) → partition_of c.config table ≡ p → table % c.config.copies ≡ k → table ≡ p * c.config.copies + k
 is_table c table p k is at = sym (div-add-mod' table c.config.copies) ∙ ap (λ q. q * c.config.copies + table % c.config.copies) is ∙ ap (λ q. p * c.config.copies + q) at
 
 -- what the next copy of the write's partition is asked
-pub below_step : (carries : Carries) (c : Commit) (w : Write) (k table : ℕ) (carried : Bool) → k < c.config.copies → carried ≡ carries c.config.epoch c.worker c.place ((w.key.row % c.partitions + k + 1) % c.config.nodes)
+pub below_step : (carries : Carries) (c : WorkerCommit) (w : Write) (k table : ℕ) (carried : Bool) → k < c.config.copies → carried ≡ carries c.config.epoch c.worker c.place ((w.key.row % c.partitions + k + 1) % c.config.nodes)
     → puts_below k carries c table (w ∷ []) ++ cond (nat_eq (w.key.row % c.partitions * c.config.copies + k) table) (cond {A = List CopyAsk} carried (put c w ∷ []) []) [] ≡ puts_below (k + 1) carries c table (w ∷ [])
 below_step carries c w k table carried lt net = by_table (nat_eq at table) refl
   where
@@ -115,7 +115,7 @@ CopyPass = Passing CopyState CopyAsk CopyAnswer
 pub table_within : (parts count n p k len : ℕ) → len ≡ parts * count → n ≡ count → p < parts → k < count → p * n + k < len
 table_within parts count n p k len many is lp lk = subst (λ (m : ℕ). p * m + k < len) (sym is) (let h = mul-add-lt p count k parts lp lk in omega arith)
 
-module _ (carries : Carries) (c : Commit) (w : Write) (k : ℕ) (lt : k < c.config.copies) (old passes : List CopyPass) (so : Gain asked old passes (λ table. puts_below k carries c table (w ∷ []))) where
+module _ (carries : Carries) (c : WorkerCommit) (w : Write) (k : ℕ) (lt : k < c.config.copies) (old passes : List CopyPass) (so : Gain asked old passes (λ table. puts_below k carries c table (w ∷ []))) where
   -- the net doesn't carry the write to the next copy
   pub copied_skip : false ≡ carries c.config.epoch c.worker c.place ((w.key.row % c.partitions + k + 1) % c.config.nodes) → Gain asked old passes (λ table. puts_below (k + 1) carries c table (w ∷ []))
   copied_skip net = gain_as asked old passes (λ table. puts_below k carries c table (w ∷ [])) (λ table. puts_below (k + 1) carries c table (w ∷ [])) so
@@ -138,7 +138,7 @@ module _ (carries : Carries) (c : Commit) (w : Write) (k : ℕ) (lt : k < c.conf
       (gain_then asked old passes (slice_set passes i q) (λ table. puts_below k carries c table (w ∷ [])) more same so one) (λ table _. below_step carries c w k table true lt net)
 
 -- one write more is delivered
-pub delivered_more : (carries : Carries) (c : Commit) (ws : List Write) (i : ℕ) (w : Write) (a b d : List CopyPass) → i < length ws → w ≡ slice_index_or ws i w → AreSame a b → Gain asked a b (λ table. puts_at carries c table (take i ws))
+pub delivered_more : (carries : Carries) (c : WorkerCommit) (ws : List Write) (i : ℕ) (w : Write) (a b d : List CopyPass) → i < length ws → w ≡ slice_index_or ws i w → AreSame a b → Gain asked a b (λ table. puts_at carries c table (take i ws))
     → Gain asked b d (λ table. puts_at carries c table (w ∷ [])) → Gain asked a d (λ table. puts_at carries c table (take (i + 1) ws))
 delivered_more carries c ws i w a b d lt is same so next =
     gain_as asked a d (λ table. puts_at carries c table (take i ws) ++ puts_at carries c table (w ∷ [])) (λ table. puts_at carries c table (take (i + 1) ws))

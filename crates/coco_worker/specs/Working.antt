@@ -17,7 +17,7 @@ use Rattle.coco_worker.specs.Copying.{asked, puts_at}
 use Rattle.coco_worker.specs.Gains.{Gain}
 use Rattle.coco_pieces.specs.Pieces.{request_pieces}
 use Rattle.coco_worker.specs.Trying.{Adds, ends_of, time_of}
-use Rattle.coco_worker.specs.declared.copies.Commit.{Commit}
+use Rattle.coco_worker.specs.declared.copies.WorkerCommit.{WorkerCommit}
 use Rattle.coco_worker.specs.declared.slot.EpochConfig.{EpochConfig}
 use Rattle.coco_worker.specs.declared.slot.Slot.{Slot}
 
@@ -77,7 +77,7 @@ abbrev pub tail_of : Worked → List Tailed
 tail_of w = tailed w.request.id (ends_of (all_tries w.tries)) (commit_time w)
 
 -- what a commit asks of a table at once
-abbrev pub commit_at : Job → ℕ → ℕ → Commit
+abbrev pub commit_at : Job → ℕ → ℕ → WorkerCommit
 commit_at j place time = record { config = j.config; partitions = j.partitions; worker = j.worker; place = place; time = time }
 
 abbrev pub copies_at : Job → ℕ → ℕ → List Write → Option ℕ → List CopyAsk

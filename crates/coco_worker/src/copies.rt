@@ -15,7 +15,7 @@ use std::sync::Wait;
 
 /// A commit in an epoch: the worker that made it, the place of its request, and its time.
 #[derive(Clone, Copy)]
-pub struct Commit {
+pub struct WorkerCommit {
     pub config: EpochConfig,
     pub partitions: u8,
     pub worker: u32,
@@ -29,7 +29,7 @@ pub fn deliver<N: Net>(
     net: &N,
     copies: &[Journaled<CopyTable>],
     passes: &mut [Pass<CopyTable>],
-    commit: Commit,
+    commit: WorkerCommit,
     writes: &[Write],
 ) -> Result<(), NoMemory>
     requires some { 0 < commit.partitions }
@@ -52,7 +52,7 @@ fn put_write<N: Net>(
     net: &N,
     copies: &[Journaled<CopyTable>],
     passes: &mut [Pass<CopyTable>],
-    commit: Commit,
+    commit: WorkerCommit,
     write: &Write,
 ) -> Result<(), NoMemory>
     requires some { 0 < commit.partitions }
@@ -80,7 +80,7 @@ fn put_write<N: Net>(
     Ok(())
 }
 
-fn put_of(commit: Commit, write: &Write) -> CopyAsk
+fn put_of(commit: WorkerCommit, write: &Write) -> CopyAsk
     ensures { result ≡ put commit write.now }
 {
     CopyAsk::Put {

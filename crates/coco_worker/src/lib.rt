@@ -7,7 +7,7 @@ mod steps;
 mod tries;
 mod worker;
 
-pub use copies::Commit;
+pub use copies::WorkerCommit;
 pub use slot::{EpochConfig, Slot, Tail};
 pub use worker::work;
 

@@ -11,7 +11,7 @@ ghost use Rattle.coco_pieces.specs.Pieces.{request_pieces};
 ghost use Rattle.coco_worker.specs.Trying.{HasEnded, IsOver};
 ghost use Rattle.coco_worker.specs.Working.{Job, Worked, Works, WorksDrawn, IsGated};
 
-use crate::copies::{Commit, deliver};
+use crate::copies::{WorkerCommit, deliver};
 use crate::slot::{EpochConfig, Slot};
 use crate::tries::try_until;
 use coco_ast::Checked;
@@ -113,7 +113,7 @@ fn work_off<G: Gate, N: Net>(
     )? {
         Some(time) => {
             gate.pass(slot.worker, 2);
-            let commit = Commit {
+            let commit = WorkerCommit {
                 config,
                 partitions: shards.len() as u8,
                 worker: slot.worker,
@@ -135,7 +135,7 @@ fn keep<N: Net>(
     alloc: Global,
     copies: &[Journaled<CopyTable>],
     net: &N,
-    commit: Commit,
+    commit: WorkerCommit,
     room: &Option<Attempt>,
     slot: &mut Slot,
 ) -> Result<(), NoMemory>

@@ -6,15 +6,15 @@ use Rattle.coco_batches.specs.BatchReading.{BreaksOff}
 use Rattle.coco_lines.specs.declared.reader.Line.{Line}
 use Rattle.coco_batches.specs.Asking.{MayCommit}
 use Rattle.coco_batches.specs.Asking.{known_of}
-use Rattle.coco_batches.specs.declared.answer.Answer.{Answer}
+use Rattle.coco_batches.specs.declared.answer.LineAnswer.{LineAnswer}
 use Rattle.coco_batches.proofs.BatchLemmas.{batch_ends, breaks_at_line, breaks_at_read, breaks_at_start, none_new, taking_more, taking_start}
 use Rattle.coco_batches.proofs.batch.read_batch.Goals as goal
 
 pub loop-place-init : goal.loop-place-init
 loop-place-init g c = record {
   new = subst (MayCommit c.args.procs.now c.args.kept.now) (sym c.in_ok-batch.ensures.fresh) (none_new c.args.procs.now c.args.kept.now c.requires.few);
-  count = ap (length {A = Answer}) c.in_ok-batch.ensures.answers;
-  given = omega (arith, ap (length {A = Answer}) c.in_ok-batch.ensures.answers);
+  count = ap (length {A = LineAnswer}) c.in_ok-batch.ensures.answers;
+  given = omega (arith, ap (length {A = LineAnswer}) c.in_ok-batch.ensures.answers);
   within = c.requires.given;
   taking = taking_start c.args.procs.now (known_of c.args.kept.now []) c.args.reader.now (record { given = g.S.Source.given c.args.source.now; left = g.S.Source.remaining c.args.source.now; at_end = g.S.Source.at_end c.args.source.now }) c.in_ok-batch.batch c.in_ok-batch.ensures.answers c.in_ok-batch.ensures.fresh;
   end = λ met. met;

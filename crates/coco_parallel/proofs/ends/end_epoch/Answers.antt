@@ -8,7 +8,7 @@ use Rattle.coco_ast.specs.Fitting.{Fits}
 use Rattle.coco_epoch.specs.Pieces.{pieces_of}
 use Rattle.coco_epoch.specs.Running.{FitAll, requests_of}
 use Rattle.coco_epoch.specs.Shards.{HaveNewest}
-use Rattle.coco_epoch.specs.declared.placed.Placed.{Placed}
+use Rattle.coco_epoch.specs.declared.placed.PlacedRequest.{PlacedRequest}
 use Rattle.coco_order.specs.Execution.{Beginning, Execution, concat}
 use Rattle.coco_order.specs.Outcome.{tail_dones, tail_requests, tail_rows}
 use Rattle.coco_parallel.specs.Ends.{IsEnd, dones_of}
@@ -22,7 +22,7 @@ run_tail-requires-clause-fit c = subst (FitAll c.args.procs.now) (sym (c.in_ok-t
 
 pub run_tail-requires-clause-few : goal.run_tail-requires-clause-few
 run_tail-requires-clause-few c =
-    let count = length-map c.in_ok-tail.tail.items (λ (p : Placed). p.request) in
+    let count = length-map c.in_ok-tail.tail.items (λ (p : PlacedRequest). p.request) in
     let same = ap length (c.in_ok-tail.ensures.requests []) in
     let fewer = few_left_over (execution_with [] c.args.transcripts.now) 0 c.args.requests.now in
     let few = c.requires.few in
