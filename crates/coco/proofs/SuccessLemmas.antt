@@ -48,7 +48,7 @@ use Rattle.coco_store.specs.Texts.{IsAcceptedText}
 use Rattle.coco_tell.specs.Telling.{IsVerdict, SaysText}
 use Rattle.coco_words.specs.declared.Command.TheVariants.{Dump, Init, Migrate, Run, Verify}
 use Rattle.coco.specs.Commands.{counts_of, ending_in, plan_of}
-use Rattle.coco.specs.Success.{AnswersAll, DumpSucceeds, FewLinesHaveNumbers, HaveNumbers, InitSucceeds, DoneOrNoMemory, MigrateSucceeds, NoneRose, ReadsEmpty, RunSucceeds, VerifySucceeds}
+use Rattle.coco.specs.Success.{AllAreAnswered, DumpSucceeds, FewLinesHaveNumbers, HaveNumbers, InitSucceeds, DoneOrNoMemory, MigrateSucceeds, NoneRose, ReadsEmpty, RunSucceeds, VerifySucceeds}
 
 -- ---- numbers
 
@@ -146,7 +146,7 @@ module _ {H : Type 0} (moment : H → ℕ) (observed : H → ℕ → Observation
       one : (file at : ℕ) → ¬ (IsRefusedInRun store.files file at)
       one file at is = refused store.files file at is (record { contents = c; holds = store.good.holds; one = may.one })
 
-      answered : Opens moment observed said reads may_leave (plan_of run) how before after old new → DoneOrNoMemory how (AnswersAll moment observed said reads may_leave c (plan_of run) bytes after old new)
+      answered : Opens moment observed said reads may_leave (plan_of run) how before after old new → DoneOrNoMemory how (AllAreAnswered moment observed said reads may_leave c (plan_of run) bytes after old new)
       answered opens =
           let next = opens.is_next store.files c store.are store.good.holds in
           let same = one_giving before.source after.source opens.bytes bytes opens.gives gives in

@@ -81,7 +81,7 @@ module _ {H : Type 0} (moment : H → ℕ) (observed : H → ℕ → Observation
     pub none_rose : NoneRose before after
 
   -- the input was read to its end, and all its lines are committed and answered
-  pub record AnswersAll (c : Contents) (plan : Plan) (bytes : List ℕ) (after : Outside) (old new : H) : Type 0 where
+  pub record AllAreAnswered (c : Contents) (plan : Plan) (bytes : List ℕ) (after : Outside) (old new : H) : Type 0 where
     pub opened : H
     pub opening : IsOnlyRead moment observed said reads may_leave old opened
     pub next : ℕ
@@ -99,7 +99,7 @@ module _ {H : Type 0} (moment : H → ℕ) (observed : H → ℕ → Observation
   abbrev pub RunSucceeds : Type 0
   RunSucceeds = (run : RunOptions) (how : Ending) (before after : Outside) (old new : H) (c : Contents) (bytes : List ℕ)
       → IsFaultless (Run run) how before after old new → ReadsAs c (reads old) → Gives before.source after.source bytes → MayTake c (plan_of run) bytes
-      → DoneOrNoMemory how (AnswersAll c (plan_of run) bytes after old new)
+      → DoneOrNoMemory how (AllAreAnswered c (plan_of run) bytes after old new)
 
   -- `init` where no store is, with an accepted text given
   abbrev pub InitSucceeds : Type 0

@@ -1,18 +1,18 @@
 use Rattle.std.proofs.Common.{◌≡◌, ◌<◌, ◌+◌, ℕ, List, [], ◌∷◌, ◌++◌, length, take, get_or, ap, sym, ◌∙◌, append-nil, append_assoc}
 use Rattle.std.proofs.lemmas.List.{take_more}
 use Rattle.coco_types.specs.declared.call.Done.{Done}
-use Rattle.coco_batches.specs.Answering.{answers_text, answer_text}
+use Rattle.coco_batches.specs.Answering.{held_text, held_texts}
 use Rattle.coco_batches.specs.declared.answer.LineAnswer.{LineAnswer}
 
-texts-append : (dones : List Done) (xs : List LineAnswer) (y : LineAnswer) → answers_text dones (xs ++ y ∷ []) ≡ answers_text dones xs ++ answer_text dones y
-texts-append dones [] y = append-nil (answer_text dones y)
+texts-append : (dones : List Done) (xs : List LineAnswer) (y : LineAnswer) → held_texts dones (xs ++ y ∷ []) ≡ held_texts dones xs ++ held_text dones y
+texts-append dones [] y = append-nil (held_text dones y)
 texts-append dones (x ∷ xs) y =
-    ap (λ (t : List ℕ). answer_text dones x ++ t) (texts-append dones xs y) ∙ sym (append_assoc (answer_text dones x) (answers_text dones xs) (answer_text dones y))
+    ap (λ (t : List ℕ). held_text dones x ++ t) (texts-append dones xs y) ∙ sym (append_assoc (held_text dones x) (held_texts dones xs) (held_text dones y))
 
 -- the texts of the first answers go on with the next answer's
-pub texts-more : (dones : List Done) (answers : List LineAnswer) (n : ℕ) (d : LineAnswer) (before so_far now : List ℕ) → n < length answers → so_far ≡ before ++ answers_text dones (take n answers)
-    → now ≡ so_far ++ answer_text dones (get_or answers n d) → now ≡ before ++ answers_text dones (take (n + 1) answers)
+pub texts-more : (dones : List Done) (answers : List LineAnswer) (n : ℕ) (d : LineAnswer) (before so_far now : List ℕ) → n < length answers → so_far ≡ before ++ held_texts dones (take n answers)
+    → now ≡ so_far ++ held_text dones (get_or answers n d) → now ≡ before ++ held_texts dones (take (n + 1) answers)
 texts-more dones answers n d before so_far now below is grown =
-    grown ∙ ap (λ (t : List ℕ). t ++ answer_text dones (get_or answers n d)) is
-    ∙ append_assoc before (answers_text dones (take n answers)) (answer_text dones (get_or answers n d))
-    ∙ ap (λ (t : List ℕ). before ++ t) (sym (texts-append dones (take n answers) (get_or answers n d)) ∙ ap (answers_text dones) (sym (take_more answers n d below)))
+    grown ∙ ap (λ (t : List ℕ). t ++ held_text dones (get_or answers n d)) is
+    ∙ append_assoc before (held_texts dones (take n answers)) (held_text dones (get_or answers n d))
+    ∙ ap (λ (t : List ℕ). before ++ t) (sym (texts-append dones (take n answers) (get_or answers n d)) ∙ ap (held_texts dones) (sym (take_more answers n d below)))

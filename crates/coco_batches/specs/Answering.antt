@@ -19,10 +19,10 @@ abbrev pub answers_from : ℕ → List Class → List LineAnswer
 answers_from n [] = []
 answers_from n (c ∷ cs) = answer_of n c ∷ answers_from (n + 1) cs
 
-abbrev pub answer_text : List Done → LineAnswer → List ℕ
-answer_text dones (Error e n) = error_text e n
-answer_text dones (Reply id) = text_of (done_of id dones)
+abbrev pub held_text : List Done → LineAnswer → List ℕ
+held_text dones (Error e n) = error_text e n
+held_text dones (Reply id) = text_of (done_of id dones)
 
-abbrev pub answers_text : List Done → List LineAnswer → List ℕ
-answers_text dones [] = []
-answers_text dones (a ∷ answers) = answer_text dones a ++ answers_text dones answers
+abbrev pub held_texts : List Done → List LineAnswer → List ℕ
+held_texts dones [] = []
+held_texts dones (a ∷ answers) = held_text dones a ++ held_texts dones answers

@@ -1,7 +1,7 @@
 //! What lines are answered with.
 
 ghost use Rattle.std.specs.Prelude.{◌≡◌, ◌<◌, ◌++◌, ℕ, length, OnOk, OnErr, take};
-ghost use Rattle.coco_batches.specs.Answering.{answers_text, answer_text};
+ghost use Rattle.coco_batches.specs.Answering.{held_text, held_texts};
 
 use coco_kept::Kept;
 use coco_lines::{LineError, write_done, write_error};
@@ -16,9 +16,9 @@ pub enum LineAnswer {
 
 /// Puts the texts of the answers at the end of a buffer. Out of memory, the texts of the first of them are there.
 pub fn write_answers(out: &mut Vec<u8>, kept: &Kept, answers: &[LineAnswer]) -> Result<(), NoMemory>
-    ensures ok { OnOk result (out.new.items ≡ out.old.items ++ answers_text kept.now.dones answers.now) }
+    ensures ok { OnOk result (out.new.items ≡ out.old.items ++ held_texts kept.now.dones answers.now) }
     ensures err { OnErr result ((count : ℕ) × (count < length answers.now)
-        × (out.new.items ≡ out.old.items ++ answers_text kept.now.dones (take count answers.now))) }
+        × (out.new.items ≡ out.old.items ++ held_texts kept.now.dones (take count answers.now))) }
 {
     for answer in answers {
         write_answer(out, kept, *answer)?;
@@ -27,7 +27,7 @@ pub fn write_answers(out: &mut Vec<u8>, kept: &Kept, answers: &[LineAnswer]) -> 
 }
 
 fn write_answer(out: &mut Vec<u8>, kept: &Kept, answer: LineAnswer) -> Result<(), NoMemory>
-    ensures ok { OnOk result (out.new.items ≡ out.old.items ++ answer_text kept.now.dones answer) }
+    ensures ok { OnOk result (out.new.items ≡ out.old.items ++ held_text kept.now.dones answer) }
     ensures err { OnErr result (out.new.items ≡ out.old.items) }
 {
     match answer {

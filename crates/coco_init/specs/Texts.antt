@@ -37,13 +37,13 @@ IsTextError text (Lex e) = (length text ≤ most_procedure_bytes) × HasNoTokens
 IsTextError text (Parse e) = (length text ≤ most_procedure_bytes) × IsParseError text e
 IsTextError text (Check e) = (length text ≤ most_procedure_bytes) × IsCheckError text e
 
-abbrev pub AnswersText : List ℕ → Result Procedures TextError → Type 0
-AnswersText text (Ok tree) = IsAcceptedText text tree
-AnswersText text (Err e) = IsTextError text e
+abbrev pub AcceptsOrRefuses : List ℕ → Result Procedures TextError → Type 0
+AcceptsOrRefuses text (Ok tree) = IsAcceptedText text tree
+AcceptsOrRefuses text (Err e) = IsTextError text e
 
 -- a text has one answer
 abbrev pub HasOneAnswer : List ℕ → Type 0
-HasOneAnswer text = (a b : Result Procedures TextError) → AnswersText text a → AnswersText text b → a ≡ b
+HasOneAnswer text = (a b : Result Procedures TextError) → AcceptsOrRefuses text a → AcceptsOrRefuses text b → a ≡ b
 
 -- the text's tree, or the ending that its error makes
 abbrev pub AcceptsOrEnds : List ℕ → Result Procedures Ending → Type 0

@@ -31,7 +31,7 @@ use Rattle.coco_store.specs.Contents.{Contents, history_of}
 use Rattle.coco_store.specs.Rules.{Setting}
 use Rattle.coco_serve.specs.Faults.{fault_of_saying, fault_of_turn}
 use Rattle.coco_serve.specs.Growth.{AddsFrom, GrowsByExecution, HasExecution, Manner, manner_of}
-use Rattle.coco_serve.specs.OneBatch.{Answers, BatchEnds, IsRefused, SaysPart, texts_of}
+use Rattle.coco_serve.specs.OneBatch.{BatchEnds, IsRefused, SaysPart, WorksOffBatch, batch_texts}
 use Rattle.coco_serve.specs.Seen.{ShowsBatch}
 use Rattle.coco_serve.specs.Texts.{texts_over}
 use Rattle.coco_serve.specs.declared.fault.BatchFault.{BatchFault}
@@ -150,7 +150,7 @@ module _ {H : Type 0} (moment : H → ℕ) (observed : H → ℕ → Observation
 
   turn_ends : (f : TurnFault) (result : Result (Unit {0}) TurnFault) (batch : Batch) (requests : List Request) (plan : Plan) (c : Contents) (before after : ClusterState) (old new : H) → requests ≡ batch.fresh → said new ≡ said old
       → (f ≡ turn.EpochsUsedUp → new ≡ old) → Turns moment observed said reads may_leave result requests plan.workers plan.attempts c before after old new
-      → IsRefused (Err (fault_of_turn f)) old new ⊎ Answers moment observed said reads may_leave (Err (fault_of_turn f)) batch plan c before.next_epoch after old new
+      → IsRefused (Err (fault_of_turn f)) old new ⊎ WorksOffBatch moment observed said reads may_leave (Err (fault_of_turn f)) batch plan c before.next_epoch after old new
   turn_ends f result batch requests plan c before after old new same quiet unused t = by f unused
     where
       grows : GrowsByExecution (manner_of c.setting plan) (history_of c) batch.fresh (history_of t.d)
@@ -159,11 +159,11 @@ module _ {H : Type 0} (moment : H → ℕ) (observed : H → ℕ → Observation
       numbers : AddsFrom before.next_epoch (history_of c) (history_of t.d)
       numbers = adds_one requests plan.workers plan.attempts before.next_epoch c t.d t.grown
 
-      moments : SeesOnly moment observed old new (ShowsBatch c.setting (history_of c) (history_of t.d) (said old) (texts_of c t.d batch))
-      moments = sees_weaker moment observed old new (ShowsStore c.setting (history_of c) (history_of t.d) (said old)) (ShowsBatch c.setting (history_of c) (history_of t.d) (said old) (texts_of c t.d batch))
-          (turn_shows c.setting (history_of c) (history_of t.d) (said old) (texts_of c t.d batch)) t.moments
+      moments : SeesOnly moment observed old new (ShowsBatch c.setting (history_of c) (history_of t.d) (said old) (batch_texts c t.d batch))
+      moments = sees_weaker moment observed old new (ShowsStore c.setting (history_of c) (history_of t.d) (said old)) (ShowsBatch c.setting (history_of c) (history_of t.d) (said old) (batch_texts c t.d batch))
+          (turn_shows c.setting (history_of c) (history_of t.d) (said old) (batch_texts c t.d batch)) t.moments
 
-      by : (f : TurnFault) → (f ≡ turn.EpochsUsedUp → new ≡ old) → IsRefused (Err (fault_of_turn f)) old new ⊎ Answers moment observed said reads may_leave (Err (fault_of_turn f)) batch plan c before.next_epoch after old new
+      by : (f : TurnFault) → (f ≡ turn.EpochsUsedUp → new ≡ old) → IsRefused (Err (fault_of_turn f)) old new ⊎ WorksOffBatch moment observed said reads may_leave (Err (fault_of_turn f)) batch plan c before.next_epoch after old new
       by turn.Disk unused = inr (record { d = t.d; setting = t.grown.setting; grows = grows; numbers = numbers; moments = moments; ends = (t.left, quiet) })
       by turn.EpochsUsedUp unused = inl (unused refl)
       by turn.NoMemory unused = inr (record { d = t.d; setting = t.grown.setting; grows = grows; numbers = numbers; moments = moments; ends = inl (t.left, quiet) })
@@ -171,9 +171,9 @@ module _ {H : Type 0} (moment : H → ℕ) (observed : H → ℕ → Observation
   pub turn_failed : (f : TurnFault) (turned : Result (Unit {0}) TurnFault) (result : Result (Unit {0}) BatchFault) (batch : Batch) (requests : List Request) (plan : Plan) (c : Contents) (before after : ClusterState) (old new : H)
       → turned ≡ Err f → result ≡ Err (fault_of_turn f) → requests ≡ batch.fresh → said new ≡ said old → (turned ≡ Err turn.EpochsUsedUp → new ≡ old)
       → IsUntouched turned requests before after old new ⊎ Turns moment observed said reads may_leave turned requests plan.workers plan.attempts c before after old new
-      → IsRefused result old new ⊎ Answers moment observed said reads may_leave result batch plan c before.next_epoch after old new
+      → IsRefused result old new ⊎ WorksOffBatch moment observed said reads may_leave result batch plan c before.next_epoch after old new
   turn_failed f turned result batch requests plan c before after old new was is same quiet unused turns =
-      subst (λ r. IsRefused r old new ⊎ Answers moment observed said reads may_leave r batch plan c before.next_epoch after old new) (sym is)
+      subst (λ r. IsRefused r old new ⊎ WorksOffBatch moment observed said reads may_leave r batch plan c before.next_epoch after old new) (sym is)
       (⊎_elim (λ none. inl (refused f old new none.0)) (turn_ends f turned batch requests plan c before after old new same quiet (λ used. unused (was ∙ ap Err used))) turns)
 
   -- ---- a turn that committed, and what is said behind it
@@ -181,7 +181,7 @@ module _ {H : Type 0} (moment : H → ℕ) (observed : H → ℕ → Observation
   module _ (batch : Batch) (requests : List Request) (plan : Plan) (c : Contents) (next : ℕ) (after : ClusterState) (old mid : H) (same : requests ≡ batch.fresh) (quiet : said mid ≡ said old)
       (done : Committed c requests plan next after old mid) where
     abbrev texts : List ℕ
-    texts = texts_of c done.d batch
+    texts = batch_texts c done.d batch
 
     abbrev Shows : Observation → Type 0
     Shows = ShowsBatch c.setting (history_of c) (history_of done.d) (said old) texts
@@ -193,8 +193,8 @@ module _ {H : Type 0} (moment : H → ℕ) (observed : H → ℕ → Observation
     shown = sees_weaker moment observed old mid (ShowsStore c.setting (history_of c) (history_of done.d) (said old)) Shows (turn_shows c.setting (history_of c) (history_of done.d) (said old) texts) done.moments
 
     -- out of memory before anything is said
-    pub unsaid : (result : Result (Unit {0}) BatchFault) → result ≡ Err fault.NoMemory → Answers moment observed said reads may_leave result batch plan c next after old mid
-    unsaid result is = subst (λ r. Answers moment observed said reads may_leave r batch plan c next after old mid) (sym is) (record {
+    pub unsaid : (result : Result (Unit {0}) BatchFault) → result ≡ Err fault.NoMemory → WorksOffBatch moment observed said reads may_leave result batch plan c next after old mid
+    unsaid result is = subst (λ r. WorksOffBatch moment observed said reads may_leave r batch plan c next after old mid) (sym is) (record {
       d = done.d;
       setting = done.setting;
       grows = grows_so;
@@ -225,7 +225,7 @@ module _ {H : Type 0} (moment : H → ℕ) (observed : H → ℕ → Observation
       }
 
       answered : (result : Result (Unit {0}) BatchFault) → BatchEnds c done.d after texts (said old) (said new) (reads new) (may_leave new) result
-          → Answers moment observed said reads may_leave result batch plan c next after old new
+          → WorksOffBatch moment observed said reads may_leave result batch plan c next after old new
       answered result ends = record {
         d = done.d;
         setting = done.setting;
@@ -236,21 +236,21 @@ module _ {H : Type 0} (moment : H → ℕ) (observed : H → ℕ → Observation
       }
 
       -- the piece is said whole
-      pub all_said : said new ≡ append_known (said mid) piece → Answers moment observed said reads may_leave (Ok tt) batch plan c next after old new
+      pub all_said : said new ≡ append_known (said mid) piece → WorksOffBatch moment observed said reads may_leave (Ok tt) batch plan c next after old new
       all_said whole = answered (Ok tt) (rests_still, done.stands, whole ∙ ap (λ o. append_known o piece) quiet ∙ ap (append_known (said old)) are)
 
-      by_fault : (f : OutFault) → Answers moment observed said reads may_leave (Err (fault_of_saying f)) batch plan c next after old new
+      by_fault : (f : OutFault) → WorksOffBatch moment observed said reads may_leave (Err (fault_of_saying f)) batch plan c next after old new
       by_fault out.Failed = answered (Err fault.Say) (rests_still, said_part)
       by_fault out.NoMemory = answered (Err fault.NoMemory) (inr (rests_still, said_part))
 
       -- the saying broke off
-      pub partly_said : (f : OutFault) (result : Result (Unit {0}) BatchFault) → result ≡ Err (fault_of_saying f) → Answers moment observed said reads may_leave result batch plan c next after old new
-      partly_said f result is = subst (λ r. Answers moment observed said reads may_leave r batch plan c next after old new) (sym is) (by_fault f)
+      pub partly_said : (f : OutFault) (result : Result (Unit {0}) BatchFault) → result ≡ Err (fault_of_saying f) → WorksOffBatch moment observed said reads may_leave result batch plan c next after old new
+      partly_said f result is = subst (λ r. WorksOffBatch moment observed said reads may_leave r batch plan c next after old new) (sym is) (by_fault f)
 
 -- ---- texts
 
 -- the early texts, and those of after, are those of the two stores
 pub texts_are : (c d : Contents) (k after : ClusterState) (batch : Batch) (was now : List Done) (answers : List LineAnswer) (piece : List ℕ) → StandsAt c k → StandsAt d after
-    → was ≡ k.kept.dones → now ≡ after.kept.dones → answers ≡ batch.answers.items → piece ≡ texts_over was now answers → piece ≡ texts_of c d batch
+    → was ≡ k.kept.dones → now ≡ after.kept.dones → answers ≡ batch.answers.items → piece ≡ texts_over was now answers → piece ≡ batch_texts c d batch
 texts_are c d k after batch was now answers piece stands then_stands before behind same is =
     is ∙ ap (λ ds. texts_over ds now answers) (before ∙ stands.dones) ∙ ap (λ ds. texts_over (kept (history_of c)) ds answers) (behind ∙ then_stands.dones) ∙ ap (texts_over (kept (history_of c)) (kept (history_of d))) same

@@ -23,7 +23,7 @@ use Rattle.coco_store.specs.Contents.{Contents}
 use Rattle.coco_serve.specs.Endings.{ending_of}
 use Rattle.coco_serve.specs.Faults.{Counts, CountsBatch}
 use Rattle.coco_serve.specs.Growth.{epochs_of}
-use Rattle.coco_serve.specs.OneBatch.{Answers, IsRefused}
+use Rattle.coco_serve.specs.OneBatch.{IsRefused, WorksOffBatch}
 use Rattle.coco_serve.specs.Serving.{HasCause, Outside, Serves}
 use Rattle.coco_serve.specs.declared.ending.Served.{Served}
 use Rattle.coco_serve.specs.declared.ending.Served.TheVariants as ending
@@ -147,10 +147,10 @@ module _ {H : Type 0} (moment : H → ℕ) (observed : H → ℕ → Observation
 
         abbrev Tries : Result (Unit {0}) BatchFault → ClusterState → H → Type 0
         Tries result k' host =
-            (d : Contents) → RestsOn d (reads mid) (may_leave mid) → StandsAt d k → IsRefused result mid host ⊎ Answers moment observed said reads may_leave result batch plan d k.next_epoch k' mid host
+            (d : Contents) → RestsOn d (reads mid) (may_leave mid) → StandsAt d k → IsRefused result mid host ⊎ WorksOffBatch moment observed said reads may_leave result batch plan d k.next_epoch k' mid host
 
         answered : (k' : ClusterState) (host : H) → Tries (Ok tt) k' host → (d : Contents) → RestsOn d (reads mid) (may_leave mid) → StandsAt d k
-            → Answers moment observed said reads may_leave (Ok tt) batch plan d k.next_epoch k' mid host
+            → WorksOffBatch moment observed said reads may_leave (Ok tt) batch plan d k.next_epoch k' mid host
         answered k' host tries d rests stands = ⊎_elim (λ none. absurd none) (λ yes. yes) (tries d rests stands)
 
         -- it was whole, and there are more

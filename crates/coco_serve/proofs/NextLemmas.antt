@@ -31,7 +31,7 @@ use Rattle.coco_lines.proofs.LinesLemmas.{lines_of-nil}
 use Rattle.coco_lines.proofs.ReplyLemmas.{answers_still, are_new}
 use Rattle.coco_store.specs.Contents.{Contents, history_of}
 use Rattle.coco_serve.specs.Growth.{AddsFrom, AreFirstBatches, GrowsByExecution, IsGrown, Manner, answers_of, epochs_of, manner_of}
-use Rattle.coco_serve.specs.OneBatch.{Answers, BatchEnds, SaysPart, texts_of}
+use Rattle.coco_serve.specs.OneBatch.{BatchEnds, SaysPart, WorksOffBatch, batch_texts}
 use Rattle.coco_serve.specs.Texts.{texts_over}
 use Rattle.coco_serve.specs.Seen.{IsServed, LeavesEither, ShowsBatch}
 use Rattle.coco_serve.specs.Serving.{LeavesLast, Progress, RestsAt, RunEnds, SaysAll, SaysUpTo, Serves}
@@ -64,7 +64,7 @@ module _ {H : Type 0} (moment : H → ℕ) (observed : H → ℕ → Observation
 
   module _ (c : Contents) (next : ℕ) (plan : Plan) (lines : List Line) (k k' : ClusterState) (first mid host : H) (reader reader' : ReaderState) (m n : SourceMoment) (batch : Batch) (result : Result (Unit {0}) BatchFault)
       (a : AreServed moment observed said reads may_leave c next plan lines k first mid) (given : reader.given ≡ length lines) (r : ReadsBatch k.procs (known_of k.kept []) reader reader' m n plan.size batch)
-      (x : Answers moment observed said reads may_leave result batch plan a.d k.next_epoch k' mid host) where
+      (x : WorksOffBatch moment observed said reads may_leave result batch plan a.d k.next_epoch k' mid host) where
     abbrev tree : Procedures
     tree = c.setting.tree
 
@@ -93,7 +93,7 @@ module _ {H : Type 0} (moment : H → ℕ) (observed : H → ℕ → Observation
     classes' = a.classes ++ cs ∷ []
 
     abbrev texts : List ℕ
-    texts = texts_of a.d x.d batch
+    texts = batch_texts a.d x.d batch
 
     are : AreClasses tree (known_in h) more cs
     are = classes_at c a.d k more cs a.stands a.setting r.taking.are

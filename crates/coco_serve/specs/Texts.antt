@@ -3,7 +3,7 @@ use Rattle.std.specs.Prelude.{ℕ, List, [], ◌∷◌, ◌++◌, Option, None}
 use Rattle.std.specs.Option.{option_map, unwrap_or}
 use Rattle.coco_types.specs.declared.call.Done.{Done}
 use Rattle.coco_ast.specs.History.{done_of}
-use Rattle.coco_batches.specs.Answering.{answer_text}
+use Rattle.coco_batches.specs.Answering.{held_text}
 use Rattle.coco_batches.specs.declared.answer.LineAnswer.{LineAnswer}
 use Rattle.coco_batches.specs.declared.answer.LineAnswer.TheVariants.{Error, Reply}
 use Rattle.coco_lines.specs.Texts.{done_text}
@@ -15,7 +15,7 @@ early_text dones (Reply id) = option_map done_text (done_of id dones)
 
 -- the early text, or else what is kept after the batch says
 abbrev pub text_over : List Done → List Done → LineAnswer → List ℕ
-text_over before after a = unwrap_or (early_text before a) (answer_text after a)
+text_over before after a = unwrap_or (early_text before a) (held_text after a)
 
 abbrev pub texts_over : List Done → List Done → List LineAnswer → List ℕ
 texts_over before after [] = []

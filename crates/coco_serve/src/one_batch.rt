@@ -7,7 +7,7 @@ ghost use Rattle.coco_cluster.specs.Standing.{StandsAt};
 ghost use Rattle.coco_store.specs.Contents.{Contents};
 ghost use Rattle.coco_serve.specs.Faults.{CountsBatch};
 ghost use Rattle.coco_serve.specs.Growth.{epochs_of};
-ghost use Rattle.coco_serve.specs.OneBatch.{Answers, IsRefused};
+ghost use Rattle.coco_serve.specs.OneBatch.{IsRefused, WorksOffBatch};
 
 use crate::fault::BatchFault;
 use crate::plan::Plan;
@@ -38,7 +38,7 @@ pub fn turn_and_say<R: Threads + Wait + Sync, H: Host, G: Gate + Sync>(
     requires few { length batch.fresh ≤ most_batch_lines }
     requires stand { Stands cluster.old.node (H.reads host.old) (H.may_leave host.old) × Stands cluster.old.chief (H.reads host.old) (H.may_leave host.old) }
     ensures answers { (c : Contents) → RestsOn c (H.reads host.old) (H.may_leave host.old) → StandsAt c cluster.old
-        → IsRefused result host.old host.new ⊎ Answers H.moment H.observed H.said H.reads H.may_leave result batch plan c cluster.old.next_epoch cluster.new host.old host.new }
+        → IsRefused result host.old host.new ⊎ WorksOffBatch H.moment H.observed H.said H.reads H.may_leave result batch plan c cluster.old.next_epoch cluster.new host.old host.new }
     ensures stand { OnOk result (Stands cluster.new.node (H.reads host.new) (H.may_leave host.new) × Stands cluster.new.chief (H.reads host.new) (H.may_leave host.new)) }
     ensures unspent { OnOk result (cluster.new.spent ≡ false) }
     ensures few { OnOk result (length cluster.new.kept.dones ≤ most_kept) }
