@@ -8,7 +8,7 @@ ghost use Rattle.coco_cluster.specs.Turning.{HasRoom, IsUntouched, MayTurn, Turn
 ghost use Rattle.coco_cluster.specs.declared.fault.TurnFault.TheVariants as fault;
 
 use crate::TurnFault;
-use crate::running::{EpochRoom, Ran, end_epoch, on_one_node, run_epoch};
+use crate::epoch::{EpochRoom, Ran, end_epoch, on_one_node, run_epoch};
 use crate::storing::store_epoch;
 use coco_ast::Checked;
 use coco_commits::{a_run_is_the_next_commit, a_run_may_be_prepared};

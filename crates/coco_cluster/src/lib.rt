@@ -2,8 +2,8 @@
 #![tactic(auto)]
 
 mod cluster;
+mod epoch;
 mod fault;
-mod running;
 mod storing;
 
 pub use cluster::{Cluster, InHand};

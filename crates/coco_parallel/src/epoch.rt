@@ -12,7 +12,7 @@ ghost use Rattle.coco_parallel.specs.Worked.{AreReplayed, HaveCommits, begun_all
 use crate::ends::end_epoch;
 use crate::laws::ends_are_serial;
 use crate::rooms::Rooms;
-use crate::running::{EpochRefused, Worked, run_workers, taken_back};
+use crate::side_by_side::{EpochRefused, Worked, run_workers, taken_back};
 use coco_ast::Checked;
 use coco_copy::CopyTable;
 use coco_gate::Gate;

@@ -9,7 +9,7 @@ pub mod locks;
 mod pieces;
 pub mod rooms;
 pub mod rows;
-pub mod running;
+pub mod side_by_side;
 pub mod stations;
 #[cfg(test)]
 mod tests;

@@ -31,7 +31,7 @@ pub struct Station {
 
 impl Station {
     /// Works off requests until none is left; out of memory it isn't done.
-    pub fn run<G: Gate, N: Net>(
+    pub fn work_off<G: Gate, N: Net>(
         &mut self,
         rt: &impl Wait,
         alloc: Global,
@@ -100,7 +100,7 @@ pub fn run_all<R: Threads + Wait + Sync, G: Gate + Sync, N: Net + Sync>(
 {
     let threads = stations.len();
     if threads == 1 {
-        stations[0].run(
+        stations[0].work_off(
             rt, alloc, shards, copies, claims, procs, requests, config, gate, net,
         );
         return;
@@ -110,7 +110,7 @@ pub fn run_all<R: Threads + Wait + Sync, G: Gate + Sync, N: Net + Sync>(
         stations,
         threads,
         &|_, station| {
-            station.run(
+            station.work_off(
                 rt, alloc, shards, copies, claims, procs, requests, config, gate, net,
             );
         },

@@ -8,7 +8,7 @@ ghost use Rattle.coco_ast.specs.Meaning.{run};
 ghost use Rattle.coco_eval.specs.Standing.{Evaluation, Ended};
 ghost use Rattle.coco_serial.specs.Applied.{HasEnded, rows_of};
 
-use crate::running::{Rows, finish, value_in};
+use crate::call_on_map::{Rows, finish, value_in};
 use coco_ast::Checked;
 use coco_eval::Run;
 use coco_types::limits::MOST_KEYS;

@@ -1,7 +1,7 @@
 //! One executor on one map: the plain meaning of calls, in order.
 #![tactic(auto)]
 
+mod call_on_map;
 mod executor;
-mod running;
 
 pub use executor::Executor;

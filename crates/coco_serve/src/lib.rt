@@ -1,17 +1,17 @@
 //! Request lines answered on a store in hand, batch by batch: each batch is committed to the files before it is answered.
 #![tactic(auto)]
 
+mod all_batches;
 mod ending;
 mod fault;
 pub mod laws;
 mod one_batch;
 mod plan;
-mod serving;
 #[cfg(test)]
 mod tests;
 mod texts;
 
+pub use all_batches::answer_lines;
 pub use ending::Served;
 pub use fault::BatchFault;
 pub use plan::Plan;
-pub use serving::answer_lines;

@@ -1,6 +1,0 @@
-use Rattle.std.proofs.Common.{◌≡◌, ◌++◌, map, take, drop}
-use Rattle.coco_copy.specs.CopyState.{CopyState, begun}
-use Rattle.coco_parallel.proofs.running.revert_copies.Given as goal
-
-abbrev pub invariant-loop-place : goal.invariant-loop-place
-invariant-loop-place l = l.copies ≡ map (λ (t : CopyState). begun t.epoch t.stable) (take l.place l.fn.copies) ++ drop l.place l.fn.copies

@@ -1,0 +1,24 @@
+use Rattle.std.proofs.Common.{◌≡◌, ◌+◌, ◌-◌, ◌≤◌, ◌^◌, true, false, length}
+use Rattle.coco_append.specs.Gaining.{Stands}
+use Rattle.coco_lines.specs.Reads.{IsSpent}
+use Rattle.coco_types.specs.Limits.{most_kept}
+use Rattle.coco_serve.proofs.EndLemmas.{IsRunning}
+use Rattle.coco_serve.proofs.all_batches.answer_lines.Given as goal
+
+abbrev pub invariant-batches : goal.invariant-batches
+invariant-batches g l = record {
+  running : IsRunning g.H.Host.moment g.H.Host.observed g.H.Host.said g.H.Host.reads g.H.Host.may_leave l.fn.cluster.next_epoch l.plan l.reader
+      (record { given = g.S.Source.given l.fn.input; left = g.S.Source.remaining l.fn.input; at_end = g.S.Source.at_end l.fn.input })
+      (record { given = g.S.Source.given l.input; left = g.S.Source.remaining l.input; at_end = g.S.Source.at_end l.input }) l.fn.cluster l.cluster l.fn.host l.host;
+  within : l.reader.given ≤ 2 ^ 62;
+  end : l.reader.ended ≡ true → IsSpent (record { given = g.S.Source.given l.input; left = g.S.Source.remaining l.input; at_end = g.S.Source.at_end l.input });
+  unspent : l.cluster.spent ≡ false;
+  room : length l.cluster.kept.dones ≤ most_kept;
+  stand : Stands l.cluster.node (g.H.Host.reads l.host) (g.H.Host.may_leave l.host) × Stands l.cluster.chief (g.H.Host.reads l.host) (g.H.Host.may_leave l.host);
+  reads : g.S.Source.faults l.input ≡ g.S.Source.faults l.fn.input;
+  says : g.H.Host.say_faults l.host ≡ g.H.Host.say_faults l.fn.host;
+  disks : g.H.Host.disk_faults l.host ≡ g.H.Host.disk_faults l.fn.host;
+}
+
+abbrev pub decreases-batches : goal.decreases-batches
+decreases-batches g l = 2 ^ 62 + 1 - l.reader.given
