@@ -16,7 +16,7 @@ use Rattle.coco_ship.specs.Pieces.{AreShippable, IsOf, IsWritten}
 use Rattle.coco_ship.specs.Letters.{AreOther}
 use Rattle.coco_ship.specs.Shipping.{AreBegun}
 use Rattle.coco_ship.specs.Taking.{Puts}
-use Rattle.coco_ship.specs.Examples.{three, AreNumbered, IsNumber}
+use Rattle.coco_ship.specs.Examples.{alone, three, AreNumbered, IsNumber}
 use Rattle.coco_ship.proofs.RoundLemmas.{same_write}
 use Rattle.coco_ship.proofs.Tables.{one_read}
 
@@ -49,6 +49,19 @@ numbered_shippable pieces numbered = record {
       let here : a.0 ≡ b.0 = (let t : x.time ≡ a.0 + 1 = n.time in let u : y.time ≡ b.0 + 1 = m.time in omega (arith, t, u, same)) in
       let one : x ≡ y = same_place pieces x y a.0 b.0 a.1 b.1 a.2 b.2 here in
       one_row x.writes n.row w v in_x (subst (λ (z : Piece). Contains z.writes v) (sym one) in_y);
+}
+
+-- with copies or without
+pub numbered_alone : (pieces : List Piece) → AreNumbered pieces → AreShippable alone pieces
+numbered_alone pieces numbered =
+    let fit = numbered_shippable pieces numbered in
+    record { partitions = fit.partitions; one_piece = fit.one_piece; one_write = fit.one_write }
+
+pub alone_begun : (epoch : ℕ) (pieces : List Piece) → AreBegun alone epoch pieces []
+alone_begun epoch pieces = record {
+  count = refl;
+  begun = λ i d h. absurd (omega (arith, h));
+  written = λ p j copy. absurd (let less : j < 0 = copy.copy in omega (arith, less));
 }
 
 -- one item more, of which this holds as of the others

@@ -15,4 +15,5 @@ pub mod DeliverLemmas
 pub mod GoingLemmas
 pub mod RoundLemmas
 pub mod ThereLemmas
+pub mod ExchangeLemmas
 pub mod ExampleLemmas

@@ -24,6 +24,7 @@ use Rattle.coco_ship.specs.Lines.{answered, AreLines, AreWaiting, IsLine}
 use Rattle.coco_ship.specs.Shipping.{news, AreBegun, ArePhase, AreWhole, AreWritten, IsPhase, IsSilent}
 use Rattle.coco_ship.specs.Sending.{answer_of, ask_of, reply_of, AreAnswers, AreAsks, IsAnswer}
 use Rattle.coco_ship.specs.Taking.{Brings, Hears, OfBoth, OfTables}
+use Rattle.coco_ship.specs.Exchanges.{AreExchanges, AreOwersAsked}
 use Rattle.coco_ship.specs.Going.{AreHonest, AreTold, HasAnswered, IsDoneBy, IsGoing, IsHonest, IsTold, IsWaitedFor, Passes, Unless}
 use Rattle.coco_ship.proofs.DeliverLemmas.{holder_within, news_is, news_none, out_letters, primary_within}
 use Rattle.coco_ship.proofs.GoingLemmas.{all_there, answered_kept, answered_there, answers_all_there, answers_honest, asks_honest, honest_after, honest_both, honest_some, told_total}
@@ -417,11 +418,12 @@ was_given ring epoch posts ls ts ms us lines tables after tables' waiting done n
       | inr given ↦ given
     ]
 
-pub is_silent_then : (ring : Ring) (epoch : ℕ) (posts : List Posted) (ls : List Line) (ts : List CopyState) (ms : List Line) (us : List CopyState) (f0 f1 node : ℕ) → length ls ≡ ring.partitions * ring.copies → length ts ≡ ring.partitions * ring.copies
+pub is_silent_then : (ring : Ring) (epoch : ℕ) (sent posts : List Posted) (ls : List Line) (ts : List CopyState) (ms : List Line) (us : List CopyState) (f0 f1 node : ℕ) → length ls ≡ ring.partitions * ring.copies → length ts ≡ ring.partitions * ring.copies
     → length ms ≡ ring.partitions * ring.copies → length us ≡ ring.partitions * ring.copies → AreWaiting ring ls → OfBoth ring (IsDoneBy ring epoch posts) ls ts ms us
-    → IsWaitedFor ring ms node → ((n : ℕ) → n < node → HasAnswered ring ms n) → f0 + 16 ≤ f1 → IsSilent ring epoch posts f0 f1 node
-is_silent_then ring epoch posts ls ts ms us f0 f1 node lines tables after tables' waiting done waited least faults = record {
+    → IsWaitedFor ring ms node → ((n : ℕ) → n < node → HasAnswered ring ms n) → f0 + 16 ≤ f1 → AreExchanges 16 (AreOwersAsked ring epoch posts) sent f0 f1 → IsSilent ring epoch sent posts f0 f1 node
+is_silent_then ring epoch sent posts ls ts ms us f0 f1 node lines tables after tables' waiting done waited least faults exchanges = record {
   faults = faults;
+  exchanges = exchanges;
   owes = record {
     p = waited.p;
     j = waited.j;
@@ -440,12 +442,3 @@ is_silent_then ring epoch posts ls ts ms us f0 f1 node lines tables after tables
 -- not all have answered while one is waited for
 pub waited_not : (ring : Ring) (lines : List Line) (node : ℕ) → IsWaitedFor ring lines node → ((n : ℕ) → HasAnswered ring lines n) → ⊥
 waited_not ring lines node waited all = two_sides (sym (all node waited.p waited.j waited.is_copy waited.holds waited.line waited.here) ∙ waited.waits)
-
-pub loop_faults : (f0 i f1 f2 : ℕ) (P Q : Type 0) → (P → ⊥) → (f0 + i ≤ f1) ⊎ P → Unless f1 f2 Q → (f0 + (i + 1) ≤ f2) ⊎ Q
-loop_faults f0 i f1 f2 P Q nay before now = elim now [
-  | inl rose ↦ elim before [
-    | inl so_far ↦ inl (omega (arith, rose, so_far))
-    | inr all ↦ absurd (nay all)
-  ]
-  | inr same ↦ inr same.1
-]

@@ -6,6 +6,10 @@ use Rattle.coco_ship.specs.declared.ring.Ring.{Ring}
 abbrev pub three : Ring
 three = record { nodes = 3; partitions = 3; copies = 2 }
 
+-- a ring of three without copies
+abbrev pub alone : Ring
+alone = record { nodes = 3; partitions = 3; copies = 0 }
+
 -- the piece of this number writes one row
 pub record IsNumber (k : ℕ) (x : Piece) : Type 0 where
   pub place : x.place ≡ k

@@ -9,3 +9,4 @@ pub mod Taking
 pub mod Going
 pub mod Examples
 pub mod There
+pub mod Exchanges

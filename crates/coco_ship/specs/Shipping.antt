@@ -14,6 +14,7 @@ use Rattle.coco_ship.specs.declared.ship.ShipFault.TheVariants as faults
 use Rattle.coco_ship.specs.Placing.{holder_of, table_of, IsCopy}
 use Rattle.coco_ship.specs.Pieces.{HasPieces, IsWritten}
 use Rattle.coco_ship.specs.Letters.{all_of, Gains}
+use Rattle.coco_ship.specs.Exchanges.{AreExchanges, AreOwersAsked}
 
 -- what pends in each copy was written by pieces of its partition
 abbrev pub AreWritten : Ring → List Piece → List CopyState → Type 0
@@ -50,15 +51,17 @@ pub record Owes (ring : Ring) (epoch : ℕ) (given : List Posted) (node : ℕ) :
   pub holds : holder_of ring p j ≡ node
   pub lacks : Contains given (all_of ring epoch p j) → ⊥
 
--- Faults in each of sixteen exchanges, and the least node that owes an All.
-pub record IsSilent (ring : Ring) (epoch : ℕ) (given : List Posted) (faults_old faults_new node : ℕ) : Type 0 where
+-- Sixteen exchanges, in each of which every copy that owes its All was sent a Total and the count of faults rose; and
+-- the least node that owes an All.
+pub record IsSilent (ring : Ring) (epoch : ℕ) (sent given : List Posted) (faults_old faults_new node : ℕ) : Type 0 where
   pub faults : faults_old + 16 ≤ faults_new
+  pub exchanges : AreExchanges 16 (AreOwersAsked ring epoch given) sent faults_old faults_new
   pub owes : Owes ring epoch given node
   pub least : (p j : ℕ) → IsCopy ring p j → holder_of ring p j < node → Contains given (all_of ring epoch p j)
 
-abbrev pub OnSilent : Ring → ℕ → List Posted → ℕ → ℕ → ShipFault → Type 0
-OnSilent ring epoch given faults_old faults_new (faults.Silent node) = IsSilent ring epoch given faults_old faults_new node
-OnSilent ring epoch given faults_old faults_new faults.NoMemory = Unit {0}
+abbrev pub OnSilent : Ring → ℕ → List Posted → List Posted → ℕ → ℕ → ShipFault → Type 0
+OnSilent ring epoch sent given faults_old faults_new (faults.Silent node) = IsSilent ring epoch sent given faults_old faults_new node
+OnSilent ring epoch sent given faults_old faults_new faults.NoMemory = Unit {0}
 
 -- the message is one of the ship phase of this epoch
 abbrev pub IsPhase : ℕ → Message → Type 0

@@ -5,6 +5,7 @@ ghost use Rattle.std.specs.Bool.{MatchBool};
 ghost use Rattle.coco_ship.specs.declared.ship.ShipFault.TheVariants.{NoMemory as Spent};
 ghost use Rattle.coco_ship.specs.Going.{Answered, AreTold, GoesOn, HasAnswered, IsDoneBy, IsGoing, IsWaitedFor, Passes, StaysWritten, Unless};
 ghost use Rattle.coco_ship.specs.Taking.{waiting_below, Brings, Hears, OfBoth, OfTables};
+ghost use Rattle.coco_ship.specs.Exchanges.{AreAsked};
 ghost use Rattle.coco_ship.specs.Letters.{AreInside, AreOther};
 ghost use Rattle.coco_ship.specs.Lines.{AreWaiting};
 ghost use Rattle.coco_ship.specs.Pieces.{AreShippable};
@@ -145,6 +146,7 @@ fn ask_round<N: Net>(
     ensures exact { OnOk result (StaysExact ring epoch pieces.now (N.given net.old) lines.old (N.given net.new) lines.new) }
     ensures right { AddsRight ring epoch pieces.now (N.sent net.old) (N.given net.old) lines.old (N.sent net.new) (N.given net.new) }
     ensures done { OnOk result (OfBoth ring (IsDoneBy ring epoch (news (N.given net.old) (N.given net.new))) lines.old copies.old lines.new copies.new) }
+    ensures asked { OnOk result (AreAsked ring epoch lines.old (news (N.sent net.old) (N.sent net.new))) }
     ensures told { OnOk result (Unless (N.faults net.old) (N.faults net.new) (AreTold ring pieces.now lines.new)) }
 {
     let letters = asks(alloc, ring, epoch, pieces, lines)?;
@@ -198,6 +200,7 @@ fn exchange<N: Net>(
     ensures exact { OnOk result (StaysExact ring epoch pieces.now (N.given net.old) lines.old (N.given net.new) lines.new) }
     ensures right { AddsRight ring epoch pieces.now (N.sent net.old) (N.given net.old) lines.old (N.sent net.new) (N.given net.new) }
     ensures done { OnOk result (OfBoth ring (IsDoneBy ring epoch (news (N.given net.old) (N.given net.new))) lines.old copies.old lines.new copies.new) }
+    ensures asked { OnOk result (AreAsked ring epoch lines.old (news (N.sent net.old) (N.sent net.new))) }
     // An exchange without a fault ends the phase.
     ensures faults { OnOk result (Unless (N.faults net.old) (N.faults net.new) ((node : ℕ) → HasAnswered ring lines.new node)) }
 {
@@ -259,7 +262,7 @@ fn exchanges<N: Net>(
     ensures right { AddsRight ring epoch pieces.now (N.sent net.old) (N.given net.old) lines.old (N.sent net.new) (N.given net.new) }
     ensures answered { OnOk result (HaveAnswered ring epoch (news (N.given net.old) (N.given net.new))) }
     ensures alone { ring.copies ≡ 0 → N.sent net.new ≡ N.sent net.old }
-    ensures silent { IfErr result (OnSilent ring epoch (news (N.given net.old) (N.given net.new)) (N.faults net.old) (N.faults net.new)) }
+    ensures silent { IfErr result (OnSilent ring epoch (news (N.sent net.old) (N.sent net.new)) (news (N.given net.old) (N.given net.new)) (N.faults net.old) (N.faults net.new)) }
 {
     for _exchange in 0..EXCHANGES {
         match silent(ring, lines) {
@@ -302,7 +305,8 @@ pub fn ship_epoch<N: Net>(
     ensures phase { ArePhase epoch (news (N.sent net.old) (N.sent net.new)) }
     // Without copies nothing is sent.
     ensures alone { ring.copies ≡ 0 → N.sent net.new ≡ N.sent net.old }
-    ensures silent { IfErr result (OnSilent ring epoch (news (N.given net.old) (N.given net.new)) (N.faults net.old) (N.faults net.new)) }
+    // Silent comes only after 16 exchanges, in each of which the count of faults rose.
+    ensures silent { IfErr result (OnSilent ring epoch (news (N.sent net.old) (N.sent net.new)) (news (N.given net.old) (N.given net.new)) (N.faults net.old) (N.faults net.new)) }
 {
     let mut lines = lines_of(alloc, ring, pieces, copies)?;
     exchanges(alloc, net, ring, epoch, pieces, &mut lines, copies)

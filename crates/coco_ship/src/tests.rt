@@ -1,4 +1,4 @@
-//! Three nodes with a copy of each partition on the two others.
+//! Three nodes with a copy of each partition on the two others, or with none.
 
 ghost use Rattle.std.specs.Prelude.{◌≡◌, List, [], Contains, IfOk, OnOk};
 ghost use Rattle.coco_types.specs.declared.call.Piece.{Piece as Part};
@@ -19,6 +19,13 @@ const RING: Ring = Ring {
     nodes: 3,
     partitions: 3,
     copies: 2,
+};
+
+// Three nodes without copies.
+const ALONE: Ring = Ring {
+    nodes: 3,
+    partitions: 3,
+    copies: 0,
 };
 
 const FIVE: Key = Key { table: 0, row: 5 };
@@ -167,8 +174,8 @@ fn a_primary_that_hears_nothing_finds_a_copy_silent(rt: HostRuntime) -> Result<(
     let alloc = rt.alloc();
     let mut net = ScriptNet::new(alloc, Lose::To(2), false, 1);
     let (answer, _) = ship(alloc, &mut net, 1, false)?;
-    assert_eq!(rt; answer, Err(ShipFault::Silent { node: 0 }));
-    assert!(rt; net.faults() >= 16);
+    // In each exchange asks to node 2 are lost in the first round, and Alls to it in the second.
+    assert!(rt; answer == Err(ShipFault::Silent { node: 0 }) && net.faults() == 32);
     Ok(())
 }
 
@@ -177,7 +184,30 @@ fn nothing_comes_where_all_is_lost(rt: HostRuntime) -> Result<(), Fail> {
     let alloc = rt.alloc();
     let mut net = ScriptNet::new(alloc, Lose::All, false, 1);
     let silent = Err(ShipFault::Silent { node: 0 });
-    comes(&rt, alloc, &mut net, false, silent, false)
+    comes(&rt, alloc, &mut net, false, silent, false)?;
+    // Nothing is answered, so the second round of an exchange has nothing to lose.
+    assert!(rt; net.faults() == 16);
+    Ok(())
+}
+
+// A piece is shipped over a new net where there are no copies.
+fn ship_alone<N: Net>(alloc: Global, net: &mut N) -> Result<Result<(), ShipFault>, NoMemory>
+    requires { N.sent net.old ≡ [] }
+{
+    let pieces = pieces(alloc, 1)?;
+    let answer = ship_epoch(alloc, net, ALONE, 1, pieces.as_slice(), &mut []);
+    Ok(answer)
+}
+
+#[test]
+fn without_copies_nothing_is_sent(rt: HostRuntime) -> Result<(), Fail> {
+    let alloc = rt.alloc();
+    let mut net = ScriptNet::new(alloc, Lose::All, false, 1);
+    let answer = ship_alone(alloc, &mut net)?;
+    // A letter that was sent would be lost here at the latest.
+    net.round()?;
+    assert!(rt; answer == Ok(()) && net.faults() == 0);
+    Ok(())
 }
 
 // What pends of the first nine pieces for a row in the copies of a partition: the last that writes it.

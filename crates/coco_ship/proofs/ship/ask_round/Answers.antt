@@ -3,6 +3,7 @@ use Rattle.std.specs.List.{All, Contains}
 use Rattle.std.proofs.lemmas.Result.{on_ok_weaker}
 use Rattle.coco_ship.specs.Going.{AreTold}
 use Rattle.coco_ship.specs.Shipping.{news}
+use Rattle.coco_ship.proofs.ExchangeLemmas.{asked_now}
 use Rattle.coco_ship.proofs.RoundLemmas.{ask_going, ask_written, asks_inside, asks_phase, done_by, on_ok_two, passes_none, told_after, unless_then}
 use Rattle.coco_ship.proofs.ThereLemmas.{asked_exact, asked_right, right_none}
 use Rattle.coco_ship.proofs.ship.ask_round.Goals as goal
@@ -68,3 +69,9 @@ returns-clause-right g c =
 pub returns-in_err-letters-clause-right : goal.returns-in_err-letters-clause-right
 returns-in_err-letters-clause-right g c =
     right_none c.args.ring c.args.epoch c.args.pieces.now (g.N.Net.sent c.args.net.now) (g.N.Net.sent c.args.net.now) (g.N.Net.given c.args.net.now) c.args.lines.now (g.N.Net.given c.args.net.now) refl
+
+pub returns-clause-asked : goal.returns-clause-asked
+returns-clause-asked g c =
+    on_ok_weaker c.carry.result
+    (λ is. asked_now c.args.ring c.args.epoch c.args.pieces.now c.args.lines.now (g.N.Net.sent c.args.net.now) c.in_ok-letters.letters.items (g.N.Net.sent c.carry.new.net) c.in_ok-letters.ensures is)
+    c.carry.ensures.sent

@@ -1,6 +1,7 @@
 use Rattle.std.proofs.Common.{◌≡◌, ◌*◌, ℕ, arith, length}
 use Rattle.std.proofs.lemmas.Result.{on_ok_weaker}
 use Rattle.coco_ship.specs.Going.{Answered, AreTold, HasAnswered}
+use Rattle.coco_ship.proofs.ExchangeLemmas.{asked_more_sent}
 use Rattle.coco_ship.proofs.RoundLemmas.{done_then, exchange_faults, passes_then}
 use Rattle.coco_ship.proofs.ThereLemmas.{exact_then, right_then}
 use Rattle.coco_ship.proofs.ship.exchange.Goals as goal
@@ -49,3 +50,9 @@ returns-clause-right g c =
     right_then c.args.ring c.args.epoch c.args.pieces.now (g.N.Net.sent c.args.net.now) (g.N.Net.given c.args.net.now) c.args.lines.now (g.N.Net.sent c.ask_round.new.net) (g.N.Net.given c.ask_round.new.net) c.ask_round.new.lines (g.N.Net.sent c.answer_round.new.net) (g.N.Net.given c.answer_round.new.net)
     c.ask_round.ensures.passes.sends c.answer_round.ensures.passes.sends c.ask_round.ensures.passes.gives c.answer_round.ensures.passes.gives c.ask_round.ensures.right c.in_ok-ask_round.ensures.exact
     (c.answer_round.ensures.right c.args.pieces.now c.in_ok-ask_round.ensures.going)
+
+pub returns-clause-asked : goal.returns-clause-asked
+returns-clause-asked g c =
+    on_ok_weaker c.answer_round.result
+    (λ _. asked_more_sent c.args.ring c.args.epoch c.args.lines.now (g.N.Net.sent c.args.net.now) (g.N.Net.sent c.ask_round.new.net) (g.N.Net.sent c.answer_round.new.net) c.ask_round.ensures.passes.sends c.answer_round.ensures.passes.sends c.in_ok-ask_round.ensures.asked)
+    c.answer_round.ensures.going

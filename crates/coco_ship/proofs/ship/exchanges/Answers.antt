@@ -1,8 +1,10 @@
-use Rattle.std.proofs.Common.{◌≡◌, ◌+◌, ◌++◌, ◌*◌, ◌<◌, ◌≤◌, ℕ, arith, inl, inr, length, refl}
+use Rattle.std.proofs.Common.{◌≡◌, ◌++◌, ◌*◌, ◌<◌, ℕ, arith, inl, inr, length, refl, subst}
+use Rattle.coco_ship.specs.Exchanges.{AreAsked, AreExchanges, AreOwersAsked}
 use Rattle.coco_ship.specs.Going.{HasAnswered}
 use Rattle.coco_ship.specs.Placing.{holder_of}
 use Rattle.coco_ship.specs.Shipping.{news}
-use Rattle.coco_ship.proofs.RoundLemmas.{done_none, done_then, is_silent_then, loop_faults, passes_none, passes_then, waited_not, was_given, whole_all}
+use Rattle.coco_ship.proofs.ExchangeLemmas.{asked_before, exchanges_none, exchanges_rise, exchanges_weaker, loop_exchanges, owers_asked}
+use Rattle.coco_ship.proofs.RoundLemmas.{done_none, done_then, is_silent_then, passes_none, passes_then, waited_not, was_given, whole_all}
 use Rattle.coco_ship.proofs.ThereLemmas.{exact_none, exact_then, right_none, right_then, there_all}
 use Rattle.coco_ship.proofs.ship.exchanges.Goals as goal
 
@@ -11,7 +13,7 @@ loop-exchange-init g c = record {
   going = c.requires.going;
   passes = passes_none c.args.ring c.args.epoch (g.N.Net.sent c.args.net.now) (g.N.Net.given c.args.net.now) c.args.copies.now c.requires.begun;
   done = done_none c.args.ring c.args.epoch (g.N.Net.given c.args.net.now) c.args.lines.now c.args.copies.now;
-  faults = inl (omega arith);
+  exchanges = inl (exchanges_none (AreAsked c.args.ring c.args.epoch c.args.lines.now) (g.N.Net.sent c.args.net.now) (g.N.Net.faults c.args.net.now));
   exact = exact_none c.args.ring c.args.epoch c.args.pieces.now (g.N.Net.given c.args.net.now) c.args.lines.now;
   right = right_none c.args.ring c.args.epoch c.args.pieces.now (g.N.Net.sent c.args.net.now) (g.N.Net.sent c.args.net.now) (g.N.Net.given c.args.net.now) c.args.lines.now (g.N.Net.given c.args.net.now) refl;
   alone = λ none i. g.N.Net.sent c.args.net.now;
@@ -38,12 +40,16 @@ loop-exchange-preserved g c =
     let us = c.loop-exchange.copies in
     let lines : length ms ≡ ring.partitions * ring.copies = omega (arith, c.loop-exchange.auto.lines, c.requires.lines) in
     let copies : length us ≡ ring.partitions * ring.copies = omega (arith, c.loop-exchange.auto.copies, c.requires.copies) in
+    let after : length c.exchange.new.copies ≡ ring.partitions * ring.copies = omega (arith, c.exchange.auto.copies, copies) in
     let waited = c.in-Some.ensures.0 in
     record {
       going = c.in_ok-exchange-in-Some.ensures.going;
       passes = passes_then ring c.args.epoch s0 g0 ts (g.N.Net.sent c.loop-exchange.net) (g.N.Net.given c.loop-exchange.net) us (g.N.Net.sent c.exchange.new.net) (g.N.Net.given c.exchange.new.net) c.exchange.new.copies copies before.passes c.exchange.ensures.passes;
       done = done_then ring c.args.epoch g0 (g.N.Net.given c.loop-exchange.net) (g.N.Net.given c.exchange.new.net) ls ts ms us c.exchange.new.lines c.exchange.new.copies before.passes.gives c.exchange.ensures.passes.gives lines copies before.done c.in_ok-exchange-in-Some.ensures.done;
-      faults = loop_faults (g.N.Net.faults c.args.net.now) c.loop-exchange._exchange (g.N.Net.faults c.loop-exchange.net) (g.N.Net.faults c.exchange.new.net) ((n : ℕ) → HasAnswered ring ms n) ((n : ℕ) → HasAnswered ring c.exchange.new.lines n) (waited_not ring ms c.in-Some._node waited) before.faults c.in_ok-exchange-in-Some.ensures.faults;
+      exchanges = loop_exchanges c.loop-exchange._exchange (AreAsked ring c.args.epoch ms) (AreAsked ring c.args.epoch c.exchange.new.lines) s0 (g.N.Net.sent c.loop-exchange.net) (g.N.Net.sent c.exchange.new.net) (g.N.Net.faults c.args.net.now) (g.N.Net.faults c.loop-exchange.net) (g.N.Net.faults c.exchange.new.net)
+          ((n : ℕ) → HasAnswered ring ms n) ((n : ℕ) → HasAnswered ring c.exchange.new.lines n) before.passes.sends c.exchange.ensures.passes.sends (waited_not ring ms c.in-Some._node waited)
+          (asked_before ring c.args.epoch (news (g.N.Net.given c.loop-exchange.net) (g.N.Net.given c.exchange.new.net)) ms us c.exchange.new.lines c.exchange.new.copies lines copies after c.in_ok-exchange-in-Some.ensures.done)
+          c.in_ok-exchange-in-Some.ensures.asked before.exchanges c.in_ok-exchange-in-Some.ensures.faults;
       exact = exact_then ring c.args.epoch c.args.pieces.now g0 ls (g.N.Net.given c.loop-exchange.net) ms (g.N.Net.given c.exchange.new.net) c.exchange.new.lines before.passes.gives c.exchange.ensures.passes.gives before.exact c.in_ok-exchange-in-Some.ensures.exact;
       right = right_then ring c.args.epoch c.args.pieces.now s0 g0 ls (g.N.Net.sent c.loop-exchange.net) (g.N.Net.given c.loop-exchange.net) ms (g.N.Net.sent c.exchange.new.net) (g.N.Net.given c.exchange.new.net)
           before.passes.sends c.exchange.ensures.passes.sends before.passes.gives c.exchange.ensures.passes.gives before.right before.exact c.exchange.ensures.right;
@@ -137,11 +143,18 @@ returns-in-Some-silent-clause-silent g c =
     let copies : length us ≡ ring.partitions * ring.copies = omega (arith, c.loop-exchange.auto.copies, c.requires.copies) in
     let waited = c.in-Some-silent.ensures.0 in
     let last : c.loop-exchange._exchange ≡ 16 = omega arith in
-    let faults : g.N.Net.faults c.args.net.now + 16 ≤ g.N.Net.faults c.loop-exchange.net = elim before.faults [
-      | inl rose ↦ omega (arith, rose, last)
+    let s1 = g.N.Net.sent c.loop-exchange.net in
+    let posts = news g0 (g.N.Net.given c.loop-exchange.net) in
+    let f0 = g.N.Net.faults c.args.net.now in
+    let f1 = g.N.Net.faults c.loop-exchange.net in
+    let so_far : AreExchanges c.loop-exchange._exchange (AreAsked ring c.args.epoch ms) (news s0 s1) f0 f1 = elim before.exchanges [
+      | inl made ↦ made
       | inr all ↦ absurd (waited_not ring ms c.in-Some-silent.node waited all)
     ] in
-    is_silent_then ring c.args.epoch (news g0 (g.N.Net.given c.loop-exchange.net)) ls ts ms us (g.N.Net.faults c.args.net.now) (g.N.Net.faults c.loop-exchange.net) c.in-Some-silent.node c.requires.lines c.requires.copies lines copies c.requires.waiting before.done waited c.in-Some-silent.ensures.1 faults
+    let exchanges : AreExchanges 16 (AreOwersAsked ring c.args.epoch posts) (news s0 s1) f0 f1 = subst (λ (n : ℕ). AreExchanges n (AreOwersAsked ring c.args.epoch posts) (news s0 s1) f0 f1) last
+    (exchanges_weaker c.loop-exchange._exchange (AreAsked ring c.args.epoch ms) (AreOwersAsked ring c.args.epoch posts) (owers_asked ring c.args.epoch posts ls ts ms us c.requires.lines c.requires.copies lines copies c.requires.waiting before.done) (news s0 s1) f0 f1 so_far) in
+    is_silent_then ring c.args.epoch (news s0 s1) posts ls ts ms us f0 f1 c.in-Some-silent.node c.requires.lines c.requires.copies lines copies c.requires.waiting before.done waited c.in-Some-silent.ensures.1
+    (exchanges_rise 16 (AreOwersAsked ring c.args.epoch posts) (news s0 s1) f0 f1 exchanges) exchanges
 
 pub returns-in-None-clause-written : goal.returns-in-None-clause-written
 returns-in-None-clause-written g c = c.loop-exchange.invariant.going.written

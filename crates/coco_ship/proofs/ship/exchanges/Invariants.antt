@@ -1,4 +1,5 @@
-use Rattle.std.proofs.Common.{◌≡◌, ◌+◌, ◌≤◌, ◌⊎◌, ℕ}
+use Rattle.std.proofs.Common.{◌≡◌, ◌⊎◌, ℕ}
+use Rattle.coco_ship.specs.Exchanges.{AreAsked, AreExchanges}
 use Rattle.coco_ship.specs.Going.{HasAnswered, IsDoneBy, IsGoing, Passes}
 use Rattle.coco_ship.specs.Shipping.{news}
 use Rattle.coco_ship.specs.Taking.{OfBoth}
@@ -11,7 +12,7 @@ invariant-loop-exchange g l = record {
   going : IsGoing l.ring l.epoch l.pieces (g.N.Net.sent l.net) l.lines l.copies;
   passes : Passes l.ring l.epoch (g.N.Net.sent l.initial.net) (g.N.Net.given l.initial.net) l.initial.copies (g.N.Net.sent l.net) (g.N.Net.given l.net) l.copies;
   done : OfBoth l.ring (IsDoneBy l.ring l.epoch (news (g.N.Net.given l.initial.net) (g.N.Net.given l.net))) l.initial.lines l.initial.copies l.lines l.copies;
-  faults : (g.N.Net.faults l.initial.net + l._exchange ≤ g.N.Net.faults l.net) ⊎ ((node : ℕ) → HasAnswered l.ring l.lines node);
+  exchanges : AreExchanges l._exchange (AreAsked l.ring l.epoch l.lines) (news (g.N.Net.sent l.initial.net) (g.N.Net.sent l.net)) (g.N.Net.faults l.initial.net) (g.N.Net.faults l.net) ⊎ ((node : ℕ) → HasAnswered l.ring l.lines node);
   exact : StaysExact l.ring l.epoch l.pieces (g.N.Net.given l.initial.net) l.initial.lines (g.N.Net.given l.net) l.lines;
   right : AddsRight l.ring l.epoch l.pieces (g.N.Net.sent l.initial.net) (g.N.Net.given l.initial.net) l.initial.lines (g.N.Net.sent l.net) (g.N.Net.given l.net);
   alone : l.ring.copies ≡ 0 → g.N.Net.sent l.net ≡ g.N.Net.sent l.initial.net;
