@@ -1,7 +1,7 @@
 #!/usr/bin/env bash
 # Runs that are killed at random moments and started again on the same lines, until one ends: what was said before a kill
 # stands, each request has its one answer, and the store is that of a run that nothing disturbed.
-# Words: the program, and how many kills; without a number there are 100, or as many as fit in 45 seconds.
+# Words: the program, and how many kills; without a number there are 300, which takes one or two minutes.
 . "$(dirname "$0")/store.bash"
 
 size=10
@@ -59,13 +59,12 @@ standing() {
 }
 
 # going: more kills are to come.
-number=${2-}
+number=${2:-300}
 going() {
-    [ "$failed" -eq 0 ] && [ "$kills" -lt "${number:-100}" ] && { [ -n "$number" ] || [ "$SECONDS" -lt 45 ]; }
+    [ "$failed" -eq 0 ] && [ "$kills" -lt "$number" ]
 }
 
 kills=0
-SECONDS=0
 while going; do
     new "$work/store" --partitions 4
     : >"$work/told"
