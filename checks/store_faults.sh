@@ -16,14 +16,22 @@ read_only() {
     cp "$program" "$work/program"
     chmod a+rx "$work" "$work/program"
     chmod -R a=rX "$work/shut"
-    for command in run dump verify; do
-        "${user[@]}" "$work/program" "$work/shut" "$command" <"$work/lines" >"$work/said" 2>"$work/errors"
+    for command in run dump verify 'migrate --keep 1'; do
+        "${user[@]}" "$work/program" "$work/shut" $command <"$work/lines" >"$work/said" 2>"$work/errors"
         status=$?
         ends "$command in a read-only folder" 4 'coco: disk fault'
     done
     diff -r "$work/shut" "$work/calm" || wrong 'a read-only folder has changed'
     chmod -R u+w "$work/shut"
     whole "$work/shut"
+    mkdir "$work/empty"
+    chmod a=rX "$work/empty"
+    for folder in "$work/empty" "$work/empty/new"; do
+        "${user[@]}" "$work/program" "$folder" init </dev/null >"$work/said" 2>"$work/errors"
+        status=$?
+        ends "init of $folder, where nothing can be written" 4 'coco: disk fault'
+    done
+    [ -z "$(ls -A "$work/empty")" ] || wrong 'init has written into a read-only folder'
 }
 
 second_program() {
@@ -35,8 +43,8 @@ second_program() {
     exec 3>"$work/pipe"
     head -n "$size" "$work/lines" >&3
     while [ ! -s "$work/first" ] && kill -0 "$first" 2>"$work/errors"; do sleep 0.01; done
-    for command in init run dump verify; do
-        on "$work/held" "$command"
+    for command in init run dump verify 'migrate --keep 1'; do
+        on "$work/held" $command
         ends "$command beside another program" 4 'coco: disk fault'
     done
     exec 3>&-
