@@ -45,16 +45,33 @@ kept() {
     cmp -s <(head -n "$whole" "$work/said") "$work/told" || wrong "$name: other answers behind a kill"
 }
 
-# killed: a run that is killed after up to a third of a second, if it hasn't ended.
+# measured: in $span how many microseconds a run takes that nothing disturbs. It has few epochs, so the others take longer.
+measured() {
+    local began
+    input=$work/lines
+    bank 50 >"$input"
+    "$program" "$work/store" init --partitions 4 <examples/bank/procedures.coco || wrong 'init'
+    began=${EPOCHREALTIME/[.,]/}
+    on "$work/store" run --workers 4 --epoch 1000
+    ends 'an undisturbed run' 0
+    span=$((${EPOCHREALTIME/[.,]/} - began))
+}
+
+# killed: a run that is killed after up to the time that one takes, if it hasn't ended. In $cut_off is counted how many were
+# at work on their answers.
+cut_off=0
 killed() {
+    local delay=$(((RANDOM * 32768 + RANDOM) % span)) whole
     "$program" "$work/store" run "${options[@]}" <"$input" >"$work/said" 2>"$work/errors" &
     local victim=$!
-    sleep "0.$(printf '%03d' $((RANDOM % 300)))"
+    sleep "$(printf '%d.%06d' $((delay / 1000000)) $((delay % 1000000)))"
     kill -9 "$victim" 2>/dev/null
     wait "$victim" 2>/dev/null
     sed -n '/}$/p' "$work/said" >"$work/whole"
     mv "$work/whole" "$work/said"
-    if [ "$(wc -l <"$work/said")" -ge "$(wc -l <"$work/told")" ]; then
+    whole=$(wc -l <"$work/said")
+    [ "$whole" -gt 0 ] && [ "$whole" -lt "$count" ] && cut_off=$((cut_off + 1))
+    if [ "$whole" -ge "$(wc -l <"$work/told")" ]; then
         kept
         cp "$work/said" "$work/told"
     fi
@@ -130,6 +147,7 @@ TEXT
     [ "$(<"$work/said")" = 'serial 220' ] || wrong "$name: $(head -c 200 "$work/said")"
 }
 
+measured
 one bank 1000 1 1 3 100
 one bank 2 2 16 1 50
 one bank 50 4 4 3 1000
@@ -138,5 +156,6 @@ one shop 40 1 7 1 200
 one shop 1 2 1 3 25
 one shop 8 4 16 2 1000
 one shop 300 16 5 8 500
+[ "$cut_off" -gt 0 ] || wrong 'no kill met a run at work'
 for workers in 1 2 4 16; do round "$workers"; done
 ended
