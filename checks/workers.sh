@@ -62,6 +62,8 @@ measured() {
 cut_off=0
 killed() {
     local delay=$(((RANDOM * 32768 + RANDOM) % span)) whole
+    # A kill may come before the run's own redirection has emptied the file.
+    : >"$work/said"
     "$program" "$work/store" run "${options[@]}" <"$input" >"$work/said" 2>"$work/errors" &
     local victim=$!
     sleep "$(printf '%d.%06d' $((delay / 1000000)) $((delay % 1000000)))"
