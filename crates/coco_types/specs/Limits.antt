@@ -1,9 +1,12 @@
 -- The limits that several crates share, as the code has them.
 use Rattle.std.specs.Prelude.{ℕ}
-use Rattle.coco_types.specs.declared.limits.TheConstants.{MOST_KEPT, MOST_ARGUMENTS, MOST_TEXT_BYTES, MOST_KEYS, MOST_BOUND, MOST_TURNS, MOST_DECLARED, MOST_BATCH_LINES, MOST_LINE_BYTES, MOST_PROCEDURE_BYTES, MOST_TIME, EPOCHS_END, MOST_INPUT_BYTES, MOST_NODES, MOST_PARTITIONS, MOST_COPIES, MOST_WORKERS, MOST_ATTEMPTS}
+use Rattle.coco_types.specs.declared.limits.TheConstants.{MOST_KEPT, MOST_KEEP, MOST_ARGUMENTS, MOST_TEXT_BYTES, MOST_KEYS, MOST_BOUND, MOST_TURNS, MOST_DECLARED, MOST_BATCH_LINES, MOST_LINE_BYTES, MOST_PROCEDURE_BYTES, MOST_TIME, EPOCHS_END, MOST_INPUT_BYTES, FILES_END, MOST_NODES, MOST_PARTITIONS, MOST_COPIES, MOST_WORKERS, MOST_ATTEMPTS}
 
 abbrev pub most_kept : ℕ
 most_kept = MOST_KEPT
+
+abbrev pub most_keep : ℕ
+most_keep = MOST_KEEP
 
 abbrev pub most_arguments : ℕ
 most_arguments = MOST_ARGUMENTS
@@ -40,6 +43,9 @@ epochs_end = EPOCHS_END
 
 abbrev pub most_input_bytes : ℕ
 most_input_bytes = MOST_INPUT_BYTES
+
+abbrev pub files_end : ℕ
+files_end = FILES_END
 
 abbrev pub most_nodes : ℕ
 most_nodes = MOST_NODES

@@ -3,6 +3,9 @@
 /// How many requests a store without a keep number keeps.
 pub const MOST_KEPT: u64 = 1_048_576;
 
+/// Of how many epochs the replies may be kept, at most.
+pub const MOST_KEEP: u16 = 1_000;
+
 /// How many arguments a call may have.
 pub const MOST_ARGUMENTS: usize = 16;
 
@@ -38,6 +41,9 @@ pub const EPOCHS_END: u64 = 1 << 40;
 
 /// How many bytes one run reads of its input.
 pub const MOST_INPUT_BYTES: u64 = 1 << 62;
+
+/// The bytes of a file stand at places below this one.
+pub const FILES_END: u64 = 1 << 62;
 
 /// How many nodes a store may have.
 pub const MOST_NODES: u8 = 8;
