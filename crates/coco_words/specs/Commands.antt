@@ -1,5 +1,6 @@
 -- The commands of the program.
 use Rattle.std.specs.Prelude.{◌≡◌, ℕ, List, [], ◌∷◌, None, Some, codes}
+use Rattle.coco_types.specs.Limits.{most_attempts, most_batch_lines, most_keep, most_partitions, most_workers}
 use Rattle.coco_words.specs.Options.{Text, NumberOption, GivesNumbers}
 use Rattle.coco_words.specs.declared.Command.{Command}
 use Rattle.coco_words.specs.declared.Command.TheVariants.{Init, Run, Dump, Verify, Migrate}
@@ -31,11 +32,11 @@ wanted name least most = record { name = name; default = None; least = least; mo
 
 -- the options of a command. A store has one node and no copies until there can be several
 abbrev pub options_for : Kind → List NumberOption
-options_for kind.Init = optional (codes "nodes") 1 1 1 ∷ optional (codes "partitions") 1 1 64 ∷ optional (codes "copies") 0 0 0 ∷ []
-options_for kind.Run = optional (codes "epoch") 100 1 1024 ∷ optional (codes "workers") 1 1 16 ∷ optional (codes "attempts") 3 1 8 ∷ []
+options_for kind.Init = optional (codes "nodes") 1 1 1 ∷ optional (codes "partitions") 1 1 most_partitions ∷ optional (codes "copies") 0 0 0 ∷ []
+options_for kind.Run = optional (codes "epoch") 100 1 most_batch_lines ∷ optional (codes "workers") 1 1 most_workers ∷ optional (codes "attempts") 3 1 most_attempts ∷ []
 options_for kind.Dump = []
 options_for kind.Verify = []
-options_for kind.Migrate = wanted (codes "keep") 1 1000 ∷ []
+options_for kind.Migrate = wanted (codes "keep") 1 most_keep ∷ []
 
 abbrev pub options_of : Command → List NumberOption
 options_of command = options_for (kind_of command)

@@ -14,6 +14,9 @@ ghost use Rattle.coco_words.specs.Options.{AreInRange, AreNumbersOf};
 ghost use Rattle.coco_words.specs.declared.Command.{Command as Asked};
 
 use clap::ArgMatches;
+use coco_types::limits::{
+    MOST_ATTEMPTS, MOST_BATCH_LINES, MOST_KEEP, MOST_PARTITIONS, MOST_WORKERS,
+};
 use numbers::number_of;
 use reading::options_in;
 use std::alloc::{AllocError, Global};
@@ -117,7 +120,7 @@ fn command_with(kind: Kind, matches: &ArgMatches<'_>) -> Option<Command>
         Kind::Dump => Some(Command::Dump),
         Kind::Verify => Some(Command::Verify),
         Kind::Migrate => {
-            let keep = number_of(matches, "keep", None, 1, 1_000)?;
+            let keep = number_of(matches, "keep", None, 1, MOST_KEEP as u32)?;
             Some(Command::Migrate { keep: keep as u16 })
         }
     }
@@ -130,9 +133,9 @@ fn lines_to_run(matches: &ArgMatches<'_>) -> Option<Command>
         (λ command. (kind_of command ≡ Kind.Run) × AreNumbersOf (first_value (found_of matches.now)) (options_for Kind.Run) (numbers_of command)
         × AreInRange (options_for Kind.Run) (numbers_of command)) }
 {
-    let epoch = number_of(matches, "epoch", Some(100), 1, 1_024)?;
-    let workers = number_of(matches, "workers", Some(1), 1, 16)?;
-    let attempts = number_of(matches, "attempts", Some(3), 1, 8)?;
+    let epoch = number_of(matches, "epoch", Some(100), 1, MOST_BATCH_LINES as u32)?;
+    let workers = number_of(matches, "workers", Some(1), 1, MOST_WORKERS as u32)?;
+    let attempts = number_of(matches, "attempts", Some(3), 1, MOST_ATTEMPTS as u32)?;
     Some(Command::Run(RunOptions {
         epoch,
         workers: workers as u8,
@@ -148,7 +151,7 @@ fn store_to_make(matches: &ArgMatches<'_>) -> Option<Command>
         × AreInRange (options_for Kind.Init) (numbers_of command)) }
 {
     let nodes = number_of(matches, "nodes", Some(1), 1, 1)?;
-    let partitions = number_of(matches, "partitions", Some(1), 1, 64)?;
+    let partitions = number_of(matches, "partitions", Some(1), 1, MOST_PARTITIONS as u32)?;
     let copies = number_of(matches, "copies", Some(0), 0, 0)?;
     Some(Command::Init {
         nodes: nodes as u8,
