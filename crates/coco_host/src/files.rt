@@ -1,13 +1,11 @@
 //! The files of a folder of the machine.
-ghost use Rattle.std.specs.Prelude.{◌≡◌, ◌+◌, ◌<◌, ◌≤◌, ◌^◌, length, IfOk, OnOk};
+ghost use Rattle.std.specs.Prelude.{◌≡◌, ◌+◌, ◌<◌, ◌≤◌, length, IfOk, OnOk};
 
+use coco_types::limits::FILES_END;
 use std::fs::{self, File, Metadata, OpenFile, OpenOptions};
 use std::io::{self, ErrorKind};
 use std::os::fd::AsRawFd;
 use std::os::unix::fs::{FileExt, MetadataExt};
-
-// Every file ends before this place.
-const END: u64 = 1 << 62;
 
 // An open file, and whether its entry in the folder is known to be durable.
 #[derive(Drop)]
@@ -56,7 +54,7 @@ impl Folder {
         ensures { IfOk result (λ k. k ≤ length into.old) }
     {
         match self.find(number)? {
-            Some(place) if place < self.files.len() && at < END => {
+            Some(place) if place < self.files.len() && at < FILES_END => {
                 read_all(&self.files[place].file, at, into)
             }
             _ => Ok(0),
@@ -65,9 +63,9 @@ impl Folder {
 
     /// Writes the whole piece into a file, which is made where it isn't there.
     pub fn write_at(&mut self, number: u32, at: u64, from: &[u8]) -> io::Result<()>
-        ensures { OnOk result (at + length from.now < 2 ^ 62) }
+        ensures { OnOk result (at + length from.now < FILES_END) }
     {
-        if at >= END || END - at <= from.len() as u64 {
+        if at >= FILES_END || FILES_END - at <= from.len() as u64 {
             return Err(ErrorKind::InvalidInput.into());
         }
         let place = match self.find(number)? {

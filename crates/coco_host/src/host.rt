@@ -1,6 +1,7 @@
 //! What a store stands on, as a trait, and the saying of a whole piece.
-ghost use Rattle.std.specs.Prelude.{◌≡◌, ℕ, ◌+◌, ◌-◌, ◌*◌, ◌<◌, ◌≤◌, ◌^◌, min, List, Option, Some, length, take, drop, IfOk, IfSome, OnOk, OnErr, IsErrOf};
+ghost use Rattle.std.specs.Prelude.{◌≡◌, ℕ, ◌+◌, ◌-◌, ◌*◌, ◌<◌, ◌≤◌, min, List, Option, Some, length, take, drop, IfOk, IfSome, OnOk, OnErr, IsErrOf};
 ghost use Rattle.std.specs.Io.KnownBytes.{append_known};
+ghost use Rattle.coco_types.specs.Limits.{files_end};
 ghost use Rattle.coco_io.specs.Counts.{CountsRead, CountsWrite};
 ghost use Rattle.coco_host.specs.Files.{Files, put_into, TornIn, Become, Follows, NoMore, IsDurable};
 ghost use Rattle.coco_host.specs.Moments.{Observation, IsNew, Elapses, SeesOnly};
@@ -55,13 +56,13 @@ pub trait Host {
         ensures counts { CountsRead result (disk_faults self.old) (disk_faults self.new) }
         ensures others { say_faults self.new ≡ say_faults self.old };
 
-    /// Writes over what is there, and past the end. A write that would end at 2^62 or behind it is refused.
+    /// Writes over what is there, and past the end. A write that would end at `FILES_END` or behind it is refused.
     /// After a call that is refused the range may hold any bytes.
     fn write_at(&mut self, file: u32, at: u64, from: &[u8]) -> Result<(), OutFault>
         requires { IfSome (reads self.old) (λ files. at ≤ length (files file)) }
         ensures written { OnOk result (Become (λ old new. new ≡ put_into file at from.now old) (reads self.old) (reads self.new)) }
         ensures refused { OnErr result (Become (TornIn file at (length from.now)) (reads self.old) (reads self.new)) }
-        ensures small { OnOk result (at + length from.now < 2 ^ 62) }
+        ensures small { OnOk result (at + length from.now < files_end) }
         ensures said { said self.new ≡ said self.old }
         ensures crash { Follows (TornIn file at (length from.now)) (may_leave self.old) (may_leave self.new) }
         ensures time { Elapses (moment self.old) (moment self.new) (observed self.old) (observed self.new) (IsNew (may_leave self.new) (said self.old) (said self.new)) }

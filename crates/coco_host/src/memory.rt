@@ -1,5 +1,5 @@
 //! A host in memory.
-ghost use Rattle.std.specs.Prelude.{◌≡◌, ◌⊎◌, ℕ, ◌+◌, ◌-◌, ◌<◌, ◌≤◌, ◌^◌, min, Some, Option, [], ◌++◌, length, take, drop, MatchBool, IfOk, IfSome, OnOk, OnErr};
+ghost use Rattle.std.specs.Prelude.{◌≡◌, ◌⊎◌, ℕ, ◌+◌, ◌-◌, ◌<◌, ◌≤◌, min, Some, Option, [], ◌++◌, length, take, drop, MatchBool, IfOk, IfSome, OnOk, OnErr};
 ghost use Rattle.coco_io.specs.Counts.{Rose, CountsWrite};
 ghost use Rattle.coco_host.specs.Files.{Files, NoMore};
 ghost use Rattle.coco_host.specs.Moments.{Observation, IsNew, Elapses};
@@ -9,12 +9,10 @@ ghost use Rattle.coco_host.specs.HostState.{CountsDiskCall, SaysByPlan, IsAfterC
 use crate::Host;
 use crate::recorded::Recorded;
 use coco_io::FaultPlan;
+use coco_types::limits::FILES_END;
 use coco_types::{Failed, NoMemory, OutFault};
 use std::alloc::Global;
 use std::marker::Model;
-
-// Where a write has to end before.
-const END: u64 = 1 << 62;
 
 /// A host in memory, with the calls that fail, and the record of its writes, syncs and says.
 #[derive(Drop)]
@@ -170,7 +168,7 @@ impl Host for MemoryHost {
 
     // A call that fails may have torn what is there.
     fn write_at(&mut self, file: u32, at: u64, from: &[u8]) -> Result<(), OutFault> {
-        if at >= END || END - at <= from.len() as u64 {
+        if at >= FILES_END || FILES_END - at <= from.len() as u64 {
             return Err(OutFault::NoMemory);
         }
         if self.disk_call_fails() {
