@@ -4,6 +4,7 @@ use Rattle.std.specs.Prelude.{IsUtf8, slice_range}
 use Rattle.std.specs.Str.{is_utf8}
 use Rattle.std.proofs.lemmas.Str.{IsUtf8-from_is_utf8, is_utf8-from_IsUtf8}
 use Rattle.std.proofs.lemmas.Bool.{ltb-true, lt-ltb}
+use Rattle.coco_types.specs.Limits.{most_text_bytes}
 use Rattle.coco_types.specs.declared.value.Value.{Value}
 use Rattle.coco_types.specs.declared.value.Value.TheVariants.{Int, Text}
 use Rattle.coco_types.specs.RowKey.{RowKey}
@@ -39,7 +40,7 @@ pub key_agrees : Agree key_at key_bytes IsKey
 key_agrees = record { found = key_found; again = key_again }
 
 -- bytes that are no text, and bytes that are one
-pub text_refused : (from : List ℕ) (at : ℕ) (r : ℕ × ℕ) → bytes16_at 256 from at ≡ Ok r → ¬ (IsUtf8 (slice_range from r.0 r.1)) → text_at from at ≡ Err (Bad at)
+pub text_refused : (from : List ℕ) (at : ℕ) (r : ℕ × ℕ) → bytes16_at most_text_bytes from at ≡ Ok r → ¬ (IsUtf8 (slice_range from r.0 r.1)) → text_at from at ≡ Err (Bad at)
 unfolding text_at text16_at
 text_refused from at r e none =
     let no : is_utf8 (slice_range from r.0 r.1) ≡ false = false_unless (is_utf8 (slice_range from r.0 r.1)) (λ yes. none (IsUtf8-from_is_utf8 _ yes)) in
@@ -49,17 +50,17 @@ text_refused from at r e none =
     false_unless true h = absurd (h refl)
     false_unless false h = refl
 
-pub text_taken : (from : List ℕ) (at : ℕ) (r : ℕ × ℕ) → bytes16_at 256 from at ≡ Ok r → IsUtf8 (slice_range from r.0 r.1) → text_at from at ≡ Ok (slice_range from r.0 r.1, r.1)
+pub text_taken : (from : List ℕ) (at : ℕ) (r : ℕ × ℕ) → bytes16_at most_text_bytes from at ≡ Ok r → IsUtf8 (slice_range from r.0 r.1) → text_at from at ≡ Ok (slice_range from r.0 r.1, r.1)
 unfolding text_at text16_at
 text_taken from at r e good = rw (e, is_utf8-from_IsUtf8 _ good) refl
 
-text_found : (from : List ℕ) (at : ℕ) (p : List ℕ × ℕ) → AreBytes from → text_at from at ≡ Ok p → ((length p.0 ≤ 256) × IsUtf8 p.0) × Stands from at (bytes16 p.0) p.1
+text_found : (from : List ℕ) (at : ℕ) (p : List ℕ × ℕ) → AreBytes from → text_at from at ≡ Ok p → ((length p.0 ≤ most_text_bytes) × IsUtf8 p.0) × Stands from at (bytes16 p.0) p.1
 unfolding text_at
 text_found from at p fits e =
-    bind_then (text16_at 256 from at) (λ (text : List ℕ × ℕ). cond (is_utf8 text.0) (Ok text) (Err (Bad at))) p e (λ text read test.
+    bind_then (text16_at most_text_bytes from at) (λ (text : List ℕ × ℕ). cond (is_utf8 text.0) (Ok text) (Err (Bad at))) p e (λ text read test.
     if_then (is_utf8 text.0) (Bad at) (Ok text) p test (λ good ok.
-    let a = (text16_agrees 256 (omega arith)).found from at text.0 text.1 fits read in
-    ok_then FieldFault (λ (q : List ℕ × ℕ). ((length q.0 ≤ 256) × IsUtf8 q.0) × Stands from at (bytes16 q.0) q.1) text p ok ((a.0, IsUtf8-from_is_utf8 text.0 good), a.1)))
+    let a = (text16_agrees most_text_bytes (omega arith)).found from at text.0 text.1 fits read in
+    ok_then FieldFault (λ (q : List ℕ × ℕ). ((length q.0 ≤ most_text_bytes) × IsUtf8 q.0) × Stands from at (bytes16 q.0) q.1) text p ok ((a.0, IsUtf8-from_is_utf8 text.0 good), a.1)))
 
 -- what stands at the kind's place is the kind and then the rest
 found_of_kind : (kind : ℕ) (from : List ℕ) (at next : ℕ) (p : Option Value × ℕ) → AreBytes from → Stands from at (u8_bytes kind) next → value_of_kind kind from at next ≡ Ok p → IsValue p.0 × Stands from at (value_bytes p.0) p.1
@@ -94,7 +95,7 @@ value_again from at (Some (Int n)) end fits p =
     rw (one, two) refl
 value_again from at (Some (Text bytes)) end fits p =
     let one = u8_agrees.again from at 2 (at + 1) (omega arith) (Stands-first from at (u8_bytes 2) (bytes16 bytes) end p) in
-    let two = (text16_agrees 256 (omega arith)).again from (at + 1) bytes end fits.0 (Stands-second from at (u8_bytes 2) (bytes16 bytes) end p) in
+    let two = (text16_agrees most_text_bytes (omega arith)).again from (at + 1) bytes end fits.0 (Stands-second from at (u8_bytes 2) (bytes16 bytes) end p) in
     rw (one, two, is_utf8-from_IsUtf8 bytes fits.1) refl
 
 pub value_agrees : Agree value_at value_bytes IsValue

@@ -2,6 +2,7 @@
 use Rattle.std.specs.Prelude.{ℕ, zero, suc, ◌<◌, ◌≤◌, ◌^◌, List, [], ◌∷◌, ◌++◌, length, Option, Some, None, Ok, Err, nat_lt, if◌then◌else◌, IsUtf8, FitsSigned}
 use Rattle.std.specs.Int.{w64}
 use Rattle.std.specs.Str.{is_utf8}
+use Rattle.coco_types.specs.Limits.{most_text_bytes}
 use Rattle.coco_types.specs.declared.value.Value.{Value}
 use Rattle.coco_types.specs.declared.value.Value.TheVariants.{Int, Text}
 use Rattle.coco_types.specs.RowKey.{RowKey}
@@ -32,11 +33,11 @@ value_bytes (Some (Text bytes)) = 2 ∷ bytes16 bytes
 abbrev pub IsValue : Option Value → Type 0
 IsValue None = Unit {0}
 IsValue (Some (Int n)) = FitsSigned w64 n
-IsValue (Some (Text bytes)) = (length bytes ≤ 256) × IsUtf8 bytes
+IsValue (Some (Text bytes)) = (length bytes ≤ most_text_bytes) × IsUtf8 bytes
 
 unfoldable pub text_at : List ℕ → ℕ → Read (List ℕ)
 text_at from at = do
-  text ← text16_at 256 from at
+  text ← text16_at most_text_bytes from at
   if is_utf8 text.0 then Ok text else Err (Bad at)
 
 -- a value of this kind, whose kind stands at the first place and the rest at the second

@@ -7,6 +7,7 @@ ghost use Rattle.coco_bytes.specs.Values.{key_bytes, key_at, value_bytes, IsValu
 use crate::FieldFault;
 use crate::reading::{get_bytes16, get_i64, get_u8, get_u16, get_u64};
 use crate::writing::{put_both, put_u8};
+use coco_types::limits::MOST_TEXT_BYTES;
 use coco_types::{Key, Lent, NoMemory, Packed, Text, Value};
 use std::str::from_utf8;
 
@@ -126,7 +127,7 @@ fn get_text(from: &[u8], at: usize) -> Result<(Text, usize), FieldFault>
     ensures read { result ≡ text_at from.now at }
     ensures within { IfOk result (λ r. r.1 ≤ length from.now) }
 {
-    let (start, end) = get_bytes16(from, at, 256)?;
+    let (start, end) = get_bytes16(from, at, MOST_TEXT_BYTES as u16)?;
     let Ok(s) = from_utf8(&from[start..end]) else {
         return Err(FieldFault::Bad { at });
     };
