@@ -1,6 +1,7 @@
 -- Reading the lines of a batch, one by one.
 use Rattle.std.proofs.Common.{◌≡◌, ℕ, ◌+◌, ◌≤◌, ◌<◌, List, [], ◌∷◌, ◌++◌, length, map, true, Option, None, Some, Ok, Err, refl, sym, ap, subst, ◌∙◌, arith, append_assoc, append-nil, length-append, add-zero}
 use Rattle.std.specs.List.{IsDistinct}
+use Rattle.coco_types.specs.Limits.{most_kept}
 use Rattle.coco_types.specs.declared.call.Request.{Request}
 use Rattle.coco_ast.specs.History.{AreAbove, request_of}
 use Rattle.coco_ast.specs.Tree.{Procedures}
@@ -26,7 +27,7 @@ none_above : (floor : Option ℕ) → AreAbove floor []
 none_above None = tt
 none_above (Some n) = tt
 
-pub none_new : (procs : Procedures) (k : Keeping) → length k.dones ≤ 1048576 → MayCommit procs k []
+pub none_new : (procs : Procedures) (k : Keeping) → length k.dones ≤ most_kept → MayCommit procs k []
 unfolding IsDistinct
 none_new procs k few = record { fit = tt; distinct = tt; absent = tt; above = none_above k.floor; few = omega arith }
 

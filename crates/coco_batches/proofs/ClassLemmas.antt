@@ -5,6 +5,7 @@ use Rattle.std.specs.Option.{option_map, option_or}
 use Rattle.std.proofs.lemmas.Bool.Decides.{nat_tests}
 use Rattle.std.proofs.lemmas.List.{length-map}
 use Rattle.std.proofs.lemmas.List.Folds.{find-append}
+use Rattle.coco_types.specs.Limits.{most_kept}
 use Rattle.coco_types.specs.declared.call.Call.{Call}
 use Rattle.coco_types.specs.declared.call.Done.{Done}
 use Rattle.coco_types.specs.declared.call.Request.{Request}
@@ -165,7 +166,7 @@ module _ (k : Keeping) (before : List Request) (r : Request) where
       let unknown = unknown_by r (map request_of k.dones ++ before) none in
       rw (none_same r (map request_of k.dones ++ before) unknown, unknown, old_is k.floor r ∙ old)
 
-  full_or_new : (b : Bool) → nat_le 1048576 (length (map request_of k.dones ++ before)) ≡ b → is_up_to k.floor r.id ≡ false → request_under r.id (map request_of k.dones ++ before) ≡ None
+  full_or_new : (b : Bool) → nat_le most_kept (length (map request_of k.dones ++ before)) ≡ b → is_up_to k.floor r.id ≡ false → request_under r.id (map request_of k.dones ++ before) ≡ None
       → first_that_fits (request_tests (known_of k before) (Some r)) ≡ cond b (Some (Refused Full)) (Some (New r))
   full_or_new b full unold none =
       let unknown = unknown_by r (map request_of k.dones ++ before) none in
@@ -174,16 +175,16 @@ module _ (k : Keeping) (before : List Request) (r : Request) where
   count : length (map request_of k.dones ++ before) ≡ length k.dones + length before
   count = omega (arith, length-append (map request_of k.dones) before, length-map k.dones request_of)
 
-  pub full_class : request_under r.id (map request_of k.dones ++ before) ≡ None → is_up_to k.floor r.id ≡ false → 1048576 ≤ length k.dones + length before
+  pub full_class : request_under r.id (map request_of k.dones ++ before) ≡ None → is_up_to k.floor r.id ≡ false → most_kept ≤ length k.dones + length before
       → first_that_fits (request_tests (known_of k before) (Some r)) ≡ Some (Refused Full)
   full_class none unold many =
-      let at_least : 1048576 ≤ length (map request_of k.dones ++ before) = omega (arith, count) in
-      let full : nat_le 1048576 (length (map request_of k.dones ++ before)) ≡ true = grind (arith, nat_tests) in
+      let at_least : most_kept ≤ length (map request_of k.dones ++ before) = omega (arith, count) in
+      let full : nat_le most_kept (length (map request_of k.dones ++ before)) ≡ true = grind (arith, nat_tests) in
       full_or_new true full unold none
 
-  pub new_class : request_under r.id (map request_of k.dones ++ before) ≡ None → is_up_to k.floor r.id ≡ false → length k.dones + length before < 1048576
+  pub new_class : request_under r.id (map request_of k.dones ++ before) ≡ None → is_up_to k.floor r.id ≡ false → length k.dones + length before < most_kept
       → first_that_fits (request_tests (known_of k before) (Some r)) ≡ Some (New r)
   new_class none unold few =
-      let below : length (map request_of k.dones ++ before) < 1048576 = omega (arith, count) in
-      let room : nat_le 1048576 (length (map request_of k.dones ++ before)) ≡ false = grind (arith, nat_tests) in
+      let below : length (map request_of k.dones ++ before) < most_kept = omega (arith, count) in
+      let room : nat_le most_kept (length (map request_of k.dones ++ before)) ≡ false = grind (arith, nat_tests) in
       full_or_new false room unold none

@@ -1,6 +1,7 @@
 -- New requests: what is known before them, which may join those of their batch, and which may be committed.
 use Rattle.std.specs.Prelude.{◌≡◌, ⊤, ℕ, ◌+◌, ◌<◌, ◌≤◌, List, [], ◌∷◌, ◌++◌, find, map, length, Option, None, nat_eq}
 use Rattle.std.specs.List.{AllByRecursion, IsDistinct}
+use Rattle.coco_types.specs.Limits.{most_kept}
 use Rattle.coco_types.specs.declared.call.Call.{Call}
 use Rattle.coco_types.specs.declared.call.Request.{Request}
 use Rattle.coco_ast.specs.Fitting.{Fits}
@@ -28,7 +29,7 @@ pub record MayCommit (procs : Procedures) (k : Keeping) (requests : List Request
   pub distinct : IsDistinct nat_eq (map (λ r. r.id) requests)
   pub absent : AllByRecursion (λ r. done_of r.id k.dones ≡ None) requests
   pub above : AreAbove k.floor (map (λ r. r.id) requests)
-  pub few : length k.dones + length requests ≤ 1048576
+  pub few : length k.dones + length requests ≤ most_kept
 
 -- it can be run, its id is neither kept nor forgotten nor in its batch, and there is room to keep it
 pub record MayJoin (procs : Procedures) (k : Keeping) (before : List Request) (r : Request) : Type 0 where
@@ -36,7 +37,7 @@ pub record MayJoin (procs : Procedures) (k : Keeping) (before : List Request) (r
   pub not_kept : done_of r.id k.dones ≡ None
   pub above : AreAbove k.floor (r.id ∷ [])
   pub not_before : request_under r.id before ≡ None
-  pub room : length k.dones + length before < 1048576
+  pub room : length k.dones + length before < most_kept
 
 abbrev pub IsAllowed : Procedures → Keeping → List Request → Class → Type 0
 IsAllowed procs k before (Refused e) = ⊤
