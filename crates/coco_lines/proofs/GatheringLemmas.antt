@@ -1,8 +1,9 @@
 -- Gathering one line: its start, and each step.
-use Rattle.std.proofs.Common.{◌≡◌, ℕ, ◌+◌, ◌^◌, ◌<◌, List, [], ◌∷◌, ◌++◌, length, Bool, true, false, Option, None, Some, Result, Ok, Err, refl, sym, ap, ◌∙◌, subst, inl, inr, arith, append_assoc, append-nil, length-append, add-zero, true≢false}
+use Rattle.std.proofs.Common.{◌≡◌, ℕ, ◌+◌, ◌<◌, List, [], ◌∷◌, ◌++◌, length, Bool, true, false, Option, None, Some, Result, Ok, Err, refl, sym, ap, ◌∙◌, subst, inl, inr, arith, append_assoc, append-nil, length-append, add-zero, true≢false}
 use Rattle.std.proofs.lemmas.List.Elements.{All-nil, All-append}
 use Rattle.std.specs.Prelude.{◌==◌, OnErr}
 use Rattle.std.specs.Io.KnownBytes.{prepend_known}
+use Rattle.coco_types.specs.Limits.{most_input_bytes}
 use Rattle.coco_lines.specs.ReaderState.{ReaderState}
 use Rattle.coco_lines.specs.Reads.{Gives, HasNoFeed, IsSpent, SourceMoment, body_of}
 use Rattle.coco_lines.specs.Gathering.{Cuts, Gathering}
@@ -59,7 +60,7 @@ Gathering-all old mid new told left body longer false isnt g cut taken ended giv
     taken = taken ∙ g.taken;
     given = given ∙ g.given;
     none_behind = λ is. ((g.none_behind is).0, ended ∙ (g.none_behind is).1, (g.none_behind is).2);
-    at_end = λ is. elim (g.at_end (sym ended ∙ is)) [ inl was ↦ inl was | inr met ↦ inr (met.0, subst (λ n. n < 2 ^ 62) (sym taken) met.1) ];
+    at_end = λ is. elim (g.at_end (sym ended ∙ is)) [ inl was ↦ inl was | inr met ↦ inr (met.0, subst (λ n. n < most_input_bytes) (sym taken) met.1) ];
   },
   cut.0,
 )
@@ -78,12 +79,12 @@ Gathering-feed old mid new told left body longer true is g cut taken ended given
   taken = taken ∙ g.taken;
   given = given ∙ g.given;
   none_behind = λ is. ((g.none_behind is).0, ended ∙ (g.none_behind is).1, (g.none_behind is).2);
-  at_end = λ is. elim (g.at_end (sym ended ∙ is)) [ inl was ↦ inl was | inr met ↦ inr (met.0, subst (λ n. n < 2 ^ 62) (sym taken) met.1) ];
+  at_end = λ is. elim (g.at_end (sym ended ∙ is)) [ inl was ↦ inl was | inr met ↦ inr (met.0, subst (λ n. n < most_input_bytes) (sym taken) met.1) ];
 }
 
 -- more bytes were taken where none were pending
 pub Gathering-fill : (old mid new : ReaderState) (told left later : SourceMoment) (body : Body) → Gathering old mid told left body mid.pending → mid.pending ≡ [] → mid.ended ≡ false
-    → Gives left later new.pending → new.taken ≡ mid.taken + length new.pending → new.given ≡ mid.given → (new.ended ≡ true → IsSpent later × (new.taken < 2 ^ 62))
+    → Gives left later new.pending → new.taken ≡ mid.taken + length new.pending → new.given ≡ mid.given → (new.ended ≡ true → IsSpent later × (new.taken < most_input_bytes))
     → Gathering old new told later body new.pending
 Gathering-fill old mid new told left later body g none unmet bytes taken given end = record {
   gave = g.gave ++ new.pending;

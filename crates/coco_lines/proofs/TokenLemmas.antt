@@ -11,6 +11,7 @@ use Rattle.json.proofs.Grammar.{left, value_is, value-begin_array, value-begin_o
 use Rattle.serde_json.specs.Data.{Data, Num, null, number, string, boolean, array, object, Items, item, Members, no_members, put}
 use Rattle.serde_json.specs.Find.{as_i64}
 use Rattle.serde_json.specs.Read.{of_json, of_items, of_members, converted, number_of, read}
+use Rattle.coco_types.specs.Limits.{most_text_bytes}
 use Rattle.coco_types.specs.declared.value.Value.{Value}
 use Rattle.coco_types.specs.declared.value.Value.TheVariants.{Int, Text}
 use Rattle.coco_lines.specs.Reading.{arg_of, args_of}
@@ -141,5 +142,5 @@ int_arg ts r s i is means =
     let n = found_in as_i64 (number_of s) i means in
     ap (converted arg_of) (number_read 125 ts r s n.0 is n.1) ∙ ap (λ o. option_map (λ arg. (arg, r)) (option_map (λ j. Some (Int j)) o)) n.2
 
-pub text_arg : (ts r : List Token) (s : List ℕ) → ts ≡ Token.string s ∷ r → length s ≤ 256 → converted arg_of (converted of_json (value 125 ts)) ≡ Some (Some (Text s), r)
+pub text_arg : (ts r : List Token) (s : List ℕ) → ts ≡ Token.string s ∷ r → length s ≤ most_text_bytes → converted arg_of (converted of_json (value 125 ts)) ≡ Some (Some (Text s), r)
 text_arg ts r s is short = ap (converted arg_of) (text_read 125 ts r s is) ∙ rw (le-leb _ _ short)

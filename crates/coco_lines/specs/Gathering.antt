@@ -1,6 +1,7 @@
 -- How a line is gathered from a buffer and a source; for private clauses.
-use Rattle.std.specs.Prelude.{◌≡◌, ℕ, ◌+◌, ◌-◌, ◌^◌, ◌<◌, ◌⊎◌, List, [], ◌∷◌, ◌++◌, length, Bool, true, false, if◌then◌else◌, ⊤}
+use Rattle.std.specs.Prelude.{◌≡◌, ℕ, ◌+◌, ◌-◌, ◌<◌, ◌⊎◌, List, [], ◌∷◌, ◌++◌, length, Bool, true, false, if◌then◌else◌, ⊤}
 use Rattle.std.specs.Bool.{MatchBool}
+use Rattle.coco_types.specs.Limits.{most_input_bytes}
 use Rattle.coco_lines.specs.ReaderState.{ReaderState}
 use Rattle.coco_lines.specs.Reads.{Gives, HasNoFeed, IsSpent, SourceMoment, body_of}
 use Rattle.coco_lines.specs.declared.reader.Body.{Body}
@@ -27,14 +28,14 @@ pub record Gathering (old new : ReaderState) (before after : SourceMoment) (body
   pub taken : new.taken ≡ old.taken + length gave
   pub given : new.given ≡ old.given
   pub none_behind : old.ended ≡ true → (gave ≡ []) × (new.ended ≡ true) × (after ≡ before)
-  pub at_end : new.ended ≡ true → (old.ended ≡ true) ⊎ (IsSpent after × (new.taken < 2 ^ 62))
+  pub at_end : new.ended ≡ true → (old.ended ≡ true) ⊎ (IsSpent after × (new.taken < most_input_bytes))
 
 -- how often a reader can still read
 abbrev pub reads_left : ReaderState → ℕ
-reads_left s = if s.ended then 0 else 1 + (2 ^ 62 - s.taken)
+reads_left s = if s.ended then 0 else 1 + (most_input_bytes - s.taken)
 
 -- a read fault or the limit comes where nothing is pending and the end wasn't met
 abbrev pub Halts : LineFault → ReaderState → Type 0
-Halts fault.Failed s = (s.pending ≡ []) × (s.ended ≡ false) × (s.taken < 2 ^ 62)
-Halts fault.TooMuch s = (s.pending ≡ []) × (s.ended ≡ false) × (s.taken ≡ 2 ^ 62)
+Halts fault.Failed s = (s.pending ≡ []) × (s.ended ≡ false) × (s.taken < most_input_bytes)
+Halts fault.TooMuch s = (s.pending ≡ []) × (s.ended ≡ false) × (s.taken ≡ most_input_bytes)
 Halts fault.NoMemory s = ⊤

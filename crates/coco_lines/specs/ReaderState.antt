@@ -1,5 +1,6 @@
 -- What contracts see of a reader.
-use Rattle.std.specs.Prelude.{◌≡◌, ℕ, ◌+◌, ◌^◌, ◌≤◌, List, [], Bool, true, length}
+use Rattle.std.specs.Prelude.{◌≡◌, ℕ, ◌+◌, ◌≤◌, List, [], Bool, true, length}
+use Rattle.coco_types.specs.Limits.{most_input_bytes}
 
 -- the bytes taken from the source and not given yet, whether the input ended behind them, how many bytes were taken, and how many lines given
 pub record ReaderState : Type 0 where
@@ -8,11 +9,7 @@ pub record ReaderState : Type 0 where
   pub taken : ℕ
   pub given : ℕ
 
--- no more bytes are taken
-abbrev pub most_taken : ℕ
-most_taken = 2 ^ 62
-
 pub record IsReaderState (s : ReaderState) : Type 0 where
   pub counts : s.given + length s.pending ≤ s.taken
-  pub within : s.taken ≤ 2 ^ 62
+  pub within : s.taken ≤ most_input_bytes
   pub none_behind : s.ended ≡ true → s.pending ≡ []

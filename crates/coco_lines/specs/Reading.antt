@@ -6,6 +6,7 @@ use Rattle.serde_json.specs.Data.{Data, null, boolean, number, string, array, ob
 use Rattle.serde_json.specs.Events.{items_len}
 use Rattle.serde_json.specs.Find.{get, as_array, as_bool, as_number, as_object, as_str, as_i64, as_u64}
 use Rattle.serde_json.specs.Read.{read}
+use Rattle.coco_types.specs.Limits.{most_text_bytes}
 use Rattle.coco_types.specs.declared.value.Value.{Value}
 use Rattle.coco_types.specs.declared.value.Value.TheVariants.{Int, Text}
 use Rattle.coco_types.specs.declared.call.Request.{Request}
@@ -66,7 +67,7 @@ abbrev pub arg_of : Data → Option (Option Value)
 arg_of null = Some None
 arg_of (boolean _) = None
 arg_of (number n) = option_map (λ i. Some (Int i)) (as_i64 n)
-arg_of (string s) = if nat_le (length s) 256 then Some (Some (Text s)) else None
+arg_of (string s) = if nat_le (length s) most_text_bytes then Some (Some (Text s)) else None
 arg_of (array _) = None
 arg_of (object _) = None
 

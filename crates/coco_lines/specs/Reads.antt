@@ -1,7 +1,8 @@
 -- What one call of a reader gives, by the bytes that were pending and those that its source gave.
-use Rattle.std.specs.Prelude.{◌≡◌, ℕ, ◌+◌, ◌^◌, ◌<◌, List, [], ◌∷◌, ◌++◌, length, ◌==◌, Bool, true, false, nat_le, if◌then◌else◌, Option, Some, None, Result, Ok, Err, All, MatchOption, ⊤}
+use Rattle.std.specs.Prelude.{◌≡◌, ℕ, ◌+◌, ◌<◌, List, [], ◌∷◌, ◌++◌, length, ◌==◌, Bool, true, false, nat_le, if◌then◌else◌, Option, Some, None, Result, Ok, Err, All, MatchOption, ⊤}
 use Rattle.std.specs.List.{AllByRecursion}
 use Rattle.std.specs.Io.KnownBytes.{prepend_known, IsAtEnd}
+use Rattle.coco_types.specs.Limits.{most_input_bytes}
 use Rattle.coco_types.specs.declared.limits.TheConstants.{MOST_LINE_BYTES}
 use Rattle.coco_io.specs.Counts.{Rose}
 use Rattle.coco_io.specs.Giving.{Gave}
@@ -85,8 +86,8 @@ MustRead s = HasNoFeed s.pending × (s.ended ≡ false)
 
 -- a read fault or the limit comes only where it has to read, and then all that was taken is of the line begun
 abbrev pub Stops : LineFault → ReaderState → ReaderState → Type 0
-Stops fault.Failed old new = MustRead old × (new.pending ≡ []) × (new.ended ≡ false) × (new.taken < 2 ^ 62)
-Stops fault.TooMuch old new = MustRead old × (new.pending ≡ []) × (new.ended ≡ false) × (new.taken ≡ 2 ^ 62)
+Stops fault.Failed old new = MustRead old × (new.pending ≡ []) × (new.ended ≡ false) × (new.taken < most_input_bytes)
+Stops fault.TooMuch old new = MustRead old × (new.pending ≡ []) × (new.ended ≡ false) × (new.taken ≡ most_input_bytes)
 Stops fault.NoMemory old new = ⊤
 
 -- the count of faults rises with a read fault, and stays otherwise

@@ -7,6 +7,7 @@ ghost use Rattle.json.specs.Json.{value, items, members};
 ghost use Rattle.serde_json.specs.Data.{Data, Members, no_members, object, unsigned, negative};
 ghost use Rattle.serde_json.specs.Find.{as_i64};
 ghost use Rattle.serde_json.specs.Read.{of_json, of_items, of_members, converted, number_from, number_of, read};
+ghost use Rattle.coco_types.specs.Limits.{most_text_bytes};
 ghost use Rattle.coco_types.specs.declared.value.Value.{Value as Datum};
 ghost use Rattle.coco_types.specs.declared.value.Value.TheVariants as datum;
 ghost use Rattle.coco_lines.specs.Reading.{arg_of, args_of, request_in};
@@ -174,7 +175,7 @@ fn args_of(alloc: Global, reader: &mut Reader<'_>) -> Option<Args>
 }
 
 fn push_arg(args: &mut Args, reader: &mut Reader<'_>) -> Option<()>
-    requires { length args.old < 16 }
+    requires { length args.old < MOST_ARGUMENTS }
     ensures { IfSome result (λ _. (arg : Option Datum)
         × (converted arg_of (converted of_json (value 125 reader.old)) ≡ Some (arg, reader.new))
         × (args.new ≡ args.old ++ arg ∷ [])) }
@@ -189,22 +190,22 @@ fn push_arg(args: &mut Args, reader: &mut Reader<'_>) -> Option<()>
 }
 
 fn push_none(args: &mut Args) -> Option<()>
-    requires { length args.old < 16 }
+    requires { length args.old < MOST_ARGUMENTS }
     ensures { IfSome result (λ _. args.new ≡ args.old ++ None ∷ []) }
 {
     args.push(None).ok()
 }
 
 fn push_int(args: &mut Args, n: i64) -> Option<()>
-    requires { length args.old < 16 }
+    requires { length args.old < MOST_ARGUMENTS }
     ensures { IfSome result (λ _. args.new ≡ args.old ++ Some (datum.Int n) ∷ []) }
 {
     args.push(Some(Value::Int(n))).ok()
 }
 
 fn push_text(args: &mut Args, text: &str) -> Option<()>
-    requires { length args.old < 16 }
-    ensures { IfSome result (λ _. (length text.now ≤ 256) × (args.new ≡ args.old ++ Some (datum.Text text.now) ∷ [])) }
+    requires { length args.old < MOST_ARGUMENTS }
+    ensures { IfSome result (λ _. (length text.now ≤ most_text_bytes) × (args.new ≡ args.old ++ Some (datum.Text text.now) ∷ [])) }
 {
     args.push(Some(Value::Text(Text::of(text)?))).ok()
 }

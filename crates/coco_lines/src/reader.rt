@@ -1,6 +1,6 @@
 //! The lines of a source, one by one.
 
-ghost use Rattle.std.specs.Prelude.{◌≡◌, ◌≢◌, ◌⊎◌, ◌+◌, ◌≤◌, ◌<◌, ◌^◌, ℕ, List, [], ◌∷◌, length, ◌==◌, true, false, Some, None, Ok, Err, IfOk, IfErr, IsErr, OnOk, OnErr, IsTrue, if◌then◌else◌};
+ghost use Rattle.std.specs.Prelude.{◌≡◌, ◌≢◌, ◌⊎◌, ◌+◌, ◌≤◌, ◌<◌, ℕ, List, [], ◌∷◌, length, ◌==◌, true, false, Some, None, Ok, Err, IfOk, IfErr, IsErr, OnOk, OnErr, IsTrue, if◌then◌else◌};
 ghost use Rattle.coco_lines.specs.Reads.{HasNoFeed, Gives, IsSpent, IsSameMoment, body_of, Reads, Numbers, MustRead, Stops, Counts};
 ghost use Rattle.coco_lines.specs.Gathering.{Extends, Cuts, Gathering, Halts, reads_left};
 
@@ -74,11 +74,11 @@ impl Reader {
             → self.new.ended ≡ true → IsSpent (record { given = S.given source.new; left = S.remaining source.new; at_end = S.at_end source.new }) }
 
         // Where it has to read and the limit is reached, there is no line and no end.
-        ensures too_much { self.old.taken ≡ 2 ^ 62 → MustRead self.old → IsErr result }
-        ensures met { self.old.ended ≡ false → self.new.ended ≡ true → self.new.taken < 2 ^ 62 }
+        ensures too_much { self.old.taken ≡ MOST_INPUT_BYTES → MustRead self.old → IsErr result }
+        ensures met { self.old.ended ≡ false → self.new.ended ≡ true → self.new.taken < MOST_INPUT_BYTES }
 
         ensures stops { IfErr result (λ e. Stops e self.old self.new) }
-        ensures limit { self.new.taken ≤ 2 ^ 62 }
+        ensures limit { self.new.taken ≤ MOST_INPUT_BYTES }
         ensures few { self.new.given ≤ self.new.taken }
         ensures counts { Counts result (S.faults source.old) (S.faults source.new) }
     {
@@ -151,15 +151,15 @@ impl Reader {
             (record { given = S.given source.new; left = S.remaining source.new; at_end = S.at_end source.new }) self.new.pending) }
         ensures taken { OnOk result (self.new.taken ≡ self.old.taken + length self.new.pending) }
         ensures end { OnOk result (self.new.ended ≡ true
-            → IsSpent (record { given = S.given source.new; left = S.remaining source.new; at_end = S.at_end source.new }) × (self.new.taken < 2 ^ 62)) }
+            → IsSpent (record { given = S.given source.new; left = S.remaining source.new; at_end = S.at_end source.new }) × (self.new.taken < MOST_INPUT_BYTES)) }
         ensures fewer { OnOk result (reads_left self.new < reads_left self.old) }
         ensures given { self.new.given ≡ self.old.given }
         ensures err { OnErr result (self.new ≡ self.old) }
         ensures same { OnErr result (IsSameMoment (record { given = S.given source.old; left = S.remaining source.old; at_end = S.at_end source.old })
             (record { given = S.given source.new; left = S.remaining source.new; at_end = S.at_end source.new })) }
         ensures counts { Counts result (S.faults source.old) (S.faults source.new) }
-        ensures failed { result ≡ Err LineFault.Failed → self.new.taken < 2 ^ 62 }
-        ensures too_much { result ≡ Err LineFault.TooMuch → self.new.taken ≡ 2 ^ 62 }
+        ensures failed { result ≡ Err LineFault.Failed → self.new.taken < MOST_INPUT_BYTES }
+        ensures too_much { result ≡ Err LineFault.TooMuch → self.new.taken ≡ MOST_INPUT_BYTES }
         ensures state { IsReaderState self.new }
     {
         if self.taken == MOST_INPUT_BYTES {

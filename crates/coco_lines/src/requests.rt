@@ -6,6 +6,7 @@ ghost use Rattle.std.specs.List.{list_all};
 ghost use Rattle.serde_json.specs.Find.{get, as_array, as_number, as_str, as_u64};
 ghost use Rattle.serde_json.specs.Read.{read};
 ghost use Rattle.serde_json.specs.View.{view, items_view, members_view};
+ghost use Rattle.coco_types.specs.Limits.{most_arguments};
 ghost use Rattle.coco_ast.specs.Fitting.{Fits};
 ghost use Rattle.coco_ast.specs.Meaning.{procedure_at};
 ghost use Rattle.coco_lines.specs.Reading.{is_member, only_members, snapshot_of, asked_of, find_named, arg_of, args_of, fitting_args, request_of, request_in, has_writes, first_that_fits, asking_tests, request_on, asking_error, reading_error};
@@ -79,7 +80,7 @@ pub(crate) struct Known {
 pub(crate) fn named(procs: &Checked, name: &str) -> Option<Known>
     ensures number { option_map (λ n. n.proc_no) result ≡ option_map (λ f. f.0) (find_named procs.now name.now) }
     ensures params { option_map (λ n. n.params) result ≡ option_map (λ f. length f.1.params) (find_named procs.now name.now) }
-    ensures few { IfSome result (λ n. n.params ≤ 16) }
+    ensures few { IfSome result (λ n. n.params ≤ most_arguments) }
 {
     let Some(proc_no) = procs.proc_no(name) else {
         return None;
@@ -211,7 +212,7 @@ fn snapshot_of(member: Option<&Json>) -> Option<bool>
 }
 
 fn fitting_args(alloc: Global, params: usize, items: &[Json]) -> Result<Option<Args>, NoMemory>
-    requires { params ≤ 16 }
+    requires { params ≤ most_arguments }
     ensures { IfOk result (λ args. args ≡ fitting_args params (items_view items.now)) }
 {
     if items.len() != params {
@@ -221,7 +222,7 @@ fn fitting_args(alloc: Global, params: usize, items: &[Json]) -> Result<Option<A
 }
 
 fn args_of(alloc: Global, items: &[Json]) -> Result<Option<Args>, NoMemory>
-    requires { length items.now ≤ 16 }
+    requires { length items.now ≤ most_arguments }
     ensures { IfOk result (λ args. args ≡ args_of (items_view items.now)) }
 {
     let mut args = Args::with_room(alloc, items.len())?;
