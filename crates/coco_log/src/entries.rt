@@ -1,5 +1,5 @@
 //! A log's file read once from its front, entry by entry.
-ghost use Rattle.std.specs.Prelude.{◌≡◌, ℕ, ◌+◌, ◌<◌, ◌≤◌, ◌^◌, List, Some, true, [], Ok, Err, length, take, drop, vec_len, IfOk};
+ghost use Rattle.std.specs.Prelude.{◌≡◌, ℕ, ◌+◌, ◌<◌, ◌≤◌, List, Some, true, [], Ok, Err, length, take, drop, vec_len, IfOk};
 ghost use Rattle.coco_host.specs.Files.{Files};
 ghost use Rattle.coco_log.specs.declared.fault.LogFault.TheVariants as fault;
 ghost use Rattle.coco_log.specs.Faults.{CountsOpen};
@@ -11,11 +11,9 @@ use crate::gates::{next_gate, read_header};
 use crate::window::Window;
 use crate::{Log, LogFault};
 use coco_host::Host;
+use coco_types::limits::FILES_END;
 use std::alloc::Global;
 use std::marker::Model;
-
-// Every file ends before this place.
-const END: u64 = 1 << 62;
 
 /// The entries of a log's file, read one by one through a window of large reads.
 #[derive(Drop)]
@@ -30,14 +28,15 @@ pub struct Entries {
 }
 
 impl Model for Entries {
-    ghost use Rattle.std.specs.Prelude.{◌+◌, ◌<◌, ◌≤◌, ◌^◌, take, drop, vec_len};
+    ghost use Rattle.std.specs.Prelude.{◌+◌, ◌<◌, ◌≤◌, take, drop, vec_len};
+    ghost use Rattle.coco_types.specs.Limits.{files_end};
     ghost use Rattle.coco_log.specs.Reading.{Reading};
 
     ghost Value = { Reading };
 
     ghost view = { λ e. record { file = e.window.file; kind = e.kind; places = e.places.items; at = e.at; end = e.end; from = e.window.from; count = e.window.count; bytes = e.window.bytes.items; body = take e.length (drop e.start e.window.bytes.items) } };
 
-    ghost invariant = { λ e. (e.at < 2 ^ 62) × (e.end < 2 ^ 62) × (e.start + e.length ≤ vec_len e.window.bytes) × (e.length ≤ e.at) };
+    ghost invariant = { λ e. (e.at < files_end) × (e.end < files_end) × (e.start + e.length ≤ vec_len e.window.bytes) × (e.length ≤ e.at) };
 }
 
 impl Entries {
@@ -59,7 +58,7 @@ impl Entries {
         let mut window = Window::new(alloc, file)?;
         read_header(host, &mut window, kind)?;
         let end = host.len(file)?;
-        if end >= END {
+        if end >= FILES_END {
             return Err(LogFault::NoMemory);
         }
         Ok(Entries {

@@ -1,5 +1,6 @@
 //! What stands in a log's file: its header, and behind it gate after gate.
 ghost use Rattle.std.specs.Prelude.{◌≡◌, ◌≢◌, ◌⊎◌, ℕ, ◌+◌, ◌-◌, ◌<◌, ◌≤◌, ◌^◌, List, Some, [], ◌∷◌, ◌++◌, Ok, Err, length, take, drop, vec_len, Option, None, IfOk, OnOk};
+ghost use Rattle.coco_types.specs.Limits.{files_end};
 ghost use Rattle.coco_host.specs.Files.{Files};
 ghost use Rattle.coco_log.specs.declared.fault.LogFault.TheVariants as fault;
 ghost use Rattle.coco_log.specs.Faults.{CountsFault, CountsOpen};
@@ -45,7 +46,7 @@ fn head_of(bytes: &[u8]) -> Head
 
 // What stands where a gate belongs.
 fn head_at<H: Host>(host: &mut H, window: &mut Window, at: u64) -> Result<Head, LogFault>
-    requires { at < 2 ^ 62 }
+    requires { at < files_end }
     ensures file { window.new.file ≡ window.old.file }
     ensures part { (files : Files) → H.reads host.old ≡ Some files → IsPart window.old.from window.old.count window.old.bytes.items (files window.old.file)
         → IsPart window.new.from window.new.count window.new.bytes.items (files window.old.file) }
@@ -66,7 +67,7 @@ pub fn next_gate<H: Host>(
     at: u64,
     end: u64,
 ) -> Result<Option<u64>, LogFault>
-    requires small { at < 2 ^ 62 }
+    requires small { at < files_end }
     ensures file { window.new.file ≡ window.old.file }
     ensures part { (files : Files) → H.reads host.old ≡ Some files → IsPart window.old.from window.old.count window.old.bytes.items (files window.old.file)
         → IsPart window.new.from window.new.count window.new.bytes.items (files window.old.file) }

@@ -1,5 +1,6 @@
 //! A log that is open.
-ghost use Rattle.std.specs.Prelude.{◌≡◌, ◌≢◌, ℕ, ◌+◌, ◌<◌, ◌≤◌, ◌^◌, List, Some, false, true, [], ◌∷◌, ◌++◌, length, vec_len, vec_capacity, IfSome, IfOk, OnOk, OnErr, Err, slice_index, slice_index_or};
+ghost use Rattle.std.specs.Prelude.{◌≡◌, ◌≢◌, ℕ, ◌+◌, ◌<◌, ◌≤◌, List, Some, false, true, [], ◌∷◌, ◌++◌, length, vec_len, vec_capacity, IfSome, IfOk, OnOk, OnErr, Err, slice_index, slice_index_or};
+ghost use Rattle.coco_types.specs.Limits.{files_end};
 ghost use Rattle.coco_host.specs.Files.{Files, Become, Follows};
 ghost use Rattle.coco_host.specs.Moments.{SeesOnly};
 ghost use Rattle.coco_log.specs.declared.fault.LogFault.TheVariants as fault;
@@ -29,14 +30,15 @@ pub struct Log {
 }
 
 impl Model for Log {
-    ghost use Rattle.std.specs.Prelude.{◌<◌, ◌^◌};
+    ghost use Rattle.std.specs.Prelude.{◌<◌};
+    ghost use Rattle.coco_types.specs.Limits.{files_end};
     ghost use Rattle.coco_log.specs.LogState.{LogState};
 
     ghost Value = { LogState };
 
     ghost view = { λ l. record { file = l.file; kind = l.kind; places = l.places.items; end = l.end; spent = l.is_spent } };
 
-    ghost invariant = { λ l. l.end < 2 ^ 62 };
+    ghost invariant = { λ l. l.end < files_end };
 }
 
 impl Log {
@@ -89,7 +91,7 @@ impl Log {
 
     // A log whose entries were found at these places.
     pub(crate) fn found(file: u32, kind: u8, places: Vec<u64>, end: u64, piece: Vec<u8>) -> Log
-        requires { end < 2 ^ 62 }
+        requires { end < files_end }
         ensures { result ≡ record { file = file; kind = kind; places = places.items; end = end; spent = false } }
     {
         Log {

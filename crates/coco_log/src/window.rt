@@ -1,5 +1,6 @@
 //! The piece of a file that was read last.
 ghost use Rattle.std.specs.Prelude.{◌≡◌, ◌⊎◌, ℕ, ◌+◌, ◌-◌, ◌<◌, ◌≤◌, ◌^◌, List, Some, length, drop, vec_len, IfOk};
+ghost use Rattle.coco_types.specs.Limits.{files_end};
 ghost use Rattle.coco_host.specs.Files.{Files};
 ghost use Rattle.coco_log.specs.Faults.{CountsFault};
 ghost use Rattle.coco_log.specs.Gates.{IsPart};
@@ -22,7 +23,7 @@ pub struct Window {
     pub count: usize,
     pub bytes: Vec<u8>,
     ghost fits: { count ≤ vec_len bytes },
-    ghost early: { from < 2 ^ 62 },
+    ghost early: { from < files_end },
 }
 
 impl Window {
@@ -47,7 +48,7 @@ impl Window {
         at: u64,
         wanted: usize,
     ) -> Result<usize, LogFault>
-        requires small { at < 2 ^ 62 }
+        requires small { at < files_end }
         requires few { wanted < 2 ^ 32 }
         ensures file { self.new.file ≡ self.old.file }
         ensures part { (files : Files) → H.reads host.old ≡ Some files → IsPart self.old.from self.old.count self.old.bytes.items (files self.old.file)

@@ -1,5 +1,6 @@
 //! The two steps of an append.
-ghost use Rattle.std.specs.Prelude.{◌≡◌, ◌≢◌, ℕ, ◌+◌, ◌<◌, ◌≤◌, ◌^◌, List, Some, [], ◌∷◌, ◌++◌, length, IfSome, OnOk};
+ghost use Rattle.std.specs.Prelude.{◌≡◌, ◌≢◌, ℕ, ◌+◌, ◌<◌, ◌≤◌, List, Some, [], ◌∷◌, ◌++◌, length, IfSome, OnOk};
+ghost use Rattle.coco_types.specs.Limits.{files_end};
 ghost use Rattle.coco_host.specs.Files.{Files, Become, Follows};
 ghost use Rattle.coco_host.specs.Moments.{SeesOnly};
 ghost use Rattle.coco_log.specs.Faults.{CountsFault};
@@ -16,7 +17,7 @@ pub fn write_entry<H: Host>(
     gate: u64,
     piece: &[u8],
 ) -> Result<(), LogFault>
-    requires small { gate < 2 ^ 62 }
+    requires small { gate < files_end }
     requires room { IfSome (H.reads host.old) (λ files. gate + 1 ≤ length (files file)) }
     ensures moments { (files : Files) (kind : ℕ) (bodies : List (List ℕ)) (body : List ℕ) → H.reads host.old ≡ Some files → IsReady file kind gate bodies files (H.may_leave host.old) → IsPiece body piece.now
         → SeesOnly H.moment H.observed host.old host.new (ChangesOne file (IsBeforeOrAfter kind bodies body) (H.may_leave host.old) (H.said host.old)) }
@@ -25,7 +26,7 @@ pub fn write_entry<H: Host>(
     ensures files { Become (SameBut file) (H.reads host.old) (H.reads host.new) }
     ensures crash { Follows (SameBut file) (H.may_leave host.old) (H.may_leave host.new) }
     ensures said { H.said host.new ≡ H.said host.old }
-    ensures small { OnOk result (gate + 1 + length piece.now < 2 ^ 62) }
+    ensures small { OnOk result (gate + 1 + length piece.now < files_end) }
     ensures counts { CountsFault result (H.disk_faults host.old) (H.disk_faults host.new) }
     ensures others { H.say_faults host.new ≡ H.say_faults host.old }
 {

@@ -37,8 +37,8 @@ returns-in_err-end-clause-read g c =
     let begun = read_then _ _ _ _ _ N _ _ _ synced c.read_header.ensures.read in
     read_on _ _ _ _ _ N _ _ _ begun c.len.ensures.same c.len.ensures.said c.len.ensures.crash c.len.ensures.time
 
-pub returns-then-end-ge-END-clause-read : goal.returns-then-end-ge-END-clause-read
-returns-then-end-ge-END-clause-read g c =
+pub returns-then-end-ge-FILES_END-clause-read : goal.returns-then-end-ge-FILES_END-clause-read
+returns-then-end-ge-FILES_END-clause-read g c =
     let N = g.met.H.Host.only_now in
     let synced = read_on _ _ _ _ _ N _ _ _ (read_first _ _ _ _ _ N _) c.sync.ensures.same c.sync.ensures.said c.sync.ensures.crash c.sync.ensures.time in
     let begun = read_then _ _ _ _ _ N _ _ _ synced c.read_header.ensures.read in
