@@ -6,6 +6,7 @@ use Rattle.std.proofs.lemmas.Bool.{eqb-true}
 use Rattle.std.specs.List.{AllByRecursion}
 use Rattle.std.proofs.lemmas.List.{map-append}
 use Rattle.std.proofs.lemmas.Bool.{and_parts}
+use Rattle.coco_types.specs.Limits.{most_bound, most_keys}
 use Rattle.coco_types.specs.RowKey.{RowKey}
 use Rattle.coco_types.specs.declared.call.Call.{Call}
 use Rattle.coco_types.specs.declared.call.Reply.{Reply}
@@ -51,12 +52,12 @@ both : (a b : Bool) → a ≡ true → b ≡ true → a && b ≡ true
 both true b h k = k
 both false b h k = let e : false ≡ true = h in cc
 
-few_turns : (n : ℕ) (x : List ℕ) (b : Statements) (around : ℕ) → IsGood (record { statement = Repeat n x b; around = around }) → nat_le n 64 ≡ true
-few_turns n x b around good = by (nat_le n 64) refl
+few_turns : (n : ℕ) (x : List ℕ) (b : Statements) (around : ℕ) → IsGood (record { statement = Repeat n x b; around = around }) → nat_le n most_bound ≡ true
+few_turns n x b around good = by (nat_le n most_bound) refl
   where
-    by : (c : Bool) → nat_le n 64 ≡ c → nat_le n 64 ≡ true
+    by : (c : Bool) → nat_le n most_bound ≡ c → nat_le n most_bound ≡ true
     by true e = e
-    by false e = absurd (good (n, x, b, refl, inr (inl (omega (arith, leb-false n 64 e)))))
+    by false e = absurd (good (n, x, b, refl, inr (inl (omega (arith, leb-false n most_bound e)))))
 
 mutual
   bounded_one : (around : ℕ) (s : Statement) → AllByRecursion IsGood (and_within around s) → are_bounded_in s ≡ true
@@ -300,7 +301,7 @@ body_is ps n p proc ss items one other = ap statements_of items ∙ ap (λ (q : 
 
 -- what going on in a body comes to is what it comes to in the procedure
 pub advances_in : (asks : Bool) (ts us : List (List ℕ)) (b : Statements) (p : Procedure) (old new : Machine) (before after : Vec Frame Global) → us ≡ ts → b ≡ p.body → IsRoomy p old before → Advances asks us b old new
-    → depth b ≤ vec_capacity new.path → depth b ≤ vec_capacity after → new.given ≡ old.given → 64 ≤ vec_capacity new.writes → AdvancesIn asks ts p old new after
+    → depth b ≤ vec_capacity new.path → depth b ≤ vec_capacity after → new.given ≡ old.given → most_keys ≤ vec_capacity new.writes → AdvancesIn asks ts p old new after
 advances_in asks ts us b p old new before after tables body roomy to path spare given writes = record {
   advances = subst (λ (vs : List (List ℕ)). Advances asks vs p.body old new) tables (subst (λ (d : Statements). Advances asks us d old new) body to);
   roomy = record {
@@ -317,7 +318,7 @@ pub there_in : (given ps : Procedures) (call : Call) (n : ℕ) (m : Machine) (sp
 there_in given ps call n m spare ws at same r = ap (λ (t : Procedures). procedure_at t.procs n) same ∙ ap (procedure_at ps.procs) r.number_is ∙ r.there
 
 pub room_in : (given ps : Procedures) (call : Call) (n : ℕ) (m : Machine) (spare : Vec Frame Global) (ws : List Write) (at : Stage) → given ≡ ps → standing_of at m ws ≡ Ready → IsRunOf ps call n m spare ws at
-    → (p : Procedure) × (procedure_at given.procs n ≡ Some p) × IsRoomy p m spare × (length m.writes.items + weight_on (reverse m.path.items) p.body ≤ 64)
+    → (p : Procedure) × (procedure_at given.procs n ≡ Some p) × IsRoomy p m spare × (length m.writes.items + weight_on (reverse m.path.items) p.body ≤ most_keys)
 room_in given ps call n m spare ws at same is r =
     let ready = ready_of ps call n m spare ws at is r in
     (r.procedure, there_in given ps call n m spare ws at same r, roomy_of ps call n m spare ws at is r, omega (arith, ready.few))

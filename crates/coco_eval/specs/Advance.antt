@@ -1,6 +1,7 @@
 -- What going on comes to.
 use Rattle.std.specs.Prelude.{◌≡◌, ℕ, ◌+◌, ◌≤◌, Bool, true, false, List, [], length, reverse, Vec, vec_capacity}
 use Rattle.std.specs.Global.{Global}
+use Rattle.coco_types.specs.Limits.{most_keys}
 use Rattle.coco_types.specs.declared.call.Reply.{Reply}
 use Rattle.coco_types.specs.declared.call.Reply.TheVariants.{Ok as Answers, Refused}
 use Rattle.coco_types.specs.declared.call.Write.{Write}
@@ -30,8 +31,8 @@ pub record IsRoomy (p : Procedure) (m : Machine) (spare : Vec Frame Global) : Ty
   pub bounded : are_bounded p.body ≡ true
   pub path : depth p.body ≤ vec_capacity m.path
   pub spare_path : depth p.body ≤ vec_capacity spare
-  pub given : 64 ≤ vec_capacity m.given
-  pub writes : 64 ≤ vec_capacity m.writes
+  pub given : most_keys ≤ vec_capacity m.given
+  pub writes : most_keys ≤ vec_capacity m.writes
 
 pub record AdvancesIn (asks : Bool) (ts : List (List ℕ)) (p : Procedure) (old new : Machine) (spare : Vec Frame Global) : Type 0 where
   pub advances : Advances asks ts p.body old new

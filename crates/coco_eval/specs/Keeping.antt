@@ -1,6 +1,7 @@
 -- How the parts of a run are seen, and what they keep.
 use Rattle.std.specs.Prelude.{◌≡◌, ℕ, ◌+◌, ◌≤◌, List, length, reverse, Some, Vec}
 use Rattle.std.specs.Global.{Global}
+use Rattle.coco_types.specs.Limits.{most_keys}
 use Rattle.coco_types.specs.declared.call.Call.{Call}
 use Rattle.coco_types.specs.declared.call.Write.{Write}
 use Rattle.coco_ast.specs.Keyed.{Rows, value_at, put_over}
@@ -24,17 +25,17 @@ standing_of stage.Ended m ws = Ended m.reply ws
 -- the run goes on from where it stands, and there is room for what it may read and write
 pub record IsReady (ps : Procedures) (call : Call) (p : Procedure) (m : Machine) : Type 0 where
   pub goes : (rows : Rows) → HasGiven m.given.items rows → run ps call rows ≡ outcome rows (goes_on rows ps.tables (reverse m.path.items) p.body (kept_of m))
-  pub few : length m.given.items + length m.writes.items + weight_on (reverse m.path.items) p.body ≤ 64
+  pub few : length m.given.items + length m.writes.items + weight_on (reverse m.path.items) p.body ≤ most_keys
 
 -- so it does once the value of the key that it asks for is given
 pub record IsAsking (ps : Procedures) (call : Call) (p : Procedure) (m : Machine) : Type 0 where
   pub goes : (rows : Rows) → HasGiven m.given.items rows → run ps call rows ≡ outcome rows (goes_on rows ps.tables (reverse m.path.items) p.body (with_given (kept_of m) m.asked (value_at rows m.asked)))
-  pub few : length m.given.items + length m.writes.items + 1 + weight_on (reverse m.path.items) p.body ≤ 64
+  pub few : length m.given.items + length m.writes.items + 1 + weight_on (reverse m.path.items) p.body ≤ most_keys
 
 -- the run is known
 pub record IsEnded (ps : Procedures) (call : Call) (m : Machine) (ws : List Write) : Type 0 where
   pub ends : (rows : Rows) → HasGiven m.given.items rows → run ps call rows ≡ record { reply = m.reply; rows = put_over rows ws; needs = keys_of m.given.items; writes = ws }
-  pub few : length m.given.items + length ws ≤ 64
+  pub few : length m.given.items + length ws ≤ most_keys
 
 abbrev pub Stands : Stage → Procedures → Call → Procedure → Machine → List Write → Type 0
 Stands stage.Ready ps call p m ws = IsReady ps call p m

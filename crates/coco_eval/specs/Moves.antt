@@ -1,5 +1,6 @@
 -- What a part of a run has led to where it stops, and the room that it leaves.
 use Rattle.std.specs.Prelude.{◌≡◌, ⊤, ℕ, ◌+◌, ◌≤◌, List, [], length, reverse, vec_capacity, Some, None}
+use Rattle.coco_types.specs.Limits.{most_keys}
 use Rattle.coco_types.specs.RowKey.{RowKey}
 use Rattle.coco_ast.specs.Meaning.{Datum}
 use Rattle.coco_ast.specs.Tree.{RowPlace, Statement, Statements}
@@ -98,5 +99,5 @@ on_way stop.Ends w = stop.Ends
 pub record HasRoom (weight deep : ℕ) (m : Machine) : Type 0 where
   pub path : m.path.items ≡ []
   pub path_room : deep ≤ vec_capacity m.path
-  pub writes : length m.writes.items + weight ≤ 64
-  pub writes_room : 64 ≤ vec_capacity m.writes
+  pub writes : length m.writes.items + weight ≤ most_keys
+  pub writes_room : most_keys ≤ vec_capacity m.writes

@@ -1,5 +1,6 @@
 -- How a run goes on on a map, by what it keeps, from the start of its statements and from a place within them.
 use Rattle.std.specs.Prelude.{ℕ, zero, suc, ◌+◌, ◌-◌, ◌*◌, nat_le, max, Bool, true, false, ◌&&◌, if◌then◌else◌, List, [], ◌∷◌, ◌++◌, length, Option, Some, None, Ok, Err, pos, slice_get}
+use Rattle.coco_types.specs.Limits.{most_bound}
 use Rattle.coco_types.specs.RowKey.{RowKey}
 use Rattle.coco_types.specs.declared.value.Value.TheVariants.{Int}
 use Rattle.coco_types.specs.declared.call.Cause.TheVariants.{User}
@@ -173,7 +174,7 @@ abbrev pub weight_on : List Frame → Statements → ℕ
 weight_on [] b = key_weight b
 weight_on (f ∷ fs) b = weight_first f.way (λ inner. weight_on fs inner) (from f.at b)
 
--- how deep blocks stand in one another, and whether no `repeat` has more than 64 turns
+-- how deep blocks stand in one another, and whether no `repeat` has more turns than it may
 abbrev mutual
   pub depth_one : Statement → ℕ
   depth_one (Let x e) = 0
@@ -198,7 +199,7 @@ abbrev mutual
   are_bounded_in (Delete p) = true
   are_bounded_in (If e then_part) = are_bounded then_part
   are_bounded_in (IfElse e then_part else_part) = are_bounded then_part && are_bounded else_part
-  are_bounded_in (Repeat n x body) = nat_le n 64 && are_bounded body
+  are_bounded_in (Repeat n x body) = nat_le n most_bound && are_bounded body
   are_bounded_in (Refuse n) = true
   are_bounded_in (Replies e) = true
 

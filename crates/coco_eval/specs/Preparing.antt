@@ -1,6 +1,7 @@
 -- A state at the start of a procedure.
 use Rattle.std.specs.Prelude.{◌≡◌, ◌≤◌, true, List, [], Vec, vec_capacity}
 use Rattle.std.specs.Global.{Global}
+use Rattle.coco_types.specs.Limits.{most_keys}
 use Rattle.coco_ast.specs.Meaning.{Datum, bound}
 use Rattle.coco_ast.specs.Tree.{Procedure}
 use Rattle.coco_eval.specs.Places.{depth}
@@ -14,7 +15,7 @@ pub record IsPrepared (p : Procedure) (args : List Datum) (m : Machine) (spare :
   pub given : m.given.items ≡ []
   pub writes : m.writes.items ≡ []
   pub path : m.path.items ≡ []
-  pub given_room : 64 ≤ vec_capacity m.given
-  pub writes_room : 64 ≤ vec_capacity m.writes
+  pub given_room : most_keys ≤ vec_capacity m.given
+  pub writes_room : most_keys ≤ vec_capacity m.writes
   pub path_room : depth p.body ≤ vec_capacity m.path
   pub spare_room : depth p.body ≤ vec_capacity spare

@@ -1,6 +1,7 @@
 //! How a run's state goes on, and what its writes are at the end.
 ghost use Rattle.std.specs.Prelude.{◌≡◌, ◌+◌, ◌<◌, ◌≤◌, ◌^◌, true, length, reverse, vec_capacity, Some};
 ghost use Rattle.std.specs.Option.{option_map};
+ghost use Rattle.coco_types.specs.Limits.{most_keys};
 ghost use Rattle.coco_ast.specs.Checks.{IsAccepted};
 ghost use Rattle.coco_ast.specs.Meaning.{procedure_at};
 ghost use Rattle.coco_ast.specs.Tree.{Procedure};
@@ -24,7 +25,7 @@ pub fn procedure(procs: &Checked, number: u16) -> Option<&Proc>
 /// Goes on in a procedure, to a key whose value is needed or to the end. It answers whether it asks.
 pub fn advance(procs: &Checked, number: u16, machine: &mut Machine, spare: &mut Vec<Frame>) -> bool
     requires { (p : Procedure) × (procedure_at procs.now.procs number ≡ Some p) × IsRoomy p machine.old spare.old
-        × (length machine.old.writes.items + weight_on (reverse machine.old.path.items) p.body ≤ 64) }
+        × (length machine.old.writes.items + weight_on (reverse machine.old.path.items) p.body ≤ most_keys) }
     ensures { (p : Procedure) → procedure_at procs.now.procs number ≡ Some p → AdvancesIn result procs.now.tables p machine.old machine.new spare.new }
 {
     let Some(proc) = procedure(procs, number) else {
@@ -39,13 +40,13 @@ fn go_on(machine: &mut Machine, spare: &mut Vec<Frame>, tables: &[Name], body: &
     requires bounded { are_bounded (statements_of body.now) ≡ true }
     requires path { depth (statements_of body.now) ≤ vec_capacity machine.old.path }
     requires spare { depth (statements_of body.now) ≤ vec_capacity spare.old }
-    requires few { length machine.old.writes.items + weight_on (reverse machine.old.path.items) (statements_of body.now) ≤ 64 }
-    requires room { 64 ≤ vec_capacity machine.old.writes }
+    requires few { length machine.old.writes.items + weight_on (reverse machine.old.path.items) (statements_of body.now) ≤ most_keys }
+    requires room { most_keys ≤ vec_capacity machine.old.writes }
     ensures advances { Advances result tables.now (statements_of body.now) machine.old machine.new }
     ensures path { depth (statements_of body.now) ≤ vec_capacity machine.new.path }
     ensures spare { depth (statements_of body.now) ≤ vec_capacity spare.new }
     ensures given { machine.new.given ≡ machine.old.given }
-    ensures room { 64 ≤ vec_capacity machine.new.writes }
+    ensures room { most_keys ≤ vec_capacity machine.new.writes }
 {
     mem::swap(&mut machine.path, spare);
     machine.path.clear();

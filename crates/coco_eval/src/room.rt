@@ -86,7 +86,7 @@ fn is_prepared(machine: &mut Machine, spare: &mut Vec<Frame>, proc: &Proc, args:
 
 // Whether there is room for all keys.
 fn has_lists(machine: &Machine) -> bool
-    ensures { result ≡ true → (64 ≤ vec_capacity machine.now.writes) × (64 ≤ vec_capacity machine.now.given) }
+    ensures { result ≡ true → (MOST_KEYS ≤ vec_capacity machine.now.writes) × (MOST_KEYS ≤ vec_capacity machine.now.given) }
 {
     machine.writes.capacity() >= MOST_KEYS as usize
         && machine.given.capacity() >= MOST_KEYS as usize

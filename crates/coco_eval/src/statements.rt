@@ -3,6 +3,7 @@ ghost use Rattle.std.specs.Prelude.{◌≡◌, ℕ, ◌+◌, ◌-◌, ◌*◌, �
 ghost use Rattle.coco_ast.specs.Checks.{key_weight};
 ghost use Rattle.coco_ast.specs.Meaning.{value_of, key_of};
 ghost use Rattle.coco_ast.specs.Views.{expression_of, place_of, statement_of, statements_of};
+ghost use Rattle.coco_types.specs.Limits.{most_bound};
 ghost use Rattle.coco_types.specs.declared.call.Reply.TheVariants.{Ok as Answers, Refused};
 ghost use Rattle.coco_types.specs.declared.value.Value.TheVariants.{Int};
 ghost use Rattle.coco_eval.specs.Lending.{datum_of};
@@ -177,7 +178,7 @@ impl Machine {
     ) -> Stop
         requires tables { length tables.now < 2 ^ 16 }
         requires bounded { are_bounded (statements_of block.now) ≡ true }
-        requires turns { bound ≤ 64 }
+        requires turns { bound ≤ most_bound }
         requires room { HasRoom (weight_repeat way (weight_on (reverse inner.now)) bound (statements_of block.now)) (depth (statements_of block.now)) self.old }
         ensures { MovesTurns result tables.now bound name.now (statements_of block.now)
             (λ m. goes_on_repeat way (goes_on m tables.now (reverse inner.now)) (runs m tables.now) bound name.now (statements_of block.now) (kept_of self.old))
@@ -206,7 +207,7 @@ impl Machine {
     ) -> Stop
         requires tables { length tables.now < 2 ^ 16 }
         requires bounded { are_bounded (statements_of block.now) ≡ true }
-        requires turns { bound ≤ 64 }
+        requires turns { bound ≤ most_bound }
         requires first { first ≤ bound }
         requires room { HasRoom ((bound - first) * key_weight (statements_of block.now)) (depth (statements_of block.now)) self.old }
         ensures { MovesTurns result tables.now bound name.now (statements_of block.now)
