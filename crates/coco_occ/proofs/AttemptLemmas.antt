@@ -2,6 +2,7 @@
 use Rattle.std.proofs.Common.{◌≡◌, ℕ, ◌+◌, ◌≤◌, max, Bool, true, false, List, [], ◌∷◌, ◌++◌, length, map, None, Some, refl, sym, ap, ◌∙◌, subst, arith, vec_capacity}
 use Rattle.std.specs.List.{AllByRecursion}
 use Rattle.std.proofs.lemmas.List.{map-append, append_assoc, append-nil, length-map}
+use Rattle.coco_types.specs.Limits.{most_keys}
 use Rattle.coco_types.specs.RowKey.{RowKey}
 use Rattle.coco_types.specs.declared.call.Call.{Call}
 use Rattle.coco_types.specs.declared.call.Reply.{Reply}
@@ -32,7 +33,7 @@ use Rattle.coco_occ.proofs.NeedLemmas.{AreApart, run_apart, run_ascends, apart_b
 abbrev pub asks : eval.Evaluation → RowKey → eval.Evaluation
 asks e key = record e { standing = eval.Asks key }
 
-pub read_due : (snapshot : Bool) (e : eval.Evaluation) (asked : List Exchange) (c : Course) (key : RowKey) → IsReading snapshot e asked c None → eval.IsSound (asks e key) → length e.given + 1 ≤ 64 →
+pub read_due : (snapshot : Bool) (e : eval.Evaluation) (asked : List Exchange) (c : Course) (key : RowKey) → IsReading snapshot e asked c None → eval.IsSound (asks e key) → length e.given + 1 ≤ most_keys →
     IsReading snapshot (asks e key) asked c (Some (reading snapshot key))
 read_due snapshot e asked c key s sound few = record {
   rows = s.rows;
@@ -114,8 +115,8 @@ got_read e asked c d op key wts rts value s is t =
       needs = m.needs;
       kept = subst (λ (o : Op). HasReads (given_more e key value) (asked ++ exchange o (Got wts rts value) ∷ []) d) (sym is) (reads_more e.given asked c d key wts rts value s.kept t);
       waits = refl;
-      seen_room = subst (λ (n : ℕ). 64 ≤ n) (sym t.room) s.seen_room;
-      expected_room = subst (λ (x : Course). 64 ≤ vec_capacity x.expected) (sym t.others) s.expected_room;
+      seen_room = subst (λ (n : ℕ). most_keys ≤ n) (sym t.room) s.seen_room;
+      expected_room = subst (λ (x : Course). most_keys ≤ vec_capacity x.expected) (sym t.others) s.expected_room;
       no_conflict = ap (λ (x : Course). x.conflict) t.others ∙ s.no_conflict;
       no_time = ap (λ (x : Course). x.time) t.others ∙ s.no_time;
       no_lock = ap (λ (x : Course). x.locked) t.others ∙ s.no_lock;
@@ -163,7 +164,7 @@ pub record Settles (c d : Course) (writes : List Write) : Type 0 where
   pub expected : Rise writes → d.expected.items ≡ map (λ w. wts_in c.seen.items w.key) writes
   pub others : d ≡ record c { stage = stage.Locking; place = 0; expected = d.expected }
 
-pub reads_end : (e : eval.Evaluation) (asked : List Exchange) (c d : Course) (reply : Reply) (writes : List Write) → IsReading false e asked c None → eval.IsSound (ended e reply writes) → length e.given + length writes ≤ 64 → Settles c d writes →
+pub reads_end : (e : eval.Evaluation) (asked : List Exchange) (c d : Course) (reply : Reply) (writes : List Write) → IsReading false e asked c None → eval.IsSound (ended e reply writes) → length e.given + length writes ≤ most_keys → Settles c d writes →
     (m : Rows) × (eval.HasGiven e.given m) × (IsLocking (run e.procs e.call m) m asked d None)
 reads_end e asked c d reply writes s sound few t =
     let h = s.kept in

@@ -6,7 +6,7 @@ use Rattle.std.proofs.lemmas.List.{map-append, append_assoc, append-nil, length-
 use Rattle.std.proofs.lemmas.List.Elements.{filter-append, filter_map-append}
 use Rattle.std.proofs.lemmas.Bool.{le-leb, lt-leb, ne_eqb}
 use Rattle.std.proofs.lemmas.Option.{slice_get_past, slice_get-get_or}
-use Rattle.coco_types.specs.Limits.{most_time}
+use Rattle.coco_types.specs.Limits.{most_keys, most_time}
 use Rattle.coco_types.specs.RowKey.{RowKey}
 use Rattle.coco_types.specs.declared.call.AttemptId.{AttemptId}
 use Rattle.coco_types.specs.declared.call.Reply.{Reply}
@@ -669,7 +669,7 @@ extended_whole r m asked c s why =
       | inr end ↦ all_extended r m asked c s end
     ]
 
-pub place_few : (r : Run) (m : Rows) (before : List Exchange) (c : Course) (due : Option Op) → IsLocking r m before c due → c.place ≤ 64
+pub place_few : (r : Run) (m : Rows) (before : List Exchange) (c : Course) (due : Option Op) → IsLocking r m before c due → c.place ≤ most_keys
 place_few r m before c due s = omega (arith, s.place, ap length s.split, length-append s.done s.left, s.has_read.few_writes)
 
 -- ---- which stage an operation is of
@@ -693,7 +693,7 @@ extension_stage stage.Ended r m before c key wts time s = absurd (let e : Some (
 
 -- an operation that is neither a lock nor an extension
 pub end_kept : (at : Stage) (r : Run) (m : Rows) (before : List Exchange) (c : Course) (op : Op) (answer : Answer) → ((key : RowKey) → op ≡ Lock key → ⊥) → ((key : RowKey) (wts time : ℕ) → op ≡ Extend key wts time → ⊥) →
-    StandsIn at r m before c (Some op) → (c.place ≤ 64) × StandsIn at r m (before ++ exchange op answer ∷ []) (record c { place = c.place + 1 }) None
+    StandsIn at r m before c (Some op) → (c.place ≤ most_keys) × StandsIn at r m (before ++ exchange op answer ∷ []) (record c { place = c.place + 1 }) None
 end_kept stage.Reading r m before c op answer no_lock no_extension s = absurd s
 end_kept stage.Locking r m before c op answer no_lock no_extension s = absurd (let w = first_write lock s.left op s.is_due.0 s.is_due.1 in no_lock w.0.key (sym w.3))
 end_kept stage.Extending r m before c op answer no_lock no_extension s = absurd (no_extension s.is_due.0.key s.is_due.0.wts (time_of s.reads s.locks) s.is_due.4)
@@ -732,13 +732,13 @@ extension_answers by key wts time a may =
 
 -- ---- what the code leaves
 
-next_place : (n : ℕ) → n ≤ 64 → min (n + 1) (2 ^ 64 - 1) ≡ n + 1
+next_place : (n : ℕ) → n ≤ most_keys → min (n + 1) (2 ^ 64 - 1) ≡ n + 1
 next_place n few = omega arith
 
-pub passed_on : (c d : Course) → c.place ≤ 64 → d ≡ record c { place = min (c.place + 1) (2 ^ 64 - 1) } → d ≡ record c { place = c.place + 1 }
+pub passed_on : (c d : Course) → c.place ≤ most_keys → d ≡ record c { place = min (c.place + 1) (2 ^ 64 - 1) } → d ≡ record c { place = c.place + 1 }
 passed_on c d few is = is ∙ ap (λ (n : ℕ). record c { place = n }) (next_place c.place few)
 
-extending_few : (r : Run) (m : Rows) (before : List Exchange) (c : Course) (due : Option Op) → IsExtending r m before c due → c.place ≤ 64
+extending_few : (r : Run) (m : Rows) (before : List Exchange) (c : Course) (due : Option Op) → IsExtending r m before c due → c.place ≤ most_keys
 extending_few r m before c due s = omega (arith, s.place, ap length s.split, length-append s.done s.left, s.has_read.few_reads)
 
 pub extension_taken : (r : Run) (m : Rows) (before : List Exchange) (c d : Course) (op : Op) (answer : Answer) → IsExtending r m before c (Some op) → c.stage ≡ stage.Extending → answer ≡ Extended →
@@ -770,7 +770,7 @@ lock_refused r m before c d key holder answer s is d_is =
 abbrev pub locked_from : Course → ℕ → Course
 locked_from p g = record p { locked = p.place; greatest = g }
 
-locked_from_is : (c p : Course) (g rts : ℕ) → c.place ≤ 64 → p ≡ record c { place = min (c.place + 1) (2 ^ 64 - 1) } → g ≡ max p.greatest rts → locked_from p g ≡ locked_on rts c
+locked_from_is : (c p : Course) (g rts : ℕ) → c.place ≤ most_keys → p ≡ record c { place = min (c.place + 1) (2 ^ 64 - 1) } → g ≡ max p.greatest rts → locked_from p g ≡ locked_on rts c
 locked_from_is c p g rts few is most =
     ap (locked_from p) most ∙ ap (λ (x : Course). locked_from x (max x.greatest rts)) (passed_on c p few is)
 

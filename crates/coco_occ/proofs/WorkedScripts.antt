@@ -2,6 +2,7 @@
 use Rattle.std.specs.Prelude.{◌≡◌, ℕ, ◌-◌, true, [], ◌∷◌, Option, None, Some, cond, refl}
 use Rattle.std.proofs.Common.{sym, ap, ◌∙◌}
 use Rattle.std.specs.FinMap.{empty, get-empty}
+use Rattle.coco_types.specs.Limits.{most_time}
 use Rattle.coco_types.proofs.Keys.{key_itself}
 use Rattle.coco_ast.proofs.Writing.{value_written}
 use Rattle.coco_types.specs.RowKey.{RowKey, key_cmp}
@@ -17,7 +18,7 @@ use Rattle.coco_shard.specs.declared.ops.Answer.{Answer}
 use Rattle.coco_shard.specs.declared.ops.Answer.TheVariants.{Got, Locked, Marked, Changed, Extended, Installed, Released, NotMine, Stood}
 use Rattle.coco_occ.specs.Exchange.{Exchange, Found}
 use Rattle.coco_occ.specs.Script.{IsScript}
-use Rattle.coco_occ.specs.ScriptExamples.{ScriptExamples, this, other, gets_one, gets_both, puts_both, gets_and_puts, refuses, procedures, call, asks, extend, install, most, eight, Gives}
+use Rattle.coco_occ.specs.ScriptExamples.{ScriptExamples, this, other, gets_one, gets_both, puts_both, gets_and_puts, refuses, procedures, call, asks, extend, install, eight, Gives}
 use Rattle.coco_types.specs.declared.call.Reply.TheVariants.{Ok as Answers, Refused}
 use Rattle.coco_occ.specs.declared.outcome.Outcome.TheVariants.{Committed, Conflict, OverTime}
 use Rattle.coco_occ.specs.declared.outcome.Why.TheVariants as why
@@ -309,40 +310,40 @@ refusal_is_validated = record {
   writes_are = refl;
 }
 
-greatest_time_commits : Gives gets_and_puts (asks 1 1 Read (Got 0 0 None) ∷ asks 1 1 Lock (Locked 0 (most - 1)) ∷ asks 1 1 (install most seven) Installed ∷ []) (Committed most (Answers None)) (written 1 seven ∷ [])
+greatest_time_commits : Gives gets_and_puts (asks 1 1 Read (Got 0 0 None) ∷ asks 1 1 Lock (Locked 0 (most_time - 1)) ∷ asks 1 1 (install most_time seven) Installed ∷ []) (Committed most_time (Answers None)) (written 1 seven ∷ [])
 unfolding run
 greatest_time_commits = record {
   rows = empty;
-  asked = exchange (Read (at 1)) (Got 0 0 None) ∷ exchange (Lock (at 1)) (Locked 0 (most - 1)) ∷ exchange (Install (at 1) most seven) Installed ∷ [];
+  asked = exchange (Read (at 1)) (Got 0 0 None) ∷ exchange (Lock (at 1)) (Locked 0 (most_time - 1)) ∷ exchange (Install (at 1) most_time seven) Installed ∷ [];
   steps = refl;
-  answered = ((resting 0 0 None None, refl), ((resting 0 (most - 1) None None, refl), ((resting 0 0 None (Some this), refl), tt)));
+  answered = ((resting 0 0 None None, refl), ((resting 0 (most_time - 1) None None, refl), ((resting 0 0 None (Some this), refl), tt)));
   course = record {
     reads = found (at 1) 0 0 None ∷ [];
-    locks = exchange (Lock (at 1)) (Locked 0 (most - 1)) ∷ [];
+    locks = exchange (Lock (at 1)) (Locked 0 (most_time - 1)) ∷ [];
     locking_conflict = None;
     extensions = [];
     extending_conflict = None;
-    ends = exchange (Install (at 1) most seven) Installed ∷ [];
+    ends = exchange (Install (at 1) most_time seven) Installed ∷ [];
     parts = refl;
     reading = record { keys = refl; values = (none_at (at 1), tt) };
     locking = record { all = refl; clear = (refl, tt) };
     extending = record { all = refl; clear = tt };
     ending = refl;
-    outcome_is = ap (λ (v : Datum). Committed most (Answers v)) (sym (none_at (at 1)));
+    outcome_is = ap (λ (v : Datum). Committed most_time (Answers v)) (sym (none_at (at 1)));
   };
   writes_are = refl;
 }
 
-time_is_too_great : Gives gets_and_puts (asks 1 1 Read (Got 0 0 None) ∷ asks 1 1 Lock (Locked 0 most) ∷ asks 1 1 Release Released ∷ []) OverTime (written 1 seven ∷ [])
+time_is_too_great : Gives gets_and_puts (asks 1 1 Read (Got 0 0 None) ∷ asks 1 1 Lock (Locked 0 most_time) ∷ asks 1 1 Release Released ∷ []) OverTime (written 1 seven ∷ [])
 unfolding run
 time_is_too_great = record {
   rows = empty;
-  asked = exchange (Read (at 1)) (Got 0 0 None) ∷ exchange (Lock (at 1)) (Locked 0 most) ∷ exchange (Release (at 1)) Released ∷ [];
+  asked = exchange (Read (at 1)) (Got 0 0 None) ∷ exchange (Lock (at 1)) (Locked 0 most_time) ∷ exchange (Release (at 1)) Released ∷ [];
   steps = refl;
-  answered = ((resting 0 0 None None, refl), ((resting 0 most None None, refl), ((resting 0 0 None (Some this), refl), tt)));
+  answered = ((resting 0 0 None None, refl), ((resting 0 most_time None None, refl), ((resting 0 0 None (Some this), refl), tt)));
   course = record {
     reads = found (at 1) 0 0 None ∷ [];
-    locks = exchange (Lock (at 1)) (Locked 0 most) ∷ [];
+    locks = exchange (Lock (at 1)) (Locked 0 most_time) ∷ [];
     locking_conflict = None;
     extensions = [];
     extending_conflict = None;

@@ -3,7 +3,7 @@ use Rattle.std.specs.Prelude.{◌≡◌, ⊤, ℕ, ◌≤◌, Bool, true, false,
 use Rattle.std.specs.List.{find, list_any, filter_map, AllByRecursion}
 use Rattle.std.specs.declared.cmp.Ordering.TheVariants.{Less}
 use Rattle.std.specs.Option.{option_map, option_or}
-use Rattle.coco_types.specs.Limits.{most_time}
+use Rattle.coco_types.specs.Limits.{most_keys, most_time}
 use Rattle.coco_types.specs.RowKey.{RowKey, key_cmp}
 use Rattle.coco_types.specs.declared.call.Reply.{Reply}
 use Rattle.coco_types.specs.declared.call.Write.{Write}
@@ -89,15 +89,15 @@ outcome_by None None reply = OverTime
 -- nothing was read, and there is room for what a call may read and write
 pub record HasRoom (c : Course) : Type 0 where
   pub seen : c.seen.items ≡ []
-  pub seen_room : 64 ≤ vec_capacity c.seen
-  pub expected_room : 64 ≤ vec_capacity c.expected
+  pub seen_room : most_keys ≤ vec_capacity c.seen
+  pub expected_room : most_keys ≤ vec_capacity c.expected
 
 -- at the start of an attempt
 pub record IsFresh (c : Course) : Type 0 where
   pub stage_is : c.stage ≡ stage.Reading
   pub seen : c.seen.items ≡ []
-  pub seen_room : 64 ≤ vec_capacity c.seen
-  pub expected_room : 64 ≤ vec_capacity c.expected
+  pub seen_room : most_keys ≤ vec_capacity c.seen
+  pub expected_room : most_keys ≤ vec_capacity c.expected
   pub greatest_is : c.greatest ≡ 0
   pub no_lock : c.locked ≡ 0
   pub no_time : c.time ≡ None
@@ -108,8 +108,8 @@ pub record HasRead (r : Run) (m : Rows) (reads : List Found) (c : Course) : Type
   pub reading : Reads r m reads
   pub seen : map seen_of reads ≡ c.seen.items
   pub expected : c.expected.items ≡ map (λ w. wts_in c.seen.items w.key) r.writes
-  pub few_reads : length reads ≤ 64
-  pub few_writes : length r.writes ≤ 64
+  pub few_reads : length reads ≤ most_keys
+  pub few_writes : length r.writes ≤ most_keys
   pub rising : Rise r.writes
 
 -- the keys of these writes are locked, and none conflicted
@@ -175,7 +175,7 @@ pub record IsInstalling (r : Run) (m : Rows) (asked : List Exchange) (c : Course
   pub left : List Write
   pub no_conflict : c.conflict ≡ None
   pub time_is : c.time ≡ Some time
-  pub few : length r.writes ≤ 64
+  pub few : length r.writes ≤ most_keys
   pub split : r.writes ≡ done ++ left
   pub place : c.place ≡ length done
   pub is_due : IsDue due (map (install time) left)
@@ -185,7 +185,7 @@ pub record IsReleasing (r : Run) (m : Rows) (asked : List Exchange) (c : Course)
   pub done : List Write
   pub left : List Write
   pub unlocked : List Write
-  pub few : length r.writes ≤ 64
+  pub few : length r.writes ≤ most_keys
   pub split : r.writes ≡ done ++ left ++ unlocked
   pub place : c.place ≡ length done
   pub locked : c.locked ≡ length (done ++ left)

@@ -1,6 +1,7 @@
 -- What an attempt keeps, while it reads and behind its reads.
 use Rattle.std.specs.Prelude.{◌≡◌, ℕ, ◌+◌, ◌≤◌, Bool, true, false, List, [], ◌++◌, length, map, Option, None, Some, vec_capacity}
 use Rattle.std.specs.List.{AllByRecursion}
+use Rattle.coco_types.specs.Limits.{most_keys}
 use Rattle.coco_types.specs.RowKey.{RowKey}
 use Rattle.coco_types.specs.declared.call.AttemptId.{AttemptId}
 use Rattle.coco_types.specs.declared.call.Reply.{Reply}
@@ -48,7 +49,7 @@ HasAsked false given asked c = HasReads given asked c
 -- the run goes on, or waits for the value of the key that is read
 abbrev pub WaitsFor : Bool → eval.Evaluation → Option Op → Type 0
 WaitsFor snapshot e None = e.standing ≡ eval.Ready
-WaitsFor snapshot e (Some op) = (key : RowKey) × (e.standing ≡ eval.Asks key) × (op ≡ reading snapshot key) × eval.IsSound e × (length e.given + 1 ≤ 64)
+WaitsFor snapshot e (Some op) = (key : RowKey) × (e.standing ≡ eval.Asks key) × (op ≡ reading snapshot key) × eval.IsSound e × (length e.given + 1 ≤ most_keys)
 
 pub record IsReading (snapshot : Bool) (e : eval.Evaluation) (asked : List Exchange) (c : Course) (due : Option Op) : Type 0 where
   pub rows : Rows
@@ -57,8 +58,8 @@ pub record IsReading (snapshot : Bool) (e : eval.Evaluation) (asked : List Excha
   pub needs : (run e.procs e.call rows).needs ≡ eval.keys_of e.given ++ more
   pub kept : HasAsked snapshot e.given asked c
   pub waits : WaitsFor snapshot e due
-  pub seen_room : 64 ≤ vec_capacity c.seen
-  pub expected_room : 64 ≤ vec_capacity c.expected
+  pub seen_room : most_keys ≤ vec_capacity c.seen
+  pub expected_room : most_keys ≤ vec_capacity c.expected
   pub no_conflict : c.conflict ≡ None
   pub no_time : c.time ≡ None
   pub no_lock : c.locked ≡ 0

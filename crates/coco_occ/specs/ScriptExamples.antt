@@ -1,5 +1,6 @@
 -- Scripts of small calls with their outcomes: each is as the rules give it, one step after another.
-use Rattle.std.specs.Prelude.{ℕ, ◌-◌, ◌^◌, Bool, true, false, List, [], ◌∷◌, codes, pos, None, Some}
+use Rattle.std.specs.Prelude.{ℕ, ◌-◌, Bool, true, false, List, [], ◌∷◌, codes, pos, None, Some}
+use Rattle.coco_types.specs.Limits.{most_time}
 use Rattle.coco_types.specs.RowKey.{RowKey}
 use Rattle.coco_types.specs.declared.call.AttemptId.{AttemptId}
 use Rattle.coco_types.specs.declared.call.Call.{Call}
@@ -72,10 +73,6 @@ gets_and_puts = reads 1 (Then (Put (row (number 1)) (number 7)) replies_x)
 abbrev pub refuses : Statements
 refuses = reads 1 (Then (Put (row (number 2)) (number 8)) (Then (Refuse 3) End))
 
--- the greatest time
-abbrev pub most : ℕ
-most = 2 ^ 62
-
 pub record ScriptExamples : Type 0 where
   -- a read is extended to the time 1 where its row was never written, and commits
   pub read_commits :
@@ -114,10 +111,10 @@ pub record ScriptExamples : Type 0 where
       Gives refuses (asks 1 1 Read (Got 2 2 eight) ∷ asks 1 1 (extend 2 3) Extended ∷ []) (Committed 3 (Refused (User 3))) []
   -- the time may be the greatest one, and no greater
   pub greatest_time_commits :
-      Gives gets_and_puts (asks 1 1 Read (Got 0 0 None) ∷ asks 1 1 Lock (Locked 0 (most - 1)) ∷ asks 1 1 (install most seven) Installed ∷ [])
-      (Committed most (Answers None)) (written 1 seven ∷ [])
+      Gives gets_and_puts (asks 1 1 Read (Got 0 0 None) ∷ asks 1 1 Lock (Locked 0 (most_time - 1)) ∷ asks 1 1 (install most_time seven) Installed ∷ [])
+      (Committed most_time (Answers None)) (written 1 seven ∷ [])
   pub time_is_too_great :
-      Gives gets_and_puts (asks 1 1 Read (Got 0 0 None) ∷ asks 1 1 Lock (Locked 0 most) ∷ asks 1 1 Release Released ∷ []) OverTime (written 1 seven ∷ [])
+      Gives gets_and_puts (asks 1 1 Read (Got 0 0 None) ∷ asks 1 1 Lock (Locked 0 most_time) ∷ asks 1 1 Release Released ∷ []) OverTime (written 1 seven ∷ [])
   -- a mark that went away is no reason to conflict
   pub not_mine_goes_on :
       Gives gets_and_puts (asks 1 1 Read (Got 0 0 None) ∷ asks 1 1 Lock (Locked 0 0) ∷ asks 1 1 (install 1 seven) (NotMine None) ∷ [])
