@@ -4,7 +4,7 @@ use Rattle.std.specs.List.{AllByRecursion, filter, flat_map}
 use Rattle.std.specs.Set.{is_member}
 use Rattle.std.specs.FinMap.{empty}
 use Rattle.std.specs.declared.cmp.Ordering.TheVariants.{Less}
-use Rattle.coco_types.specs.Limits.{epochs_end, most_batch_lines, most_kept, most_nodes, most_partitions, most_time}
+use Rattle.coco_types.specs.Limits.{epochs_end, most_batch_lines, most_keep, most_kept, most_nodes, most_partitions, most_time}
 use Rattle.coco_types.specs.RowKey.{RowKey, key_cmp}
 use Rattle.coco_types.specs.declared.call.Done.{Done}
 use Rattle.coco_types.specs.declared.value.Value.{Value}
@@ -32,10 +32,6 @@ pub record Setting : Type 0 where
   pub tree : Procedures
 
 -- ---- layouts
-
--- of how many epochs the replies may be kept, at most
-abbrev pub most_keep : ℕ
-most_keep = 1000
 
 abbrev pub IsKeep : Option ℕ → Type 0
 IsKeep None = ⊤
