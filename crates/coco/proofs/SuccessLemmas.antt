@@ -1,8 +1,9 @@
 -- A command whose faults have no cause is done, or memory ran out.
-use Rattle.std.proofs.Common.{◌≡◌, ◌⊎◌, ⊎_elim, inl, inr, ℕ, ◌+◌, ◌^◌, ◌<◌, ◌≤◌, List, [], ◌∷◌, ◌++◌, length, Option, Some, Result, Ok, Err, refl, sym, ap, subst, ◌∙◌, arith}
+use Rattle.std.proofs.Common.{◌≡◌, ◌⊎◌, ⊎_elim, inl, inr, ℕ, ◌+◌, ◌<◌, ◌≤◌, List, [], ◌∷◌, ◌++◌, length, Option, Some, Result, Ok, Err, refl, sym, ap, subst, ◌∙◌, arith}
 use Rattle.std.specs.Io.KnownBytes.{append_known}
 use Rattle.std.specs.Option.{IfSome}
 use Rattle.std.proofs.lemmas.List.{append_cancel_left, length-append}
+use Rattle.coco_types.specs.Limits.{most_input_bytes}
 use Rattle.coco_types.specs.declared.call.Done.{Done}
 use Rattle.coco_types.specs.declared.call.Request.{Request}
 use Rattle.coco_append.specs.Gaining.{Gains, RestsOn}
@@ -126,7 +127,7 @@ verdict_is_serial c text own serial verdict = absurd verdict
 
 module _ {H : Type 0} (moment : H → ℕ) (observed : H → ℕ → Observation → Type 0) (said : H → Option (List ℕ)) (reads : H → Option Files) (may_leave : H → Files → Type 0) where
   served_or_memory : (c : Contents) (next : ℕ) (plan : Plan) (bytes : List ℕ) (how : Ending) (before after : Outside) (old opened new : H) (s : Served)
-      → how ≡ ending_of_run s → NoneRose before after → length bytes < 2 ^ 62 → HaveNumbers c next plan bytes → HasCause next bytes before after s
+      → how ≡ ending_of_run s → NoneRose before after → length bytes < most_input_bytes → HaveNumbers c next plan bytes → HasCause next bytes before after s
       → Serves moment observed said reads may_leave c next plan bytes s opened new
       → DoneOrNoMemory how (HasCause next bytes before after served.Finished × Serves moment observed said reads may_leave c next plan bytes served.Finished opened new)
   served_or_memory c next plan bytes how before after old opened new served.Finished ends faultless few numbers cause serves = inl (ends, (cause, serves))

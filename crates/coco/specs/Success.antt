@@ -1,7 +1,7 @@
 -- Where a command can't fail but for want of memory, and what it leaves then.
-use Rattle.std.specs.Prelude.{◌≡◌, ◌⊎◌, ℕ, ◌+◌, ◌^◌, ◌<◌, ◌≤◌, List, [], length, Option, Some, Ok}
+use Rattle.std.specs.Prelude.{◌≡◌, ◌⊎◌, ℕ, ◌+◌, ◌<◌, ◌≤◌, List, [], length, Option, Some, Ok}
 use Rattle.std.specs.Io.KnownBytes.{append_known}
-use Rattle.coco_types.specs.Limits.{epochs_end}
+use Rattle.coco_types.specs.Limits.{epochs_end, most_input_bytes}
 use Rattle.coco_append.specs.Gaining.{RestsOn}
 use Rattle.coco_ast.specs.History.{epoch_dones}
 use Rattle.coco_ast.specs.Tree.{Procedures}
@@ -63,7 +63,7 @@ FewLinesHaveNumbers = (c : Contents) (next : ℕ) (plan : Plan) (bytes : List �
 -- a store of one node may take all lines of these bytes
 pub record MayTake (c : Contents) (plan : Plan) (bytes : List ℕ) : Type 0 where
   pub one : c.setting.entry.layout.nodes ≡ 1
-  pub few : length bytes < 2 ^ 62
+  pub few : length bytes < most_input_bytes
   pub numbers : (next : ℕ) → IsNextOf c next → HaveNumbers c next plan bytes
 
 -- ---- what is left

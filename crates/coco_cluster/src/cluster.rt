@@ -1,5 +1,5 @@
 //! The store in hand, and its turns.
-ghost use Rattle.std.specs.Prelude.{◌≡◌, ◌⊎◌, ◌+◌, ◌<◌, ◌≤◌, ◌^◌, [], false, true, length, IsOk, OnOk, OnErr};
+ghost use Rattle.std.specs.Prelude.{◌≡◌, ◌⊎◌, ◌+◌, ◌<◌, ◌≤◌, [], false, true, length, IsOk, OnOk, OnErr};
 ghost use Rattle.coco_append.specs.Gaining.{RestsOn, Stands};
 ghost use Rattle.coco_store.specs.Contents.{Contents};
 ghost use Rattle.coco_cluster.specs.Faults.{CountsTurn};
@@ -115,7 +115,7 @@ impl Cluster {
         ensures spent { OnErr result (self.new.spent ≡ true) }
         ensures given_back { OnErr result (self.new.shards ≡ self.old.shards) }
         ensures next { OnOk result (0 < length requests.items → self.new.next_epoch ≡ self.old.next_epoch + 1) }
-        ensures used_up { 0 < length requests.items → 2 ^ 40 ≤ self.old.next_epoch → result ≡ Err fault.EpochsUsedUp }
+        ensures used_up { 0 < length requests.items → EPOCHS_END ≤ self.old.next_epoch → result ≡ Err fault.EpochsUsedUp }
         ensures procs { self.new.procs ≡ self.old.procs }
         ensures said { H.said host.new ≡ H.said host.old }
         ensures counts { CountsTurn result self.old.next_epoch (H.disk_faults host.old) (H.disk_faults host.new) }

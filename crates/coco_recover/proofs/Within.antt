@@ -5,6 +5,7 @@ use Rattle.std.specs.Int.{Width, w16, w32, w64, byte_len, from_be_bytes, cast_si
 use Rattle.std.specs.Option.{option_map}
 use Rattle.std.specs.Str.{is_utf8}
 use Rattle.std.proofs.lemmas.Bool.{ltb-true, ltb-false}
+use Rattle.coco_types.specs.Limits.{most_text_bytes}
 use Rattle.coco_types.specs.RowKey.{RowKey}
 use Rattle.coco_types.specs.declared.call.Cause.TheVariants.{User}
 use Rattle.coco_types.specs.declared.call.Reply.TheVariants as reply
@@ -141,7 +142,7 @@ key_within = record {
 text_within : Stays text_at
 unfolding text_at
 text_within = record {
-  within = λ from at h. bind_within from (text16_at 256 from at) (λ (text : List ℕ × ℕ). cond (is_utf8 text.0) (Ok text) (Err (Bad at))) ((text16_within 256).within from at h)
+  within = λ from at h. bind_within from (text16_at most_text_bytes from at) (λ (text : List ℕ × ℕ). cond (is_utf8 text.0) (Ok text) (Err (Bad at))) ((text16_within most_text_bytes).within from at h)
       (λ text ht. if_within from (is_utf8 text.0) (Ok text) (Err (Bad at)) (λ _. ht) (λ _. h));
 }
 

@@ -1,6 +1,7 @@
 -- The rules of the layouts' file, and what is remembered of its entries.
-use Rattle.std.specs.Prelude.{◌≡◌, ℕ, ◌+◌, ◌<◌, ◌^◌, List, [], ◌∷◌, ◌++◌, Option, None, Some}
+use Rattle.std.specs.Prelude.{◌≡◌, ℕ, ◌+◌, ◌<◌, List, [], ◌∷◌, ◌++◌, Option, None, Some}
 use Rattle.std.specs.List.{AllByRecursion}
+use Rattle.coco_types.specs.Limits.{files_end}
 use Rattle.coco_entry.specs.Layouts.{IsLayout, layout_bytes, layout_in}
 use Rattle.coco_entry.specs.declared.layout.LayoutEntry.{LayoutEntry}
 use Rattle.coco_read.specs.EntryRules.{EntryRules}
@@ -32,7 +33,7 @@ pub record IsGoodLast (last : LastLayout) : Type 0 where
   pub is : IsLayout last.entry
   pub limits : IsWithinLimits last.entry
   pub tree : IsAcceptedText last.entry.layout.text last.procs
-  pub early : last.place < 2 ^ 62
+  pub early : last.place < files_end
 
 -- the last of these layouts, in its place; all of them are good
 pub record IsLastOf (entries : List LayoutEntry) (last : LastLayout) : Type 0 where
@@ -50,7 +51,7 @@ EndWith entries (Some last) = IsLastOf entries last
 pub record IsLaidOut (entries : List LayoutEntry) (last : Option LastLayout) (gate : ℕ) : Type 0 where
   pub end : EndWith entries last
   pub gate_is : gate ≡ layouts_end entries
-  pub early : gate < 2 ^ 62
+  pub early : gate < files_end
 
 -- what it sets
 abbrev pub setting_of : LastLayout → Setting

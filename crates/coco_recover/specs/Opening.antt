@@ -1,10 +1,10 @@
 -- What is had of an opened store: what its files hold, by logs that stand in them.
-use Rattle.std.specs.Prelude.{◌≡◌, ◌≢◌, ℕ, ◌%◌, ◌<◌, ◌≤◌, ◌^◌, nat_eq, List, length, Option, None, slice_index, slice_index_or}
+use Rattle.std.specs.Prelude.{◌≡◌, ◌≢◌, ℕ, ◌%◌, ◌<◌, ◌≤◌, nat_eq, List, length, Option, None, slice_index, slice_index_or}
 use Rattle.std.specs.List.{AllByRecursion, filter, flat_map, slice_get}
 use Rattle.std.specs.FinMap.{empty}
 use Rattle.std.specs.Option.{unwrap_or}
 use Rattle.coco_types.specs.RowKey.{RowKey}
-use Rattle.coco_types.specs.Limits.{epochs_end, most_batch_lines}
+use Rattle.coco_types.specs.Limits.{epochs_end, files_end, most_batch_lines}
 use Rattle.coco_types.specs.declared.call.Done.{Done}
 use Rattle.coco_host.specs.Files.{Files}
 use Rattle.coco_append.specs.Gaining.{Stands}
@@ -121,5 +121,5 @@ pub record IsSoundStore (store : Opened) : Type 0 where
   pub keeps : AreKeptBelow store.procs store.kept store.next_epoch
   pub first : 0 < store.next_epoch
   pub end : store.next_epoch ≤ epochs_end
-  pub early : store.layout_place < 2 ^ 62
+  pub early : store.layout_place < files_end
   pub logs : AreLogs store.layout store.logs

@@ -10,6 +10,7 @@ use coco_io::trace::Trace;
 use coco_read::Rules;
 use coco_rules::layout_tree;
 use coco_types::NoMemory;
+use coco_types::limits::FILES_END;
 use std::alloc::Global;
 use std::marker::Model;
 use std::slice;
@@ -19,9 +20,6 @@ pub(crate) const FIRST_GATE: u64 = 8;
 
 // How many bytes a gate and a length take.
 const GATE_AND_LENGTH: u64 = 5;
-
-// Every file ends before this place.
-const END: u64 = 1 << 62;
 
 /// A layout, with the tree of its text.
 #[derive(Drop)]
@@ -100,7 +98,7 @@ impl Rules for LayoutReading {
             Ok(procs) => {
                 let place = self.gate + GATE_AND_LENGTH;
                 let behind = place + body.len() as u64;
-                if behind >= END {
+                if behind >= FILES_END {
                     return Err(NoMemory);
                 }
                 self.taken.add(slice::from_ref(&entry));

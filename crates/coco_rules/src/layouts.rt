@@ -21,11 +21,10 @@ use coco_entry::{Layout, LayoutEntry};
 use coco_lex::{LexFault, Token, lex};
 use coco_parse::{ParseFault, parse};
 use coco_types::NoMemory;
-use coco_types::limits::{EPOCHS_END, MOST_NODES, MOST_PARTITIONS, MOST_PROCEDURE_BYTES};
+use coco_types::limits::{
+    EPOCHS_END, MOST_KEEP, MOST_NODES, MOST_PARTITIONS, MOST_PROCEDURE_BYTES,
+};
 use std::alloc::Global;
-
-/// Of how many epochs the replies may be kept, at most.
-pub const MOST_KEEP: u16 = 1_000;
 
 fn is_keep(keep: Option<u16>) -> bool
     ensures { IsTrue result ↔ IsKeep keep }

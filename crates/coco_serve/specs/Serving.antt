@@ -1,7 +1,7 @@
 -- What a run makes of the store in hand and of the bytes that its source gives.
-use Rattle.std.specs.Prelude.{◌≡◌, ◌⊎◌, ⊤, ℕ, ◌+◌, ◌-◌, ◌^◌, ◌<◌, ◌≤◌, List, [], ◌∷◌, ◌++◌, length, take, Option, Some}
+use Rattle.std.specs.Prelude.{◌≡◌, ◌⊎◌, ⊤, ℕ, ◌+◌, ◌-◌, ◌<◌, ◌≤◌, List, [], ◌∷◌, ◌++◌, length, take, Option, Some}
 use Rattle.std.specs.Io.KnownBytes.{append_known}
-use Rattle.coco_types.specs.Limits.{epochs_end}
+use Rattle.coco_types.specs.Limits.{epochs_end, most_input_bytes}
 use Rattle.coco_append.specs.Gaining.{RestsOn}
 use Rattle.coco_ast.specs.History.{History}
 use Rattle.coco_cluster.specs.Standing.{ClusterState, StandsAt}
@@ -34,7 +34,7 @@ pub record Outside : Type 0 where
 -- needs no cause
 abbrev pub HasCause : ℕ → List ℕ → Outside → Outside → Served → Type 0
 HasCause next bytes before after Finished = IsSpent after.source
-HasCause next bytes before after ReadFault = Rose before.source_faults after.source_faults ⊎ (length bytes ≡ 2 ^ 62)
+HasCause next bytes before after ReadFault = Rose before.source_faults after.source_faults ⊎ (length bytes ≡ most_input_bytes)
 HasCause next bytes before after SayFault = Rose before.say_faults after.say_faults
 HasCause next bytes before after DiskFault = Rose before.disk_faults after.disk_faults
 HasCause next bytes before after EpochsUsedUp = epochs_end ≤ next + length (lines_of bytes)

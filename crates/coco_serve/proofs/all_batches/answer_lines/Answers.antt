@@ -1,4 +1,5 @@
 use Rattle.std.proofs.Common.{◌≤◌, ◌<◌, Err, length, refl, ap, sym, subst, ◌∙◌, arith, inl, inr, lit≤, true≢false}
+use Rattle.coco_types.specs.Limits.{most_input_bytes}
 use Rattle.coco_types.specs.declared.call.Request.{Request}
 use Rattle.coco_io.specs.Counts.{Rose}
 use Rattle.coco_lines.specs.ReaderState.{ReaderState}
@@ -12,7 +13,7 @@ use Rattle.coco_serve.proofs.all_batches.answer_lines.Goals as goal
 pub batches-init : goal.batches-init
 batches-init g c = record {
   running = running_new g.H.Host.moment g.H.Host.observed g.H.Host.said g.H.Host.reads g.H.Host.may_leave g.met.H.Host.only_now c.args.plan c.new-reader.result _ c.args.cluster.now c.args.host.now c.new-reader.ensures;
-  within = subst (λ (r : ReaderState). r.given ≤ 4611686018427387904) (sym c.new-reader.ensures) (lit≤ tt);
+  within = subst (λ (r : ReaderState). r.given ≤ most_input_bytes) (sym c.new-reader.ensures) (lit≤ tt);
   end = λ met. absurd (true≢false (sym met ∙ ap (λ r. r.ended) c.new-reader.ensures));
   unspent = c.requires.unspent;
   room = c.requires.room;

@@ -1,7 +1,7 @@
-use Rattle.std.proofs.Common.{◌≡◌, ◌+◌, ◌-◌, ◌≤◌, ◌^◌, true, false, length}
+use Rattle.std.proofs.Common.{◌≡◌, ◌+◌, ◌-◌, ◌≤◌, true, false, length}
 use Rattle.coco_append.specs.Gaining.{Stands}
 use Rattle.coco_lines.specs.Reads.{IsSpent}
-use Rattle.coco_types.specs.Limits.{most_kept}
+use Rattle.coco_types.specs.Limits.{most_input_bytes, most_kept}
 use Rattle.coco_serve.proofs.EndLemmas.{IsRunning}
 use Rattle.coco_serve.proofs.all_batches.answer_lines.Given as goal
 
@@ -10,7 +10,7 @@ invariant-batches g l = record {
   running : IsRunning g.H.Host.moment g.H.Host.observed g.H.Host.said g.H.Host.reads g.H.Host.may_leave l.fn.cluster.next_epoch l.plan l.reader
       (record { given = g.S.Source.given l.fn.input; left = g.S.Source.remaining l.fn.input; at_end = g.S.Source.at_end l.fn.input })
       (record { given = g.S.Source.given l.input; left = g.S.Source.remaining l.input; at_end = g.S.Source.at_end l.input }) l.fn.cluster l.cluster l.fn.host l.host;
-  within : l.reader.given ≤ 2 ^ 62;
+  within : l.reader.given ≤ most_input_bytes;
   end : l.reader.ended ≡ true → IsSpent (record { given = g.S.Source.given l.input; left = g.S.Source.remaining l.input; at_end = g.S.Source.at_end l.input });
   unspent : l.cluster.spent ≡ false;
   room : length l.cluster.kept.dones ≤ most_kept;
@@ -21,4 +21,4 @@ invariant-batches g l = record {
 }
 
 abbrev pub decreases-batches : goal.decreases-batches
-decreases-batches g l = 2 ^ 62 + 1 - l.reader.given
+decreases-batches g l = most_input_bytes + 1 - l.reader.given

@@ -9,8 +9,8 @@ returns-in-Err-clause-takes c =
     rw c.refused.ensures
     (unread layout_rules c.args.self.now c.args.body.now c.args.self.now c.in-Err.fault c.in-Err.ensures.read (layout_fault c.args.body.now))
 
-pub returns-else-behind-ge-END-clause-takes : goal.returns-else-behind-ge-END-clause-takes
-returns-else-behind-ge-END-clause-takes c =
+pub returns-else-behind-ge-FILES_END-clause-takes : goal.returns-else-behind-ge-FILES_END-clause-takes
+returns-else-behind-ge-FILES_END-clause-takes c =
     let good = rw c.in-Ok-2.is at c.in_ok-procs.ensures in
     record {
       entry = c.in-Ok.entry;
