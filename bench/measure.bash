@@ -2,7 +2,7 @@
 # folder with the file input, and $program the program.
 
 # measured RUNS PREPARE.. -- COMMAND..: the input is $ram/input. Seconds of the clock and of the processor, and KiB at
-# most, of the run that took least of the processor; what is prepared before each run isn't measured.
+# most, each the least of the runs; what is prepared before each run isn't measured.
 measured() {
     python3 - "$ram/input" "$ram/said" "$@" <<'P'
 import os, subprocess, sys, time
@@ -20,7 +20,7 @@ def run():
     if status != 0:
         sys.exit(f"{command} ended with {status}")
     return used.ru_utime + used.ru_stime, time.monotonic() - began, used.ru_maxrss
-processor, clock, memory = min(run() for _ in range(int(runs)))
+processor, clock, memory = map(min, zip(*[run() for _ in range(int(runs))]))
 print(clock, processor, memory)
 P
 }

@@ -2,7 +2,7 @@
 # Epochs of 1,000 lines run by 1, 2 and 4 workers over 16 partitions, on a RAM disk: bank transfers among many accounts and
 # among few, reads and writes of single rows, and a procedure of 1,024 loop turns. Each figure is of the best of so many
 # runs, each on a new store.
-# Words: how many lines (of the last one a hundredth), how many runs. COCO is the program, RAM the folder.
+# Words: how many lines (of the last one a twentieth), how many runs. COCO is the program, RAM the folder.
 set -euo pipefail
 cd "$(dirname "$0")/.."
 lines=${1:-300000}
@@ -59,5 +59,5 @@ moves "$lines" 8 >"$ram/input"
 by 'transfers among 8' "$lines" bench/bank.coco
 rows "$lines" >"$ram/input"
 by 'reads and writes' "$lines" /dev/null
-long $((lines / 100)) >"$ram/input"
-by '1,024 turns' $((lines / 100)) bench/turns.coco
+long $((lines / 20)) >"$ram/input"
+by '1,024 turns' $((lines / 20)) bench/turns.coco
