@@ -155,17 +155,21 @@ mod tests {
         Ok(Shard::unpack_answer(&packed) == answer)
     }
 
+    fn value_is_read_back(alloc: Global, value: Option<Value>) -> Result<bool, Fail> {
+        let asked = ask_is_read_back(alloc, install(value))?;
+        let answered = answer_is_read_back(alloc, got(value))?;
+        Ok(asked && answered)
+    }
+
     #[test]
     fn what_is_packed_is_read_back(rt: HostRuntime) -> Result<(), Fail> {
         let alloc = rt.alloc();
         let text = Text::of("seven").ok_or("no text")?;
-        let mut is_same = ask_is_read_back(alloc, Op::Past(FIVE))?;
-        for value in [None, int(7), Some(Value::Text(text))] {
-            let asked = ask_is_read_back(alloc, install(value))?;
-            let answered = answer_is_read_back(alloc, got(value))?;
-            is_same = is_same && asked && answered;
-        }
-        assert!(rt; is_same);
+        let past = ask_is_read_back(alloc, Op::Past(FIVE))?;
+        let none = value_is_read_back(alloc, None)?;
+        let number = value_is_read_back(alloc, int(7))?;
+        let quoted = value_is_read_back(alloc, Some(Value::Text(text)))?;
+        assert!(rt; past && none && number && quoted);
         Ok(())
     }
 }
