@@ -37,14 +37,16 @@ record IsFollowed (ys zs : List (List ℕ)) : Type 0 where
   more : List (List ℕ)
   is : ys ≡ zs ++ more
 
+followed : (y z : List ℕ) (ys zs : List (List ℕ)) → y ≡ z → IsFollowed ys zs → IsFollowed (y ∷ ys) (z ∷ zs)
+followed y z ys zs same rest = record { more = rest.more; is = ap (λ (x : List ℕ). x ∷ ys) same ∙ ap (λ (l : List (List ℕ)). z ∷ l) rest.is }
+
 first_bodies : (ys zs : List (List ℕ)) (h g : ℕ) (s r : List ℕ) → All IsShort ys → All IsShort zs → h ≢ 1 → flat_map entry ys ++ h ∷ s ≡ flat_map entry zs ++ g ∷ r → IsFollowed ys zs
 first_bodies ys [] h g s r short also shut e = record { more = ys; is = refl }
 first_bodies [] (z ∷ zs) h g s r short also shut e = absurd (shut (front_gate (h ∷ s) (flat_map entry (z ∷ zs) ++ g ∷ r) e))
 first_bodies (y ∷ ys) (z ∷ zs) h g s r short also shut e =
     let two = peel y z (flat_map entry ys ++ h ∷ s) (flat_map entry zs ++ g ∷ r) (All-head IsShort y ys short) (All-head IsShort z zs also)
     (sym (append_assoc (entry y) (flat_map entry ys) (h ∷ s)) ∙ e ∙ append_assoc (entry z) (flat_map entry zs) (g ∷ r)) in
-    let rest = first_bodies ys zs h g s r (All-tail IsShort y ys short) (All-tail IsShort z zs also) shut two.behind in
-    record { more = rest.more; is = ap (λ (x : List ℕ). x ∷ ys) two.first ∙ ap (λ (l : List (List ℕ)). z ∷ l) rest.is }
+    followed y z ys zs two.first (first_bodies ys zs h g s r (All-tail IsShort y ys short) (All-tail IsShort z zs also) shut two.behind)
 
 module _ {E : Type 0} (kind : ℕ) (bytes_of : E → List ℕ) (Is : E → Type 0) (one : (x y : E) → Is x → Is y → bytes_of x ≡ bytes_of y → x ≡ y) where
   -- the entry of a body, and those behind it
@@ -55,6 +57,15 @@ module _ {E : Type 0} (kind : ℕ) (bytes_of : E → List ℕ) (Is : E → Type 
     more : List E
     is : xs ≡ entries ++ next ∷ more
 
+  next_behind : (x y : E) (xs entries : List E) (body : List ℕ) → x ≡ y → HasNext xs entries body → HasNext (x ∷ xs) (y ∷ entries) body
+  next_behind x y xs entries body same rest = record {
+    next = rest.next;
+    is-next = rest.is-next;
+    bytes = rest.bytes;
+    more = rest.more;
+    is = ap (λ (z : E). z ∷ xs) same ∙ ap (λ (l : List E). y ∷ l) rest.is;
+  }
+
   next_of : (xs entries : List E) (body : List ℕ) (more : List (List ℕ)) → AllByRecursion Is xs → AllByRecursion Is entries → map bytes_of xs ≡ (map bytes_of entries ++ body ∷ []) ++ more
       → HasNext xs entries body
   next_of [] [] body more are also e = let none : ◌≡◌ {A = List (List ℕ)} [] (body ∷ more) = e in cc
@@ -63,14 +74,7 @@ module _ {E : Type 0} (kind : ℕ) (bytes_of : E → List ℕ) (Is : E → Type 
   next_of (x ∷ xs) (y ∷ entries) body more are also e =
       let here : bytes_of x ≡ bytes_of y = cc in
       let there : map bytes_of xs ≡ (map bytes_of entries ++ body ∷ []) ++ more = cc in
-      let rest = next_of xs entries body more are.1 also.1 there in
-      record {
-        next = rest.next;
-        is-next = rest.is-next;
-        bytes = rest.bytes;
-        more = rest.more;
-        is = ap (λ (z : E). z ∷ xs) (one x y are.0 also.0 here) ∙ ap (λ (l : List E). y ∷ l) rest.is;
-      }
+      next_behind x y xs entries body (one x y are.0 also.0 here) (next_of xs entries body more are.1 also.1 there)
 
   goes_on : (xs entries : List E) (body file : List ℕ) → IsLogOf kind bytes_of Is xs file → GoesOnWith kind bytes_of Is entries body file → HasNext xs entries body
   goes_on xs entries body file log next =

@@ -1,10 +1,9 @@
-use Rattle.std.proofs.Common.{◌≡◌, List, ◌++◌, ℕ, inl, refl, ap, ◌∙◌}
+use Rattle.std.proofs.Common.{◌≡◌, inl, refl}
 use Rattle.std.proofs.lemmas.Result.{err_from_is_err_and}
 use Rattle.coco_entry.specs.declared.commit.Commit.{Commit}
 use Rattle.coco_entry.specs.Commits.{commit_bytes}
-use Rattle.coco_log.specs.LogState.{with_entry}
 use Rattle.coco_store.specs.Laws.{with_commit}
-use Rattle.coco_append.proofs.GainLemmas.{at_err, nothing_gained, on_ok, commit_grows, same_files, same_left}
+use Rattle.coco_append.proofs.GainLemmas.{at_err, nothing_gained, commit_grows, same_files, same_left}
 use Rattle.coco_append.proofs.adding.add_commit.Goals as goal
 
 pub returns-in_err-put_commit-clause-gains : goal.returns-in_err-put_commit-clause-gains
@@ -24,11 +23,12 @@ returns-in_err-put_commit-clause-crash g c = same_left c.args.log.now.file (g.H.
 pub returns-clause-gains : goal.returns-clause-gains
 returns-clause-gains g c before rests of may =
     let entry : Commit = record { epoch = c.args.epoch; dones = c.args.dones.now } in
+    let is : c.as_slice.result.now ≡ commit_bytes entry = rw (c.as_slice.ensures.value, c.in_ok-put_commit.ensures.ok, c.clear.ensures.items) refl in
     c.add.ensures.gains before (with_commit entry before) rests
-    (commit_grows before entry c.args.log.now c.as_slice.result.now of (may c.in_ok-put_commit.ensures.entry) (c.as_slice.ensures.value ∙ c.in_ok-put_commit.ensures.ok ∙ ap (λ (l : List ℕ). l ++ commit_bytes entry) c.clear.ensures.items))
+    (commit_grows before entry c.args.log.now c.as_slice.result.now of (may c.in_ok-put_commit.ensures.entry) is)
 
 pub returns-clause-log : goal.returns-clause-log
 returns-clause-log g c =
     let entry : Commit = record { epoch = c.args.epoch; dones = c.args.dones.now } in
-    let is : c.as_slice.result.now ≡ commit_bytes entry = c.as_slice.ensures.value ∙ c.in_ok-put_commit.ensures.ok ∙ ap (λ (l : List ℕ). l ++ commit_bytes entry) c.clear.ensures.items in
-    on_ok c.add.result _ _ (λ grew. grew ∙ ap (λ (b : List ℕ). with_entry c.args.log.now b) is) c.add.ensures.log
+    let is : c.as_slice.result.now ≡ commit_bytes entry = rw (c.as_slice.ensures.value, c.in_ok-put_commit.ensures.ok, c.clear.ensures.items) refl in
+    rw is at c.add.ensures.log

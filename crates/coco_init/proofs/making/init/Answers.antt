@@ -1,4 +1,5 @@
 use Rattle.std.proofs.Common.{subst}
+use Rattle.coco_lines.specs.Reads.{SourceMoment}
 use Rattle.coco_make.specs.NewStore.{new_layout}
 use Rattle.coco_store.specs.Texts.{IsAcceptedText}
 use Rattle.coco_init.proofs.InputLemmas.{gives_same}
@@ -10,10 +11,12 @@ returns-clause-initiates g c =
     let text = c.in_ok-text.text in
     let tree = c.in_ok-accepted.field-0 in
     let taken = c.in_ok-text.ensures.takes in
+    let first : SourceMoment = record { given = g.S.Source.given c.args.input.now; left = g.S.Source.remaining c.args.input.now; at_end = g.S.Source.at_end c.args.input.now } in
+    let last : SourceMoment = record { given = g.S.Source.given c.read_text.new.input; left = g.S.Source.remaining c.read_text.new.input; at_end = g.S.Source.at_end c.read_text.new.input } in
     let accepted = subst (λ l. IsAcceptedText l tree) c.as_slice.ensures c.in_ok-accepted.ensures in (
       text,
-      gives_same taken.bytes text taken.reads.0 taken.gives,
+      gives_same {before = first} {after = last} taken.bytes text taken.reads.0 taken.gives,
       initiates g.H.Host.moment g.H.Host.observed g.H.Host.said g.H.Host.reads g.H.Host.may_leave g.met.H.Host.only_now c.make.result
-          (new_layout c.args.nodes c.args.partitions c.args.copies text) text _ tree c.args.host.now c.expect_no_store.new.host c.make.new.host taken.reads.2 accepted
+          (new_layout c.args.nodes c.args.partitions c.args.copies text) text last tree c.args.host.now c.expect_no_store.new.host c.make.new.host taken.reads.2 accepted
           c.expect_no_store.ensures.read (c.make.ensures.makes tree accepted),
     )

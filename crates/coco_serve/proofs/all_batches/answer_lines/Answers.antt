@@ -122,6 +122,6 @@ batches-preserved g c =
       room = c.in-Ok-turn_and_say.ensures.few;
       stand = c.in-Ok-turn_and_say.ensures.stand;
       reads = c.in-Ok.ensures.counts ∙ c.batches.invariant.reads;
-      says = ap (λ (x : Counts). x.say) counts ∙ c.batches.invariant.says;
-      disks = ap (λ (x : Counts). x.disk) counts ∙ c.batches.invariant.disks;
+      says = (λ i. (counts i).say) ∙ c.batches.invariant.says;
+      disks = (λ i. (counts i).disk) ∙ c.batches.invariant.disks;
     }

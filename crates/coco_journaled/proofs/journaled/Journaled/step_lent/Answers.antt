@@ -1,6 +1,4 @@
-use Rattle.std.proofs.Common.{ap, subst, ◌∙◌}
 use Rattle.coco_journaled.specs.Packing.{unpacked}
-use Rattle.coco_journaled.specs.Passes.{passing, Steps}
 use Rattle.coco_journaled.proofs.Stepping.{replays_more, pass_entered, pass_steps}
 use Rattle.coco_journaled.proofs.journaled.Journaled.step_lent.Goals as goal
 
@@ -8,7 +6,7 @@ pub enter-requires-clause-from : goal.enter-requires-clause-from
 enter-requires-clause-from g c =
     let f = c.in_ok-guarded.ensures.from in (
       f.0,
-      ap (λ n. n.root) c.in_ok-guarded.ensures.note ∙ f.1,
+      rw c.in_ok-guarded.ensures.note f.1,
       replays_more g.M.Machine.answer_to g.M.Machine.state_after f.0 (unpacked g.M.Packs.ask_of g.M.Packs.answer_of c.in_ok-guarded.guarded.journal.items) c.in_ok-guarded.guarded.machine c.answer.new.self c.pass.inside.number c.args.ask.now c.answer.new.answer f.2
           c.in-Ok.ensures.answer c.in-Ok.ensures.state,
     )
@@ -23,4 +21,4 @@ returns-clause-ok g c =
     let f = c.in_ok-guarded.ensures.from in
     let stepped = pass_steps g.M.Machine.answer_to g.M.Machine.state_after c.pass.inside.number c.pass.inside.note c.taken.new.note c.enter.new.note f.0 c.in_ok-guarded.guarded.machine (unpacked g.M.Packs.ask_of g.M.Packs.answer_of c.in_ok-guarded.guarded.journal.items) c.args.ask.now c.answer.new.answer c.in_ok-guarded.ensures.note
     c.in_ok-guarded.ensures.seen f.1 f.2 c.in-Ok.ensures.answer c.enter.ensures.note in
-    subst (λ p. Steps g.M.Machine.answer_to g.M.Machine.state_after p c.args.ask.now c.answer.new.answer (passing c.pass.inside.number c.enter.new.note)) c.pass.view_is stepped
+    rw (← c.pass.view_is) stepped

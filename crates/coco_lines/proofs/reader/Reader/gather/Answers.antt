@@ -29,12 +29,14 @@ loop-longer-preserved g c =
 
 pub returns-in_err-fill-clause-err : goal.returns-in_err-fill-clause-err
 returns-in_err-fill-clause-err g c =
-    let all =
-    Gathering-all c.args.self.now c.loop-longer.self c.cut.new.self (record { given = g.S.Source.given c.args.source.now; left = g.S.Source.remaining c.args.source.now; at_end = g.S.Source.at_end c.args.source.now }) (record { given = g.S.Source.given c.loop-longer.source; left = g.S.Source.remaining c.loop-longer.source; at_end = g.S.Source.at_end c.loop-longer.source }) c.loop-longer.body
-    c.in_ok-longer.longer c.in_ok-longer.fed c.if-fed.false c.loop-longer.invariant.gathering c.in_ok-longer.ensures.ok
-    (ap (λ s. s.taken) c.cut.ensures.same) (ap (λ s. s.ended) c.cut.ensures.same) (ap (λ s. s.given) c.cut.ensures.same) in
     let told : SourceMoment = record { given = g.S.Source.given c.args.source.now; left = g.S.Source.remaining c.args.source.now; at_end = g.S.Source.at_end c.args.source.now } in
+    let met : SourceMoment = record { given = g.S.Source.given c.loop-longer.source; left = g.S.Source.remaining c.loop-longer.source; at_end = g.S.Source.at_end c.loop-longer.source } in
+    let now : SourceMoment = record { given = g.S.Source.given c.fill.new.source; left = g.S.Source.remaining c.fill.new.source; at_end = g.S.Source.at_end c.fill.new.source } in
+    let all =
+    Gathering-all c.args.self.now c.loop-longer.self c.cut.new.self told met c.loop-longer.body
+    c.in_ok-longer.longer c.in_ok-longer.fed c.if-fed.false c.loop-longer.invariant.gathering c.in_ok-longer.ensures.ok
+    (λ i. (c.cut.ensures.same i).taken) (λ i. (c.cut.ensures.same i).ended) (λ i. (c.cut.ensures.same i).given) in
     let same_source =
-    subst (λ o. Gathering c.args.self.now c.cut.new.self told o c.in_ok-longer.longer c.cut.new.self.pending) (sym c.in_err-fill.ensures.same) all.0 in
+    subst (λ o. Gathering c.args.self.now c.cut.new.self told o c.in_ok-longer.longer c.cut.new.self.pending) {x = met} {y = now} (sym c.in_err-fill.ensures.same) all.0 in
     on_err c.from_residual-in_err-fill.result
-    (c.in_ok-longer.longer, subst (λ s. Gathering c.args.self.now s told (record { given = g.S.Source.given c.fill.new.source; left = g.S.Source.remaining c.fill.new.source; at_end = g.S.Source.at_end c.fill.new.source }) c.in_ok-longer.longer s.pending) (sym c.in_err-fill.ensures.err) same_source)
+    (c.in_ok-longer.longer, subst (λ s. Gathering c.args.self.now s told now c.in_ok-longer.longer s.pending) (sym c.in_err-fill.ensures.err) same_source)

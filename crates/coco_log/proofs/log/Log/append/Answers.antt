@@ -1,9 +1,9 @@
-use Rattle.std.proofs.Common.{◌≡◌, ℕ, ◌+◌, List, [], ◌∷◌, ◌++◌, length, true, false, if◌then◌else◌, refl, sym, ap, subst, ◌∙◌}
+use Rattle.std.proofs.Common.{◌≡◌, ℕ, ◌+◌, List, [], ◌∷◌, ◌++◌, length, true, false, refl, sym, ap, subst, ◌∙◌}
 use Rattle.std.specs.Prelude.{Result, Ok, Err, OnErr}
 use Rattle.coco_host.specs.Files.{Become, Follows}
 use Rattle.coco_host.specs.Moments.{SeesOnly}
 use Rattle.coco_log.specs.Grammar.{counted}
-use Rattle.coco_log.specs.LogState.{LogState, with_entry, IsAtRest, IsBeforeOrAfter, ChangesOne, SameBut, IsAppended}
+use Rattle.coco_log.specs.LogState.{LogState, IsAtRest, IsBeforeOrAfter, ChangesOne, SameBut, IsAppended}
 use Rattle.coco_log.proofs.Appends.{at_first, ready_of, appended}
 use Rattle.coco_log.proofs.Others.{left_first, told_first}
 use Rattle.coco_log.proofs.log.Log.append.Goals as goal
@@ -59,11 +59,8 @@ returns-in_err-write_entry-clause-spent g c =
 pub returns-clause-log : goal.returns-clause-log
 returns-clause-log g c =
     let x = c.self.inside in
-    let old = c.stage.new.places.items in
-    let places : c.push.new.self.items ≡ x.places.items ++ x.end ∷ [] =
-    c.push.ensures.items ∙ ap (λ b. if b then old ++ x.end ∷ [] else old) (c.push.ensures.succeeds c.in_ok-stage.ensures.room) ∙ ap (λ (l : List ℕ). l ++ x.end ∷ []) c.stage.ensures.places in
-    ap (λ (l : List ℕ). let log : LogState = record { file = x.file; kind = x.kind; places = l; end = x.end + (5 + length c.args.body.now); spent = false } in log) places
-    ∙ ap (λ (l : LogState). with_entry l c.args.body.now) c.self.view_is
+    let places : c.push.new.self.items ≡ x.places.items ++ x.end ∷ [] = rw (c.push.ensures.items, c.push.ensures.succeeds c.in_ok-stage.ensures.room, c.stage.ensures.places) refl in
+    rw (places, ← c.self.view_is)
 
 pub returns-clause-ok : goal.returns-clause-ok
 returns-clause-ok g c files bodies told rest =
@@ -73,9 +70,7 @@ returns-clause-ok g c files bodies told rest =
     let at_rest = subst (λ (l : LogState). IsAtRest l bodies files L) (sym c.self.view_is) rest in
     let ready = ready_of log bodies files L at_rest in
     let stands = c.in_ok-write_entry.ensures.ok files x.kind bodies c.args.body.now told ready (record { short = c.requires.short; is = c.deref.ensures.value ∙ c.in_ok-stage.ensures.piece }) in
-    let old = c.stage.new.places.items in
-    let places : c.push.new.self.items ≡ x.places.items ++ x.end ∷ [] =
-    c.push.ensures.items ∙ ap (λ b. if b then old ++ x.end ∷ [] else old) (c.push.ensures.succeeds c.in_ok-stage.ensures.room) ∙ ap (λ (l : List ℕ). l ++ x.end ∷ []) c.stage.ensures.places in
+    let places : c.push.new.self.items ≡ x.places.items ++ x.end ∷ [] = rw (c.push.ensures.items, c.push.ensures.succeeds c.in_ok-stage.ensures.room, c.stage.ensures.places) refl in
     let new : LogState = record { file = x.file; kind = x.kind; places = c.push.new.self.items; end = x.end + (5 + length c.args.body.now); spent = false } in
     let is = ap (λ (l : List ℕ). let n : LogState = record { file = x.file; kind = x.kind; places = l; end = x.end + (5 + length c.args.body.now); spent = false } in n) places in
     subst (λ (l : LogState). IsAppended l new bodies c.args.body.now files (g.H.Host.reads c.write_entry.new.host) (g.H.Host.may_leave c.write_entry.new.host)) c.self.view_is

@@ -1,6 +1,4 @@
-use Rattle.std.proofs.Common.{rules, ◌≡◌, ◌-◌, arith, map, ap, sym, ◌∙◌}
-use Rattle.coco_seen.specs.Notes.{fresh}
-use Rattle.coco_seen.specs.Rules.{numbers}
+use Rattle.std.proofs.Common.{rules, ◌≡◌, ◌-◌, arith, ◌∙◌}
 use Rattle.coco_seen.proofs.Dealt.{splits_off, goes_on, deals_note, deals_last}
 use Rattle.coco_seen.proofs.seen.Seen.deal.Goals as goal
 
@@ -18,7 +16,7 @@ loop-number-preserved g c =
       root = i.root;
       root_is = i.root_is;
       view = goes_on _ _ c.loop-number.seat.me _ i.root (omega arith) i.view e.2;
-      items = c.push_reserved.ensures.items ∙ deals_note _ _ _ c.args.notes c.loop-number.seat.me c.split_seat-other.result.me i.root _ (e.3 ∙ i.lock) (omega arith) i.view e.4 i.items;
+      items = rw c.push_reserved.ensures.items (deals_note _ _ _ c.args.notes c.loop-number.seat.me c.split_seat-other.result.me i.root _ (e.3 ∙ i.lock) (omega arith) i.view e.4 i.items);
       count = search rules;
       room = search rules;
     }
@@ -27,4 +25,4 @@ pub returns-clause-notes : goal.returns-clause-notes
 returns-clause-notes g c =
     let i = c.loop-number.invariant in
     let end : c.loop-number.number ≡ c.args.notes - 1 = omega arith in
-    c.push_reserved-2.ensures.items ∙ (deals_last _ _ _ c.args.notes c.loop-number.seat.me i.root _ i.lock c.requires.some end i.view i.items ∙ ap (λ r. map (fresh c.args.self.now.id r) (numbers 0 c.args.notes)) (sym i.root_is))
+    rw (c.push_reserved-2.ensures.items, i.root_is) (deals_last _ _ _ c.args.notes c.loop-number.seat.me i.root _ i.lock c.requires.some end i.view i.items)

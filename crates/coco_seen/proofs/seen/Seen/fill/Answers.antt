@@ -18,13 +18,13 @@ exchange-requires g c =
 pub unreachable-requires : goal.unreachable-requires
 unreachable-requires g c =
     let t = c.compare_exchange_with.ensures.2 c.args.value refl in
-    not_both c.in-Some.field-0 c.compare_exchange_with.new.seat.me _ _ (after_fill _ _ _ t.0 c.requires.first t.2) c.in-Some.ensures.2
+    not_both c.in-Some.field-0 c.compare_exchange_with.new.seat.me _ _ (after_fill _ c.args.seat.me c.compare_exchange_with.new.seat.me t.0 c.requires.first t.2) c.in-Some.ensures.2
 
 pub store-requires : goal.store-requires
 store-requires g c =
     let t = c.compare_exchange_with.ensures.2 c.args.value refl in
-    let e1 = after_fill _ _ _ t.0 c.requires.first t.2 in
-    let e2 = after_put _ _ _ (Some c.args.value) e1 c.exchange.ensures.3 in (
+    let e1 = after_fill _ c.args.seat.me c.compare_exchange_with.new.seat.me t.0 c.requires.first t.2 in
+    let e2 = after_put c.compare_exchange_with.new.seat.me c.exchange.new.seat.me _ (Some c.args.value) e1 c.exchange.ensures.3 in (
       search rules,
       search rules,
       first_gives g.S.Stores.entries g.S.Stores.comes_from _ _ _ c.args.self.now.notes c.exchange.new.seat.me c.args.value t.0 (rw (sym (ap (λ k. k.notes) c.self.view_is)) c.self.invariant.2) t.1 c.requires.empty e2,
@@ -33,6 +33,6 @@ store-requires g c =
 pub returns-clause-view : goal.returns-clause-view
 returns-clause-view g c =
     let t = c.compare_exchange_with.ensures.2 c.args.value refl in
-    let e1 = after_fill _ _ _ t.0 c.requires.first t.2 in
-    let e2 = after_put _ _ _ (Some c.args.value) e1 c.exchange.ensures.3 in
+    let e1 = after_fill _ c.args.seat.me c.compare_exchange_with.new.seat.me t.0 c.requires.first t.2 in
+    let e2 = after_put c.compare_exchange_with.new.seat.me c.exchange.new.seat.me _ (Some c.args.value) e1 c.exchange.ensures.3 in
     (t.0, t.1, after_give _ _ _ _ e2 c.store.ensures.2)

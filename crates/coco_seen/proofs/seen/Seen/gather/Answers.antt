@@ -1,6 +1,5 @@
 use Rattle.std.proofs.Common.{rules, ◌≡◌, List, [], ◌∷◌, ◌++◌, map, All, false, ap, sym, subst, ◌∙◌, append_assoc}
 use Rattle.std.proofs.lemmas.List.Elements.{All-cons, All-nil}
-use Rattle.coco_seen.specs.Closes.{StandsFor}
 use Rattle.coco_seen.proofs.Closing.{stands_first, stands_more, joins_note, nothing_held, holds_of}
 use Rattle.coco_seen.proofs.seen.Seen.gather.Goals as goal
 
@@ -53,6 +52,6 @@ loop-holder-preserved g c =
       lock = c.join_seat.ensures.0 ∙ i.lock;
       gone = c.in-Some-pop.holder ∷ i.gone;
       parts = parts;
-      stands = subst (λ m. StandsFor (map g.H.HoldsNote.note (c.in-Some-pop.holder ∷ i.gone)) m.0) (sym c.join_seat.ensures.2) more;
+      stands = rw c.join_seat.ensures.2 more;
       facts = All-cons g.H.HoldsNote.fact c.in-Some-pop.holder i.gone c.into_note-in-Some-pop.ensures.fact i.facts;
     }
