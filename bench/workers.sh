@@ -42,14 +42,26 @@ long() {
     awk -v count="$1" 'BEGIN { for (id = 1; id <= count; id++) printf "{\"args\":[%d],\"call\":\"turns\",\"id\":%d}\n", id % 997, id }'
 }
 
-# by NAME COUNT PROCEDURES: the lines of $ram/input by each number of workers.
+# by NAME COUNT PROCEDURES: the lines of $ram/input by each number of workers. They take turns, so that what else the
+# machine does meets them alike.
 by() {
-    local workers clock processor memory
-    for workers in 1 2 4; do
-        read -r clock processor memory < <(measured "$runs" bash -c "$fresh" - "$ram/store" "$program" "$3" --partitions 16 \
-            -- "$program" "$ram/store" run --epoch 1000 --workers "$workers")
+    local run workers clock processor memory
+    for ((run = 0; run < runs; run++)); do
+        for workers in 1 2 4; do
+            printf '%s ' "$workers"
+            measured 1 bash -c "$fresh" - "$ram/store" "$program" "$3" --partitions 16 \
+                -- "$program" "$ram/store" run --epoch 1000 --workers "$workers"
+        done
+    done | least | while read -r workers clock processor memory; do
         row "$1, $workers workers" "$2" "$clock" "$processor" "$memory"
     done
+}
+
+# Of the lines of each number of workers one line with the least of each figure.
+least() {
+    awk '!($1 in clock) { order[++count] = $1; clock[$1] = $2; processor[$1] = $3; memory[$1] = $4 }
+        { if ($2 < clock[$1]) clock[$1] = $2; if ($3 < processor[$1]) processor[$1] = $3; if ($4 < memory[$1]) memory[$1] = $4 }
+        END { for (i = 1; i <= count; i++) print order[i], clock[order[i]], processor[order[i]], memory[order[i]] }'
 }
 
 printf '%-34s %9s %10s %10s %9s\n' '' requests 'a second' 'us each' MiB
