@@ -1,12 +1,9 @@
 -- Shards that hold one map are the same.
-use Rattle.std.proofs.Common.{◌≡◌, ℕ, ◌<◌, ◌%◌, List, length, get_or, Option, None, Some, IsSome, Result, Ok, Err, OnErr, refl, sym, ap, ◌∙◌, subst}
-use Rattle.std.specs.FinMap.{get, empty}
+use Rattle.std.proofs.Common.{◌≡◌, ℕ, ◌%◌, List, length, Option, None, Some, IsSome, Result, Ok, Err, OnErr, refl, sym, ap, ◌∙◌, subst}
+use Rattle.std.specs.FinMap.{get}
 use Rattle.std.specs.Option.{option_map}
-use Rattle.std.proofs.lemmas.List.{get_or_default, same_lists}
-use Rattle.std.proofs.lemmas.Option.{unwrap_or-slice_get}
 use Rattle.coco_types.specs.RowKey.{RowKey}
 use Rattle.coco_types.specs.declared.value.Value.{Value}
-use Rattle.coco_types.proofs.KeyMaps.{same_keyed}
 use Rattle.coco_ast.specs.Keyed.{Rows, value_at}
 use Rattle.coco_shard.specs.RowState.{RowState, resting, stable_at, ShardState}
 use Rattle.coco_epoch.proofs.ShardLemmas.{same_shards}

@@ -1,9 +1,9 @@
 -- Two appends to a store, one behind the other.
-use Rattle.std.proofs.Common.{◌≡◌, ◌⊎◌, inl, inr, ⊎_elim, ℕ, List, Option, Result, Ok, Err, true, sym, ap, subst, ◌∙◌, arith}
+use Rattle.std.proofs.Common.{◌≡◌, ◌⊎◌, inl, inr, ⊎_elim, ℕ, List, Option, Result, Ok, Err, true, sym, ap, subst, ◌∙◌}
 use Rattle.std.specs.Prelude.{OnOk, OnErr}
 use Rattle.coco_types.specs.declared.call.Done.{Done}
 use Rattle.coco_host.specs.Files.{Files}
-use Rattle.coco_host.specs.Moments.{Observation, SeesOnly}
+use Rattle.coco_host.specs.Moments.{Observation}
 use Rattle.coco_entry.specs.declared.prepared.Row.{Row}
 use Rattle.coco_log.specs.declared.fault.LogFault.{LogFault}
 use Rattle.coco_log.specs.LogState.{LogState, with_entry}

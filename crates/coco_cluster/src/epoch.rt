@@ -131,7 +131,7 @@ fn work<R: Threads + Wait + Sync, G: Gate + Sync>(
     room: &mut EpochRoom,
     shards: &mut Vec<Shard>,
     procs: &Checked,
-    requests: Vec<Request>,
+    mut requests: Vec<Request>,
     config: EpochConfig,
     gate: &G,
 ) -> Result<Worked, NoMemory>
@@ -147,7 +147,7 @@ fn work<R: Threads + Wait + Sync, G: Gate + Sync>(
             &mut room.locks,
             shards,
             procs,
-            requests.as_slice(),
+            requests.as_mut_slice(),
             config,
             gate,
         );
@@ -174,12 +174,12 @@ fn work_side_by_side<R: Threads + Wait + Sync, G: Gate + Sync>(
     rooms: &mut Rooms,
     shards: &mut Vec<Shard>,
     procs: &Checked,
-    requests: &[Request],
+    requests: &mut [Request],
     config: EpochConfig,
     gate: &G,
 ) -> Result<Worked, NoMemory>
-    requires { MayWork procs.now requests.now config shards.old.items }
-    ensures worked { IfOk result (λ w. (m : Rows) → HoldMap m shards.old.items → HasWorked (beginning_with procs.now m requests.now shards.old.items config) config.epoch shards.new.items w.dones w.pieces) }
+    requires { MayWork procs.now requests.old config shards.old.items }
+    ensures worked { IfOk result (λ w. (m : Rows) → HoldMap m shards.old.items → HasWorked (beginning_with procs.now m requests.old shards.old.items config) config.epoch shards.new.items w.dones w.pieces) }
     ensures count { length shards.new.items ≡ length shards.old.items }
     ensures err { OnErr result (shards.new.items ≡ shards.old.items) }
 {

@@ -5,6 +5,10 @@ use Rattle.coco_shard.specs.declared.ops.Op.{Op}
 use Rattle.coco_shard.specs.declared.ops.Op.TheVariants.{Read, Lock, Extend, Install, Release, Past}
 use Rattle.coco_shard.specs.declared.ops.Answer.{Answer}
 use Rattle.coco_shard.specs.declared.ops.Answer.TheVariants.{Got, Locked, Marked, Changed, Extended, Installed, Released, NotMine, Stood}
+use Rattle.coco_occ.specs.declared.outcome.Outcome.{Outcome}
+use Rattle.coco_occ.specs.declared.outcome.Outcome.TheVariants.{Committed, Conflict, OverTime}
+use Rattle.coco_occ.specs.declared.packed_outcome.Kind.{Kind}
+use Rattle.coco_occ.specs.declared.packed_outcome.Kind.TheVariants as kept
 use Rattle.coco_occ.specs.declared.packed.PackedOp.{PackedOp}
 use Rattle.coco_occ.specs.declared.packed.PackedOp.TheVariants as op
 use Rattle.coco_occ.specs.declared.packed.PackedAnswer.{PackedAnswer}
@@ -30,6 +34,11 @@ answer_of answer.Installed = Installed
 answer_of answer.Released = Released
 answer_of (answer.NotMine mark) = NotMine mark
 answer_of (answer.Stood value) = Stood value
+
+abbrev pub outcome_of : Kind → Outcome
+outcome_of (kept.Committed time reply) = Committed time reply
+outcome_of (kept.Conflict why) = Conflict why
+outcome_of kept.OverTime = OverTime
 
 -- a step, as it is kept
 abbrev pub step_from : AttemptId → PackedStep → Step

@@ -6,11 +6,15 @@ mod course;
 pub mod laws;
 pub mod outcome;
 mod packed;
+pub mod packed_outcome;
 mod progress;
+pub mod rooms;
 pub mod script;
 mod turns;
 
 pub use attempt::Attempt;
 pub use outcome::{Ended, Ends, Move, Outcome, Tailed, Transcript, Tried, Why};
+pub use packed_outcome::PackedOutcome;
+pub use rooms::ScriptRooms;
 pub use script::{Script, Step};
 pub use turns::{run_steps, take_turn};

@@ -1,5 +1,6 @@
 //! What an attempt does next, and how it ends.
 
+use crate::packed_outcome::PackedOutcome;
 use crate::script::Script;
 use coco_shard::Ask;
 use coco_types::{AttemptId, Key, Reply, Sequence};
@@ -51,7 +52,7 @@ pub struct Tried {
     pub place: u32,
     pub by: AttemptId,
     pub script: Script,
-    pub outcome: Outcome,
+    pub outcome: PackedOutcome,
 }
 
 /// The attempts of one worker, in order.

@@ -40,6 +40,12 @@ impl PackedStep {
     }
 }
 
+// Whose a script without steps is.
+const NOBODY: AttemptId = AttemptId {
+    worker: 0,
+    number: 0,
+};
+
 /// What one attempt asked, step by step. Contracts see the list of its steps.
 #[derive(Debug, Drop)]
 pub struct Script {
@@ -59,16 +65,22 @@ impl Model for Script {
 }
 
 impl Script {
+    /// A script without steps. It takes no memory.
+    pub fn new(alloc: Global) -> Script
+        ensures { result ≡ [] }
+    {
+        Script {
+            by: NOBODY,
+            items: Vec::new(alloc),
+        }
+    }
+
     /// A script without steps, with room for so many.
     pub fn with_room(alloc: Global, count: usize) -> Result<Script, NoMemory>
         ensures { IfOk result (λ script. script ≡ []) }
     {
         let items = Vec::with_capacity(alloc, count)?;
-        let by = AttemptId {
-            worker: 0,
-            number: 0,
-        };
-        Ok(Script { by, items })
+        Ok(Script { by: NOBODY, items })
     }
 
     /// Takes all steps out. The room stays.
@@ -102,12 +114,13 @@ impl Script {
         Ok(())
     }
 
-    /// The same once more, in room for just its steps.
-    pub fn try_clone(&self) -> Result<Script, NoMemory>
+    /// The same once more, in the room of a script that has served.
+    pub fn copied_to(&self, room: Script) -> Result<Script, NoMemory>
         ensures { IfOk result (λ copy. copy ≡ self.now) }
     {
-        let alloc = *self.items.allocator();
-        let mut items = Vec::with_capacity(alloc, self.items.len())?;
+        let Script { mut items, .. } = room;
+        items.clear();
+        items.reserve(self.items.len())?;
         for step in &self.items {
             items.push_reserved(step.try_clone()?);
         }

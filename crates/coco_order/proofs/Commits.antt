@@ -235,7 +235,7 @@ module _ (b : Beginning) (x : Execution) (is : IsExecution b x) (epoch : ℕ) wh
       let in_ts : Among (concat x.transcripts) found.0 = to_concat x.transcripts found.1 found.0 (let lt : found.1 < b.workers = found.2 in omega arith) found.3 in
       let w0 = found.5 (all_among (IsTried b) (concat x.transcripts) found.0 all in_ts) in
       let there = act_to b epoch (concat x.transcripts) all found.0 n w0.reply in_ts w0.outcome_is in
-      (act b epoch found.0 there.0 n w0.reply, there.1, refl, (found.5 there.0).write_is, found.4)
+      (act b epoch found.0 there.0 n w0.reply, there.1, refl {a = n}, (found.5 there.0).write_is, found.4)
 
   good : (k : RowKey) → Good (resting (value_at b.opening k)) nobody (on k (journal_on b x k))
   good k = good_start (value_at b.opening) k (journal_on b x k) (orderly b x is k)
@@ -352,10 +352,8 @@ module _ (b : Beginning) (x : Execution) (is : IsExecution b x) (epoch : ℕ) wh
   timed [] to = tt
   timed (a ∷ acs) to = (timed_at a (to a (inl refl)), timed acs (λ c among. to c (inr among)))
 
-  pub commits_serial : (ds : List Done) → AreCommits b epoch x ds → AreSerial b x ds
-  commits_serial ds of_it =
-      let given : commits b epoch x ≡ map (λ (a : Act). a.done) every = sym (acts_dones b epoch (concat x.transcripts) all) ∙ dones_map every in
-      let l : Lifted (λ (a : Act). a.done) every ds = lifted (λ (a : Act). a.done) every ds (subst (λ (zs : List Done). IsPermutation zs ds) given of_it.same) in
+  serial_of : (ds : List Done) → AreCommits b epoch x ds → Lifted (λ (a : Act). a.done) every ds → AreSerial b x ds
+  serial_of ds of_it l =
       let is_ds : dones l.items ≡ ds = dones_map l.items ∙ l.made in
       let to : (a : Act) → Among l.items a → Among every a = λ a among. contains_among every a (Contains-permutation l.items every a (IsPermutation-sym every l.items l.same) (among_contains l.items a among)) in
       let back : (a : Act) → Among every a → Among l.items a = λ a among. contains_among l.items a (Contains-permutation every l.items a l.same (among_contains every a among)) in
@@ -364,6 +362,11 @@ module _ (b : Beginning) (x : Execution) (is : IsExecution b x) (epoch : ℕ) wh
       let rise : RiseInTime l.items = rise_of epoch l.items (every_epoch l.items to) (subst AreInOrder (sym is_ds) of_it.order) distinct in
       let s : Serial b.procs b.opening b.opening [] l.items = serial_acts l.items to back rise in
       subst (AreSerial b x) is_ds (record { replies = s.replies; times = timed l.items to; newest = newest_is l.items to back s })
+
+  pub commits_serial : (ds : List Done) → AreCommits b epoch x ds → AreSerial b x ds
+  commits_serial ds of_it =
+      let given : commits b epoch x ≡ map (λ (a : Act). a.done) every = sym (acts_dones b epoch (concat x.transcripts) all) ∙ dones_map every in
+      serial_of ds of_it (lifted (λ (a : Act). a.done) every ds (subst (λ (zs : List Done). IsPermutation zs ds) given of_it.same))
 
 pub commits_are_serial : (b : Beginning) (x : Execution) → IsExecution b x → CommitsAreSerial b x
 commits_are_serial b x is epoch ds of_it = commits_serial b x is epoch ds of_it

@@ -29,17 +29,17 @@ use Rattle.coco_order.proofs.Passes.{all_append}
 
 -- ---- numbers among places
 
-abbrev has : List ℕ → ℕ → Bool
+abbrev pub has : List ℕ → ℕ → Bool
 has ps place = list_any (λ p. eqb p place) ps
 
-abbrev count : List ℕ → ℕ → ℕ
+abbrev pub count : List ℕ → ℕ → ℕ
 count ps place = length (filter (λ p. eqb p place) ps)
 
 count_append : (ps qs : List ℕ) (place : ℕ) → count (ps ++ qs) place ≡ count ps place + count qs place
 count_append ps qs place = ap length (filter-append (λ p. eqb p place) ps qs) ∙ length-append (filter (λ p. eqb p place) ps) (filter (λ p. eqb p place) qs)
 
 -- what is counted none is not there, and what is there is counted
-counts_none : (ps : List ℕ) (place : ℕ) → count ps place ≡ 0 → has ps place ≡ false
+pub counts_none : (ps : List ℕ) (place : ℕ) → count ps place ≡ 0 → has ps place ≡ false
 counts_none [] place none = refl
 counts_none (p ∷ ps) place none =
     by_bool (λ z. length (cond z (p ∷ filter (λ q. eqb q place) ps) (filter (λ q. eqb q place) ps)) ≡ 0 → z || has ps place ≡ false) (eqb p place)
@@ -138,10 +138,10 @@ parted x place (r ∷ rs) ps known once =
 abbrev committed_place : Tried → Option ℕ
 committed_place t = cond (is_commit t.outcome) (Some t.place) None
 
-abbrev places : List Tried → List ℕ
+abbrev pub places : List Tried → List ℕ
 places ts = filter_map committed_place ts
 
-committed_has : (ts : List Tried) (place : ℕ) → list_any (λ t. eqb t.place place && is_commit t.outcome) ts ≡ has (places ts) place
+pub committed_has : (ts : List Tried) (place : ℕ) → list_any (λ t. eqb t.place place && is_commit t.outcome) ts ≡ has (places ts) place
 committed_has [] place = refl
 committed_has (t ∷ ts) place =
     by_bool (λ z. (eqb t.place place && z) || list_any (λ u. eqb u.place place && is_commit u.outcome) ts ≡ has (cons_option (cond z (Some t.place) None) (places ts)) place) (is_commit t.outcome)
@@ -199,7 +199,7 @@ all_joined : {X : Type 0} (P : X → Type 0) (xss : List (List X)) → AllByRecu
 all_joined P [] all = tt
 all_joined P (xs ∷ xss) all = all_append P xs (concat xss) all.0 (all_joined P xss all.1)
 
-commits_once : (b : Beginning) (x : Execution) → AreWorkedOff b x.transcripts → (place : ℕ) → place < length b.requests → count (places (concat x.transcripts)) place ≤ 1
+pub commits_once : (b : Beginning) (x : Execution) → AreWorkedOff b x.transcripts → (place : ℕ) → place < length b.requests → count (places (concat x.transcripts)) place ≤ 1
 commits_once b x w place lt =
     subst (λ (ts : List Tried). count (places ts) place ≤ 1) (sym (ap concat w.transcripts_are ∙ tries_joined w.tries))
     (let few = commits_few (concat w.tries) b.attempts place (all_joined (AreTries b.attempts) w.tries w.each) in let one = w.once place lt in omega arith)

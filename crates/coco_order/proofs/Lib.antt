@@ -24,6 +24,7 @@ mod WorkedExecutions
 mod Closed
 mod WritesThere
 mod Epochs
+mod Once
 mod Shown
 mod TailConflicts
 mod WorkedTails

@@ -283,13 +283,16 @@ module _ (b : Beginning) (x : Execution) (is : IsExecution b x) where
       let in_tries : Among (all_tries some.0) t = Among-right some.0.conflicts (t ∷ []) t (inl refl) in
       let in_x : Among (concat x.transcripts) t = subst (λ (tss : List (List Tried)). Among (concat tss) t) (sym w.transcripts_are) (all_tries_in w.tries some.0 t some.1 in_tries) in
       let at : t.place ≡ place = all_among (λ (u : Tried). u.place ≡ some.0.place) (all_tries some.0) t (all_of_tries b.attempts w.tries some.0 w.each some.1).placed in_tries ∙ some.2 in
-      let tried : IsTried b t = all_among (IsTried b) (concat x.transcripts) t (all_tried b x is) in_x in
-      let same : tried.request ≡ r = same_some (sym tried.placed ∙ ap (slice_get b.requests) at ∙ placed) in
-      subst (λ (q : Request). q.call.snapshot ≡ false) same (from t tried in_x at tried.request.call.snapshot refl tried.script.course)
+      of_try t (all_among (IsTried b) (concat x.transcripts) t (all_tried b x is) in_x) in_x at
     where
       from : (t : Tried) (tried : IsTried b t) → Among (concat x.transcripts) t → t.place ≡ place → (snapshot : Bool) → tried.request.call.snapshot ≡ snapshot → IsAsked snapshot (run b.procs tried.request.call tried.script.rows) tried.script.rows tried.script.asked t.outcome → tried.request.call.snapshot ≡ false
       from t tried in_x at true snap s = absurd (not_both (is_committed x place) (committed_at place (concat x.transcripts) t in_x at (ap is_commit s.outcome_is)) uncommitted_at)
       from t tried in_x at false snap s = snap
+
+      of_try : (t : Tried) → IsTried b t → Among (concat x.transcripts) t → t.place ≡ place → r.call.snapshot ≡ false
+      of_try t tried in_x at =
+          let same : tried.request ≡ r = same_some (sym tried.placed ∙ ap (slice_get b.requests) at ∙ placed) in
+          subst (λ (q : Request). q.call.snapshot ≡ false) same (from t tried in_x at tried.request.call.snapshot refl tried.script.course)
 
   tail_timed : (epoch : ℕ) (rows : Rows) (time place : ℕ) (rs : List Request) → ((i : ℕ) → slice_get rs i ≡ slice_get b.requests (i + place)) → AreTimed (tail_dones b.procs epoch rows time (uncommitted x place rs))
   tail_timed epoch rows time place [] at = tt
@@ -492,12 +495,8 @@ module _ (b : Beginning) (x : Execution) (is : IsExecution b x) (epoch : ℕ) (d
     pub back : (a : Act) → Among whole a → Among items a
     pub serial : Serial b.procs b.opening b.opening [] items
 
-  pub in_order : InOrder
-  in_order =
-      let given : commits b epoch x ++ tail_dones b.procs epoch o.rows o.most (tail_requests b x) ≡ map (λ (a : Act). a.done) whole =
-      ap (λ (zs : List Done). zs ++ tail_dones b.procs epoch o.rows o.most (tail_requests b x)) (sym (acts_dones b epoch (concat x.transcripts) (all_tried b x is)))
-      ∙ ap (λ (zs : List Done). dones commits_of ++ zs) (sym (tail_acts_dones b epoch o.rows o.most (tail_requests b x))) ∙ sym (dones_append commits_of tail_of) ∙ dones_map whole in
-      let l : Lifted (λ (a : Act). a.done) whole ds = lifted (λ (a : Act). a.done) whole ds (subst (λ (zs : List Done). IsPermutation zs ds) given o.same) in
+  of_lifted : Lifted (λ (a : Act). a.done) whole ds → InOrder
+  of_lifted l =
       let is_ds : dones l.items ≡ ds = dones_map l.items ∙ l.made in
       let to : (a : Act) → Among l.items a → Among whole a = λ a among. contains_among whole a (Contains-permutation l.items whole a (IsPermutation-sym whole l.items l.same) (among_contains l.items a among)) in
       let back : (a : Act) → Among whole a → Among l.items a = λ a among. contains_among l.items a (Contains-permutation whole l.items a l.same (among_contains whole a among)) in
@@ -508,6 +507,13 @@ module _ (b : Beginning) (x : Execution) (is : IsExecution b x) (epoch : ℕ) (d
       let s : Serial b.procs b.opening b.opening [] l.items = serial b.procs b.opening l.items (λ a among. right_again b.procs b.opening whole l.items back to a (whole_right a (to a among)))
       (λ a c k v w in_a in_c same wa wc. whole_apart a c k v w (to a in_a) (to c in_c) same wa wc) rise in
       record { items = l.items; are = is_ds; to = to; back = back; serial = s }
+
+  pub in_order : InOrder
+  in_order =
+      let given : commits b epoch x ++ tail_dones b.procs epoch o.rows o.most (tail_requests b x) ≡ map (λ (a : Act). a.done) whole =
+      ap (λ (zs : List Done). zs ++ tail_dones b.procs epoch o.rows o.most (tail_requests b x)) (sym (acts_dones b epoch (concat x.transcripts) (all_tried b x is)))
+      ∙ ap (λ (zs : List Done). dones commits_of ++ zs) (sym (tail_acts_dones b epoch o.rows o.most (tail_requests b x))) ∙ sym (dones_append commits_of tail_of) ∙ dones_map whole in
+      of_lifted (lifted (λ (a : Act). a.done) whole ds (subst (λ (zs : List Done). IsPermutation zs ds) given o.same))
 
   pub outcome_serial : OutcomeIsSerial b ds (tail_rows b.procs o.rows (tail_requests b x))
   outcome_serial =

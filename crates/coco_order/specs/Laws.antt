@@ -22,7 +22,7 @@ use Rattle.coco_journaled.specs.Replay.{Replays}
 use Rattle.coco_order.specs.OneKey.{Among, on, Installs, IsMine}
 use Rattle.coco_occ.specs.declared.outcome.Tried.{Tried}
 use Rattle.coco_order.specs.Execution.{Beginning, Execution, Journal, IsExecution, InEachExecution, journal_on, concat, journal_of, steps_of}
-use Rattle.coco_order.specs.Outcome.{AreCommits, IsOutcome, commit_of, newest_at_end, tail_requests, tail_rows}
+use Rattle.coco_order.specs.Outcome.{AreCommits, AreOnce, IsOutcome, commit_of, newest_at_end, tail_requests, tail_rows}
 
 -- of the journal of each key, in every execution
 abbrev pub OnEachKeyOfEach : ((RowKey → Option Value) → RowKey → List Entry → Type 0) → Type 0
@@ -40,6 +40,10 @@ ApartInTime k journal = (e d : Entry) (time : ℕ) (v w : Option Value) → Amon
 pub record TimesAreFew (b : Beginning) (x : Execution) : Type 0 where
   pub commits : (t : Tried) (time : ℕ) (reply : Reply) → Among (concat x.transcripts) t → t.outcome ≡ Committed time reply → time ≤ length (concat x.transcripts)
   pub over : (t : Tried) → Among (concat x.transcripts) t → t.outcome ≡ OverTime → most_time < length (concat x.transcripts)
+
+-- no request commits twice
+abbrev pub CommitsAreOnce : Beginning → Execution → Type 0
+CommitsAreOnce b x = AreOnce (concat x.transcripts)
 
 -- the commits, by time and id, are a serial run from the opening map, and the map that it leaves has the newest values
 pub record AreSerial (b : Beginning) (x : Execution) (dones : List Done) : Type 0 where

@@ -49,6 +49,15 @@ is_commit (Committed time reply) = true
 is_commit (Conflict why) = false
 is_commit OverTime = false
 
+-- one of the scripts is of this place and committed
+abbrev pub has_commit : List Tried → ℕ → Bool
+has_commit ts place = list_any (λ (t : Tried). nat_eq t.place place && is_commit t.outcome) ts
+
+-- no two of the scripts are of one place and committed
+abbrev pub AreOnce : List Tried → Type 0
+AreOnce [] = Unit {0}
+AreOnce (t ∷ ts) = (is_commit t.outcome ≡ true → has_commit ts t.place ≡ false) × AreOnce ts
+
 -- a script of this place committed
 abbrev pub is_committed : Execution → ℕ → Bool
 is_committed x place = list_any (λ t. nat_eq t.place place && is_commit t.outcome) (concat x.transcripts)

@@ -4,7 +4,7 @@ ghost use Rattle.coco_order.specs.OneKey.{OnEachKey, MarksAreOwn, WriteTimesRise
 ghost use Rattle.coco_order.specs.Conflicts.{TailsConflicted, TriesAreScripts};
 ghost use Rattle.coco_order.specs.Execution.{InEachExecution};
 ghost use Rattle.coco_order.specs.ExecutionExamples.{ReadIsLeftToTheTail, ReadIsTriedAgain};
-ghost use Rattle.coco_order.specs.Laws.{OnEachKeyOfEach, StepsAreMine, ApartInTime, TimesAreFew, CommitsAreSerial, OutcomesAreSerial, ClosedIsLawful, AnswersFit, ReadsAreFew, ScriptsAreFew, WritesAreRuns, TailWritesAreRuns, OutcomesAreEpochs};
+ghost use Rattle.coco_order.specs.Laws.{OnEachKeyOfEach, StepsAreMine, ApartInTime, TimesAreFew, CommitsAreOnce, CommitsAreSerial, OutcomesAreSerial, ClosedIsLawful, AnswersFit, ReadsAreFew, ScriptsAreFew, WritesAreRuns, TailWritesAreRuns, OutcomesAreEpochs};
 
 /// A journaled shard closes with a journal that is lawful from what the shard held at its start, and with the rows
 /// that the law says; and each answer of a lawful journal fits its ask.
@@ -41,6 +41,11 @@ pub fn installs_are_apart_in_time()
 /// No time is above the number of scripts, so with fewer scripts than the greatest time none is over time.
 pub fn times_are_few()
     ensures { InEachExecution TimesAreFew }
+{}
+
+/// No request commits twice.
+pub fn commits_are_once()
+    ensures { InEachExecution CommitsAreOnce }
 {}
 
 /// The commits, by time and id, are a serial run from the opening map, and the newest values are its map.

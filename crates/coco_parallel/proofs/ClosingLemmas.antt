@@ -1,6 +1,7 @@
 -- Locks that are closed one after another, each with its passes.
-use Rattle.std.proofs.Common.{◌≡◌, suc, ◌++◌, List, [], ◌∷◌, length, refl, sym, ap, subst, arith}
+use Rattle.std.proofs.Common.{◌≡◌, suc, ◌++◌, List, [], ◌∷◌, length, refl, sym, ap, ◌∙◌, subst, arith, append_assoc}
 use Rattle.std.specs.Global.{Vec}
+use Rattle.std.proofs.lemmas.List.{append-nil}
 use Rattle.coco_journaled.specs.Passes.{Passing}
 use Rattle.coco_journaled.specs.declared.entry.Entry.{Entry}
 use Rattle.coco_seen.specs.Notes.{Lock}
@@ -20,6 +21,20 @@ module _ {M Q A : Type 0} where
 pub nothing : {X : Type 0} (xs : List X) → length xs ≡ 0 → xs ≡ []
 nothing [] none = refl
 nothing (x ∷ xs) none = absurd (omega (arith, none))
+
+module _ {X : Type 0} where
+  pub one_fewer : (rest left : List X) (x : X) → rest ≡ x ∷ left → length rest ≡ suc (length left)
+  one_fewer rest left x is = ap length is
+
+  -- an item moves from what is left to what was taken
+  pub one_moved : (was now rest left all : List X) (x : X) → now ≡ was ++ x ∷ [] → rest ≡ x ∷ left → was ++ rest ≡ all → now ++ left ≡ all
+  one_moved was now rest left all x is first same = ap (λ (xs : List X). xs ++ left) is ∙ append_assoc was (x ∷ []) left ∙ ap (λ (ys : List X). was ++ ys) (sym first) ∙ same
+
+  -- what was taken, once nothing is left, is what the locks left, one item, and the rest
+  pub all_moved : (taken end with_one closed before firsts rest : List X) (x : X) → end ≡ [] → taken ++ end ≡ with_one ++ rest → with_one ≡ closed ++ x ∷ [] → closed ≡ before ++ firsts → before ≡ [] → taken ≡ firsts ++ x ∷ rest
+  all_moved taken end with_one closed before firsts rest x empty all one same none =
+      sym (append-nil taken) ∙ ap (λ (ys : List X). taken ++ ys) (sym empty) ∙ all
+      ∙ ap (λ (xs : List X). xs ++ rest) (one ∙ ap (λ (xs : List X). xs ++ x ∷ []) (same ∙ ap (λ (xs : List X). xs ++ firsts) none)) ∙ append_assoc firsts (x ∷ []) rest
 
 module _ {M Q A : Type 0} (answer_to : M → Q → A) (state_after : M → Q → M) where
   pub ended_first : (tray : Vec (Passing M Q A)) (trays left : List (Vec (Passing M Q A))) (machine : M) (journal : List (Entry Q A)) (ms ns ms' : List M) (js ks js' : List (List (Entry Q A))) → left ≡ tray ∷ trays

@@ -101,21 +101,27 @@ module _ (workers : ℕ) (machines : List ShardState) (tables : List CopyState) 
     pub tables_count : length (table_rows after) ≡ length copy_rows
     tables_count = length-map after (λ (s : Station). s.slot.copy_passes) ∙ still ∙ crew_count ∙ sym copy_dealt.count
 
+    row_same : (n : ℕ) (d : Vec ShardPass) (x : Station) → n < length rows → n < workers → n < length after → AreSame (slice_index_or rows n d).items (slice_index_or (shard_rows after) n d).items
+    row_same n d x lt here below =
+        subst (λ (r : Vec ShardPass). AreSame r.items (slice_index_or (shard_rows after) n d).items) (ap (λ (s : Station). s.slot.passes) (crew_at n x here) ∙ any_default rows n x.slot.passes d lt)
+        (subst (λ (r : Vec ShardPass). AreSame (slice_index_or crew n x).slot.passes.items r.items) (sym (get_or-map (λ (s : Station). s.slot.passes) after n x d below)) (left n x (omega (arith, crew_count, here))).same)
+
     pub rows_same : (n : ℕ) (d : Vec ShardPass) → n < length rows → AreSame (slice_index_or rows n d).items (slice_index_or (shard_rows after) n d).items
     rows_same n d lt =
         let here : n < workers = omega (arith, dealt.count, lt) in
         let below : n < length after = omega (arith, still, crew_count, here) in
-        let x : Station = (some_at after n below).0 in
-        subst (λ (r : Vec ShardPass). AreSame r.items (slice_index_or (shard_rows after) n d).items) (ap (λ (s : Station). s.slot.passes) (crew_at n x here) ∙ any_default rows n x.slot.passes d lt)
-        (subst (λ (r : Vec ShardPass). AreSame (slice_index_or crew n x).slot.passes.items r.items) (sym (get_or-map (λ (s : Station). s.slot.passes) after n x d below)) (left n x (omega (arith, crew_count, here))).same)
+        row_same n d (some_at after n below).0 lt here below
+
+    table_same : (n : ℕ) (d : Vec CopyPass) (x : Station) → n < length copy_rows → n < workers → n < length after → AreSame (slice_index_or copy_rows n d).items (slice_index_or (table_rows after) n d).items
+    table_same n d x lt here below =
+        subst (λ (r : Vec CopyPass). AreSame r.items (slice_index_or (table_rows after) n d).items) (ap (λ (s : Station). s.slot.copy_passes) (crew_at n x here) ∙ any_default copy_rows n x.slot.copy_passes d lt)
+        (subst (λ (r : Vec CopyPass). AreSame (slice_index_or crew n x).slot.copy_passes.items r.items) (sym (get_or-map (λ (s : Station). s.slot.copy_passes) after n x d below)) (left n x (omega (arith, crew_count, here))).same_copies)
 
     pub tables_same : (n : ℕ) (d : Vec CopyPass) → n < length copy_rows → AreSame (slice_index_or copy_rows n d).items (slice_index_or (table_rows after) n d).items
     tables_same n d lt =
         let here : n < workers = omega (arith, copy_dealt.count, lt) in
         let below : n < length after = omega (arith, still, crew_count, here) in
-        let x : Station = (some_at after n below).0 in
-        subst (λ (r : Vec CopyPass). AreSame r.items (slice_index_or (table_rows after) n d).items) (ap (λ (s : Station). s.slot.copy_passes) (crew_at n x here) ∙ any_default copy_rows n x.slot.copy_passes d lt)
-        (subst (λ (r : Vec CopyPass). AreSame (slice_index_or crew n x).slot.copy_passes.items r.items) (sym (get_or-map (λ (s : Station). s.slot.copy_passes) after n x d below)) (left n x (omega (arith, crew_count, here))).same_copies)
+        table_same n d (some_at after n below).0 lt here below
 
     -- ---- the seats of workers that are done
 

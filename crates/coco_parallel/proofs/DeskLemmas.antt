@@ -204,6 +204,14 @@ module _ {M Q A : Type 0} where
     pub number : pass.number ≡ worker
     pub root : pass.root ≡ Some machine
 
+  bears_same : (place : ℕ) (machine : M) (n : ℕ) (lock : TableId) (row : Vec (Passing M Q A)) → (q : Passing M Q A) × (slice_get row.items place ≡ Some q) × (undone q ≡ undone (new_pass lock machine n)) → Bears place machine (0 + n) row
+  bears_same place machine n lock row (q, there, same) = record {
+    pass = q;
+    there = there;
+    number = ap number_of same ∙ (let h : n ≡ 0 + n = omega arith in h);
+    root = ap (λ (p : Passing M Q A). p.root) same;
+  }
+
   pub back_numbers : (place : ℕ) (machine : M) (first : ℕ) (rows : List (Vec (Passing M Q A))) → ((n : ℕ) (d : Vec (Passing M Q A)) → n < length rows → Bears place machine (first + n) (slice_index_or rows n d))
       → map number_of (column place rows) ≡ numbers first (length rows)
   back_numbers place machine first [] each = refl
@@ -238,17 +246,14 @@ module _ {M Q A : Type 0} where
     notes_back n d lt = All-from_recursion (λ (l : Lock). l.notes ≡ workers) locks (noted_locks workers machines locks dealt.trays dealt.started) n d lt ∙ sym (count ∙ dealt.count)
 
     pub bears : (place : ℕ) (machine : M) → slice_get machines place ≡ Some machine → (n : ℕ) (d : Vec (Passing M Q A)) → n < length after → Bears place machine (0 + n) (slice_index_or after n d)
-    bears place machine at n d lt =
-        let below : n < length before = omega (arith, count, lt) in
-        let here : n < workers = omega (arith, below, dealt.count) in
-        let new = dealt_pass workers n here machines locks dealt.trays dealt.started place machine at in
-        let found = same_pass (slice_index_or before n d).items (slice_index_or after n d).items place (new_pass new.0 machine n) (same n d below) (ap (λ (ps : List (Passing M Q A)). slice_get ps place) (dealt.rows_are n d here) ∙ new.1) in
-        record {
-          pass = found.0;
-          there = found.1;
-          number = ap (λ (p : Passing M Q A). p.number) found.2 ∙ (let h : n ≡ 0 + n = omega arith in h);
-          root = ap (λ (p : Passing M Q A). p.root) found.2;
-        }
+    bears place machine at n d lt = at_row (omega (arith, count, lt)) (omega (arith, count, lt, dealt.count))
+      where
+        at_row : n < length before → n < workers → Bears place machine (0 + n) (slice_index_or after n d)
+        at_row below here =
+            let new = dealt_pass workers n here machines locks dealt.trays dealt.started place machine at in
+            bears_same place machine n new.0 (slice_index_or after n d)
+            (same_pass (slice_index_or before n d).items (slice_index_or after n d).items place (new_pass new.0 machine n) (same n d below)
+            (ap (λ (ps : List (Passing M Q A)). slice_get ps place) (dealt.rows_are n d here) ∙ new.1))
 
 -- ---- what each lock left
 

@@ -1,13 +1,11 @@
 -- Transcripts script by script: the Dones of commits, and the places that committed; and the greatest read time shard by shard.
-use Rattle.std.proofs.Common.{◌≡◌, ◌⊎◌, inl, inr, ℕ, ◌+◌, ◌<◌, ◌≤◌, ◌%◌, max, Bool, true, false, nat_eq, ◌&&◌, ◌||◌, List, [], ◌∷◌, ◌++◌, length, take, Option, None, Some, slice_index_or, slice_set, append_assoc, refl, sym, ap, ◌∙◌, subst, arith, Bor}
-use Rattle.std.specs.Prelude.{MatchOption}
-use Rattle.std.specs.List.{HoldsAt, cons_option, list_any, slice_get}
-use Rattle.std.specs.Option.{is_some, option_map, unwrap_or}
+use Rattle.std.proofs.Common.{◌≡◌, ◌⊎◌, inl, inr, ℕ, zero, suc, ◌+◌, ◌<◌, ◌≤◌, ◌%◌, max, Bool, true, false, nat_eq, ◌&&◌, ◌||◌, List, [], ◌∷◌, ◌++◌, map, length, take, Option, None, Some, slice_index_or, slice_set, append_assoc, refl, sym, ap, ◌∙◌, subst, arith}
+use Rattle.std.specs.List.{cons_option, list_any, slice_get}
+use Rattle.std.specs.Option.{is_some, unwrap_or}
 use Rattle.std.specs.FinMap.{get}
-use Rattle.std.proofs.lemmas.Bool.{eqb-true, eq-eqb}
+use Rattle.std.proofs.lemmas.Bool.{eqb-true, eq-eqb, false≢true}
 use Rattle.std.proofs.lemmas.List.{append-nil, get_or-set_other, get_or-set_same, take_more}
 use Rattle.std.proofs.lemmas.List.Elements.{filter_map-append}
-use Rattle.std.proofs.lemmas.Option.{slice_get-get_or, slice_get_past}
 use Rattle.coco_types.specs.RowKey.{RowKey}
 use Rattle.coco_types.specs.declared.call.Done.{Done}
 use Rattle.coco_types.specs.declared.call.Request.{Request}
@@ -16,13 +14,13 @@ use Rattle.coco_occ.specs.declared.outcome.Tried.{Tried}
 use Rattle.coco_order.specs.Execution.{concat}
 use Rattle.coco_order.specs.Outcome.{done_of, is_commit}
 use Rattle.coco_shard.specs.RowState.{IsGreatestTime, RowState, ShardState, resting, row_at}
-use Rattle.coco_parallel.specs.Ends.{dones_of, has_commit}
+use Rattle.coco_parallel.specs.Ends.{AreLeft, dones_of, has_commit}
 use Rattle.coco_parallel.specs.Laws.{IsGreatestIn}
 use Rattle.coco_parallel.proofs.SlotLemmas.{by_bool}
 
 -- ---- lists of lists
 
-concat_append : {X : Type 0} (xss yss : List (List X)) → concat (xss ++ yss) ≡ concat xss ++ concat yss
+pub concat_append : {X : Type 0} (xss yss : List (List X)) → concat (xss ++ yss) ≡ concat xss ++ concat yss
 concat_append [] yss = refl
 concat_append (xs ∷ xss) yss = ap (λ (zs : List _). xs ++ zs) (concat_append xss yss) ∙ sym (append_assoc xs (concat xss) (concat yss))
 
@@ -161,13 +159,32 @@ module _ (shards : List ShardState) where
 
 -- ---- one script
 
--- what `get` of a slice found
-pub got : {X : Type 0} (xs : List X) (n : ℕ) (r : Option (Bor X)) → MatchOption r (length xs ≤ n) (λ x. (n < length xs) × HoldsAt (λ y. x.now ≡ y) xs n) → slice_get xs n ≡ option_map (λ (x : Bor X). x.now) r
-got xs n None past = slice_get_past xs n past
-got xs n (Some x) found = slice_get-get_or xs n x.now found.0 ∙ ap (λ y. Some y) (sym (found.1 x.now))
+get_set_other : {X : Type 0} (xs : List X) (i j : ℕ) (x : X) → (i ≡ j → ⊥) → slice_get (slice_set xs i x) j ≡ slice_get xs j
+get_set_other [] i j x other = refl
+get_set_other (y ∷ ys) zero zero x other = absurd (other refl)
+get_set_other (y ∷ ys) zero (suc j) x other = refl
+get_set_other (y ∷ ys) (suc i) zero x other = refl
+get_set_other (y ∷ ys) (suc i) (suc j) x other = get_set_other ys i j x (λ e. other (ap suc e))
+
+map_set : {X Y : Type 0} (f : X → Y) (xs : List X) (i : ℕ) (x d : X) → f x ≡ f (slice_index_or xs i d) → i < length xs → map f (slice_set xs i x) ≡ map f xs
+map_set f [] i x d same lt = refl
+map_set f (y ∷ ys) zero x d same lt = ap (λ z. z ∷ map f ys) same
+map_set f (y ∷ ys) (suc i) x d same lt = ap (λ zs. f y ∷ zs) (map_set f ys i x d same (omega (arith, lt)))
+
+-- a request whose call is taken keeps its id, and it is the one that a script committed
+pub left_at : (t : Tried) (rs : List Request) (r d : Request) → t.place < length rs → r.id ≡ (slice_index_or rs t.place d).id → is_commit t.outcome ≡ true → AreLeft (t ∷ []) rs (slice_set rs t.place r)
+left_at t rs r d lt same commits = record {
+  ids = map_set (λ (q : Request). q.id) rs t.place r d same lt;
+  others = λ place none. get_set_other rs t.place place r (λ e. false≢true (sym (elsewhere (nat_eq t.place place) none) ∙ eq-eqb t.place place e));
+}
+  where
+    elsewhere : (b : Bool) → ((b && is_commit t.outcome) || false) ≡ false → b ≡ false
+    elsewhere true none = absurd (let e : is_commit t.outcome ≡ false = sym (or_false (is_commit t.outcome)) ∙ none in false≢true (sym e ∙ commits))
+      where
+        or_false : (c : Bool) → (c || false) ≡ c
+        or_false true = refl
+        or_false false = refl
+    elsewhere false none = refl
 
 pub none_added : {X : Type 0} (o : Option X) (xs : List X) → o ≡ None → xs ≡ xs ++ cons_option o []
 none_added o xs none = sym (append-nil xs) ∙ ap (λ (p : Option _). xs ++ cons_option p []) (sym none)
-
-pub one_added : {X : Type 0} (o : Option X) (xs ys : List X) (x : X) → ys ≡ xs ++ x ∷ [] → o ≡ Some x → ys ≡ xs ++ cons_option o []
-one_added o xs ys x pushed is = pushed ∙ ap (λ (p : Option _). xs ++ cons_option p []) (sym is)

@@ -23,7 +23,7 @@ use Rattle.coco_occ.specs.declared.outcome.Outcome.{Outcome}
 use Rattle.coco_occ.specs.declared.outcome.Outcome.TheVariants.{Committed, Conflict, OverTime}
 use Rattle.coco_occ.specs.declared.outcome.Tried.{Tried}
 use Rattle.coco_order.specs.Execution.{Beginning, Execution, InEachExecution, IsExecution, Journal, concat}
-use Rattle.coco_order.specs.Laws.{ClosedIsLawful, CommitsAreSerial, OnEachKeyOfEach, OutcomesAreEpochs, OutcomesAreSerial, ReadsAreFew, ScriptsAreFew, TimesAreFew}
+use Rattle.coco_order.specs.Laws.{ClosedIsLawful, CommitsAreOnce, CommitsAreSerial, OnEachKeyOfEach, OutcomesAreEpochs, OutcomesAreSerial, ReadsAreFew, ScriptsAreFew, TimesAreFew}
 use Rattle.coco_order.specs.OneKey.{Among, MarksAreOwn}
 use Rattle.coco_order.specs.Outcome.{IsOutcome, commit_of, commits, done_of, newest_at_end, tail_dones, tail_requests}
 use Rattle.coco_shard.specs.RowState.{RowState, ShardState, stable_at}
@@ -69,7 +69,7 @@ all_moved P xs ys same all = recursion_from_All P ys (All-permutation P xs ys sa
 
 -- ---- the end of the workers
 
-module _ (law : ClosedIsLawful) (own : OnEachKeyOfEach (λ opening k journal. MarksAreOwn k journal)) (reads : InEachExecution ReadsAreFew) (scripts : InEachExecution ScriptsAreFew) (s : Start) (slots : List Slot) (journals : List Journal)
+module _ (law : ClosedIsLawful) (own : OnEachKeyOfEach (λ opening k journal. MarksAreOwn k journal)) (once : InEachExecution CommitsAreOnce) (reads : InEachExecution ReadsAreFew) (scripts : InEachExecution ScriptsAreFew) (s : Start) (slots : List Slot) (journals : List Journal)
     (machines : List ShardState) (start : IsStart s) (ended : HasEnded s slots journals machines) (small : IsSmall s) where
   abbrev b : Beginning
   b = beginning_of s
@@ -91,10 +91,11 @@ module _ (law : ClosedIsLawful) (own : OnEachKeyOfEach (λ opening k journal. Ma
   few_reads : (k : RowKey) → (row_in machines k).rts ≤ 261120
   few_reads k = subst (λ (row : RowState). row.rts ≤ 261120) (sym (shards_have_rows law s slots journals machines start ended k)) (let le = reads b x is k in omega (arith, le, few_scripts))
 
-  may_begin : MayBeginTail s.shards machines
+  may_begin : MayBeginTail s.shards machines x.transcripts
   may_begin = record {
     kept = kept law s slots journals machines start ended;
     quiet = record { unmarked = unmarked law s slots journals machines start ended own; until = λ k. (let le = few_reads k in omega (arith, le)) };
+    once = once b x is;
   }
 
   module _ (serial : InEachExecution CommitsAreSerial) (times : InEachExecution TimesAreFew) (outcomes : InEachExecution OutcomesAreSerial) (epochs : InEachExecution OutcomesAreEpochs) (after : List ShardState) (dones : List Done) (left : KeepStable machines after)
@@ -158,10 +159,10 @@ module _ (law : ClosedIsLawful) (own : OnEachKeyOfEach (λ opening k journal. Ma
       };
     }
 
-pub tail_may_begin : ClosedIsLawful → OnEachKeyOfEach (λ opening k journal. MarksAreOwn k journal) → InEachExecution ReadsAreFew → InEachExecution ScriptsAreFew → AtEachEnd TailMayBegin
-tail_may_begin law own reads scripts s slots journals machines start ended small = may_begin law own reads scripts s slots journals machines start ended small
+pub tail_may_begin : ClosedIsLawful → OnEachKeyOfEach (λ opening k journal. MarksAreOwn k journal) → InEachExecution CommitsAreOnce → InEachExecution ReadsAreFew → InEachExecution ScriptsAreFew → AtEachEnd TailMayBegin
+tail_may_begin law own once reads scripts s slots journals machines start ended small = may_begin law own once reads scripts s slots journals machines start ended small
 
-pub ends_are_serial : ClosedIsLawful → OnEachKeyOfEach (λ opening k journal. MarksAreOwn k journal) → InEachExecution ReadsAreFew → InEachExecution ScriptsAreFew → InEachExecution CommitsAreSerial → InEachExecution TimesAreFew
+pub ends_are_serial : ClosedIsLawful → OnEachKeyOfEach (λ opening k journal. MarksAreOwn k journal) → InEachExecution CommitsAreOnce → InEachExecution ReadsAreFew → InEachExecution ScriptsAreFew → InEachExecution CommitsAreSerial → InEachExecution TimesAreFew
     → InEachExecution OutcomesAreSerial → InEachExecution OutcomesAreEpochs → AtEachEnd PiecesAreOfDones → AtEachEnd EndsAreSerial
-ends_are_serial law own reads scripts serial times outcomes epochs pieces s slots journals machines start ended small after dones parts left end =
-    worked_epoch law own reads scripts s slots journals machines start ended small serial times outcomes epochs after dones left parts end pieces
+ends_are_serial law own once reads scripts serial times outcomes epochs pieces s slots journals machines start ended small after dones parts left end =
+    worked_epoch law own once reads scripts s slots journals machines start ended small serial times outcomes epochs after dones left parts end pieces

@@ -1,5 +1,5 @@
 -- What stays of shards and tables whose locks are closed, whatever was asked of them.
-use Rattle.std.proofs.Common.{◌≡◌, ◌⊎◌, inl, inr, ℕ, ◌<◌, ◌≤◌, List, [], ◌∷◌, length, Some, slice_index_or, refl, sym, ap, ◌∙◌, subst, arith}
+use Rattle.std.proofs.Common.{◌≡◌, ◌⊎◌, inl, inr, ℕ, ◌<◌, ◌≤◌, List, [], ◌∷◌, ◌++◌, length, take, Some, slice_index_or, refl, sym, ap, ◌∙◌, subst, arith}
 use Rattle.std.specs.Global.{Vec}
 use Rattle.std.specs.FinMap.{empty}
 use Rattle.std.specs.Option.{option_map}
@@ -25,7 +25,7 @@ use Rattle.coco_worker.specs.Gains.{AreSame, ShardPass}
 use Rattle.coco_parallel.specs.Copies.{CopyPass}
 use Rattle.coco_parallel.specs.Desks.{AreBackBy, AreDealt}
 use Rattle.coco_parallel.specs.Worked.{CopyJournal, KeepValues, begun_all, emptied, table_at}
-use Rattle.coco_parallel.proofs.DeskLemmas.{bears, closed_by, machines_count}
+use Rattle.coco_parallel.proofs.DeskLemmas.{bears, closed_by, machines_count, written_back}
 use Rattle.coco_parallel.proofs.RowLemmas.{any_default}
 use Rattle.coco_parallel.proofs.OutcomeLemmas.{past_end, within_or_past}
 
@@ -104,6 +104,11 @@ emptied_copied tables copies journals count replays = same_lists (emptied copies
 
 pub same_values : (shards : List ShardState) → KeepValues shards shards
 same_values shards = record { count = refl; stable = λ p k. refl }
+
+-- the tables, once each has begun the epoch in its place
+pub begun_back : (epoch count : ℕ) (tables slice new rest : List CopyState) → count ≡ length tables → slice ≡ tables → new ≡ begun_all epoch slice → take count (new ++ rest) ≡ begun_all epoch tables
+begun_back epoch count tables slice new rest many same is =
+    written_back count new rest (many ∙ sym (ap length is ∙ length-map slice (λ (t : CopyState). begun epoch t.stable) ∙ ap length same)) ∙ is ∙ ap (begun_all epoch) same
 
 pub emptied_begun : (epoch : ℕ) (tables : List CopyState) → emptied (begun_all epoch tables) ≡ begun_all epoch tables
 emptied_begun epoch [] = refl

@@ -15,6 +15,7 @@ mod KeepingLemmas
 mod RanLemmas
 mod EndsLemmas
 mod TailLemmas
+mod TakenLemmas
 mod OpeningLemmas
 mod EpochLemmas
 mod PieceOrderLemmas

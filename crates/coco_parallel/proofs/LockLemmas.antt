@@ -1,11 +1,7 @@
 -- What the lock of a shard closes with: the steps of each worker's scripts there, and answers that are lawful from the opening map.
-use Rattle.std.proofs.Common.{◌≡◌, ℕ, zero, suc, ◌+◌, ◌<◌, ◌%◌, Bool, cond, nat_eq, List, [], ◌∷◌, map, length, take, Option, Some, slice_index_or, refl, sym, ap, ◌∙◌, subst, arith}
-use Rattle.std.specs.List.{AllByRecursion, cons_option, filter, slice_get}
-use Rattle.std.specs.Option.{option_map, unwrap_or}
+use Rattle.std.proofs.Common.{◌≡◌, ℕ, zero, suc, ◌+◌, ◌<◌, ◌%◌, Bool, cond, nat_eq, List, [], ◌∷◌, map, length, Option, slice_index_or, refl, sym, ap, ◌∙◌, subst, arith}
+use Rattle.std.specs.List.{AllByRecursion, cons_option, filter}
 use Rattle.std.proofs.lemmas.Bool.{eqb-true, eq-eqb}
-use Rattle.std.proofs.lemmas.Option.{same_Some}
-use Rattle.coco_types.specs.RowKey.{RowKey}
-use Rattle.coco_types.specs.declared.value.Value.{Value}
 use Rattle.coco_types.specs.declared.call.AttemptId.{AttemptId}
 use Rattle.coco_ast.proofs.Lists.{all_append}
 use Rattle.coco_journaled.specs.declared.entry.Entry.{Entry as Logged}
@@ -16,9 +12,8 @@ use Rattle.coco_occ.specs.Steps.{at_shard, taken}
 use Rattle.coco_occ.specs.declared.script.Step.{Step}
 use Rattle.coco_order.specs.Execution.{Beginning, IsTried, Journal, Transcript, all_at_shard, logged, of_pass, steps_of}
 use Rattle.coco_seen.specs.Rules.{numbers}
-use Rattle.coco_shard.specs.Law.{Entry, IsLawful, installed_by, last_found, law_row, read_time, standing_mark, write_time}
-use Rattle.coco_shard.specs.RowState.{RowState}
-use Rattle.coco_shard.specs.Table.{answer_at, key_of}
+use Rattle.coco_shard.specs.Law.{Entry}
+use Rattle.coco_shard.specs.Table.{key_of}
 use Rattle.coco_shard.specs.declared.ops.Answer.{Answer}
 use Rattle.coco_shard.specs.declared.ops.Ask.{Ask}
 use Rattle.coco_worker.specs.Gains.{ShardPass, entered}

@@ -43,10 +43,11 @@ module _ (procs : Procedures) (requests : List Request) (shards : List ShardStat
     small : (m : Rows) → IsSmall (start_at m)
     small m = record { distinct = distinct; few = few; attempts = attempts }
 
-    pub may_begin : AtEachEnd TailMayBegin → MayBeginTail shards machines
+    pub may_begin : AtEachEnd TailMayBegin → MayBeginTail shards machines transcripts
     may_begin law =
         let m = hold_some_map shards partitions settled in
-        law (start_at m.0) (worked m.0).slots journals machines (starts m.0 m.1) (worked m.0).ended (small m.0)
+        let w = worked m.0 in
+        subst (MayBeginTail shards machines) (sym w.transcripts_are) (law (start_at m.0) w.slots journals machines (starts m.0 m.1) w.ended (small m.0))
 
     -- out of memory behind the workers, the shards are as they were
     pub shards_back : AtEachEnd TailMayBegin → (after back : List ShardState) → KeepStable machines after → SettleOn stable_at after back → back ≡ shards

@@ -1,18 +1,22 @@
 -- What the end of an epoch makes of its transcripts: the Dones of the commits, and the tail behind them.
-use Rattle.std.specs.Prelude.{ℕ, ◌<◌, ◌≤◌, ◌^◌, Bool, ◌&&◌, nat_eq, List, ◌++◌, map, length}
-use Rattle.std.specs.List.{IsDistinct, filter_map, list_any, slice_get}
+use Rattle.std.specs.Prelude.{◌≡◌, ℕ, ◌<◌, ◌≤◌, ◌^◌, false, nat_eq, List, ◌++◌, map, length}
+use Rattle.std.specs.List.{IsDistinct, filter_map, slice_get}
 use Rattle.std.specs.List.Sorted.{IsPermutation}
 use Rattle.coco_types.specs.Limits.{most_batch_lines, most_time}
 use Rattle.coco_types.specs.declared.call.Done.{Done}
 use Rattle.coco_types.specs.declared.call.Piece.{Piece}
 use Rattle.coco_types.specs.declared.call.Request.{Request}
 use Rattle.coco_ast.specs.Keyed.{Rows}
+use Rattle.coco_ast.specs.Tree.{Procedures}
 use Rattle.coco_epoch.specs.Pieces.{pieces_of}
+use Rattle.coco_epoch.specs.Running.{AreAtTheirPlaces, requests_of}
+use Rattle.coco_epoch.specs.declared.placed.PlacedRequest.{PlacedRequest}
 use Rattle.coco_epoch.specs.Shards.{AreQuietAfter, HaveNewest, KeepStable}
 use Rattle.coco_occ.specs.declared.outcome.Tried.{Tried}
-use Rattle.coco_order.specs.Execution.{Beginning, Execution, Journal, concat}
+use Rattle.coco_order.specs.Execution.{Beginning, Execution, Journal, Transcript, concat}
 use Rattle.coco_order.specs.Order.{AreInOrder}
-use Rattle.coco_order.specs.Outcome.{AreCommits, done_of, is_commit, tail_dones, tail_requests, tail_rows}
+use Rattle.coco_order.specs.Outcome.{AreCommits, AreOnce, done_of, tail_dones, tail_requests, tail_rows}
+pub use Rattle.coco_order.specs.Outcome.{has_commit}
 use Rattle.coco_shard.specs.RowState.{ShardState}
 use Rattle.coco_worker.specs.declared.slot.Slot.{Slot}
 use Rattle.coco_parallel.specs.Ending.{Start, beginning_of, execution_of}
@@ -24,9 +28,21 @@ use Rattle.coco_parallel.specs.PieceOrder.{ArePiecesInOrder}
 abbrev pub dones_of : ℕ → List Request → List Tried → List Done
 dones_of epoch requests ts = filter_map (λ (t : Tried). done_of epoch (slice_get requests t.place) t.outcome) ts
 
--- one of the scripts is of this place and committed
-abbrev pub has_commit : List Tried → ℕ → Bool
-has_commit ts place = list_any (λ (t : Tried). nat_eq t.place place && is_commit t.outcome) ts
+-- What is left of requests whose calls went into the Dones of these scripts: the ids, and each request of which none of
+-- the scripts committed.
+pub record AreLeft (ts : List Tried) (before after : List Request) : Type 0 where
+  pub ids : map (λ (r : Request). r.id) after ≡ map (λ (r : Request). r.id) before
+  pub others : (place : ℕ) → has_commit ts place ≡ false → slice_get after place ≡ slice_get before place
+
+-- The tail of these requests ran behind these commits and pieces, whichever map the shards' newest values are, at the
+-- times above each read time.
+pub record RanTail (procs : Procedures) (epoch : ℕ) (tail : List PlacedRequest) (before after : List ShardState) (commits dones : List Done) (parts all : List Piece) : Type 0 where
+  pub most : ℕ
+  pub greatest : IsGreatestIn before most
+  pub dones_are : (rows : Rows) → HaveNewest rows before → dones ≡ commits ++ tail_dones procs epoch rows most (requests_of tail)
+  pub pieces_are : (rows : Rows) (asked : List Request) → HaveNewest rows before → AreAtTheirPlaces asked tail
+      → all ≡ parts ++ pieces_of procs (length before) asked rows (tail_dones procs epoch rows most (requests_of tail))
+  pub newest : (rows : Rows) → HaveNewest rows before → HaveNewest (tail_rows procs rows (requests_of tail)) after
 
 -- behind these commits the tail ran from this map on, at the times above this one, and so all Dones came about, and all
 -- pieces behind these lists, and the map that the shards have then
@@ -54,14 +70,15 @@ pub record IsSmall (s : Start) : Type 0 where
   pub few : length s.requests ≤ most_batch_lines
   pub attempts : s.config.attempts < 2 ^ 8
 
--- the shards have their partitions and the stable values of their start, no mark stands, and no read time is too great
--- for a tail
-pub record MayBeginTail (first machines : List ShardState) : Type 0 where
+-- the shards have their partitions and the stable values of their start, no mark stands, no read time is too great for a
+-- tail, and no request committed twice
+pub record MayBeginTail (first machines : List ShardState) (transcripts : List Transcript) : Type 0 where
   pub kept : KeepStable first machines
   pub quiet : AreQuietAfter most_time machines
+  pub once : AreOnce (concat transcripts)
 
 abbrev pub TailMayBegin : Start → List Slot → List Journal → List ShardState → Type 0
-TailMayBegin s slots journals machines = IsSmall s → MayBeginTail s.shards machines
+TailMayBegin s slots journals machines = IsSmall s → MayBeginTail s.shards machines (execution_of slots journals).transcripts
 
 -- with the tail behind it the epoch is an execution with its outcome, and serial
 abbrev pub EndsAreSerial : Start → List Slot → List Journal → List ShardState → Type 0

@@ -10,7 +10,7 @@ use Rattle.coco_parallel.specs.declared.workers.Station.{Station}
 
 -- a worker's station at which nothing is done yet
 abbrev pub station_of : ℕ → Vec ShardPass → Vec CopyPass → Drawer → Station
-station_of worker passes copy_passes seat = record { slot = record { worker = worker; passes = passes; copy_passes = copy_passes; seat = seat; transcript = []; pieces = []; tail = [] }; is_done = false }
+station_of worker passes copy_passes seat = record { slot = record { worker = worker; passes = passes; copy_passes = copy_passes; seat = seat; rooms = tt; transcript = []; pieces = []; tail = [] }; is_done = false }
 
 -- one for each worker, from this one on
 abbrev pub stations_of : ℕ → List (Vec ShardPass) → List (Vec CopyPass) → List Drawer → List Station
@@ -25,6 +25,7 @@ pub record IsCrew (requests workers : ℕ) (claims : Round) (seats back : Vec Dr
   pub seats_are : seats.items ≡ new_seats claims
   pub back_room : HasRoom workers back
   pub stations_room : HasRoom workers stations
+  pub scripts_room : HasRoom workers left.scripts
   pub transcripts_room : HasRoom workers left.transcripts
   pub pieces_room : HasRoom workers left.pieces
   pub tails_room : HasRoom workers left.tails

@@ -3,49 +3,51 @@
 ghost use Rattle.std.specs.Prelude.{◌≡◌, ℕ, ◌<◌, ◌≤◌, ◌||◌, ◌++◌, ◌∷◌, [], List, false, length, map, nat_eq, slice_index_or, vec_len, IfOk, OnOk};
 ghost use Rattle.std.specs.List.{IsDistinct};
 ghost use Rattle.coco_ast.specs.Keyed.{Rows};
-ghost use Rattle.coco_epoch.specs.Running.{AreAtTheirPlaces, FitAll, requests_of};
+ghost use Rattle.coco_epoch.specs.Running.{AreAtTheirPlaces, FitAll, IsOver, requests_of};
 ghost use Rattle.coco_epoch.specs.Shards.{AreOfPartitions, AreQuietAfter, KeepStable};
 ghost use Rattle.coco_order.specs.Execution.{Journal, concat};
-ghost use Rattle.coco_order.specs.Outcome.{is_commit, uncommitted};
-ghost use Rattle.coco_parallel.specs.Ends.{IsEnd, dones_of, has_commit};
+ghost use Rattle.coco_order.specs.Outcome.{AreOnce, uncommitted};
+ghost use Rattle.coco_parallel.specs.Ends.{AreLeft, IsEnd, RanTail, dones_of, has_commit};
 ghost use Rattle.coco_parallel.specs.Epochs.{beginning_with, execution_with};
 ghost use Rattle.coco_parallel.specs.Laws.{IsGreatestIn};
 
 use crate::pieces::in_done_order;
 use coco_ast::Checked;
 use coco_epoch::{PlacedRequest, Progress};
-use coco_occ::{Outcome, Transcript, Tried};
+use coco_occ::{Transcript, Tried};
 use coco_order::ordered;
 use coco_shard::Shard;
 use coco_types::limits::{MOST_BATCH_LINES, MOST_PARTITIONS, MOST_TIME};
-use coco_types::{Done, Dones, KeptReply, NoMemory, Pieces, Request};
+use coco_types::{Args, Call, Done, Dones, NoMemory, Pieces, Request};
 use coco_worker::EpochConfig;
 use std::alloc::Global;
+use std::mem;
 
 /// Runs the tail behind the commits of these transcripts, and puts all Dones in the order of commit, and all pieces in
-/// that of their Dones.
+/// that of their Dones. The calls of the requests that committed go into their Dones.
 pub(crate) fn end_epoch(
     alloc: Global,
     shards: &mut [Shard],
     procs: &Checked,
-    requests: &[Request],
+    requests: &mut [Request],
     config: EpochConfig,
     transcripts: &[Transcript],
     lists: Vec<Pieces>,
 ) -> Result<(Dones, Pieces), NoMemory>
-    requires fit { FitAll procs.now requests.now }
-    requires few { length requests.now ≤ MOST_BATCH_LINES }
-    requires distinct { IsDistinct nat_eq (map (λ r. r.id) requests.now) }
+    requires fit { FitAll procs.now requests.old }
+    requires few { length requests.old ≤ MOST_BATCH_LINES }
+    requires distinct { IsDistinct nat_eq (map (λ r. r.id) requests.old) }
+    requires once { AreOnce (concat transcripts.now) }
     requires some { 0 < length shards.old }
     requires most { length shards.old ≤ MOST_PARTITIONS }
     requires partitions { AreOfPartitions shards.old }
     requires quiet { AreQuietAfter MOST_TIME shards.old }
     ensures end { IfOk result (λ r. (opening : Rows) (journals : List Journal) →
-        IsEnd (beginning_with procs.now opening requests.now shards.old config) config.epoch (execution_with journals transcripts.now) lists.items shards.old shards.new r.0 r.1) }
+        IsEnd (beginning_with procs.now opening requests.old shards.old config) config.epoch (execution_with journals transcripts.now) lists.items shards.old shards.new r.0 r.1) }
     ensures kept { KeepStable shards.old shards.new }
 {
     let mut progress = Progress::start(alloc, config.epoch, requests.len())?;
-    add_commits(
+    take_commits(
         alloc,
         requests,
         config.epoch,
@@ -55,69 +57,84 @@ pub(crate) fn end_epoch(
     progress.dones = ordered(progress.dones);
     progress.pieces = all_pieces(alloc, lists)?;
     let tail = tail_of(alloc, requests, transcripts)?;
-    let after = greatest_read(shards);
-    progress.run_tail(procs, shards, tail, after)?;
+    run_left(&mut progress, procs, shards, tail)?;
     let Progress { dones, pieces, .. } = progress;
     let pieces = in_done_order(pieces.into_vec(), requests);
     Ok((Dones::from_vec(ordered(dones)), Pieces::from_vec(pieces)))
 }
 
-// Adds the Dones of the scripts that committed, in the order of the transcripts.
-fn add_commits(
+// Adds the Dones of the scripts that committed, in the order of the transcripts, with the calls of their requests.
+fn take_commits(
     alloc: Global,
-    requests: &[Request],
+    requests: &mut [Request],
     epoch: u64,
     transcripts: &[Transcript],
     dones: &mut Vec<Done>,
 ) -> Result<(), NoMemory>
-    ensures { OnOk result (dones.new.items ≡ dones.old.items ++ dones_of epoch requests.now (concat transcripts.now)) }
+    requires once { AreOnce (concat transcripts.now) }
+    ensures dones { OnOk result (dones.new.items ≡ dones.old.items ++ dones_of epoch requests.old (concat transcripts.now)) }
+    ensures left { OnOk result (AreLeft (concat transcripts.now) requests.old requests.new) }
 {
     for transcript in transcripts {
-        add_from(alloc, requests, epoch, transcript.as_slice(), dones)?;
+        take_from(alloc, requests, epoch, transcript.as_slice(), dones)?;
     }
     Ok(())
 }
 
 // Adds the Dones of one transcript.
-fn add_from(
+fn take_from(
     alloc: Global,
-    requests: &[Request],
+    requests: &mut [Request],
     epoch: u64,
     tried: &[Tried],
     dones: &mut Vec<Done>,
 ) -> Result<(), NoMemory>
-    ensures { OnOk result (dones.new.items ≡ dones.old.items ++ dones_of epoch requests.now tried.now) }
+    requires once { AreOnce tried.now }
+    ensures dones { OnOk result (dones.new.items ≡ dones.old.items ++ dones_of epoch requests.old tried.now) }
+    ensures left { OnOk result (AreLeft tried.now requests.old requests.new) }
 {
     for script in tried {
-        add_commit(alloc, requests, epoch, script, dones)?;
+        take_commit(alloc, requests, epoch, script, dones)?;
     }
     Ok(())
 }
 
 // Adds the Done of a script, if it committed.
-fn add_commit(
+fn take_commit(
     alloc: Global,
-    requests: &[Request],
+    requests: &mut [Request],
     epoch: u64,
     tried: &Tried,
     dones: &mut Vec<Done>,
 ) -> Result<(), NoMemory>
-    ensures { OnOk result (dones.new.items ≡ dones.old.items ++ dones_of epoch requests.now (tried.now ∷ [])) }
+    ensures dones { OnOk result (dones.new.items ≡ dones.old.items ++ dones_of epoch requests.old (tried.now ∷ [])) }
+    ensures left { OnOk result (AreLeft (tried.now ∷ []) requests.old requests.new) }
 {
-    let Outcome::Committed { time, reply } = &tried.outcome else {
+    let Some((time, reply)) = tried.outcome.commit() else {
         return Ok(());
     };
-    let Some(request) = requests.get(tried.place as usize) else {
-        return Ok(());
-    };
-    dones.push(Done {
-        id: request.id,
-        call: request.call.try_clone()?,
-        epoch,
-        time: *time,
-        reply: KeptReply::of(alloc, reply)?,
-    })?;
+    let reply = reply.try_clone()?;
+    let place = tried.place as usize;
+    if place < requests.len() {
+        let request = &mut requests[place];
+        dones.push(Done {
+            id: request.id,
+            call: mem::replace(&mut request.call, no_call(alloc)),
+            epoch,
+            time,
+            reply,
+        })?;
+    }
     Ok(())
+}
+
+// What is left of a call that was taken.
+fn no_call(alloc: Global) -> Call {
+    Call {
+        proc_no: 0,
+        snapshot: false,
+        args: Args::new(alloc),
+    }
 }
 
 // The requests that no script committed, with their places, in input order.
@@ -184,16 +201,35 @@ fn mark(tried: &[Tried], places: &mut [bool])
 {
     for script in tried {
         let place = script.place as usize;
-        if commits(&script.outcome) && place < places.len() {
+        if script.outcome.commit().is_some() && place < places.len() {
             places[place] = true;
         }
     }
 }
 
-fn commits(outcome: &Outcome) -> bool
-    ensures { result ≡ is_commit outcome.now }
+// Runs the requests that no script committed, at the times above each read time.
+fn run_left(
+    progress: &mut Progress,
+    procs: &Checked,
+    shards: &mut [Shard],
+    tail: Vec<PlacedRequest>,
+) -> Result<(), NoMemory>
+    requires fit { FitAll procs.now (requests_of tail.items) }
+    requires few { length tail.items ≤ MOST_BATCH_LINES }
+    requires over { IsOver progress.old.running }
+    requires some { 0 < length shards.old }
+    requires most { length shards.old ≤ MOST_PARTITIONS }
+    requires partitions { AreOfPartitions shards.old }
+    requires quiet { AreQuietAfter MOST_TIME shards.old }
+    ensures ran { OnOk result (RanTail procs.now progress.old.epoch tail.items shards.old shards.new progress.old.dones.items progress.new.dones.items progress.old.pieces progress.new.pieces) }
+    ensures kept { KeepStable shards.old shards.new }
 {
-    matches!(outcome, Outcome::Committed { .. })
+    // Most epochs have no tail, and then no row is looked at.
+    if tail.is_empty() {
+        return Ok(());
+    }
+    let after = greatest_read(shards);
+    progress.run_tail(procs, shards, tail, after)
 }
 
 // The greatest read time of any row.

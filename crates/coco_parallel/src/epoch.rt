@@ -42,16 +42,17 @@ pub struct EpochDone {
 }
 
 /// Runs the requests of an epoch: workers side by side, and then on one thread, as a tail, those that no worker
-/// committed. The copies begin the epoch. Out of memory, the shards are as they were handed in, and so are the copies
-/// but for what pended in them. The locks and the transcripts begin with these rooms (`Rooms::keep` takes them back,
-/// once they are read). `promote_all` of `coco_epoch` commits what it leaves in the shards.
+/// committed. The calls of the requests go into their Dones, and what is left of the requests isn't told. The copies
+/// begin the epoch. Out of memory, the shards are as they were handed in, and so are the copies but for what pended in
+/// them. The locks and the transcripts begin with these rooms (`Rooms::keep` takes them back, once they are read).
+/// `promote_all` of `coco_epoch` commits what it leaves in the shards.
 pub fn run_epoch<R: Threads + Wait + Sync, G: Gate + Sync, N: Net + Sync>(
     rt: &R,
     alloc: Global,
     shards: Vec<Shard>,
     copies: Vec<CopyTable>,
     procs: &Checked,
-    requests: &[Request],
+    requests: &mut [Request],
     config: EpochConfig,
     gate: &G,
     net: &N,
@@ -65,16 +66,16 @@ pub fn run_epoch<R: Threads + Wait + Sync, G: Gate + Sync, N: Net + Sync>(
     requires workers { 0 < config.workers }
     requires attempts { 0 < config.attempts }
     requires nodes { 0 < config.nodes }
-    requires few { length requests.now ≤ MOST_BATCH_LINES }
-    requires fit { FitAll procs.now requests.now }
-    requires distinct { IsDistinct nat_eq (map (λ r. r.id) requests.now) }
+    requires few { length requests.old ≤ MOST_BATCH_LINES }
+    requires fit { FitAll procs.now requests.old }
+    requires distinct { IsDistinct nat_eq (map (λ r. r.id) requests.old) }
     ensures epoch { IfOk result (λ done. (m : Rows) → HoldMap m shards.items →
-        IsWorkedEpoch (beginning_with procs.now m requests.now shards.items config) config.epoch done.journals.items done.transcripts.items done.shards.items done.dones done.pieces) }
+        IsWorkedEpoch (beginning_with procs.now m requests.old shards.items config) config.epoch done.journals.items done.transcripts.items done.shards.items done.dones done.pieces) }
     ensures count { IfOk result (λ done. length done.shards.items ≡ length shards.items) }
     ensures commits { IfOk result (λ done. (m : Rows) →
-        HaveCommits (start_of procs.now m requests.now shards.items config (N.carries net.now)) (length copies.items) done.copy_journals.items done.transcripts.items) }
+        HaveCommits (start_of procs.now m requests.old shards.items config (N.carries net.now)) (length copies.items) done.copy_journals.items done.transcripts.items) }
     ensures replayed { IfOk result (λ done. AreReplayed (begun_all config.epoch copies.items) done.copy_journals.items done.copies.items) }
-    ensures tails { IfOk result (λ done. (m : Rows) → HaveTails (beginning_with procs.now m requests.now shards.items config) done.transcripts.items done.tails.items) }
+    ensures tails { IfOk result (λ done. (m : Rows) → HaveTails (beginning_with procs.now m requests.old shards.items config) done.transcripts.items done.tails.items) }
     ensures shards { IfErr result (λ refused. refused.shards.items ≡ shards.items) }
     ensures copies { IfErr result (λ refused. refused.copies.items ≡ begun_all config.epoch copies.items) }
 {

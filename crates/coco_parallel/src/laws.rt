@@ -7,9 +7,9 @@ ghost use Rattle.coco_parallel.specs.PieceOrder.{PiecesAreOfDones};
 ghost use Rattle.coco_parallel.specs.Running.{RunsEnd};
 
 use coco_order::laws::{
-    closed_journals_are_lawful, commits_are_serial, marks_are_own, outcomes_are_epochs,
-    outcomes_are_serial, reads_are_few, scripts_are_few, tail_writes_are_runs, times_are_few,
-    writes_are_runs,
+    closed_journals_are_lawful, commits_are_once, commits_are_serial, marks_are_own,
+    outcomes_are_epochs, outcomes_are_serial, reads_are_few, scripts_are_few, tail_writes_are_runs,
+    times_are_few, writes_are_runs,
 };
 
 /// What the workers tried and what the locks of the shards closed with is an execution, and the shards have the rows
@@ -65,6 +65,7 @@ pub fn ends_are_serial()
 {
     closed_journals_are_lawful();
     marks_are_own();
+    commits_are_once();
     commits_are_serial();
     outcomes_are_serial();
     times_are_few();

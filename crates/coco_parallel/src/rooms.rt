@@ -1,16 +1,15 @@
 //! The rooms that the locks and the workers of an epoch leave to those of the next.
 
-ghost use Rattle.std.specs.Prelude.{◌≡◌, []};
-
 use coco_copy::CopyTable;
 use coco_journaled::{Journal, Room};
-use coco_occ::Transcript;
+use coco_occ::{ScriptRooms, Transcript};
 use coco_packs::Packs;
 use coco_shard::Shard;
 use std::alloc::Global;
+use std::{mem, vec};
 
 /// The rooms of an epoch's locks and of its workers' transcripts, which the next epoch's begin with. Locks take theirs
-/// from the end, so the last lock's stands first.
+/// from the end, so the last lock's stands first; workers take theirs in order.
 #[derive(Drop)]
 pub struct Rooms {
     pub(crate) shards: Vec<Room<Shard>>,
@@ -18,7 +17,9 @@ pub struct Rooms {
     /// The lists of places of each lock, in the locks' order, until the journals are there too.
     pub(crate) shard_lists: Vec<Vec<Vec<u64>>>,
     pub(crate) copy_lists: Vec<Vec<Vec<u64>>>,
-    transcripts: Vec<Transcript>,
+    /// The workers' transcripts, whose scripts' rooms serve again, and the rooms of those before, for transcripts.
+    pub(crate) transcripts: Vec<Transcript>,
+    pub(crate) scripts: Vec<ScriptRooms>,
 }
 
 impl Rooms {
@@ -30,6 +31,7 @@ impl Rooms {
             shard_lists: Vec::new(alloc),
             copy_lists: Vec::new(alloc),
             transcripts: Vec::new(alloc),
+            scripts: Vec::new(alloc),
         }
     }
 
@@ -46,16 +48,14 @@ impl Rooms {
         self.transcripts = transcripts;
     }
 
-    // A transcript of nothing, in the room of one that was kept, where one is left.
-    pub(crate) fn transcript(&mut self, alloc: Global) -> Transcript
-        ensures { result ≡ [] }
-    {
-        let Some(transcript) = self.transcripts.pop() else {
-            return Transcript::new(alloc);
-        };
-        let mut room = transcript.into_vec();
-        room.clear();
-        Transcript::from_vec(room)
+    // The transcripts that were kept, and the rooms of those before, worker after worker. None of them stay.
+    pub(crate) fn of_workers(
+        &mut self,
+        alloc: Global,
+    ) -> (vec::IntoIter<Transcript>, vec::IntoIter<ScriptRooms>) {
+        let transcripts = mem::replace(&mut self.transcripts, Vec::new(alloc));
+        let scripts = mem::replace(&mut self.scripts, Vec::new(alloc));
+        (transcripts.into_iter(), scripts.into_iter())
     }
 }
 

@@ -191,7 +191,7 @@ fn run_crew<R: Threads + Wait + Sync, G: Gate + Sync, N: Net + Sync>(
     (worked_of(close(shards), close(copies), left, rooms), done)
 }
 
-// What the workers came to. The lists of the locks are left to the rooms.
+// What the workers came to. The lists of the locks and what is left of the scripts' rooms are left to the rooms.
 fn worked_of(
     shards: EndedLocks<Shard>,
     copies: EndedLocks<CopyTable>,
@@ -201,10 +201,12 @@ fn worked_of(
     ensures { result ≡ record { shards = shards.machines; journals = shards.journals; copies = copies.machines; copy_journals = copies.journals; transcripts = left.transcripts; pieces = left.pieces; tails = left.tails } }
 {
     let Left {
+        scripts,
         transcripts,
         pieces,
         tails,
     } = left;
+    rooms.scripts = scripts;
     rooms.shard_lists = shards.lists;
     rooms.copy_lists = copies.lists;
     Worked {
@@ -228,6 +230,7 @@ impl Crew {
         let back = Vec::with_capacity(alloc, count)?;
         let stations = Vec::with_capacity(alloc, count)?;
         let left = Left {
+            scripts: Vec::with_capacity(alloc, count)?,
             transcripts: Vec::with_capacity(alloc, count)?,
             pieces: Vec::with_capacity(alloc, count)?,
             tails: Vec::with_capacity(alloc, count)?,

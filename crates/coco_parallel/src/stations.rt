@@ -10,21 +10,24 @@ use crate::workers::Station;
 use coco_claim::ClaimSeat;
 use coco_copy::CopyTable;
 use coco_journaled::Pass;
-use coco_occ::Transcript;
+use coco_occ::{ScriptRooms, Transcript};
 use coco_shard::Shard;
 use coco_types::Pieces;
 use coco_worker::{Slot, Tail};
 use std::alloc::Global;
 
-/// What workers leave besides their passes and seats, worker after worker.
+/// What workers leave besides their passes and seats, worker after worker: what they did, and what is left of the rooms
+/// that they began with.
 #[derive(Drop)]
 pub struct Left {
+    pub scripts: Vec<ScriptRooms>,
     pub transcripts: Vec<Transcript>,
     pub pieces: Vec<Pieces>,
     pub tails: Vec<Tail>,
 }
 
-/// A station for each worker, with its rows and its seat, and with a transcript in the room of one that was kept. There is room for them, and no memory is taken.
+/// A station for each worker, with its rows and its seat, and with the rooms that were kept for it. There is room for
+/// them, and no memory is taken.
 pub fn man(
     alloc: Global,
     rows: Vec<Vec<Pass<Shard>>>,
@@ -41,17 +44,37 @@ pub fn man(
 {
     let mut rows = rows.into_iter();
     let mut copy_rows = copy_rows.into_iter();
+    let (mut transcripts, mut scripts) = rooms.of_workers(alloc);
     let mut worker = 0;
     for seat in seats {
         let (Some(passes), Some(copy_passes)) = (rows.next(), copy_rows.next()) else {
             unreachable!()
         };
-        let transcript = rooms.transcript(alloc);
-        let station = station(alloc, worker, passes, copy_passes, seat, transcript);
+        let transcript = empty_transcript(alloc, scripts.next());
+        let rooms = rooms_of(alloc, transcripts.next());
+        let station = station(alloc, worker, passes, copy_passes, seat, transcript, rooms);
         stations.push_reserved(station);
         worker += 1;
     }
     stations
+}
+
+// A transcript of nothing, in this room where there is one.
+fn empty_transcript(alloc: Global, room: Option<ScriptRooms>) -> Transcript
+    ensures { result ≡ [] }
+{
+    match room {
+        Some(room) => room.into_transcript(),
+        None => Transcript::new(alloc),
+    }
+}
+
+// The rooms of the scripts of a transcript, where there is one.
+fn rooms_of(alloc: Global, transcript: Option<Transcript>) -> ScriptRooms {
+    match transcript {
+        Some(transcript) => ScriptRooms::of(transcript),
+        None => ScriptRooms::new(alloc),
+    }
 }
 
 // A station at which nothing is done yet.
@@ -62,6 +85,7 @@ fn station(
     copy_passes: Vec<Pass<CopyTable>>,
     seat: ClaimSeat,
     transcript: Transcript,
+    rooms: ScriptRooms,
 ) -> Station
     requires { transcript ≡ [] }
     ensures { result ≡ station_of worker passes copy_passes seat }
@@ -71,6 +95,7 @@ fn station(
         passes,
         copy_passes,
         seat,
+        rooms,
         transcript,
         pieces: Pieces::new(alloc),
         tail: Tail::new(alloc),
@@ -99,6 +124,7 @@ pub fn dismiss(
     requires rows { HasRoom (vec_len stations) rows.old }
     requires copy_rows { HasRoom (vec_len stations) copy_rows.old }
     requires seats { HasRoom (vec_len stations) seats.old }
+    requires scripts { HasRoom (vec_len stations) left.old.scripts }
     requires transcripts { HasRoom (vec_len stations) left.old.transcripts }
     requires pieces { HasRoom (vec_len stations) left.old.pieces }
     requires tails { HasRoom (vec_len stations) left.old.tails }
@@ -116,6 +142,7 @@ pub fn dismiss(
             passes,
             copy_passes,
             seat,
+            rooms,
             transcript,
             pieces,
             tail,
@@ -123,6 +150,7 @@ pub fn dismiss(
         rows.push_reserved(passes);
         copy_rows.push_reserved(copy_passes);
         seats.push_reserved(seat);
+        left.scripts.push_reserved(rooms);
         left.transcripts.push_reserved(transcript);
         left.pieces.push_reserved(pieces);
         left.tails.push_reserved(tail);

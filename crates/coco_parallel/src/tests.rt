@@ -108,16 +108,16 @@ fn ran<R: Threads + Wait + Sync, N: Net + Sync>(
     rt: &R,
     alloc: Global,
     procs: &Checked,
-    requests: &[Request],
+    requests: &mut [Request],
     epoch: u64,
     workers: u8,
     net: &N,
     rooms: &mut Rooms,
 ) -> Result<EpochDone, Fail>
     requires workers { 0 < workers }
-    requires few { length requests.now ≤ MOST_BATCH_LINES }
-    requires fit { FitAll procs.now requests.now }
-    requires distinct { IsDistinct nat_eq (map (λ r. r.id) requests.now) }
+    requires few { length requests.old ≤ MOST_BATCH_LINES }
+    requires fit { FitAll procs.now requests.old }
+    requires distinct { IsDistinct nat_eq (map (λ r. r.id) requests.old) }
 {
     let shards = fresh(alloc)?;
     let tables = tables(alloc)?;
@@ -146,9 +146,18 @@ fn ran_puts<R: Threads + Wait + Sync>(
     requires { 0 < workers }
 {
     let procs = Checked::built_in(alloc)?;
-    let requests = puts(alloc, &procs)?;
+    let mut requests = puts(alloc, &procs)?;
     let net = QuietNet::new(alloc);
-    ran(rt, alloc, &procs, &requests, 7, workers, &net, rooms)
+    ran(
+        rt,
+        alloc,
+        &procs,
+        requests.as_mut_slice(),
+        7,
+        workers,
+        &net,
+        rooms,
+    )
 }
 
 // The one put, run by one worker over this net.
@@ -158,9 +167,18 @@ fn ran_one_put<R: Threads + Wait + Sync, N: Net + Sync>(
     net: &N,
 ) -> Result<EpochDone, Fail> {
     let procs = Checked::built_in(alloc)?;
-    let requests = one_put(alloc, &procs)?;
+    let mut requests = one_put(alloc, &procs)?;
     let mut rooms = Rooms::new(alloc);
-    ran(rt, alloc, &procs, &requests, 1, 1, net, &mut rooms)
+    ran(
+        rt,
+        alloc,
+        &procs,
+        requests.as_mut_slice(),
+        1,
+        1,
+        net,
+        &mut rooms,
+    )
 }
 
 // Whether four puts of different rows stand at time 1, by id, with their pieces and with what copies have of row 5.

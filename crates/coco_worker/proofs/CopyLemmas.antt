@@ -115,6 +115,17 @@ CopyPass = Passing CopyState CopyAsk CopyAnswer
 pub table_within : (parts count n p k len : ℕ) → len ≡ parts * count → n ≡ count → p < parts → k < count → p * n + k < len
 table_within parts count n p k len many is lp lk = subst (λ (m : ℕ). p * m + k < len) (sym is) (let h = mul-add-lt p count k parts lp lk in omega arith)
 
+pub row_at : (row n m p : ℕ) → p ≡ row % n → n ≡ m → p ≡ row % m
+row_at row n m p is same = is ∙ ap (λ k. row % k) same
+
+pub table_at : (p q k n count : ℕ) → q ≡ p → n ≡ count → q * n + k ≡ p * count + k
+table_at p q k n count is same = ap (λ x. x * n + k) is ∙ ap (λ x. p * x + k) same
+
+-- what the net says of the node that a copy stands on
+pub carried_to : (carries : Carries) (c : WorkerCommit) (p k q nodes : ℕ) (carried : Bool) → carried ≡ carries c.config.epoch c.worker c.place ((q + k + 1) % nodes) → q ≡ p → nodes ≡ c.config.nodes
+    → carried ≡ carries c.config.epoch c.worker c.place ((p + k + 1) % c.config.nodes)
+carried_to carries c p k q nodes carried net is same = net ∙ ap (λ n. carries c.config.epoch c.worker c.place ((n + k + 1) % nodes)) is ∙ ap (λ n. carries c.config.epoch c.worker c.place ((p + k + 1) % n)) same
+
 module _ (carries : Carries) (c : WorkerCommit) (w : Write) (k : ℕ) (lt : k < c.config.copies) (old passes : List CopyPass) (so : Gain asked old passes (λ table. puts_below k carries c table (w ∷ []))) where
   -- the net doesn't carry the write to the next copy
   pub copied_skip : false ≡ carries c.config.epoch c.worker c.place ((w.key.row % c.partitions + k + 1) % c.config.nodes) → Gain asked old passes (λ table. puts_below (k + 1) carries c table (w ∷ []))

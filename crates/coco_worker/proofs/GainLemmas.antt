@@ -66,6 +66,9 @@ module _ {M Q A : Type 0} where
       let many = as_many locks passes of in
       same_Some _ _ (sym (at_map lock_of passes i d (omega arith)) ∙ ap (λ ls. slice_get ls i) of ∙ at_map id_of locks i e lt)
 
+  pub lock_here : (locks : List Lock) (passes : List (Passing M Q A)) (i : ℕ) (d : Passing M Q A) (l : Lock) → AreOf locks passes → i < length locks → l ≡ slice_index_or locks i l → (slice_index_or passes i d).lock ≡ l.id
+  lock_here locks passes i d l of lt is = lock_at locks passes i d l of lt ∙ ap id_of (sym is)
+
   pub same_set : (passes : List (Passing M Q A)) (i : ℕ) (q d : Passing M Q A) → undone q ≡ undone (slice_index_or passes i d) → AreSame passes (slice_set passes i q)
   same_set passes i q d is = map_set undone passes i q d is
 

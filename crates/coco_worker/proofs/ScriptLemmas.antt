@@ -85,6 +85,10 @@ took_left a b t u script left others took =
     let moved : u ≡ record a { script = script; standing = Ready } = took ∙ ap (λ (v : Trying). record v { script = script; standing = Ready }) (moved_on a b t b.script left others) in
     moved ∙ ap (λ (xs : List Step). record a { script = xs; standing = Ready }) (sym (ap (λ (v : Trying). v.script) took))
 
+-- and of its script
+pub took_script : (b t u : Trying) (step : Step) → t ≡ record b { standing = t.standing } → u ≡ record t { script = t.script ++ step ∷ []; standing = Ready } → u.script ≡ b.script ++ step ∷ []
+took_script b t u step others took = ap (λ (v : Trying). v.script) took ∙ ap (λ (xs : List Step). xs ++ step ∷ []) (same_script b t others)
+
 -- the script of an attempt that has ended is whole
 pub ended_script : (a t : Trying) (script : List Step) (outcome : Outcome) (writes : List Write) → t ≡ record a { script = script; standing = t.standing } → IsSound t → t.standing ≡ Ended outcome writes
     → IsScript a.procs a.call a.by a.partitions script outcome writes

@@ -17,7 +17,7 @@ use Rattle.coco_occ.specs.declared.outcome.Tried.{Tried}
 use Rattle.coco_occ.specs.declared.script.Step.{Step}
 use Rattle.coco_order.specs.Execution.{all_at_shard, is_conflict}
 use Rattle.coco_worker.specs.Gains.{AreSame, Make, entered}
-use Rattle.coco_worker.specs.Trying.{Adds, AreNumbered, HasEnded, IsAt, IsOver, IsTriedAt, TriesOnce, TriesOut, ends_of, time_of, unmade_of}
+use Rattle.coco_worker.specs.Trying.{Adds, AreNumbered, HasEnded, IsAt, IsOver, IsTriedAt, TriesOnce, TriesOnly, TriesOut, ends_of, time_of, unmade_of}
 use Rattle.coco_worker.specs.declared.slot.Slot.{Slot}
 use Rattle.coco_worker.proofs.GainLemmas.{gain_as, gain_none, gain_then}
 use Rattle.coco_worker.proofs.ScriptLemmas.{all_at_shard_append}
@@ -105,6 +105,12 @@ ends_in outcome = filter_map unmade_of (outcome ∷ [])
 
 ends_more : (ts : List Tried) (t : Tried) (outcome : Outcome) → t.outcome ≡ outcome → ends_of (ts ++ t ∷ []) ≡ ends_of ts ++ ends_in outcome
 ends_more ts t outcome is = filter_map-append (λ (u : Tried). unmade_of u.outcome) ts (t ∷ []) ∙ ap (λ (o : Outcome). ends_of ts ++ ends_in o) is
+
+pub same_worker : (a b : Slot) → TriesOnly a b → b.worker ≡ a.worker
+same_worker a b tries = ap (λ (s : Slot). s.worker) tries
+
+pub only_then : (a b c : Slot) → TriesOnly a b → TriesOnly b c → TriesOnly a c
+only_then a b c first next = next ∙ ap (λ (s : Slot). record s { passes = c.passes; transcript = c.transcript }) first
 
 -- one that conflicted more
 pub so_far_more : (procs : Procedures) (request : Request) (place partitions attempts left fewer : ℕ) (a b c : Slot) (ends more : List Unmade) (room : Option Trying) (outcome : Outcome) → AreSame a.passes.items b.passes.items → b.worker ≡ a.worker

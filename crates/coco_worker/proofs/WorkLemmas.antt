@@ -1,8 +1,9 @@
 -- Requests that are worked off: one, and from one stretch to the next.
-use Rattle.std.proofs.Common.{◌≡◌, ℕ, ◌<◌, ◌≤◌, Bool, true, false, cond, ◌||◌, nat_lt, nat_le, MatchBool, List, [], ◌∷◌, ◌++◌, map, length, Option, None, Some, Result, Ok, Err, OnOk, refl, sym, ap, ◌∙◌, subst, append_assoc}
+use Rattle.std.proofs.Common.{◌≡◌, ℕ, ◌<◌, ◌≤◌, Bool, true, false, cond, ◌||◌, nat_lt, nat_le, MatchBool, List, [], ◌∷◌, ◌++◌, map, length, Option, None, Some, Result, Ok, Err, OnOk, refl, sym, ap, ◌∙◌, subst, append_assoc, slice_index_or}
 use Rattle.std.specs.List.{AllByRecursion, flat_map, list_any, slice_get}
 use Rattle.std.proofs.lemmas.Bool.{lt-ltb, le-ltb, leb-true}
 use Rattle.std.proofs.lemmas.List.Elements.{filter-append}
+use Rattle.std.proofs.lemmas.Option.{slice_get-get_or}
 use Rattle.std.proofs.lemmas.List.{append-nil, map-append}
 use Rattle.std.proofs.lemmas.List.Concat.{flat_map-append}
 use Rattle.coco_types.specs.declared.call.Piece.{Piece}
@@ -10,7 +11,7 @@ use Rattle.coco_types.specs.declared.call.Request.{Request}
 use Rattle.coco_types.specs.declared.call.Write.{Write}
 use Rattle.coco_ast.proofs.Lists.{all_append}
 use Rattle.coco_ast.specs.Tree.{Procedures}
-use Rattle.coco_claim.specs.Seats.{Draws, Drawer, has_ended}
+use Rattle.coco_claim.specs.Seats.{Draws, Drawer, Round, has_ended}
 use Rattle.coco_occ.specs.Trying.{Trying}
 use Rattle.coco_occ.specs.declared.outcome.Ended.{Ended as Unmade}
 use Rattle.coco_occ.specs.declared.outcome.Outcome.{Outcome}
@@ -66,6 +67,9 @@ works_then j a b c ws vs same same_copies first next = record {
 }
 
 -- ---- one request
+
+pub placed_at : (rs : List Request) (place : ℕ) (r : Request) → place < length rs → r ≡ slice_index_or rs place r → slice_get rs place ≡ Some r
+placed_at rs place r lt is = slice_get-get_or rs place r lt ∙ ap (λ (q : Request). Some q) (sym is)
 
 whole_at : (j : Job) (request : Request) (place : ℕ) (t : Tried) (writes : List Write) → slice_get j.requests place ≡ Some request → IsAt j.procs request j.worker place j.partitions t writes → IsWhole j t writes
 whole_at j request place t writes placed is = record {
@@ -218,6 +222,10 @@ drew old new x draws drawn = by_end (has_ended old) draws
     by_end true same = ap (λ (d : Drawer). record d { drawn = new.drawn }) same ∙ ap (λ (xs : List ℕ). record old { drawn = xs }) drawn
     by_end false more = more.1 ∙ ap (λ (xs : List ℕ). record old { drawn = xs }) (sym (ap (λ (d : Drawer). d.drawn) more.1) ∙ drawn)
 
+-- it leaves the claims
+pub same_claims : (old seat new : Drawer) (x : ℕ) (claims : Round) → new ≡ seat → seat ≡ record old { drawn = old.drawn ++ x ∷ [] } → old.claims ≡ claims → new.claims ≡ claims
+same_claims old seat new x claims kept draws is = ap (λ (d : Drawer). d.claims) (kept ∙ draws) ∙ is
+
 -- the draw that ends it
 pub works_drawn : (j : Job) (passed : ℕ → Type 0) (a b : Slot) (seat : Drawer) (so : WorksSoFar j passed a b) → b.seat.claims.n ≡ length j.requests → MatchBool (has_ended b.seat) (seat ≡ b.seat) (Draws b.seat seat) → has_ended seat ≡ true
     → WorksDrawn j a (record b { seat = seat }) so.worked
@@ -258,6 +266,9 @@ lands_commit j request place time a b c writes ends tries others pieces copies =
   copies = subst (λ (ps : List CopyPass). Gain asked ps c.copy_passes.items (λ table. puts_at j.carries (commit_at j place time) table writes)) (ap (λ (s : Slot). s.copy_passes.items) tries) copies;
 }
 
+pub tail_more : (b : Slot) (tail : List Tailed) (request : Request) (ends : List Unmade) → tail ≡ b.tail ++ record { id = request.id; ends = ends } ∷ [] → record b { tail = tail } ≡ record b { tail = b.tail ++ record { id = request.id; ends = ends } ∷ [] }
+tail_more b tail request ends is = ap (λ (ts : List Tailed). record b { tail = ts }) is
+
 -- it has no commit, and is in the tail
 pub lands_tail : (j : Job) (request : Request) (place : ℕ) (a b c : Slot) (writes : List Write) (ends : List Unmade) → TriesOnly a b → c ≡ record b { tail = b.tail ++ record { id = request.id; ends = ends } ∷ [] }
     → Lands j request place a b c writes ends None
@@ -274,6 +285,10 @@ pub no_commit : (outcome : Outcome) → None ≡ time_of outcome → is_commit o
 no_commit (Committed time reply) none is = let h : None ≡ Some time = none in cc
 no_commit (Conflict why) none is = let h : false ≡ true = is in cc
 no_commit OverTime none is = let h : false ≡ true = is in cc
+
+-- the request at a place is worked off, by a worker who passed these gates
+abbrev pub WorkedAt : Job → ℕ → Slot → Slot → (ℕ → Type 0) → Type 0
+WorkedAt j place a d passed = (w : Worked) × (w.tries.place ≡ place) × Works j a d (w ∷ []) × IsGated passed w
 
 -- what a step that may fail says, by what it ensures twice where it didn't
 pub by_both : {X E A B C : Type 0} (r : Result X E) → OnOk r A → OnOk r B → (A → B → C) → OnOk r C

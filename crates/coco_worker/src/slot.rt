@@ -3,7 +3,7 @@
 use coco_claim::ClaimSeat;
 use coco_copy::CopyTable;
 use coco_journaled::Pass;
-use coco_occ::{Tailed, Transcript};
+use coco_occ::{ScriptRooms, Tailed, Transcript};
 use coco_shard::Shard;
 use coco_types::{Pieces, Sequence};
 
@@ -21,13 +21,15 @@ pub struct EpochConfig {
 /// The requests that no attempt committed.
 pub type Tail = Sequence<Tailed>;
 
-/// One worker: a pass of each shard and of each copy table, the seat that it draws by, and what it did.
+/// One worker: a pass of each shard and of each copy table, the seat that it draws by, rooms for its scripts, and what
+/// it did.
 #[derive(Drop)]
 pub struct Slot {
     pub worker: u32,
     pub passes: Vec<Pass<Shard>>,
     pub copy_passes: Vec<Pass<CopyTable>>,
     pub seat: ClaimSeat,
+    pub rooms: ScriptRooms,
     pub transcript: Transcript,
     pub pieces: Pieces,
     pub tail: Tail,

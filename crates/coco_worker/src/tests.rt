@@ -12,7 +12,7 @@ use coco_copy::CopyTable;
 use coco_gate::OpenGate;
 use coco_journaled::{Journaled, Pass, Room};
 use coco_net::{Lose, Net, QuietNet, ScriptNet};
-use coco_occ::{Ended, Outcome, Transcript, Why};
+use coco_occ::{Ended, Outcome, ScriptRooms, Transcript, Why};
 use coco_packs::Packs;
 use coco_shard::{Ask, Op, Shard};
 use coco_types::limits::MOST_ARGUMENTS;
@@ -200,6 +200,7 @@ fn worked_off<N: Net>(
         passes: shards.passes,
         copy_passes: copies.passes,
         seat,
+        rooms: ScriptRooms::new(alloc),
         transcript: Transcript::new(alloc),
         pieces: Pieces::new(alloc),
         tail: Tail::new(alloc),
@@ -216,8 +217,8 @@ fn worked_off<N: Net>(
 // The time of the commit at a place of the transcript, with how many steps it took.
 fn commit(slot: &Slot, place: usize) -> Option<(u64, usize)> {
     let tried = slot.transcript.as_slice().get(place)?;
-    match &tried.outcome {
-        Outcome::Committed { time, .. } => Some((*time, tried.script.len())),
+    match tried.outcome.get() {
+        Outcome::Committed { time, .. } => Some((time, tried.script.len())),
         _ => None,
     }
 }

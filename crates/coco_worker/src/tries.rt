@@ -10,7 +10,7 @@ use crate::steps::run_attempt;
 use coco_ast::Checked;
 use coco_gate::Gate;
 use coco_journaled::Journaled;
-use coco_occ::{Attempt, Ended, Ends, Outcome, Script, Tried};
+use coco_occ::{Attempt, Ended, Ends, Outcome, PackedOutcome, Script, Tried};
 use coco_shard::Shard;
 use coco_types::limits::MOST_PARTITIONS;
 use coco_types::{AttemptId, NoMemory, Request};
@@ -94,22 +94,28 @@ fn try_once<G: Gate>(
     let Some(attempt) = room else { unreachable!() };
     let passes = slot.passes.as_mut_slice();
     run_attempt(rt, procs, shards, passes, attempt)?;
-    let script = attempt.script().try_clone()?;
+    let script = attempt.script().copied_to(slot.rooms.next(alloc))?;
     let outcome = attempt.outcome();
-    let entry = tried(place, by, script, &outcome);
+    let entry = tried(alloc, place, by, script, &outcome)?;
     slot.transcript.push(entry)?;
     Ok(outcome)
 }
 
-fn tried(place: u32, by: AttemptId, script: Script, outcome: &Outcome) -> Tried
-    ensures { result ≡ record { place = place; by = by; script = script; outcome = outcome.now } }
+fn tried(
+    alloc: Global,
+    place: u32,
+    by: AttemptId,
+    script: Script,
+    outcome: &Outcome,
+) -> Result<Tried, NoMemory>
+    ensures { IfOk result (λ tried. tried ≡ record { place = place; by = by; script = script; outcome = outcome.now }) }
 {
-    Tried {
+    Ok(Tried {
         place,
         by,
         script,
-        outcome: *outcome,
-    }
+        outcome: PackedOutcome::of(alloc, outcome)?,
+    })
 }
 
 // An attempt at its start, in the place of the last one.

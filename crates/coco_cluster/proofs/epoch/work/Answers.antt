@@ -16,13 +16,13 @@ pub returns-then-config-gt1-clause-worked : goal.returns-then-config-gt1-clause-
 returns-then-config-gt1-clause-worked g c =
     subst (λ (rs : List Request). IfOk c.work_side_by_side.result (λ w. (m : Rows) → HoldMap m c.args.shards.now.items
     → HasWorked (beginning_with c.args.procs.now m rs c.args.shards.now.items c.args.config) c.args.config.epoch c.work_side_by_side.new.shards.items w.dones w.pieces))
-    c.as_slice.ensures.value c.work_side_by_side.ensures.worked
+    c.as_mut_slice.ensures.value c.work_side_by_side.ensures.worked
 
 pub returns-clause-worked : goal.returns-clause-worked
 returns-clause-worked g c m holds =
-    let value = c.as_mut_slice.ensures.value in
+    let value = c.as_mut_slice-2.ensures.value in
     let ran = c.in_ok-ran.ensures.ok m (subst (HoldMap m) (sym value) holds) c.args.config.attempts c.requires.attempts in
-    let back = with_items_is c.args.shards.now c.run_alone.new.shards (c.run_alone.auto.shards ∙ c.as_mut_slice.ensures.len) in
+    let back = with_items_is c.args.shards.now c.run_alone.new.shards (c.run_alone.auto.shards ∙ c.as_mut_slice-2.ensures.len) in
     let one : 1 ≡ c.args.config.workers = one_worker c.args.config.workers c.requires.workers c.if-config-gt1.false in
     let come = subst (λ (ss : List ShardState). ComeOfExecution (record { procs = c.args.procs.now; opening = m; requests = c.args.requests.items; partitions = length ss; workers = 1; attempts = c.args.config.attempts }) c.args.config.epoch c.in_ok-ran.ran.dones) value ran.0 in
     subst (λ (ss : List ShardState). HasWorked (beginning_with c.args.procs.now m c.args.requests.items c.args.shards.now.items c.args.config) c.args.config.epoch ss c.in_ok-ran.ran.dones c.in_ok-ran.ran.pieces) (sym back)

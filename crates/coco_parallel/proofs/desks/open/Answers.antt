@@ -20,7 +20,7 @@ turn-requires-clause-room g c =
     let started = subst (λ ts. AreStarted c.args.workers c.args.machines.items c.in_ok-locks.field-0.locks.items ts) (sym trays) c.in_ok-locks.ensures.started in
     let count = c.len-count.ensures ∙ c.args.machines.ok.0 in
     rows_room c.args.workers c.args.machines.items c.in_ok-locks.field-0.locks c.as_mut_slice.result.now started c.as_mut_slice-2.result.now
-    (subst (λ rows. All (λ row. (row.items ≡ []) × (vec_capacity row ≡ length c.args.machines.items)) rows) (sym c.as_mut_slice-2.ensures.value) (λ k d lt. (let row = c.in-Ok.ensures.rows.1 k d lt in (row.0, row.1 ∙ count))))
+    (subst (λ rows. All (λ row. (row.items ≡ []) × (vec_capacity row ≡ length c.args.machines.items)) rows) (sym c.as_mut_slice-2.ensures.value) (λ k d lt. (let row = c.in-Ok.ensures.rows.1 k d lt in let room = row.1 in (row.0, omega (arith, room, count)))))
 
 pub returns-clause-open : goal.returns-clause-open
 returns-clause-open g c =
@@ -33,7 +33,7 @@ returns-clause-open g c =
     let many = c.in-Ok.ensures.rows.0 in
     opened c.args.workers c.args.machines.items c.in_ok-locks.field-0.locks c.as_mut_slice.result.now started c.as_mut_slice-2.result.now c.turn.new.columns _ c.turn.new.rows _ c.in-Ok.back c.in-Ok.ended.machines c.in-Ok.ended.journals
     (ap length rows ∙ sym rows_ok ∙ many)
-    (subst (λ xs. All (λ row. (row.items ≡ []) × (vec_capacity row ≡ length c.args.machines.items)) xs) (sym rows) (λ k d lt. (let row = c.in-Ok.ensures.rows.1 k d lt in (row.0, row.1 ∙ count))))
+    (subst (λ xs. All (λ row. (row.items ≡ []) × (vec_capacity row ≡ length c.args.machines.items)) xs) (sym rows) (λ k d lt. (let row = c.in-Ok.ensures.rows.1 k d lt in let room = row.1 in (row.0, omega (arith, room, count)))))
     (written_back c.in-Ok.rows.len c.turn.new.columns (drop (length c.turn.new.columns) c.in-Ok.rows.items) (rows_ok ∙ sym (c.turn.ensures.count ∙ ap length rows)))
     c.turn.ensures.count c.turn.ensures.each
     (written_back c.in_ok-locks.field-0.trays.len c.turn.new.rows (drop (length c.turn.new.rows) c.in_ok-locks.field-0.trays.items) (trays_ok ∙ sym (c.turn.ensures.rows ∙ ap length trays)))

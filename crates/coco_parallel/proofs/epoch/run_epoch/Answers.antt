@@ -3,7 +3,8 @@ use Rattle.std.specs.FinMap.{empty}
 use Rattle.std.proofs.lemmas.List.{length-map}
 use Rattle.coco_ast.specs.Keyed.{Rows}
 use Rattle.coco_copy.specs.CopyState.{CopyState, begun}
-use Rattle.coco_order.specs.Execution.{Journal, Transcript}
+use Rattle.coco_order.specs.Execution.{Journal, Transcript, concat}
+use Rattle.coco_order.specs.Outcome.{AreOnce}
 use Rattle.coco_epoch.specs.Shards.{AreOfPartitions, AreQuietAfter, KeepStable, SettleOn}
 use Rattle.coco_shard.specs.RowState.{stable_at}
 use Rattle.coco_types.specs.declared.limits.TheConstants.{MOST_PARTITIONS, MOST_TIME}
@@ -47,6 +48,13 @@ end_epoch-requires-clause-quiet g c =
     let begun = may_begin c.args.procs.now c.args.requests.now c.args.shards.items c.args.config (g.N.Net.carries c.args.net.now) c.args.copies.items w.shards.items w.journals.items w.copies.items w.copy_journals.items w.transcripts.items w.pieces.items w.tails.items
     c.in_ok-shards.ensures.worked c.requires.some c.requires.fit c.requires.partitions c.requires.settled c.requires.distinct c.requires.few (assumption c.well_formed) c.ends_are_serial.ensures.begins in
     subst (AreQuietAfter MOST_TIME) (sym c.as_mut_slice.ensures.value) begun.quiet
+
+pub end_epoch-requires-clause-once : goal.end_epoch-requires-clause-once
+end_epoch-requires-clause-once g c =
+    let w = c.in_ok-shards.field-0 in
+    let begun = may_begin c.args.procs.now c.args.requests.now c.args.shards.items c.args.config (g.N.Net.carries c.args.net.now) c.args.copies.items w.shards.items w.journals.items w.copies.items w.copy_journals.items w.transcripts.items w.pieces.items w.tails.items
+    c.in_ok-shards.ensures.worked c.requires.some c.requires.fit c.requires.partitions c.requires.settled c.requires.distinct c.requires.few (assumption c.well_formed) c.ends_are_serial.ensures.begins in
+    subst (λ (ts : List Transcript). AreOnce (concat ts)) (sym c.deref.ensures.value) begun.once
 
 pub returns-in_default-clause-shards : goal.returns-in_default-clause-shards
 returns-in_default-clause-shards g c =

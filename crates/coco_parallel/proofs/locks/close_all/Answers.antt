@@ -1,4 +1,4 @@
-use Rattle.std.proofs.Common.{length, refl, sym, ap, ◌∙◌, subst, arith}
+use Rattle.std.proofs.Common.{length, refl, sym, ap, subst, arith}
 use Rattle.coco_parallel.specs.Locking.{AreBack, AreEnded}
 use Rattle.coco_parallel.proofs.ClosingLemmas.{as_many_back, ended_first, ended_none, first_back}
 use Rattle.coco_parallel.proofs.locks.close_all.Goals as goal
@@ -45,7 +45,7 @@ loop-lock-preserved g c =
       back = (first_back c.in-Some.lock c.in-Some-next.tray c.next.new.self.rest.items c.loop-lock.lock-iterator.rest.items c.next-in-loop-lock.new.self.rest.items c.loop-lock.trays.rest.items c.in-Some.ensures.steps.0 c.in-Some-next.ensures.items c.loop-lock.invariant.back).1;
       machines = omega (arith, n, room, c.push_reserved.ensures.len, c.push_reserved.ensures.capacity);
       journals = omega (arith, n, other, c.push_reserved-in-loop-lock.ensures.len, c.push_reserved-in-loop-lock.ensures.capacity);
-      room = c.push_reserved.ensures.capacity ∙ c.loop-lock.invariant.room;
+      room = let kept = c.loop-lock.invariant.room in omega (arith, kept, c.push_reserved.ensures.capacity);
       count = let count = c.loop-lock.invariant.count in omega (arith, n, count, c.push_reserved.ensures.len);
       ended = λ ms js are. c.loop-lock.invariant.ended ms js
           (ended_first g.M.Machine.answer_to g.M.Machine.state_after c.in-Some-next.tray c.next-in-loop-lock.new.self.rest.items c.loop-lock.trays.rest.items c.close-machine.result.machine c.close-machine.result.journal

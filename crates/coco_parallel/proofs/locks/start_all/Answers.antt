@@ -1,4 +1,5 @@
-use Rattle.std.proofs.Common.{length, ap, ◌∙◌, arith}
+use Rattle.std.proofs.Common.{length, ap, arith}
+use Rattle.coco_parallel.proofs.ClosingLemmas.{one_fewer}
 use Rattle.coco_parallel.proofs.StartingLemmas.{all_again, started_all, started_more, started_none}
 use Rattle.coco_parallel.proofs.locks.start_all.Goals as goal
 
@@ -19,27 +20,27 @@ loop-machine-init g c =
     }
 
 pub push_reserved-requires : goal.push_reserved-requires
-push_reserved-requires g c = let inv = c.loop-machine.invariant in let n = ap length c.in-Some.ensures.items in omega (arith, n, inv.count, inv.room)
+push_reserved-requires g c = let inv = c.loop-machine.invariant in let n = one_fewer c.loop-machine.rest.rest.items c.next.new.self.rest.items c.in-Some.machine c.in-Some.ensures.items in omega (arith, n, inv.count, inv.room)
 
 pub push_reserved-requires-in-Ok-start_one : goal.push_reserved-requires-in-Ok-start_one
-push_reserved-requires-in-Ok-start_one g c = let inv = c.loop-machine.invariant in let n = ap length c.in-Some.ensures.items in omega (arith, n, inv.count, inv.trays, inv.tray_room)
+push_reserved-requires-in-Ok-start_one g c = let inv = c.loop-machine.invariant in let n = one_fewer c.loop-machine.rest.rest.items c.next.new.self.rest.items c.in-Some.machine c.in-Some.ensures.items in omega (arith, n, inv.count, inv.trays, inv.tray_room)
 
 pub loop-machine-smaller : goal.loop-machine-smaller
-loop-machine-smaller g c = let n = ap length c.in-Some.ensures.items in omega (arith, n)
+loop-machine-smaller g c = let n = one_fewer c.loop-machine.rest.rest.items c.next.new.self.rest.items c.in-Some.machine c.in-Some.ensures.items in omega (arith, n)
 
 pub loop-machine-preserved : goal.loop-machine-preserved
 loop-machine-preserved g c =
     let inv = c.loop-machine.invariant in
-    let n = ap length c.in-Some.ensures.items in
+    let n = one_fewer c.loop-machine.rest.rest.items c.next.new.self.rest.items c.in-Some.machine c.in-Some.ensures.items in
     let locks = c.push_reserved.ensures in
     let trays = c.push_reserved-in-Ok-start_one.ensures in
     record {
       has = started_more c.args.workers c.args.machines.items c.loop-machine.rest.rest.items c.loop-machine.started.locks.items c.loop-machine.started.trays.items inv.has c.in-Some.machine c.next.new.self.rest.items c.in-Ok-start_one.lock
           c.in-Ok-start_one.tray c.push_reserved.new.self.items c.push_reserved-in-Ok-start_one.new.self.items c.in-Some.ensures.items c.in-Ok-start_one.ensures.started locks.items trays.items;
       count = omega (arith, n, inv.count, locks.len);
-      room = locks.capacity ∙ inv.room;
+      room = omega (arith, locks.capacity, inv.room);
       trays = omega (arith, inv.trays, locks.len, trays.len);
-      tray_room = trays.capacity ∙ inv.tray_room;
+      tray_room = omega (arith, trays.capacity, inv.tray_room);
     }
 
 pub take_back-requires-clause-started : goal.take_back-requires-clause-started
@@ -48,7 +49,7 @@ take_back-requires-clause-started g c = (c.loop-machine.invariant.has.firsts, c.
 pub take_back-requires-clause-room : goal.take_back-requires-clause-room
 take_back-requires-clause-room g c =
     let inv = c.loop-machine.invariant in
-    let n = ap length c.in-Some.ensures.items in
+    let n = one_fewer c.loop-machine.rest.rest.items c.next.new.self.rest.items c.in-Some.machine c.in-Some.ensures.items in
     let ok = c.next.new.self.rest.ok in
     let room = c.in-Ok.ensures.machines in
     let len = c.len.ensures in

@@ -1,6 +1,5 @@
-use Rattle.std.proofs.Common.{◌++◌, ◌∷◌, [], length, sym, ap, ◌∙◌, arith, append_assoc}
-use Rattle.std.proofs.lemmas.List.{append-nil}
-use Rattle.coco_parallel.proofs.ClosingLemmas.{nothing}
+use Rattle.std.proofs.Common.{◌++◌, length, ap, arith}
+use Rattle.coco_parallel.proofs.ClosingLemmas.{all_moved, nothing, one_moved}
 use Rattle.coco_parallel.proofs.StartingLemmas.{all_back, machines_same}
 use Rattle.coco_parallel.proofs.locks.take_back.Goals as goal
 
@@ -29,8 +28,8 @@ loop-machine-preserved g c =
     let n = ap length c.in-Some.ensures.steps.0 in
     let room = c.loop-machine.invariant.room in
     record {
-      items = ap (λ xs. xs ++ c.next.new.self.rest.items) c.push_reserved-in-loop-machine.ensures.items ∙ append_assoc c.loop-machine.ended.machines.items (c.in-Some.machine ∷ []) c.next.new.self.rest.items
-          ∙ ap (λ ys. c.loop-machine.ended.machines.items ++ ys) (sym c.in-Some.ensures.steps.0) ∙ c.loop-machine.invariant.items;
+      items = one_moved c.loop-machine.ended.machines.items c.push_reserved-in-loop-machine.new.self.items c.loop-machine.machine-iterator.rest.items c.next.new.self.rest.items (c.push_reserved.new.self.items ++ c.args.rest.rest.items) c.in-Some.machine
+          c.push_reserved-in-loop-machine.ensures.items c.in-Some.ensures.steps.0 c.loop-machine.invariant.items;
       room = omega (arith, n, room, c.push_reserved-in-loop-machine.ensures.len, c.push_reserved-in-loop-machine.ensures.capacity);
     }
 
@@ -38,9 +37,7 @@ pub returns : goal.returns
 returns g c = λ firsts are.
     let none = c.in-None.ensures.steps.0 in
     let ok = c.loop-machine.machine-iterator.rest.ok in
-    let empty = nothing c.loop-machine.machine-iterator.rest.items (omega (arith, none, ok.0)) in
-    sym (append-nil c.loop-machine.ended.machines.items) ∙ ap (λ ys. c.loop-machine.ended.machines.items ++ ys) (sym empty) ∙ c.loop-machine.invariant.items
-    ∙ ap (λ xs. xs ++ c.args.rest.rest.items) (c.push_reserved.ensures.items
-    ∙ ap (λ xs. xs ++ c.args.machine ∷ []) (machines_same g.M.Machine.answer_to g.M.Machine.state_after c.args.workers c.requires.workers firsts c.args.started.locks.items c.args.started.trays.items are
-    c.args.ended.machines.items c.args.ended.journals.items c.close_all.new.ended.machines.items c.close_all.new.ended.journals.items c.close_all.ensures.ended ∙ ap (λ xs. xs ++ firsts) c.requires.none))
-    ∙ append_assoc firsts (c.args.machine ∷ []) c.args.rest.rest.items
+    all_moved c.loop-machine.ended.machines.items c.loop-machine.machine-iterator.rest.items c.push_reserved.new.self.items c.close_all.new.ended.machines.items c.args.ended.machines.items firsts c.args.rest.rest.items c.args.machine
+    (nothing c.loop-machine.machine-iterator.rest.items (omega (arith, none, ok.0))) c.loop-machine.invariant.items c.push_reserved.ensures.items
+    (machines_same g.M.Machine.answer_to g.M.Machine.state_after c.args.workers c.requires.workers firsts c.args.started.locks.items c.args.started.trays.items are
+    c.args.ended.machines.items c.args.ended.journals.items c.close_all.new.ended.machines.items c.close_all.new.ended.journals.items c.close_all.ensures.ended) c.requires.none

@@ -30,7 +30,7 @@ loop-left-preserved g c =
     record {
       len = omega (arith, c.in-Some.ensures.cases, inv.len);
       items = one_less (vec_len c.loop-left.row) c.loop-left.left c.args.row.now.items c.loop-left.row.items c.pop.new.self.items inv.len some inv.items c.pop.ensures.rest;
-      room = c.pop.ensures.capacity ∙ inv.room;
+      room = omega (arith, c.pop.ensures.capacity, inv.room);
       most = omega (arith, inv.most);
       handed = handed_more c.args.row.now.items c.args.columns.now c.loop-left.left c.loop-left.columns c.in-Some.item c.push_reserved.new.self some inv.most count
           (last_at (vec_len c.loop-left.row) c.loop-left.left c.args.row.now.items c.loop-left.row.items c.in-Some.item inv.len some inv.items (λ d. sym c.in-Some.is ∙ c.pop.ensures.value d (omega (arith, some, inv.len))))

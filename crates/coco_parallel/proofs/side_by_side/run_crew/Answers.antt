@@ -86,6 +86,14 @@ dismiss-requires-clause-seats g c =
     let room = c.requires.crew.back_room.1 in
     (c.requires.crew.back_room.0, omega (arith, count, ok, room))
 
+pub dismiss-requires-clause-scripts : goal.dismiss-requires-clause-scripts
+dismiss-requires-clause-scripts g c =
+    let count = begun_count c.args.config.workers c.requires.shards.0 c.requires.copies.0 c.args.desks.shards.locks.items c.args.desks.copies.locks.items c.args.desks.rows.items c.args.desks.copy_rows.items c.args.crew.claims c.requires.shards.1.dealt c.requires.copies.1.dealt c.requires.crew.count
+    c.args.crew.seats.items c.man-stations.result.items c.requires.crew.seats_are c.man-stations.ensures in
+    let ok = c.man-stations.result.ok.0 in
+    let room = c.requires.crew.scripts_room.1 in
+    (c.requires.crew.scripts_room.0, omega (arith, count, ok, room))
+
 pub dismiss-requires-clause-transcripts : goal.dismiss-requires-clause-transcripts
 dismiss-requires-clause-transcripts g c =
     let count = begun_count c.args.config.workers c.requires.shards.0 c.requires.copies.0 c.args.desks.shards.locks.items c.args.desks.copies.locks.items c.args.desks.rows.items c.args.desks.copy_rows.items c.args.crew.claims c.requires.shards.1.dealt c.requires.copies.1.dealt c.requires.crew.count

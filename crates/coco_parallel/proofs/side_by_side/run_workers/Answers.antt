@@ -1,10 +1,10 @@
-use Rattle.std.proofs.Common.{◌≤◌, ◌*◌, length, drop, sym, ap, ◌∙◌, subst, arith}
+use Rattle.std.proofs.Common.{◌≡◌, ℕ, ◌≤◌, ◌*◌, length, drop, sym, ap, ◌∙◌, subst, arith}
 use Rattle.std.proofs.lemmas.List.{length-map}
 use Rattle.coco_copy.specs.CopyState.{CopyState, begun}
 use Rattle.coco_types.specs.declared.limits.TheConstants.{MOST_PARTITIONS}
-use Rattle.coco_parallel.specs.Worked.{HaveWorked, begun_all, emptied, start_of}
-use Rattle.coco_parallel.proofs.DeskLemmas.{as_many_started, written_back}
-use Rattle.coco_parallel.proofs.KeepingLemmas.{emptied_begun, same_values, settled_same}
+use Rattle.coco_parallel.specs.Worked.{HaveWorked, emptied, start_of}
+use Rattle.coco_parallel.proofs.DeskLemmas.{as_many_started}
+use Rattle.coco_parallel.proofs.KeepingLemmas.{begun_back, emptied_begun, same_values, settled_same}
 use Rattle.coco_parallel.proofs.side_by_side.run_workers.Goals as goal
 
 pub returns-in_default-clause-shards : goal.returns-in_default-clause-shards
@@ -13,7 +13,7 @@ returns-in_default-clause-shards g c =
 
 pub returns-in_default-clause-copies : goal.returns-in_default-clause-copies
 returns-in_default-clause-copies g c =
-    c.taken_back.ensures.copies ∙ ap emptied (written_back c.args.copies.len c.begin_all.new.copies (drop (length c.begin_all.new.copies) c.args.copies.items) (c.args.copies.ok.0 ∙ sym (ap length c.begin_all.ensures ∙ length-map c.as_mut_slice.result.now (λ (t : CopyState). begun c.args.config.epoch t.stable) ∙ ap length c.as_mut_slice.ensures.value)) ∙ c.begin_all.ensures ∙ ap (begun_all c.args.config.epoch) c.as_mut_slice.ensures.value)
+    c.taken_back.ensures.copies ∙ ap emptied (begun_back c.args.config.epoch c.args.copies.len c.args.copies.items c.as_mut_slice.result.now c.begin_all.new.copies (drop (length c.begin_all.new.copies) c.args.copies.items) c.args.copies.ok.0 c.as_mut_slice.ensures.value c.begin_all.ensures)
     ∙ emptied_begun c.args.config.epoch c.args.copies.items
 
 pub returns-in-Err-clause-shards : goal.returns-in-Err-clause-shards
@@ -22,7 +22,7 @@ returns-in-Err-clause-shards g c =
 
 pub returns-in-Err-clause-copies : goal.returns-in-Err-clause-copies
 returns-in-Err-clause-copies g c =
-    c.taken_back-in-Err.ensures.copies ∙ ap emptied (c.in-Err.ensures.copies_back ∙ (written_back c.args.copies.len c.begin_all.new.copies (drop (length c.begin_all.new.copies) c.args.copies.items) (c.args.copies.ok.0 ∙ sym (ap length c.begin_all.ensures ∙ length-map c.as_mut_slice.result.now (λ (t : CopyState). begun c.args.config.epoch t.stable) ∙ ap length c.as_mut_slice.ensures.value)) ∙ c.begin_all.ensures ∙ ap (begun_all c.args.config.epoch) c.as_mut_slice.ensures.value))
+    c.taken_back-in-Err.ensures.copies ∙ ap emptied (c.in-Err.ensures.copies_back ∙ (begun_back c.args.config.epoch c.args.copies.len c.args.copies.items c.as_mut_slice.result.now c.begin_all.new.copies (drop (length c.begin_all.new.copies) c.args.copies.items) c.args.copies.ok.0 c.as_mut_slice.ensures.value c.begin_all.ensures))
     ∙ emptied_begun c.args.config.epoch c.args.copies.items
 
 pub run_crew-worked-requires-clause-some : goal.run_crew-worked-requires-clause-some
@@ -40,14 +40,16 @@ pub run_crew-worked-requires-clause-tables : goal.run_crew-worked-requires-claus
 run_crew-worked-requires-clause-tables g c κs within =
     let many = (as_many_started c.args.config.workers c.args.shards.items c.in-Ok-open_both.desks.shards.locks.items c.in-Ok-open_both.ensures.shards.dealt.trays c.in-Ok-open_both.ensures.shards.dealt.started).0 in
     let copies = (as_many_started c.args.config.workers _ c.in-Ok-open_both.desks.copies.locks.items c.in-Ok-open_both.ensures.copies.dealt.trays c.in-Ok-open_both.ensures.copies.dealt.started).0 in
-    let begun_count = ap length (written_back c.args.copies.len c.begin_all.new.copies (drop (length c.begin_all.new.copies) c.args.copies.items) (c.args.copies.ok.0 ∙ sym (ap length c.begin_all.ensures ∙ length-map c.as_mut_slice.result.now (λ (t : CopyState). begun c.args.config.epoch t.stable) ∙ ap length c.as_mut_slice.ensures.value)) ∙ c.begin_all.ensures ∙ ap (begun_all c.args.config.epoch) c.as_mut_slice.ensures.value) in
-    copies ∙ begun_count ∙ length-map c.args.copies.items (λ (t : CopyState). begun c.args.config.epoch t.stable) ∙ c.requires.tables ∙ ap (λ n. n * c.args.config.copies) (sym many)
+    let begun_count = ap length (begun_back c.args.config.epoch c.args.copies.len c.args.copies.items c.as_mut_slice.result.now c.begin_all.new.copies (drop (length c.begin_all.new.copies) c.args.copies.items) c.args.copies.ok.0 c.as_mut_slice.ensures.value c.begin_all.ensures) in
+    let each = length-map c.args.copies.items (λ (t : CopyState). begun c.args.config.epoch t.stable) in
+    let tables = c.requires.tables in
+    subst (λ (n : ℕ). length c.in-Ok-open_both.desks.copies.locks.items ≡ n * c.args.config.copies) (sym many) (omega (arith, copies, begun_count, each, tables))
 
 pub returns-then-done-clause-worked : goal.returns-then-done-clause-worked
 returns-then-done-clause-worked g c =
     λ opening.
     subst (λ ts. HaveWorked (start_of c.args.procs.now opening c.args.requests.now c.args.shards.items c.args.config (g.N.Net.carries c.args.net.now)) ts c.run_crew-worked.result.0.shards.items c.run_crew-worked.result.0.journals.items c.run_crew-worked.result.0.copies.items c.run_crew-worked.result.0.copy_journals.items c.run_crew-worked.result.0.transcripts.items c.run_crew-worked.result.0.pieces.items c.run_crew-worked.result.0.tails.items)
-    (written_back c.args.copies.len c.begin_all.new.copies (drop (length c.begin_all.new.copies) c.args.copies.items) (c.args.copies.ok.0 ∙ sym (ap length c.begin_all.ensures ∙ length-map c.as_mut_slice.result.now (λ (t : CopyState). begun c.args.config.epoch t.stable) ∙ ap length c.as_mut_slice.ensures.value)) ∙ c.begin_all.ensures ∙ ap (begun_all c.args.config.epoch) c.as_mut_slice.ensures.value)
+    (begun_back c.args.config.epoch c.args.copies.len c.args.copies.items c.as_mut_slice.result.now c.begin_all.new.copies (drop (length c.begin_all.new.copies) c.args.copies.items) c.args.copies.ok.0 c.as_mut_slice.ensures.value c.begin_all.ensures)
     (c.run_crew-worked.ensures.worked c.args.shards.items _ c.in-Ok-open_both.ensures.shards.dealt c.in-Ok-open_both.ensures.copies.dealt c.if-done.true opening)
 
 pub returns-else-done-clause-shards : goal.returns-else-done-clause-shards
@@ -56,5 +58,5 @@ returns-else-done-clause-shards g c =
 
 pub returns-else-done-clause-copies : goal.returns-else-done-clause-copies
 returns-else-done-clause-copies g c =
-    c.taken_back-else-done.ensures.copies ∙ c.run_crew-worked.ensures.copies _ c.in-Ok-open_both.ensures.copies.dealt ∙ ap emptied (written_back c.args.copies.len c.begin_all.new.copies (drop (length c.begin_all.new.copies) c.args.copies.items) (c.args.copies.ok.0 ∙ sym (ap length c.begin_all.ensures ∙ length-map c.as_mut_slice.result.now (λ (t : CopyState). begun c.args.config.epoch t.stable) ∙ ap length c.as_mut_slice.ensures.value)) ∙ c.begin_all.ensures ∙ ap (begun_all c.args.config.epoch) c.as_mut_slice.ensures.value)
+    c.taken_back-else-done.ensures.copies ∙ c.run_crew-worked.ensures.copies _ c.in-Ok-open_both.ensures.copies.dealt ∙ ap emptied (begun_back c.args.config.epoch c.args.copies.len c.args.copies.items c.as_mut_slice.result.now c.begin_all.new.copies (drop (length c.begin_all.new.copies) c.args.copies.items) c.args.copies.ok.0 c.as_mut_slice.ensures.value c.begin_all.ensures)
     ∙ emptied_begun c.args.config.epoch c.args.copies.items

@@ -14,6 +14,7 @@ invariant-loop-station l = record {
   rows_room : vec_len l.rows + length l.station-iterator.rest.items ≤ vec_capacity l.rows;
   copy_rows_room : vec_len l.copy_rows + length l.station-iterator.rest.items ≤ vec_capacity l.copy_rows;
   seats_room : vec_len l.seats + length l.station-iterator.rest.items ≤ vec_capacity l.seats;
+  scripts_room : vec_len l.left.scripts + length l.station-iterator.rest.items ≤ vec_capacity l.left.scripts;
   transcripts_room : vec_len l.left.transcripts + length l.station-iterator.rest.items ≤ vec_capacity l.left.transcripts;
   pieces_room : vec_len l.left.pieces + length l.station-iterator.rest.items ≤ vec_capacity l.left.pieces;
   tails_room : vec_len l.left.tails + length l.station-iterator.rest.items ≤ vec_capacity l.left.tails;

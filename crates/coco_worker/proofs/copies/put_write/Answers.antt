@@ -1,23 +1,22 @@
 use Rattle.std.proofs.Common.{◌≡◌, ℕ, ◌+◌, ◌*◌, ◌<◌, ◌%◌, [], ◌∷◌, List, length, map, refl, sym, ap, ◌∙◌, subst, arith, slice_index_or}
-use Rattle.coco_seen.specs.Notes.{Lock}
 use Rattle.coco_copy.specs.Puts.{after_ask, answer_in}
 use Rattle.coco_copy.specs.declared.ops.CopyAsk.{CopyAsk}
 use Rattle.coco_journaled.specs.Passes.{Steps}
 use Rattle.coco_worker.specs.Copying.{asked, put}
 use Rattle.coco_worker.specs.Gains.{Gain, undone}
-use Rattle.coco_worker.proofs.CopyLemmas.{CopyPass, below_none, copied_skip, copied_step, puts_below, table_within}
-use Rattle.coco_worker.proofs.GainLemmas.{as_many, gain_as, gain_none, lock_at, same_looked, same_set, same_stepped, still_of}
+use Rattle.coco_worker.proofs.CopyLemmas.{CopyPass, below_none, carried_to, copied_skip, copied_step, puts_below, row_at, table_at, table_within}
+use Rattle.coco_worker.proofs.GainLemmas.{as_many, gain_as, gain_none, lock_here, same_looked, same_set, same_stepped, still_of}
 use Rattle.coco_worker.proofs.copies.put_write.Goals as goal
 use Rattle.coco_worker.proofs.copies.put_write.Goals.{then-carries+in_ok-step, else-carries}
 
 pub step-requires : goal.step-requires
 step-requires g c =
     let table : ℕ = c.partition_of-partition.result * c.from-then-carries.result + c.loop-copy.copy in
-    lock_at c.args.copies.now c.loop-copy.passes table c.index-passes-table.result c.index-copies-table.result
+    lock_here c.args.copies.now c.loop-copy.passes table c.index-passes-table.result c.index-copies-table.result
     (still_of c.args.copies.now c.args.passes.now c.loop-copy.passes c.requires.locks c.loop-copy.invariant.same)
     (table_within c.args.commit.partitions c.args.commit.config.copies c.from-then-carries.result c.partition_of-partition.result c.loop-copy.copy (length c.args.copies.now) c.requires.tables c.from-then-carries.ensures
     (omega (arith, c.partition_of-partition.ensures.within, c.from.ensures)) (omega (arith, c.loop-copy-test.true, c.from-copy-end.ensures)))
-    ∙ ap (λ (l : Lock). l.id) (sym c.index-copies-table.is)
+    c.index-copies-table.is
 
 pub returns-in_err-step-clause-same : goal.returns-in_err-step-clause-same
 returns-in_err-step-clause-same g c =
@@ -41,16 +40,15 @@ loop-copy-preserved g c =
     let carries = g.N.Net.carries c.args.net.now in
     let p : ℕ = w.key.row % commit.partitions in
     let lt : k < commit.config.copies = omega (arith, c.loop-copy-test.true, c.from-copy-end.ensures) in
-    let here : c.partition_of-partition.result ≡ p = c.partition_of-partition.ensures.is ∙ ap (λ (n : ℕ). w.key.row % n) c.from.ensures in
+    let here : c.partition_of-partition.result ≡ p = row_at w.key.row c.from.result commit.partitions c.partition_of-partition.result c.partition_of-partition.ensures.is c.from.ensures in
     let net : c.carries.result ≡ carries commit.config.epoch commit.worker commit.place ((p + k + 1) % commit.config.nodes) =
-    c.carries.ensures ∙ ap (λ (q : ℕ). carries commit.config.epoch commit.worker commit.place ((q + k + 1) % c.from-in-loop-copy.result)) here
-    ∙ ap (λ (n : ℕ). carries commit.config.epoch commit.worker commit.place ((p + k + 1) % n)) c.from-in-loop-copy.ensures in
+    carried_to carries commit p k c.partition_of-partition.result c.from-in-loop-copy.result c.carries.result c.carries.ensures here c.from-in-loop-copy.ensures in
     elim c.if-carries.branch [
       | then-carries+in_ok-step s ↦
           let i : ℕ = c.partition_of-partition.result * s.from-then-carries.result + k in
           let q = s.step.new.pass in
           let d = s.index-passes-table.result in
-          let at : i ≡ p * commit.config.copies + k = ap (λ (n : ℕ). n * s.from-then-carries.result + k) here ∙ ap (λ (n : ℕ). p * n + k) s.from-then-carries.ensures in
+          let at : i ≡ p * commit.config.copies + k = table_at p c.partition_of-partition.result k s.from-then-carries.result commit.config.copies here s.from-then-carries.ensures in
           let within : i < length c.args.copies.now = table_within commit.partitions commit.config.copies s.from-then-carries.result c.partition_of-partition.result k (length c.args.copies.now) c.requires.tables s.from-then-carries.ensures
           (omega (arith, c.partition_of-partition.ensures.within, c.from.ensures)) lt in
           let many : length c.loop-copy.passes ≡ length c.args.copies.now = as_many c.args.copies.now c.loop-copy.passes (still_of c.args.copies.now c.args.passes.now c.loop-copy.passes c.requires.locks before.same) in

@@ -1,19 +1,17 @@
-use Rattle.std.proofs.Common.{◌≡◌, ℕ, sym, ap, ◌∙◌, arith, slice_index_or}
-use Rattle.std.proofs.lemmas.Option.{same_Some}
-use Rattle.coco_seen.specs.Notes.{Lock}
+use Rattle.std.proofs.Common.{◌≡◌, ℕ, arith, slice_index_or}
 use Rattle.coco_shard.specs.Table.{after_ask, answer_in}
 use Rattle.coco_shard.specs.declared.ops.Answer.{Answer}
-use Rattle.coco_occ.specs.Trying.{Ready, Waits, answered}
+use Rattle.coco_occ.specs.Trying.{Waits}
 use Rattle.coco_occ.proofs.OneTurn.{one_ask}
-use Rattle.coco_worker.proofs.GainLemmas.{as_many, lock_at, same_looked, same_set, same_stepped}
+use Rattle.coco_worker.proofs.GainLemmas.{as_many, lock_here, same_looked, same_set, same_stepped}
 use Rattle.coco_worker.proofs.ScriptLemmas.{by_ok, made_step}
 use Rattle.coco_worker.proofs.steps.ask_shard.Goals as goal
 
 pub step_lent-requires : goal.step_lent-requires
 step_lent-requires g c =
-    lock_at c.args.shards.now c.args.passes.now c.from-place.result c.index-passes-place.result c.index-shards-place.result c.requires.locks
+    lock_here c.args.shards.now c.args.passes.now c.from-place.result c.index-passes-place.result c.index-shards-place.result c.requires.locks
     (omega (arith, c.from-place.ensures, c.requires.below c.shard.result c.shard.ensures.0 c.shard.ensures.1))
-    ∙ ap (λ (l : Lock). l.id) (sym c.index-shards-place.is)
+    c.index-shards-place.is
 
 pub returns-in_err-step_lent-clause-same : goal.returns-in_err-step_lent-clause-same
 returns-in_err-step_lent-clause-same g c =

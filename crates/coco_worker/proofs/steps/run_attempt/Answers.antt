@@ -1,10 +1,10 @@
-use Rattle.std.proofs.Common.{◌∷◌, ◌++◌, [], List, sym, ap, ◌∙◌, subst}
+use Rattle.std.proofs.Common.{◌∷◌, [], List, sym, ap, ◌∙◌, subst}
 use Rattle.coco_occ.specs.Steps.{at_shard}
 use Rattle.coco_occ.specs.Trying.{Trying}
 use Rattle.coco_occ.specs.declared.script.Step.{Step}
 use Rattle.coco_worker.specs.Gains.{Make}
 use Rattle.coco_worker.proofs.GainLemmas.{still_of}
-use Rattle.coco_worker.proofs.ScriptLemmas.{below_shards, ended_script, made_on, moved_left, same_script, took_left}
+use Rattle.coco_worker.proofs.ScriptLemmas.{below_shards, ended_script, made_on, moved_left, same_script, took_left, took_script}
 use Rattle.coco_worker.proofs.steps.run_attempt.Goals as goal
 
 pub ask_shard-requires-clause-below : goal.ask_shard-requires-clause-below
@@ -24,7 +24,7 @@ loop-preserved g c =
       left = took_left c.args.attempt.now c.loop.attempt c.go_on.new.self c.ask_shard.new.attempt _ before.left c.go_on.ensures.others asked.3;
       same = c.ask_shard.ensures.same ∙ before.same;
       made = made_on c.args.passes.now c.loop.passes c.ask_shard.new.passes c.loop.attempt.script (step ∷ []) c.ask_shard.new.attempt.script before.same before.made asked.4
-          (ap (λ (t : Trying). t.script) asked.3 ∙ ap (λ (xs : List Step). xs ++ step ∷ []) (same_script c.loop.attempt c.go_on.new.self c.go_on.ensures.others));
+          (took_script c.loop.attempt c.go_on.new.self c.ask_shard.new.attempt step c.go_on.ensures.others asked.3);
     }
 
 pub returns-then-not-go_on-clause-left : goal.returns-then-not-go_on-clause-left

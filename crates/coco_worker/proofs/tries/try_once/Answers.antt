@@ -12,7 +12,7 @@ returns-clause-tried g c =
     let ran = c.in_ok-run_attempt.ensures in
     let Made : List ShardPass → List ShardPass → Type 0 = λ before after. Make before after (λ shard. at_shard shard c.run_attempt.new.attempt.script) in
     let back = with_items_is c.args.slot.now.passes c.run_attempt.new.passes (c.run_attempt.auto.passes ∙ c.as_mut_slice-passes.ensures.len) in
-    tries_once c.args.procs.now c.args.request.now c.args.place (length c.args.shards.now) c.args.slot.now _ c.in-Some.attempt c.run_attempt.new.attempt _ c.in_ok-script.script c.tried-entry.result c.outcome-outcome.result told.0
-    (same_Some _ _ (sym c.in-Some.is ∙ c.in_ok-make_ready.ensures)) (ran.whole c.outcome-outcome.result told.0 told.1) told.1 (c.in_ok-script.ensures ∙ c.script.ensures) c.tried-entry.ensures refl c.len.ensures
+    tries_once c.args.procs.now c.args.request.now c.args.place (length c.args.shards.now) c.args.slot.now _ c.in-Some.attempt c.run_attempt.new.attempt _ c.in_ok-script.script c.in_ok-entry.entry c.outcome-outcome.result told.0
+    (same_Some _ _ (sym c.in-Some.is ∙ c.in_ok-make_ready.ensures)) (ran.whole c.outcome-outcome.result told.0 told.1) told.1 (c.in_ok-script.ensures ∙ c.script.ensures) c.in_ok-entry.ensures refl c.len.ensures
     c.in_ok-push.ensures.ok
     (subst (Made c.args.slot.now.passes.items) (sym back) (subst (λ (ps : List ShardPass). Made ps c.run_attempt.new.passes) c.as_mut_slice-passes.ensures.value ran.made))

@@ -3,7 +3,7 @@ use Rattle.coco_claim.specs.Seats.{Drawer, Round}
 use Rattle.coco_worker.specs.Working.{Job, Worked, Works, IsGated}
 use Rattle.coco_worker.specs.declared.slot.Slot.{Slot}
 use Rattle.coco_worker.proofs.GainLemmas.{still_of}
-use Rattle.coco_worker.proofs.WorkLemmas.{drew, the_job, works_drawn, works_redrawn, works_so_more, works_so_none}
+use Rattle.coco_worker.proofs.WorkLemmas.{drew, same_claims, the_job, works_drawn, works_redrawn, works_so_more, works_so_none}
 use Rattle.coco_worker.proofs.worker.work.Goals as goal
 
 pub loop-place-init : goal.loop-place-init
@@ -42,7 +42,7 @@ loop-place-preserved g c =
       same = c.work_off.ensures.same ∙ before.same;
       same_copies = c.work_off.ensures.same_copies ∙ before.same_copies;
       worker = c.work_off.ensures.worker ∙ before.worker;
-      seat = ap (λ (s : Drawer). s.claims) (c.work_off.ensures.seat ∙ draws) ∙ before.seat;
+      seat = same_claims b.seat seat d.seat place c.args.claims.now c.work_off.ensures.seat draws before.seat;
       over = c.in_ok-work_off.ensures.over;
       so_far = works_so_more (job a.worker) (passed a.worker) a b d seat worked.0 place before.same before.same_copies before.so_far draws below worked.1
           (subst (λ (w : ℕ). Works (job w) (record b { seat = seat }) d one) before.worker worked.2) (subst (λ (w : ℕ). IsGated (passed w) worked.0) before.worker worked.3) c.work_off.ensures.seat;

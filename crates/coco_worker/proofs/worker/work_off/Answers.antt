@@ -1,15 +1,14 @@
-use Rattle.std.proofs.Common.{◌≡◌, ℕ, List, length, None, Some, refl, sym, ap, ◌∙◌, subst}
+use Rattle.std.proofs.Common.{◌≡◌, ℕ, length, None, Some, refl, subst}
 use Rattle.std.specs.List.{slice_get}
-use Rattle.std.proofs.lemmas.Option.{slice_get-get_or}
 use Rattle.coco_types.specs.declared.call.Request.{Request}
-use Rattle.coco_occ.specs.declared.outcome.Tailed.{Tailed}
 use Rattle.coco_worker.specs.Copying.{asked, puts_at}
 use Rattle.coco_worker.specs.Gains.{Gain}
 use Rattle.coco_worker.specs.Trying.{TriesOut}
 use Rattle.coco_worker.specs.Working.{Job, commit_at}
 use Rattle.coco_worker.specs.declared.slot.Slot.{Slot}
-use Rattle.coco_worker.proofs.WorkLemmas.{by_both, lands_commit, lands_tail, no_commit, the_job, worked_by, works_one}
+use Rattle.coco_worker.proofs.WorkLemmas.{WorkedAt, by_both, lands_commit, lands_tail, no_commit, placed_at, tail_more, the_job, worked_by, works_one}
 use Rattle.coco_worker.proofs.ScriptLemmas.{by_ok}
+use Rattle.coco_worker.proofs.TryLemmas.{same_worker}
 use Rattle.coco_worker.proofs.worker.work_off.Goals as goal
 
 pub returns-in-Some-clause-worked : goal.returns-in-Some-clause-worked
@@ -21,11 +20,11 @@ returns-in-Some-clause-worked g c =
     let request : Request = c.index-requests-place.result in
     let place : ℕ = c.args.place in
     let time : ℕ = c.in-Some.time in
-    let placed : slice_get j.requests place ≡ Some request = slice_get-get_or j.requests place request c.requires.there ∙ ap (λ (r : Request). Some r) (sym c.index-requests-place.is) in
+    let placed : slice_get j.requests place ≡ Some request = placed_at j.requests place request c.requires.there c.index-requests-place.is in
     let out : TriesOut j.procs request place j.partitions j.config.attempts a b c.try_until.new.ends c.try_until.new.room (Some time) =
     subst (TriesOut j.procs request place j.partitions j.config.attempts a b c.try_until.new.ends c.try_until.new.room) c.in-Some.is c.in_ok-time.ensures.tried in
-    let worker : b.worker ≡ a.worker = ap (λ (s : Slot). s.worker) c.in_ok-time.ensures.others in
-    by_both c.keep.result c.keep.ensures.pieces c.keep.ensures.copied
+    let worker : b.worker ≡ a.worker = same_worker a b c.in_ok-time.ensures.others in
+    by_both {C = WorkedAt j place a d (g.G.Gate.passed c.args.gate.now a.worker)} c.keep.result c.keep.ensures.pieces c.keep.ensures.copied
     (λ pieces copied. (
       worked_by j request place a b d c.try_until.new.ends c.try_until.new.room (Some time) placed refl out,
       out.at,
@@ -46,15 +45,15 @@ returns-in-None-clause-worked g c =
     let j : Job = the_job c.args.procs.now c.args.requests.now (length c.args.shards.now) a.worker c.args.config (g.N.Net.carries c.args.net.now) in
     let request : Request = c.index-requests-place.result in
     let place : ℕ = c.args.place in
-    let placed : slice_get j.requests place ≡ Some request = slice_get-get_or j.requests place request c.requires.there ∙ ap (λ (r : Request). Some r) (sym c.index-requests-place.is) in
+    let placed : slice_get j.requests place ≡ Some request = placed_at j.requests place request c.requires.there c.index-requests-place.is in
     let out : TriesOut j.procs request place j.partitions j.config.attempts a b c.try_until.new.ends c.try_until.new.room None =
     subst (TriesOut j.procs request place j.partitions j.config.attempts a b c.try_until.new.ends c.try_until.new.room) c.in-None.is c.in_ok-time.ensures.tried in
-    by_ok c.push.result c.push.ensures.ok
+    by_ok {B = WorkedAt j place a d (g.G.Gate.passed c.args.gate.now a.worker)} c.push.result c.push.ensures.ok
     (λ pushed. (
       worked_by j request place a b d c.try_until.new.ends c.try_until.new.room None placed refl out,
       out.at,
       works_one j request place a b d c.try_until.new.ends c.try_until.new.room None placed refl out
-          (lands_tail j request place a b d out.writes c.try_until.new.ends c.in_ok-time.ensures.others (ap (λ (ts : List Tailed). record b { tail = ts }) pushed)),
+          (lands_tail j request place a b d out.writes c.try_until.new.ends c.in_ok-time.ensures.others (tail_more b c.push.new.self request c.try_until.new.ends pushed)),
       record {
         began = c.in_ok-time.ensures.began;
         committed = λ is. absurd (no_commit out.tries.last.outcome out.time_is is);

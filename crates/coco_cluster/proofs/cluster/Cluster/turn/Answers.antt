@@ -1,4 +1,4 @@
-use Rattle.std.proofs.Common.{◌≤◌, ◌+◌, length, true, Err, sym, ap, ◌∙◌, subst, inr, refl}
+use Rattle.std.proofs.Common.{◌≤◌, ◌+◌, ◌++◌, length, take, drop, true, Err, sym, ap, ◌∙◌, subst, inr, refl}
 use Rattle.std.proofs.lemmas.List.{with_items_is}
 use Rattle.coco_cluster.specs.Standing.{ClusterState}
 use Rattle.coco_cluster.specs.Storing.{AreEntries}
@@ -24,11 +24,21 @@ returns-in-Err-clause-turns g c k rests stands room =
     let run = has_run (the_view c.self.inside) c.args.self.now c.args.requests.items c.args.requests.items c.args.workers c.args.attempts c.on_one_node-config.result c.run_epoch.new.shards.items c.as_slice.result.now c.run_epoch.new.kept
     c.in_ok-dones.field-0.dones c.in_ok-dones.field-0.rows.items c.self.view_is c.requires.unspent c.self.invariant c.requires.may c.if-self-ge-EPOCHS_END.false c.args.requests.len (sym c.is_empty.ensures ∙ c.if-is_empty.false) c.args.requests.ok.0
     c.on_one_node-config.ensures refl c.run_epoch.ensures.count c.as_slice.ensures.value c.in_ok-dones.ensures.ran c.in_ok-dones.ensures.few c.run_epoch.ensures.kept in
+    let after : ClusterState = record {
+      procs = c.self.inside.procs;
+      kept = c.run_epoch.new.kept;
+      shards = take c.run_epoch.new.shards.len (c.revert_all.new.shards ++ drop (length c.revert_all.new.shards) c.run_epoch.new.shards.items);
+      chief = c.store_epoch.new.chief;
+      node = c.store_epoch.new.node;
+      held = c.self.inside.held.items;
+      next_epoch = c.self.inside.next_epoch;
+      spent = true;
+    } in
     inr (failed g.H.Host.moment g.H.Host.observed g.H.Host.said g.H.Host.reads g.H.Host.may_leave c.args.host.now c.a_run_is_the_next_commit.ensures
     (record { may = c.a_run_may_be_prepared.ensures.may; ready = c.a_run_may_be_prepared.ensures.ready }) (the_view c.self.inside) c.args.requests.items c.args.workers c.args.attempts c.run_epoch.new.shards.items c.run_epoch.new.kept
     c.in_ok-dones.field-0.dones c.in_ok-dones.field-0.rows.items run c.args.self.now c.self.view_is k rests stands room
     c.store_epoch.result c.store_epoch.new.host c.as_slice-2.result.now c.as_slice-3.result.now c.as_slice-2.ensures.value c.as_slice-3.ensures (c.store_epoch.ensures.stores k)
-    (Err c.from.result) c.from.result _ refl)
+    (Err c.from.result) c.from.result after refl)
 
 pub returns-in-Err-clause-given_back : goal.returns-in-Err-clause-given_back
 returns-in-Err-clause-given_back g c =

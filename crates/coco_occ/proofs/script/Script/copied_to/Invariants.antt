@@ -2,7 +2,7 @@ use Rattle.std.proofs.Common.{◌≡◌, ◌≤◌, length, take}
 use Rattle.std.specs.Prelude.{vec_capacity, vec_len}
 use Rattle.coco_types.specs.declared.call.AttemptId.{AttemptId}
 use Rattle.coco_occ.specs.Unpacked.{steps_of}
-use Rattle.coco_occ.proofs.script.Script.try_clone.Given as goal
+use Rattle.coco_occ.proofs.script.Script.copied_to.Given as goal
 
 -- the steps so far are copied, and there is room for the others
 abbrev pub invariant-loop-step : goal.invariant-loop-step

@@ -2,7 +2,7 @@ use Rattle.std.proofs.Common.{◌≡◌, ◌++◌, ◌∷◌, [], List, take, sy
 use Rattle.std.proofs.lemmas.List.{map_more, map_push}
 use Rattle.coco_occ.specs.Unpacked.{step_from, steps_of}
 use Rattle.coco_occ.specs.declared.script.Step.{Step}
-use Rattle.coco_occ.proofs.script.Script.try_clone.Goals as goal
+use Rattle.coco_occ.proofs.script.Script.copied_to.Goals as goal
 
 pub loop-step-preserved : goal.loop-step-preserved
 loop-step-preserved c =
