@@ -21,3 +21,4 @@ mod EpochLemmas
 mod PieceOrderLemmas
 mod WholeLemmas
 mod PieceLemmas
+mod LeftLemmas

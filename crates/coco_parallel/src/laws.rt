@@ -5,11 +5,12 @@ ghost use Rattle.coco_parallel.specs.Copies.{CopiesAreOfCommits};
 ghost use Rattle.coco_parallel.specs.Ends.{EndsAreSerial, TailMayBegin};
 ghost use Rattle.coco_parallel.specs.PieceOrder.{PiecesAreOfDones};
 ghost use Rattle.coco_parallel.specs.Running.{RunsEnd};
+ghost use Rattle.coco_parallel.specs.Tails.{TailsAreLeft};
 
 use coco_order::laws::{
     closed_journals_are_lawful, commits_are_once, commits_are_serial, marks_are_own,
     outcomes_are_epochs, outcomes_are_serial, reads_are_few, scripts_are_few, tail_writes_are_runs,
-    times_are_few, writes_are_runs,
+    tails_conflicted, times_are_few, tries_are_scripts, writes_are_runs,
 };
 
 /// What the workers tried and what the locks of the shards closed with is an execution, and the shards have the rows
@@ -73,4 +74,13 @@ pub fn ends_are_serial()
     scripts_are_few();
     outcomes_are_epochs();
     pieces_are_of_dones();
+}
+
+/// In every execution the tails of the workers are the requests that no attempt committed, each with the ends of as many
+/// attempts as are allowed, and each of these ends is a conflict that a journal shows.
+pub fn tails_are_left()
+    ensures { TailsAreLeft }
+{
+    tails_conflicted();
+    tries_are_scripts();
 }
