@@ -39,42 +39,42 @@ pub trait Power {
 /// It never stops.
 #[derive(Debug, Drop)]
 pub struct SteadyPower {
-    record: Record,
+    calls: Record,
 }
 
 impl SteadyPower {
     pub fn new() -> SteadyPower
-        ensures { result.record ≡ fresh }
+        ensures { result.calls ≡ fresh }
     {
         SteadyPower {
-            record: Record::new(),
+            calls: Record::new(),
         }
     }
 }
 
 impl Power for SteadyPower {
-    ghost stops_seen = { λ s. s.record.seen };
+    ghost stops_seen = { λ s. s.calls.seen };
 
-    ghost early_stops = { λ s. s.record.early };
+    ghost early_stops = { λ s. s.calls.early };
 
-    ghost stopped = { λ s n. stopped_of s.record n };
+    ghost stopped = { λ s n. stopped_of s.calls n };
 
-    ghost begun = { λ s. s.record.begun };
+    ghost begun = { λ s. s.calls.begun };
 
-    ghost asked = { λ s n p. asked_of s.record n p };
+    ghost asked = { λ s n p. asked_of s.calls n p };
 
     fn stops(&mut self, node: u8, point: u8) -> bool
         requires node { node < 8 }
         requires first { 1 ≤ point }
         requires last { point ≤ 6 }
-        ensures seen { RisesWhere result self.old.record.seen self.new.record.seen }
-        ensures early { RisesWhere (result && nat_le point 3) self.old.record.early self.new.record.early }
-        ensures stopped { (n : ℕ) → n < 8 → RisesWhere (result && (n == node)) (stopped_of self.old.record n) (stopped_of self.new.record n) }
-        ensures begun { self.new.record.begun ≡ begun_after self.old.record.begun node point }
-        ensures asked { (n p : ℕ) → n < 8 → p ≤ 6 → asked_of self.new.record n p ≡ asked_after (asked_of self.old.record) node point n p }
+        ensures seen { RisesWhere result self.old.calls.seen self.new.calls.seen }
+        ensures early { RisesWhere (result && nat_le point 3) self.old.calls.early self.new.calls.early }
+        ensures stopped { (n : ℕ) → n < 8 → RisesWhere (result && (n == node)) (stopped_of self.old.calls n) (stopped_of self.new.calls n) }
+        ensures begun { self.new.calls.begun ≡ begun_after self.old.calls.begun node point }
+        ensures asked { (n p : ℕ) → n < 8 → p ≤ 6 → asked_of self.new.calls n p ≡ asked_after (asked_of self.old.calls) node point n p }
         ensures steady { result ≡ false }
     {
-        self.record.ask(node, point);
+        self.calls.ask(node, point);
         false
     }
 }

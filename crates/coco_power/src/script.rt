@@ -11,17 +11,17 @@ use crate::record::Record;
 #[derive(Debug, Drop)]
 pub struct ScriptPower {
     listed: Vec<(u64, u8, u8)>,
-    record: Record,
+    calls: Record,
 }
 
 impl ScriptPower {
     pub fn new(stops: Vec<(u64, u8, u8)>) -> ScriptPower
         ensures listed { result.listed.items ≡ stops.items }
-        ensures fresh { result.record ≡ fresh }
+        ensures fresh { result.calls ≡ fresh }
     {
         ScriptPower {
             listed: stops,
-            record: Record::new(),
+            calls: Record::new(),
         }
     }
 }
@@ -34,34 +34,34 @@ fn is_listed(listed: &[(u64, u8, u8)], epoch: u64, node: u8, point: u8) -> bool
 }
 
 impl Power for ScriptPower {
-    ghost stops_seen = { λ s. s.record.seen };
+    ghost stops_seen = { λ s. s.calls.seen };
 
-    ghost early_stops = { λ s. s.record.early };
+    ghost early_stops = { λ s. s.calls.early };
 
-    ghost stopped = { λ s n. stopped_of s.record n };
+    ghost stopped = { λ s n. stopped_of s.calls n };
 
-    ghost begun = { λ s. s.record.begun };
+    ghost begun = { λ s. s.calls.begun };
 
-    ghost asked = { λ s n p. asked_of s.record n p };
+    ghost asked = { λ s n p. asked_of s.calls n p };
 
     fn stops(&mut self, node: u8, point: u8) -> bool
         requires node { node < 8 }
         requires first { 1 ≤ point }
         requires last { point ≤ 6 }
-        ensures seen { RisesWhere result self.old.record.seen self.new.record.seen }
-        ensures early { RisesWhere (result && nat_le point 3) self.old.record.early self.new.record.early }
-        ensures stopped { (n : ℕ) → n < 8 → RisesWhere (result && (n == node)) (stopped_of self.old.record n) (stopped_of self.new.record n) }
-        ensures begun { self.new.record.begun ≡ begun_after self.old.record.begun node point }
-        ensures asked { (n p : ℕ) → n < 8 → p ≤ 6 → asked_of self.new.record n p ≡ asked_after (asked_of self.old.record) node point n p }
-        ensures script { result ≡ (is_listed self.old.listed.items self.new.record.begun node point && has_room self.old.record node) }
+        ensures seen { RisesWhere result self.old.calls.seen self.new.calls.seen }
+        ensures early { RisesWhere (result && nat_le point 3) self.old.calls.early self.new.calls.early }
+        ensures stopped { (n : ℕ) → n < 8 → RisesWhere (result && (n == node)) (stopped_of self.old.calls n) (stopped_of self.new.calls n) }
+        ensures begun { self.new.calls.begun ≡ begun_after self.old.calls.begun node point }
+        ensures asked { (n p : ℕ) → n < 8 → p ≤ 6 → asked_of self.new.calls n p ≡ asked_after (asked_of self.old.calls) node point n p }
+        ensures script { result ≡ (is_listed self.old.listed.items self.new.calls.begun node point && has_room self.old.calls node) }
         ensures listed { self.new.listed.items ≡ self.old.listed.items }
     {
-        self.record.ask(node, point);
-        let epoch = self.record.begun();
+        self.calls.ask(node, point);
+        let epoch = self.calls.begun();
         let stops = is_listed(self.listed.as_slice(), epoch, node, point)
-            && self.record.has_room(node);
+            && self.calls.has_room(node);
         if stops {
-            self.record.stop(node, point);
+            self.calls.stop(node, point);
         }
         stops
     }
