@@ -28,3 +28,4 @@ mod Once
 mod Shown
 mod TailConflicts
 mod WorkedTails
+mod Idle

@@ -94,7 +94,7 @@ own_of_pass a (e ∷ rest) all =
     other f = by_bool (λ b. is_attempt e.ask.by a ≡ b → b ≡ false) (is_attempt e.ask.by a)
         (λ _ t. absurd (not_both (eqb e.pass a.worker) (eq-eqb e.pass a.worker (all.0 ∙ ap (λ (c : AttemptId). c.worker) (one_attempt e.ask.by a t))) f)) (λ _ _. refl) refl
 
-no_pass : (workers worker : ℕ) (journal : Journal) → AllByRecursion (λ e. e.pass < workers) journal → workers ≤ worker → of_pass worker journal ≡ []
+pub no_pass : (workers worker : ℕ) (journal : Journal) → AllByRecursion (λ e. e.pass < workers) journal → workers ≤ worker → of_pass worker journal ≡ []
 no_pass workers worker [] below le = refl
 no_pass workers worker (e ∷ rest) below le =
     let other : eqb e.pass worker ≡ false = ne_eqb e.pass worker (λ same. (let lt : e.pass < workers = below.0 in omega arith)) in

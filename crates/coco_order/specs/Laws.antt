@@ -22,7 +22,7 @@ use Rattle.coco_journaled.specs.Replay.{Replays}
 use Rattle.coco_order.specs.OneKey.{Among, on, Installs, IsMine}
 use Rattle.coco_occ.specs.declared.outcome.Tried.{Tried}
 use Rattle.coco_order.specs.Execution.{Beginning, Execution, Journal, IsExecution, InEachExecution, journal_on, concat, journal_of, steps_of}
-use Rattle.coco_order.specs.Outcome.{AreCommits, AreOnce, IsOutcome, commit_of, newest_at_end, tail_requests, tail_rows}
+use Rattle.coco_order.specs.Outcome.{AreCommits, AreOnce, ComeOfExecution, IsOutcome, commit_of, newest_at_end, tail_requests, tail_rows}
 
 -- of the journal of each key, in every execution
 abbrev pub OnEachKeyOfEach : ((RowKey → Option Value) → RowKey → List Entry → Type 0) → Type 0
@@ -100,3 +100,7 @@ TailWritesAreRuns b x = (epoch : ℕ) (dones : List Done) → (o : IsOutcome b e
 abbrev pub OutcomesAreEpochs : Beginning → Execution → Type 0
 OutcomesAreEpochs b x = (epoch : ℕ) (dones : List Done) → IsOutcome b epoch x dones → IsDistinct nat_eq (map (λ (r : Request). r.id) b.requests)
     → IsEpochOf b.requests (record { number = epoch; dones = dones })
+
+-- Dones that come of an execution by some workers come of one by more, of whom the others tried nothing.
+abbrev pub WorkersMayBeIdle : Type 0
+WorkersMayBeIdle = (b : Beginning) (epoch : ℕ) (dones : List Done) → ComeOfExecution b epoch dones → (workers : ℕ) → b.workers ≤ workers → ComeOfExecution (record b { workers = workers }) epoch dones
