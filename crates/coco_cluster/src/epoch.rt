@@ -1,5 +1,5 @@
 //! The requests of a turn, run on the shards in hand, and the end of their epoch.
-ghost use Rattle.std.specs.Prelude.{◌≡◌, ◌<◌, ◌≤◌, ◌++◌, ◌^◌, ℕ, List, Option, length, IfOk, OnErr};
+ghost use Rattle.std.specs.Prelude.{◌≡◌, ◌<◌, ◌≤◌, ◌++◌, ◌^◌, ℕ, List, Option, length, max, min, IfOk, OnErr};
 ghost use Rattle.coco_types.specs.declared.call.Done.{Done};
 ghost use Rattle.coco_ast.specs.Keyed.{Rows};
 ghost use Rattle.coco_epoch.specs.Shards.{AreOfPartitions, HaveNewest, HoldMap};
@@ -18,6 +18,7 @@ use coco_gate::Gate;
 use coco_kept::Kept;
 use coco_load::{add_dones, make_room};
 use coco_net::QuietNet;
+use coco_order::laws::workers_may_be_idle;
 use coco_parallel::rooms::Rooms;
 use coco_prepared::prepared_rows;
 use coco_shard::Shard;
@@ -123,8 +124,8 @@ fn made_ready(
     Ok(Ran { dones, rows })
 }
 
-// What workers came to in an epoch. One worker goes alone, without the locks that several need. Out of memory, the
-// shards are as they were handed in.
+// What workers came to in an epoch. Only those are started who find a request to draw, and one worker goes alone,
+// without the locks that several need. Out of memory, the shards are as they were handed in.
 fn work<R: Threads + Wait + Sync, G: Gate + Sync>(
     rt: &R,
     alloc: Global,
@@ -140,7 +141,10 @@ fn work<R: Threads + Wait + Sync, G: Gate + Sync>(
     ensures count { length shards.new.items ≡ length shards.old.items }
     ensures err { OnErr result (shards.new.items ≡ shards.old.items) }
 {
-    if config.workers > 1 {
+    // Its law says that the others may be idle.
+    workers_may_be_idle();
+    let busy = busy_workers(config, requests.len());
+    if busy.workers > 1 {
         return work_side_by_side(
             rt,
             alloc,
@@ -148,7 +152,7 @@ fn work<R: Threads + Wait + Sync, G: Gate + Sync>(
             shards,
             procs,
             requests.as_mut_slice(),
-            config,
+            busy,
             gate,
         );
     }
@@ -164,6 +168,17 @@ fn work<R: Threads + Wait + Sync, G: Gate + Sync>(
         dones: ran.dones,
         pieces: ran.pieces,
     })
+}
+
+// What the workers are told who find a request to draw, of whom there is one at least.
+fn busy_workers(config: EpochConfig, requests: usize) -> EpochConfig
+    ensures { result ≡ record config { workers = max 1 (min config.workers requests) } }
+{
+    let workers = usize::from(config.workers).min(requests).max(1);
+    EpochConfig {
+        workers: workers as u8,
+        ..config
+    }
 }
 
 // What several workers came to, side by side. Their locks begin with these rooms, and leave theirs there. Out of

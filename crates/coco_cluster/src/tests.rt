@@ -92,7 +92,8 @@ fn put_once<R: Threads + Wait + Sync, H: Host>(
     let (chief, node) = new_logs(alloc, host)?;
     let mut cluster = new_cluster(alloc, chief, node)?;
     let requests = put_of_seventy(alloc)?;
-    cluster.turn(rt, alloc, host, requests, 1, 3, &OpenGate)?;
+    // Of four workers one finds a request to draw.
+    cluster.turn(rt, alloc, host, requests, 4, 3, &OpenGate)?;
     Ok(cluster)
 }
 
