@@ -1,8 +1,8 @@
 #!/usr/bin/env bash
 # Epochs of 1,000 lines run by 1, 2 and 4 workers over 16 partitions, on a RAM disk: bank transfers among many accounts and
-# among few, reads and writes of single rows, and a procedure of 1,024 loop turns. Each figure is of the best of so many
-# runs, each on a new store.
-# Words: how many lines (of the last one a twentieth), how many runs. COCO is the program, RAM the folder.
+# among few, reads and writes of single rows, and a procedure of 1,024 loop turns; and transfers in epochs of one line.
+# Each figure is of the best of so many runs, each on a new store; of the rate the middle one stands beside it.
+# Words: how many lines (of the last two a twentieth), how many runs. COCO is the program, RAM the folder.
 set -euo pipefail
 cd "$(dirname "$0")/.."
 lines=${1:-300000}
@@ -42,34 +42,45 @@ long() {
     awk -v count="$1" 'BEGIN { for (id = 1; id <= count; id++) printf "{\"args\":[%d],\"call\":\"turns\",\"id\":%d}\n", id % 997, id }'
 }
 
-# by NAME COUNT PROCEDURES: the lines of $ram/input by each number of workers. They take turns, so that what else the
-# machine does meets them alike.
+# by NAME COUNT PROCEDURES EPOCH: the lines of $ram/input by each number of workers, in epochs of so many lines. They take
+# turns, so that what else the machine does meets them alike.
 by() {
-    local run workers clock processor memory
+    local run workers least middle processor memory
     for ((run = 0; run < runs; run++)); do
         for workers in 1 2 4; do
             printf '%s ' "$workers"
             measured 1 bash -c "$fresh" - "$ram/store" "$program" "$3" --partitions 16 \
-                -- "$program" "$ram/store" run --epoch 1000 --workers "$workers"
+                -- "$program" "$ram/store" run --epoch "$4" --workers "$workers"
         done
-    done | least | while read -r workers clock processor memory; do
-        row "$1, $workers workers" "$2" "$clock" "$processor" "$memory"
+    done | summed | while read -r workers least middle processor memory; do
+        awk -v name="$1, $workers workers" -v count="$2" -v least="$least" -v middle="$middle" -v processor="$processor" \
+            -v memory="$memory" 'BEGIN { printf "%-34s %9d %10.0f %10.0f %10.2f %9.1f\n", name, count, count / least,
+            count / middle, processor * 1e6 / count, memory / 1024 }'
     done
 }
 
-# Of the lines of each number of workers one line with the least of each figure.
-least() {
-    awk '!($1 in clock) { order[++count] = $1; clock[$1] = $2; processor[$1] = $3; memory[$1] = $4 }
-        { if ($2 < clock[$1]) clock[$1] = $2; if ($3 < processor[$1]) processor[$1] = $3; if ($4 < memory[$1]) memory[$1] = $4 }
-        END { for (i = 1; i <= count; i++) print order[i], clock[order[i]], processor[order[i]], memory[order[i]] }'
+# Of the runs of each number of workers: the least and the middle time, the least of the processor's and of the memory.
+summed() {
+    python3 -c '
+import statistics, sys
+runs = {}
+for line in sys.stdin:
+    workers, *figures = line.split()
+    runs.setdefault(workers, []).append([float(figure) for figure in figures])
+for workers, figures in runs.items():
+    clock, processor, memory = zip(*figures)
+    print(workers, min(clock), statistics.median(clock), min(processor), min(memory))
+'
 }
 
-printf '%-34s %9s %10s %10s %9s\n' '' requests 'a second' 'us each' MiB
+printf '%-34s %9s %10s %10s %10s %9s\n' '' requests 'a second' 'the middle' 'us each' MiB
 moves "$lines" 1000 >"$ram/input"
-by 'transfers' "$lines" bench/bank.coco
+by 'transfers' "$lines" bench/bank.coco 1000
 moves "$lines" 8 >"$ram/input"
-by 'transfers among 8' "$lines" bench/bank.coco
+by 'transfers among 8' "$lines" bench/bank.coco 1000
 rows "$lines" >"$ram/input"
-by 'reads and writes' "$lines" /dev/null
+by 'reads and writes' "$lines" /dev/null 1000
 long $((lines / 20)) >"$ram/input"
-by '1,024 turns' $((lines / 20)) bench/turns.coco
+by '1,024 turns' $((lines / 20)) bench/turns.coco 1000
+moves $((lines / 20)) 1000 >"$ram/input"
+by 'transfers, one by one' $((lines / 20)) bench/bank.coco 1
