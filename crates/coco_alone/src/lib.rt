@@ -11,6 +11,3 @@ mod room;
 
 pub use epoch::{Ran, run_alone};
 pub use room::AloneRoom;
-
-#[cfg(test)]
-mod tests;

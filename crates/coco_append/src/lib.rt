@@ -2,7 +2,5 @@
 #![tactic(auto)]
 
 mod adding;
-#[cfg(test)]
-mod tests;
 
 pub use adding::{add_commit, add_prepared};

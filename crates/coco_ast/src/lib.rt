@@ -16,6 +16,3 @@ pub use error::{CheckError, CheckKind};
 pub use literal::Literal;
 pub use name::{MOST_NAME_BYTES, Name, continues_word, starts_word};
 pub use tree::{Block, Expr, Names, Place, Proc, ProcList, Procs, Stmt, TwoOp};
-
-#[cfg(test)]
-mod tests;

@@ -8,6 +8,3 @@ mod writing;
 
 pub use dump::{dump_of, write_dump_done, write_dump_row};
 pub use verify::{NotSerial, verify_of, write_not_serial, write_serial};
-
-#[cfg(test)]
-mod tests;

@@ -8,6 +8,3 @@ mod telling;
 
 pub use coco_msg::Action;
 pub use machine::{ChiefCore, Phase};
-
-#[cfg(test)]
-mod tests;

@@ -8,6 +8,3 @@ mod storing;
 
 pub use cluster::{Cluster, InHand};
 pub use fault::TurnFault;
-
-#[cfg(test)]
-mod tests;

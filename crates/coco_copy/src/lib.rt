@@ -12,6 +12,3 @@ pub mod table;
 pub use ops::{CopyAnswer, CopyAsk};
 pub use packed::PackedPut;
 pub use table::CopyTable;
-
-#[cfg(test)]
-mod tests;

@@ -17,6 +17,3 @@ pub use commit::{Commit, put_commit, read_commit};
 pub use fault::EntryFault;
 pub use layout::{Files, Layout, LayoutEntry, put_layout, read_layout};
 pub use prepared::{Prepared, Row, Rows, put_prepared, read_prepared};
-
-#[cfg(test)]
-mod tests;

@@ -10,6 +10,3 @@ mod shards;
 pub use ends::{promote_all, revert_all};
 pub use placed::PlacedRequest;
 pub use progress::Progress;
-
-#[cfg(test)]
-mod tests;

@@ -13,6 +13,3 @@ pub use journal::{Journal, KeptEntry};
 pub use journaled::Journaled;
 pub use pass::Pass;
 pub use room::{Closed, Room};
-
-#[cfg(test)]
-mod tests;

@@ -16,6 +16,3 @@ pub use json::Scratch;
 pub use reader::{Body, Line, Reader};
 pub use requests::{asked_request, request};
 pub use texts::{done_text, error_text, write_done, write_error};
-
-#[cfg(test)]
-mod tests;

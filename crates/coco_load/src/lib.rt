@@ -10,6 +10,3 @@ pub use epochs::next_epoch;
 pub use keeping::{add_dones, keep_dones, make_room};
 pub use laws::{epochs_begin_with_the_base, kept_dones_follow_the_files, tables_follow_the_files};
 pub use tables::Tables;
-
-#[cfg(test)]
-mod tests;

@@ -6,8 +6,6 @@ pub mod fault;
 mod gates;
 pub mod laws;
 pub mod log;
-#[cfg(test)]
-mod tests;
 mod window;
 mod writing;
 

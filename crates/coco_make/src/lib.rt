@@ -4,8 +4,6 @@
 mod fault;
 mod laws;
 mod make;
-#[cfg(test)]
-mod tests;
 
 pub use fault::MakeFault;
 pub use laws::new_logs_are_a_store;

@@ -13,6 +13,3 @@ pub use fault::MessageFault;
 pub use message::{Message, Places};
 pub use reading::{read_message, read_message_in};
 pub use writing::{message_bytes, ship_bytes};
-
-#[cfg(test)]
-mod tests;

@@ -5,6 +5,3 @@ pub mod machine;
 
 pub use coco_msg::Action;
 pub use machine::{COORDINATOR, Decision, NodeCore};
-
-#[cfg(test)]
-mod tests;

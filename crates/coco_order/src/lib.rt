@@ -5,6 +5,3 @@ pub mod laws;
 mod order;
 
 pub use order::ordered;
-
-#[cfg(test)]
-mod tests;

@@ -11,6 +11,4 @@ pub mod rooms;
 pub mod rows;
 pub mod side_by_side;
 pub mod stations;
-#[cfg(test)]
-mod tests;
 pub mod workers;

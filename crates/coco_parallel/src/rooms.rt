@@ -1,5 +1,7 @@
 //! The rooms that the locks and the workers of an epoch leave to those of the next.
 
+ghost use Rattle.std.specs.Prelude.{◌≡◌, vec_len};
+
 use coco_copy::CopyTable;
 use coco_journaled::{Journal, Room};
 use coco_occ::{ScriptRooms, Transcript};
@@ -46,6 +48,13 @@ impl Rooms {
         keep_all(&mut self.shards, journals, &mut self.shard_lists);
         keep_all(&mut self.copies, copy_journals, &mut self.copy_lists);
         self.transcripts = transcripts;
+    }
+
+    /// How many rooms there are for the locks of shards, and how many for those of copies.
+    pub fn of_locks(&self) -> (usize, usize)
+        ensures { (result.0 ≡ vec_len self.now.shards) × (result.1 ≡ vec_len self.now.copies) }
+    {
+        (self.shards.len(), self.copies.len())
     }
 
     // The transcripts that were kept, and the rooms of those before, worker after worker. None of them stay.

@@ -4,6 +4,3 @@
 mod rows;
 
 pub use rows::{prepared_rows, prepared_rows_leave_the_map};
-
-#[cfg(test)]
-mod tests;

@@ -4,8 +4,6 @@
 pub mod fault;
 pub mod reading;
 pub mod rules;
-#[cfg(test)]
-mod tests;
 
 pub use fault::OpenFault;
 pub use reading::read_file;

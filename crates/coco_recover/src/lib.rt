@@ -8,8 +8,6 @@ pub mod layouts;
 pub mod nodes;
 pub mod opening;
 mod refusal;
-#[cfg(test)]
-mod tests;
 pub mod without;
 
 pub use base::{BaseHistory, BasePart, BaseReading, Based};

@@ -14,6 +14,3 @@ pub use commits::HistoryRules;
 pub use layouts::layout_tree;
 pub use placing::{is_held_by, partition_of};
 pub use prepared::NodeRules;
-
-#[cfg(test)]
-mod tests;

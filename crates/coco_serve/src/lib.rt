@@ -7,8 +7,6 @@ mod fault;
 pub mod laws;
 mod one_batch;
 mod plan;
-#[cfg(test)]
-mod tests;
 mod texts;
 
 pub use all_batches::answer_lines;

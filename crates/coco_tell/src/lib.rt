@@ -4,8 +4,6 @@
 
 mod dumping;
 mod saying;
-#[cfg(test)]
-mod tests;
 mod verifying;
 
 pub use dumping::dump;

@@ -3,8 +3,6 @@
 
 mod numbers;
 mod reading;
-#[cfg(test)]
-mod tests;
 
 ghost use Rattle.std.specs.Prelude.{◌≡◌, ℕ, List, map, MatchOption, IfOk};
 ghost use Rattle.std.specs.String.{string_bytes};

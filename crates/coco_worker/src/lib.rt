@@ -10,6 +10,3 @@ mod worker;
 pub use copies::WorkerCommit;
 pub use slot::{EpochConfig, Slot, Tail};
 pub use worker::work;
-
-#[cfg(test)]
-mod tests;

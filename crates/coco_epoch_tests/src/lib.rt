@@ -1,0 +1,17 @@
+//! Tests of epochs: run alone, by one worker, side by side, their tails, the order of Dones and what an epoch writes.
+//! There is nothing else here.
+
+#[cfg(test)]
+mod alone;
+#[cfg(test)]
+mod made;
+#[cfg(test)]
+mod order;
+#[cfg(test)]
+mod parallel;
+#[cfg(test)]
+mod prepared;
+#[cfg(test)]
+mod tail;
+#[cfg(test)]
+mod worker;

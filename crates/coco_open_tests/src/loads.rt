@@ -1,0 +1,173 @@
+//! A small store on two nodes: two partitions, each with one copy on the other node.
+
+ghost use Rattle.std.specs.Prelude.{◌≡◌, ◌<◌, IfOk, OnOk};
+ghost use Rattle.coco_kept.specs.Holding.{NeverFall};
+ghost use Rattle.coco_kept.specs.Keeping.{HasDistinctIds};
+ghost use Rattle.coco_load.specs.Tables.{AreTables, IsRing};
+
+use coco_entry::{Layout, Row};
+use coco_kept::Kept;
+use coco_load::*;
+use coco_types::{
+    Args, Call, Done, Dones, KeptReply, Key, NoMemory, Packed, Reply, Sequence, Value,
+};
+use std::alloc::Global;
+use std::process::Abort;
+use std::test::Fail;
+
+fn layout(alloc: Global) -> Layout
+    ensures ring { IsRing result }
+    ensures nodes { result.nodes ≡ 2 }
+{
+    Layout {
+        nodes: 2,
+        partitions: 2,
+        copies: 1,
+        chief_file: 1,
+        node_files: Sequence::new(alloc),
+        base_epoch: 0,
+        text: Sequence::new(alloc),
+    }
+}
+
+fn key(row: u32) -> Key {
+    Key {
+        table: 0,
+        row: u64::from(row),
+    }
+}
+
+// The base's rows 0, 1 and 2 are 1, 2 and 3.
+fn based(alloc: Global, layout: &Layout) -> Result<Tables, NoMemory>
+    requires { IsRing layout.now }
+    ensures { IfOk result (λ tables. AreTables layout.now tables.shards.items tables.copies.items) }
+{
+    let mut tables = Tables::new(alloc, layout)?;
+    let rows = [
+        (key(0), Value::Int(1)),
+        (key(1), Value::Int(2)),
+        (key(2), Value::Int(3)),
+    ];
+    tables.load_base(layout, &rows)?;
+    Ok(tables)
+}
+
+fn row(alloc: Global, number: u32, value: Option<i64>) -> Result<Row, NoMemory> {
+    let value = Packed::of(alloc, &value.map(Value::Int))?;
+    Ok(Row {
+        key: key(number),
+        time: 1,
+        value,
+    })
+}
+
+// Loads an entry of a node: row 0 is 10, row 1 is 20, and row 2 goes.
+fn load(alloc: Global, tables: &mut Tables, layout: &Layout, node: u8) -> Result<(), NoMemory>
+    requires tables { AreTables layout.now tables.old.shards.items tables.old.copies.items }
+    requires node { node < layout.now.nodes }
+    ensures { OnOk result (AreTables layout.now tables.new.shards.items tables.new.copies.items) }
+{
+    let rows = [
+        row(alloc, 0, Some(10))?,
+        row(alloc, 1, Some(20))?,
+        row(alloc, 2, None)?,
+    ];
+    tables.load_prepared(layout, node, &rows)
+}
+
+fn number(value: Option<Value>) -> Option<i64> {
+    match value {
+        Some(Value::Int(number)) => Some(number),
+        _ => None,
+    }
+}
+
+// What the shard and the copy of its partition have at a row.
+fn seen(tables: &Tables, row: u32) -> Option<[Option<i64>; 2]> {
+    let place = (row % 2) as usize;
+    let shard = tables.shards.get(place)?;
+    let copy = tables.copies.get(place)?;
+    Some([
+        number(shard.stable(key(row))),
+        number(copy.stable(key(row))),
+    ])
+}
+
+fn shows(rt: &impl Abort, tables: &Tables, wanted: &[(u32, [Option<i64>; 2])]) {
+    for (row, values) in wanted {
+        assert_eq!(rt; seen(tables, *row), Some(*values), "row {row}");
+    }
+}
+
+#[test]
+fn rows_are_loaded_on_their_nodes(rt: HostRuntime) -> Result<(), Fail> {
+    let alloc = rt.alloc();
+    let layout = layout(alloc);
+    let mut tables = based(alloc, &layout)?;
+    // Node 0 has the shard of partition 0 and the copy of partition 1.
+    load(alloc, &mut tables, &layout, 0)?;
+    let first = [
+        (0, [Some(10), Some(1)]),
+        (1, [Some(2), Some(20)]),
+        (2, [None, Some(3)]),
+    ];
+    shows(&rt, &tables, &first);
+    load(alloc, &mut tables, &layout, 1)?;
+    let both = [
+        (0, [Some(10), Some(10)]),
+        (1, [Some(20), Some(20)]),
+        (2, [None, None]),
+    ];
+    shows(&rt, &tables, &both);
+    Ok(())
+}
+
+fn done(alloc: Global, id: u64, epoch: u64) -> Result<Done, NoMemory>
+    ensures id { IfOk result (λ done. done.id ≡ id) }
+    ensures epoch { IfOk result (λ done. done.epoch ≡ epoch) }
+{
+    let call = Call {
+        proc_no: 0,
+        snapshot: false,
+        args: Args::new(alloc),
+    };
+    let reply = KeptReply::of(alloc, &Reply::Ok(None))?;
+    Ok(Done {
+        id,
+        call,
+        epoch,
+        time: 1,
+        reply,
+    })
+}
+
+fn two_dones(alloc: Global) -> Result<Dones, NoMemory>
+    ensures once { IfOk result (λ dones. HasDistinctIds dones) }
+    ensures rising { IfOk result (λ dones. NeverFall dones) }
+{
+    let mut dones = Sequence::new(alloc);
+    let first = done(alloc, 7, 1)?;
+    let second = done(alloc, 5, 2)?;
+    dones.push(first)?;
+    dones.push(second)?;
+    Ok(dones)
+}
+
+#[test]
+fn dones_of_the_last_epoch_are_kept(rt: HostRuntime) -> Result<(), Fail> {
+    let alloc = rt.alloc();
+    let mut kept = Kept::new(alloc, Some(1), None);
+    let dones = two_dones(alloc)?;
+    keep_dones(alloc, &mut kept, dones)?;
+    assert_eq!(rt; kept.len(), 1);
+    assert_eq!(rt; kept.nth(0).map(|done| done.id), Some(5));
+    assert_eq!(rt; kept.floor(), Some(7));
+    Ok(())
+}
+
+#[test]
+fn the_next_epoch_is_above_all(rt: HostRuntime) {
+    for (next, epoch, after) in [(5, 3, 5), (5, 4, 5), (5, 5, 6), (5, 7, 8)] {
+        assert_eq!(rt; next_epoch(next, epoch), after);
+    }
+}

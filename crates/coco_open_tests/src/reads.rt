@@ -1,0 +1,106 @@
+//! A file of small entries is read, or refused at its first place.
+ghost use Rattle.std.specs.Prelude.{ℕ, refl};
+ghost use Rattle.coco_read.specs.Counting.{counting};
+
+use coco_host::{Host, MemoryHost};
+use coco_read::{OpenFault, Rules, read_file};
+use coco_types::NoMemory;
+use std::alloc::Global;
+use std::test::Fail;
+
+// Bodies of one byte that count up from 0, so many at least.
+#[derive(Drop)]
+struct Counting {
+    wanted: usize,
+    taken: Vec<u8>,
+}
+
+impl Rules for Counting {
+    ghost Entry = { ℕ };
+
+    ghost Setting = { ℕ };
+
+    ghost setting = { λ s. s.wanted };
+
+    ghost rules = { counting };
+
+    ghost taken = { λ s. s.taken.items };
+
+    ghost reads = { λ wanted byte is. refl };
+
+    fn take(&mut self, _alloc: Global, body: &[u8]) -> Result<Option<usize>, NoMemory> {
+        match body {
+            [] => Ok(Some(0)),
+            [byte] => {
+                if usize::from(*byte) != self.taken.len() {
+                    return Ok(Some(0));
+                }
+                self.taken.push(*byte)?;
+                Ok(None)
+            }
+            _ => Ok(Some(1)),
+        }
+    }
+
+    fn lacks(&self) -> bool {
+        self.taken.len() < self.wanted
+    }
+}
+
+// Reads a file of these bytes and answers how many entries it has, of which two are wanted; the call of the host
+// with this number fails.
+fn count_of(alloc: Global, bytes: &[u8], failing: u64) -> Result<Result<u64, OpenFault>, Fail> {
+    let mut host = MemoryHost::new(alloc, vec![in alloc; failing]?);
+    host.write_at(5, 0, bytes)?;
+    let mut rules = Counting {
+        wanted: 2,
+        taken: Vec::new(alloc),
+    };
+    match read_file(alloc, &mut host, 5, 1, &mut rules) {
+        Ok(log) => Ok(Ok(log.count())),
+        Err(fault) => Ok(Err(fault)),
+    }
+}
+
+// A log of kind 1 with the entries 0 and 1.
+const TWO_ENTRIES: [u8; 21] = *b"COCOLOG\x01\x01\x00\x00\x00\x01\x00\x01\x00\x00\x00\x01\x01\x00";
+
+#[test]
+fn a_file_is_read_and_each_call_that_fails_is_a_fault_of_the_disk(
+    rt: HostRuntime,
+) -> Result<(), Fail> {
+    for failing in 1..5 {
+        let read = count_of(rt.alloc(), &TWO_ENTRIES, failing)?;
+        assert_eq!(rt; read, Err(OpenFault::Disk), "call {failing}");
+    }
+    assert_eq!(rt; count_of(rt.alloc(), &TWO_ENTRIES, 5)?, Ok(2));
+    Ok(())
+}
+
+#[test]
+fn the_first_refusal_is_answered(rt: HostRuntime) -> Result<(), Fail> {
+    for (bytes, at) in [
+        (b"COCOLOG\x02\x00".as_slice(), 7),
+        (b"COCOLOG\x01\x00".as_slice(), 8),
+        (
+            b"COCOLOG\x01\x01\x00\x00\x00\x01\x00\x01\x00".as_slice(),
+            14,
+        ),
+        (
+            b"COCOLOG\x01\x01\x00\x00\x00\x01\x00\x01\x00\x00\x00\x01\x05\x00".as_slice(),
+            19,
+        ),
+        (
+            b"COCOLOG\x01\x01\x00\x00\x00\x01\x00\x01\x00\x00\x00\x02\x01\x07\x00".as_slice(),
+            20,
+        ),
+        (
+            b"COCOLOG\x01\x01\x00\x00\x00\x01\x03\x01\x00".as_slice(),
+            13,
+        ),
+    ] {
+        let refused = OpenFault::NotAStore { file: 5, at };
+        assert_eq!(rt; count_of(rt.alloc(), bytes, 100)?, Err(refused));
+    }
+    Ok(())
+}

@@ -1,0 +1,72 @@
+//! A turn of one request on a store without epochs, and what the host holds then, byte by byte.
+
+ghost use Rattle.std.specs.Prelude.{◌≡◌, [], None, IfOk};
+ghost use Rattle.coco_ast.specs.Builtins.{builtins};
+ghost use Rattle.coco_cluster.specs.Standing.{ClusterState};
+ghost use Rattle.coco_cluster.specs.Turning.{MayTurn};
+
+use crate::made::{new_cluster, new_logs};
+use coco_cluster::Cluster;
+use coco_gate::OpenGate;
+use coco_host::{Host, MemoryHost};
+use coco_types::{Args, Call, NoMemory, Request, Value};
+use std::alloc::Global;
+use std::sync::Wait;
+use std::test::Fail;
+use std::thread::Threads;
+
+const COMMITS: [u8; 75] = [
+    b'C', b'O', b'C', b'O', b'L', b'O', b'G', 1, 1, 0, 0, 0, 61, 2, 0, 0, 0, 0, 0, 0, 0, 1, 0, 0,
+    0, 1, 0, 0, 0, 0, 0, 0, 0, 1, 0, 1, 0, 2, 1, 0, 0, 0, 0, 0, 0, 0, 5, 1, 0, 0, 0, 0, 0, 0, 0,
+    70, 0, 0, 0, 0, 0, 0, 0, 1, 0, 1, 0, 0, 0, 0, 0, 0, 0, 70, 0,
+];
+
+const PREPARED: [u8; 54] = [
+    b'C', b'O', b'C', b'O', b'L', b'O', b'G', 2, 1, 0, 0, 0, 40, 3, 0, 0, 0, 0, 0, 0, 0, 1, 0, 0,
+    0, 1, 0, 0, 0, 0, 0, 0, 0, 0, 0, 5, 0, 0, 0, 0, 0, 0, 0, 1, 1, 0, 0, 0, 0, 0, 0, 0, 70, 0,
+];
+
+// `put(5, 70)` as id 1.
+fn put_of_seventy(alloc: Global) -> Result<Vec<Request>, NoMemory>
+    ensures { IfOk result (λ requests. (k : ClusterState) → k.procs ≡ builtins → k.kept.dones ≡ [] → k.kept.floor ≡ None → MayTurn k requests.items) }
+{
+    let mut args = Args::new(alloc);
+    args.push(Some(Value::Int(5)))?;
+    args.push(Some(Value::Int(70)))?;
+    let call = Call {
+        proc_no: 1,
+        snapshot: false,
+        args,
+    };
+    let mut requests = Vec::with_capacity(alloc, 1)?;
+    requests.push(Request { id: 1, call })?;
+    Ok(requests)
+}
+
+fn put_once<R: Threads + Wait + Sync, H: Host>(
+    rt: &R,
+    alloc: Global,
+    host: &mut H,
+) -> Result<Cluster, Fail> {
+    let (chief, node) = new_logs(alloc, host)?;
+    let mut cluster = new_cluster(alloc, chief, node, None)?;
+    let requests = put_of_seventy(alloc)?;
+    // Of four workers one finds a request to draw.
+    cluster.turn(rt, alloc, host, requests, 4, 3, &OpenGate)?;
+    Ok(cluster)
+}
+
+#[test]
+fn a_put_of_seventy_is_committed(rt: HostRuntime) -> Result<(), Fail> {
+    let alloc = rt.alloc();
+    let mut host = MemoryHost::new(alloc, Vec::new(alloc));
+    let cluster = put_once(&rt, alloc, &mut host)?;
+    assert_eq!(rt; cluster.next_epoch(), 2);
+    assert_eq!(rt; cluster.kept().nth(0).map(|done| done.id), Some(1));
+    let mut bytes = [0; 80];
+    assert_eq!(rt; host.read_at(1, 0, &mut bytes), Ok(75));
+    assert_eq!(rt; &bytes[..75], COMMITS.as_slice());
+    assert_eq!(rt; host.read_at(2, 0, &mut bytes), Ok(54));
+    assert_eq!(rt; &bytes[..54], PREPARED.as_slice());
+    Ok(())
+}
