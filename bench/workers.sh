@@ -1,8 +1,8 @@
 #!/usr/bin/env bash
 # Epochs of 1,000 lines run by 1, 2 and 4 workers over 16 partitions, on a RAM disk: bank transfers among many accounts and
-# among few, reads and writes of single rows, and a procedure of 1,024 loop turns; and transfers in epochs of one line.
-# Each figure is of the best of so many runs, each on a new store; of the rate the middle one stands beside it.
-# Words: how many lines (of the last two a twentieth), how many runs. COCO is the program, RAM the folder.
+# among few, reads and writes of single rows, and a procedure of 1,024 loop turns; and transfers in epochs of sixteen lines
+# and of one. Each figure is of the best of so many runs, each on a new store; of the rate the middle one stands beside it.
+# Words: how many lines (of the last three a twentieth), how many runs. COCO is the program, RAM the folder.
 set -euo pipefail
 cd "$(dirname "$0")/.."
 lines=${1:-300000}
@@ -83,4 +83,5 @@ by 'reads and writes' "$lines" /dev/null 1000
 long $((lines / 20)) >"$ram/input"
 by '1,024 turns' $((lines / 20)) bench/turns.coco 1000
 moves $((lines / 20)) 1000 >"$ram/input"
+by 'transfers, by sixteens' $((lines / 20)) bench/bank.coco 16
 by 'transfers, one by one' $((lines / 20)) bench/bank.coco 1

@@ -149,13 +149,16 @@ TEXT
     [ "$(<"$work/said")" = 'serial 220' ] || wrong "$name: $(head -c 200 "$work/said")"
 }
 
+# The first sixteen epochs of a run, and more where they go as fast, are run by all workers; in epochs of 1,000 all ten.
 measured
 one bank 1000 1 1 3 100
 one bank 2 2 16 1 50
+one bank 2 2 16 1 1000
 one bank 50 4 4 3 1000
 one bank 3 16 2 8 1000
 one shop 40 1 7 1 200
 one shop 1 2 1 3 25
+one shop 1 2 1 3 1000
 one shop 8 4 16 2 1000
 one shop 300 16 5 8 500
 [ "$cut_off" -gt 0 ] || wrong 'no kill met a run at work'

@@ -16,6 +16,7 @@ use std::env;
 use std::process::ExitCode;
 use std::sync::Wait;
 use std::thread::Threads;
+use std::time::Clock;
 use top::coco;
 
 fn main(rt: HostRuntime) -> ExitCode {
@@ -32,7 +33,7 @@ fn main(rt: HostRuntime) -> ExitCode {
 
 // The status of the command, or the ending of a call that doesn't come to it. The second runtime is what workers are
 // started with, which the first one is in `main` alone.
-fn start<R: Threads + Wait + Sync>(
+fn start<R: Threads + Wait + Clock + Sync>(
     rt: HostRuntime,
     threads: &R,
     errs: &mut StdSink,

@@ -10,6 +10,7 @@ use std::alloc::Global;
 use std::sync::Wait;
 use std::test::Fail;
 use std::thread::Threads;
+use std::time::Clock;
 
 // The status of a call, and its line on the error stream.
 #[derive(Drop)]
@@ -19,7 +20,7 @@ struct Left {
 }
 
 // A call on these words and this text, whose read of this number fails.
-fn call<R: Threads + Wait + Sync, H: Host>(
+fn call<R: Threads + Wait + Clock + Sync, H: Host>(
     rt: &R,
     alloc: Global,
     host: &mut H,
@@ -31,7 +32,7 @@ fn call<R: Threads + Wait + Sync, H: Host>(
 }
 
 // The same with workers that pass a gate.
-fn call_by<R: Threads + Wait + Sync, H: Host, G: Gate + Sync>(
+fn call_by<R: Threads + Wait + Clock + Sync, H: Host, G: Gate + Sync>(
     rt: &R,
     alloc: Global,
     host: &mut H,
@@ -151,7 +152,7 @@ fn a_failing_read_leaves_whole_batches(rt: HostRuntime) -> Result<(), Fail> {
 }
 
 // After a crash by this pick the same lines are answered, each once.
-fn goes_on<R: Threads + Wait + Sync>(
+fn goes_on<R: Threads + Wait + Clock + Sync>(
     rt: &R,
     alloc: Global,
     host: MemoryHost,
@@ -222,7 +223,7 @@ fn a_fuse_loses_nothing(rt: HostRuntime) -> Result<(), Fail> {
 }
 
 // After a crash the history is found serial, and the first line is answered, which says this.
-fn goes_on_with<R: Threads + Wait + Sync>(
+fn goes_on_with<R: Threads + Wait + Clock + Sync>(
     rt: &R,
     alloc: Global,
     host: MemoryHost,

@@ -22,11 +22,12 @@ use coco_words::{Command, RunOptions, WordsFault, words as command_of};
 use std::alloc::Global;
 use std::sync::Wait;
 use std::thread::Threads;
+use std::time::Clock;
 
 /// Does what the words ask of the store in the host's files, and answers the program's status. A status other than 0
 /// has its line on the error stream, whose faults change nothing. Where several workers run, they pass the gate as an
 /// attempt begins and as one commits; one worker passes none.
-pub fn coco<R: Threads + Wait + Sync, H: Host, I: Source, E: Sink, G: Gate + Sync>(
+pub fn coco<R: Threads + Wait + Clock + Sync, H: Host, I: Source, E: Sink, G: Gate + Sync>(
     rt: &R,
     alloc: Global,
     words: &[String],
@@ -57,7 +58,7 @@ fn complain<E: Sink>(alloc: Global, ending: &Ending, errs: &mut E)
 }
 
 // The same but for the error stream.
-fn obey<R: Threads + Wait + Sync, H: Host, I: Source, G: Gate + Sync>(
+fn obey<R: Threads + Wait + Clock + Sync, H: Host, I: Source, G: Gate + Sync>(
     rt: &R,
     alloc: Global,
     words: &[String],
@@ -79,7 +80,7 @@ fn obey<R: Threads + Wait + Sync, H: Host, I: Source, G: Gate + Sync>(
 }
 
 // Does what a command asks.
-fn execute<R: Threads + Wait + Sync, H: Host, I: Source, G: Gate + Sync>(
+fn execute<R: Threads + Wait + Clock + Sync, H: Host, I: Source, G: Gate + Sync>(
     rt: &R,
     alloc: Global,
     command: Command,

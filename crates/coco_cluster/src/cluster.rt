@@ -24,6 +24,7 @@ use std::alloc::Global;
 use std::marker::Model;
 use std::sync::Wait;
 use std::thread::Threads;
+use std::time::Clock;
 
 /// What an opened store of one node has in memory: its procedures, kept replies and rows, the logs that it is written
 /// to, the partitions that the node holds, and the number of the next epoch.
@@ -91,7 +92,7 @@ impl Cluster {
     /// each moment what a crash may leave is a good store, without the epoch or with it. Without requests there is
     /// nothing to do. After a fault the shards are as they were before the turn, also where the files may have the epoch:
     /// the cluster is spent, and the store has to be opened again.
-    pub fn turn<R: Threads + Wait + Sync, H: Host, G: Gate + Sync>(
+    pub fn turn<R: Threads + Wait + Clock + Sync, H: Host, G: Gate + Sync>(
         &mut self,
         rt: &R,
         alloc: Global,

@@ -19,6 +19,7 @@ use coco_kept::Kept;
 use coco_load::{add_dones, make_room};
 use coco_net::QuietNet;
 use coco_order::laws::workers_may_be_idle;
+use coco_pace::Pace;
 use coco_parallel::rooms::Rooms;
 use coco_prepared::prepared_rows;
 use coco_shard::Shard;
@@ -28,6 +29,7 @@ use std::alloc::Global;
 use std::mem;
 use std::sync::Wait;
 use std::thread::Threads;
+use std::time::{Clock, Instant};
 
 /// What an epoch came to, and what a node that holds some partitions writes of it.
 #[derive(Drop)]
@@ -43,20 +45,39 @@ struct Worked {
     pieces: Pieces,
 }
 
-/// Room that goes from epoch to epoch: that of one worker's run, and those of several workers' locks
-/// and transcripts.
+/// What goes from epoch to epoch: the room of one worker's run, those of several workers' locks and transcripts, and how
+/// long one and several took.
 #[derive(Drop)]
 pub struct EpochRoom {
     alone: AloneRoom,
     locks: Rooms,
+    pace: Pace,
 }
 
 impl EpochRoom {
-    /// Room in which nothing has run. It takes no memory.
+    /// Nothing has run, and there is no room. It takes no memory.
     pub fn new(alloc: Global) -> EpochRoom {
         EpochRoom {
             alone: AloneRoom::new(alloc),
             locks: Rooms::new(alloc),
+            pace: Pace::new(),
+        }
+    }
+
+    // Takes in how long so many workers took for an epoch that began then, where that is known. A clock that can't be
+    // read tells nothing.
+    fn keep_time<C: Clock>(
+        &mut self,
+        clock: &C,
+        began: Option<Instant>,
+        workers: u8,
+        requests: u32,
+    ) {
+        let Some(began) = began else {
+            return;
+        };
+        if let Ok(time) = began.elapsed(clock) {
+            self.pace.took(workers, requests, time);
         }
     }
 }
@@ -77,7 +98,7 @@ pub fn on_one_node(epoch: u64, workers: u8, attempts: u8) -> EpochConfig
 /// Runs the requests of an epoch on shards at rest, and makes the rows of its prepared entry, and room for its Dones
 /// among the kept ones. It begins with the room that the epoch before left. Out of memory, the shards are as they were
 /// handed in.
-pub fn run_epoch<R: Threads + Wait + Sync, G: Gate + Sync>(
+pub fn run_epoch<R: Threads + Wait + Clock + Sync, G: Gate + Sync>(
     rt: &R,
     alloc: Global,
     room: &mut EpochRoom,
@@ -124,9 +145,49 @@ fn made_ready(
     Ok(Ran { dones, rows })
 }
 
-// What workers came to in an epoch. Only those are started who find a request to draw, and one worker goes alone,
-// without the locks that several need. Out of memory, the shards are as they were handed in.
-fn work<R: Threads + Wait + Sync, G: Gate + Sync>(
+// What workers came to in an epoch. Only those are started who find a request to draw, and of them one alone where that
+// goes faster. Out of memory, the shards are as they were handed in.
+fn work<R: Threads + Wait + Clock + Sync, G: Gate + Sync>(
+    rt: &R,
+    alloc: Global,
+    room: &mut EpochRoom,
+    shards: &mut Vec<Shard>,
+    procs: &Checked,
+    requests: Vec<Request>,
+    config: EpochConfig,
+    gate: &G,
+) -> Result<Worked, NoMemory>
+    requires { MayWork procs.now requests.items config shards.old.items }
+    ensures worked { IfOk result (λ w. (m : Rows) → HoldMap m shards.old.items → HasWorked (beginning_with procs.now m requests.items shards.old.items config) config.epoch shards.new.items w.dones w.pieces) }
+    ensures count { length shards.new.items ≡ length shards.old.items }
+    ensures err { OnErr result (shards.new.items ≡ shards.old.items) }
+{
+    // Its law says that the others may be idle.
+    workers_may_be_idle();
+    let count = requests.len() as u32;
+    let busy = busy_workers(config.workers, count);
+    let workers = room.pace.workers(busy, count);
+    let started = EpochConfig { workers, ..config };
+    let began = if busy > 1 {
+        Instant::now(rt).ok()
+    } else {
+        None
+    };
+    let worked = work_as_started(rt, alloc, room, shards, procs, requests, started, gate)?;
+    room.keep_time(rt, began, workers, count);
+    Ok(worked)
+}
+
+// How many workers find a request to draw, of whom there is one at least.
+fn busy_workers(workers: u8, requests: u32) -> u8
+    ensures { result ≡ max 1 (min workers requests) }
+{
+    u32::from(workers).min(requests).max(1) as u8
+}
+
+// What workers came to who are all started. One goes alone, without the locks that several need. Out of memory, the
+// shards are as they were handed in.
+fn work_as_started<R: Threads + Wait + Sync, G: Gate + Sync>(
     rt: &R,
     alloc: Global,
     room: &mut EpochRoom,
@@ -141,10 +202,7 @@ fn work<R: Threads + Wait + Sync, G: Gate + Sync>(
     ensures count { length shards.new.items ≡ length shards.old.items }
     ensures err { OnErr result (shards.new.items ≡ shards.old.items) }
 {
-    // Its law says that the others may be idle.
-    workers_may_be_idle();
-    let busy = busy_workers(config, requests.len());
-    if busy.workers > 1 {
+    if config.workers > 1 {
         return work_side_by_side(
             rt,
             alloc,
@@ -152,7 +210,7 @@ fn work<R: Threads + Wait + Sync, G: Gate + Sync>(
             shards,
             procs,
             requests.as_mut_slice(),
-            busy,
+            config,
             gate,
         );
     }
@@ -168,17 +226,6 @@ fn work<R: Threads + Wait + Sync, G: Gate + Sync>(
         dones: ran.dones,
         pieces: ran.pieces,
     })
-}
-
-// What the workers are told who find a request to draw, of whom there is one at least.
-fn busy_workers(config: EpochConfig, requests: usize) -> EpochConfig
-    ensures { result ≡ record config { workers = max 1 (min config.workers requests) } }
-{
-    let workers = usize::from(config.workers).min(requests).max(1);
-    EpochConfig {
-        workers: workers as u8,
-        ..config
-    }
 }
 
 // What several workers came to, side by side. Their locks begin with these rooms, and leave theirs there. Out of

@@ -14,6 +14,7 @@ use std::alloc::Global;
 use std::sync::Wait;
 use std::test::Fail;
 use std::thread::Threads;
+use std::time::Clock;
 
 // One node, one partition, no copies, and an empty text: without a keep number, with 1, and with 2 behind that.
 const LAYOUTS: [u8; 103] =
@@ -55,7 +56,7 @@ const ONE_BATCH: &str = r#"{"error":"old","line":1}
 "#;
 
 // Runs lines on the store, so many in a batch.
-fn run_lines<R: Threads + Wait + Sync>(
+fn run_lines<R: Threads + Wait + Clock + Sync>(
     rt: &R,
     alloc: Global,
     host: &mut MemoryHost,
@@ -86,7 +87,10 @@ fn new_store(alloc: Global, layouts: &[u8]) -> Result<MemoryHost, Fail> {
 }
 
 // The store of two epochs, without a keep number.
-fn worked_store<R: Threads + Wait + Sync>(rt: &R, alloc: Global) -> Result<MemoryHost, Fail> {
+fn worked_store<R: Threads + Wait + Clock + Sync>(
+    rt: &R,
+    alloc: Global,
+) -> Result<MemoryHost, Fail> {
     let mut first = LAYOUTS;
     first[38] = 0;
     let mut host = new_store(alloc, &first[..39])?;
@@ -125,7 +129,11 @@ fn a_base_file_stays(rt: HostRuntime) -> Result<(), Fail> {
 }
 
 // What the store with the keep number 1 answers, for so many lines in a batch.
-fn answers<R: Threads + Wait + Sync>(rt: &R, alloc: Global, size: u32) -> Result<Vec<u8>, Fail>
+fn answers<R: Threads + Wait + Clock + Sync>(
+    rt: &R,
+    alloc: Global,
+    size: u32,
+) -> Result<Vec<u8>, Fail>
     requires some { 0 < size }
     requires few { size ≤ 1024 }
 {

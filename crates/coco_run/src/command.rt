@@ -13,9 +13,10 @@ use coco_serve::{Plan, Served, answer_lines};
 use std::alloc::Global;
 use std::sync::Wait;
 use std::thread::Threads;
+use std::time::Clock;
 
 /// Opens the store, and answers request lines on it to the end of the input, as the plan has it.
-pub fn run<R: Threads + Wait + Sync, H: Host, S: Source, G: Gate + Sync>(
+pub fn run<R: Threads + Wait + Clock + Sync, H: Host, S: Source, G: Gate + Sync>(
     rt: &R,
     alloc: Global,
     host: &mut H,

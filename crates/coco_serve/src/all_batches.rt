@@ -16,10 +16,11 @@ use coco_lines::{LineFault, Reader, Scratch};
 use std::alloc::Global;
 use std::sync::Wait;
 use std::thread::Threads;
+use std::time::Clock;
 
 /// Reads request lines to the end of the input, and works them off as the plan has it. The new requests of a batch are
 /// committed to the files before its answers are said.
-pub fn answer_lines<R: Threads + Wait + Sync, H: Host, S: Source, G: Gate + Sync>(
+pub fn answer_lines<R: Threads + Wait + Clock + Sync, H: Host, S: Source, G: Gate + Sync>(
     rt: &R,
     alloc: Global,
     host: &mut H,

@@ -19,10 +19,11 @@ use coco_host::{Host, say_all};
 use std::alloc::Global;
 use std::sync::Wait;
 use std::thread::Threads;
+use std::time::Clock;
 
 /// Commits the new requests of a batch as the plan has it, and then says its answers. After a fault the cluster is of
 /// no further use.
-pub fn turn_and_say<R: Threads + Wait + Sync, H: Host, G: Gate + Sync>(
+pub fn turn_and_say<R: Threads + Wait + Clock + Sync, H: Host, G: Gate + Sync>(
     rt: &R,
     alloc: Global,
     host: &mut H,

@@ -12,9 +12,10 @@ use std::alloc::Global;
 use std::sync::Wait;
 use std::test::Fail;
 use std::thread::Threads;
+use std::time::Clock;
 
 // Answers these lines, so many in a batch, on a new store that keeps the replies of so many epochs.
-fn answer<R: Threads + Wait + Sync, H: Host>(
+fn answer<R: Threads + Wait + Clock + Sync, H: Host>(
     rt: &R,
     alloc: Global,
     host: &mut H,

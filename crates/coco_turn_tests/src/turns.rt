@@ -14,6 +14,7 @@ use std::alloc::Global;
 use std::sync::Wait;
 use std::test::Fail;
 use std::thread::Threads;
+use std::time::Clock;
 
 const COMMITS: [u8; 75] = [
     b'C', b'O', b'C', b'O', b'L', b'O', b'G', 1, 1, 0, 0, 0, 61, 2, 0, 0, 0, 0, 0, 0, 0, 1, 0, 0,
@@ -43,7 +44,7 @@ fn put_of_seventy(alloc: Global) -> Result<Vec<Request>, NoMemory>
     Ok(requests)
 }
 
-fn put_once<R: Threads + Wait + Sync, H: Host>(
+fn put_once<R: Threads + Wait + Clock + Sync, H: Host>(
     rt: &R,
     alloc: Global,
     host: &mut H,
