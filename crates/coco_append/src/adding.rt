@@ -15,11 +15,11 @@ ghost use Rattle.coco_append.specs.Gaining.{Gains, Grows, IsChiefLog, IsNodeLog,
 
 use coco_entry::{Row, put_commit, put_prepared};
 use coco_host::Host;
-use coco_log::{Log, LogFault};
+use coco_log::{Log, LogFault, MOST_ENTRY_BYTES};
 use coco_types::Done;
 
 // The greatest length of an entry's body.
-const MOST: usize = 67_108_864;
+const MOST: usize = MOST_ENTRY_BYTES as usize;
 
 /// Adds a prepared entry to a node's log. At each moment all that a crash may leave is a good store with the same
 /// history. The body is made in a buffer that may be used again; one that is too long for an entry is want of memory.

@@ -16,7 +16,7 @@ use Rattle.coco_log.specs.declared.fault.LogFault.{LogFault}
 use Rattle.coco_log.specs.declared.fault.LogFault.TheVariants.{Disk, NoMemory, NotALog}
 use Rattle.coco_log.specs.declared.gates.Head.{Head}
 use Rattle.coco_log.specs.declared.gates.Head.TheVariants.{End, Closed, Short, Open}
-use Rattle.coco_log.specs.Grammar.{most, header, counted, entry, front, IsShort, IsNoHeader, IsLog, FitsNoLog}
+use Rattle.coco_log.specs.Grammar.{most_entry_bytes, header, counted, entry, front, IsShort, IsNoHeader, IsLog, FitsNoLog}
 use Rattle.coco_log.specs.Gates.{IsPart, IsShut, IsHead, IsEntry, IsBroken}
 use Rattle.coco_log.specs.LogState.{places_from}
 use Rattle.coco_log.specs.Reading.{IsWalked}
@@ -74,7 +74,7 @@ long_counted : (body : List ℕ) → length (counted body) ≡ 4 + length body
 long_counted body = length-append (u32_bytes (length body)) body
 
 -- an open gate with a length that fits is an entry
-pub entry_here : (file : List ℕ) (at n : ℕ) → IsHead (drop at file) (Open n) → n ≤ most → n + 5 < length file - at → IsEntry (drop at file) (n + 5)
+pub entry_here : (file : List ℕ) (at n : ℕ) → IsHead (drop at file) (Open n) → n ≤ most_entry_bytes → n + 5 < length file - at → IsEntry (drop at file) (n + 5)
 entry_here file at n h short room =
     let long : n + 1 ≤ length h.0 = omega (arith, room, ap length h.2, length-drop at file, length-append (u32_bytes n) h.0) in
     let len : length (take n h.0) ≡ n = length-take-le n h.0 (omega (arith, long)) in
@@ -83,7 +83,7 @@ entry_here file at n h short room =
       body = take n h.0;
       gate = get_or h.0 n 0;
       rest = drop (n + 1) h.0;
-      short = subst (λ (k : ℕ). k ≤ most) (sym len) short;
+      short = subst (λ (k : ℕ). k ≤ most_entry_bytes) (sym len) short;
       is = h.2
           ∙ ap (λ (l : List ℕ). 1 ∷ (u32_bytes n ++ l)) (sym (take-append-drop n h.0) ∙ ap (λ (l : List ℕ). take n h.0 ++ l) next)
           ∙ ap (λ (k : ℕ). 1 ∷ (u32_bytes k ++ (take n h.0 ++ get_or h.0 n 0 ∷ drop (n + 1) h.0))) (sym len)
@@ -92,7 +92,7 @@ entry_here file at n h short room =
     }
 
 -- an open gate with a length that doesn't fit is no entry
-pub broken_here : (file : List ℕ) (at n : ℕ) → IsHead (drop at file) (Open n) → (n ≤ most → n + 5 < length file - at → ⊥) → IsBroken (drop at file)
+pub broken_here : (file : List ℕ) (at n : ℕ) → IsHead (drop at file) (Open n) → (n ≤ most_entry_bytes → n + 5 < length file - at → ⊥) → IsBroken (drop at file)
 broken_here file at n h off = record {
   behind = u32_bytes n ++ h.0;
   is = h.2;

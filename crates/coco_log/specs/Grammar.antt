@@ -2,13 +2,14 @@
 use Rattle.std.specs.Prelude.{◌≡◌, ◌≢◌, ◌⊎◌, ℕ, ◌+◌, ◌<◌, ◌≤◌, List, [], ◌∷◌, ◌++◌, length, take}
 use Rattle.std.specs.List.{All, flat_map}
 use Rattle.coco_bytes.specs.Fields.{u32_bytes}
+use Rattle.coco_log.specs.declared.gates.TheConstants.{MOST_ENTRY_BYTES}
 
--- the greatest length of an entry's body
-abbrev pub most : ℕ
-most = 67108864
+-- the greatest length of an entry's body, as the code has it
+abbrev pub most_entry_bytes : ℕ
+most_entry_bytes = MOST_ENTRY_BYTES
 
 abbrev pub IsShort : List ℕ → Type 0
-IsShort body = length body ≤ most
+IsShort body = length body ≤ most_entry_bytes
 
 -- the letters COCOLOG and the kind
 abbrev pub header : ℕ → List ℕ

@@ -13,8 +13,8 @@ use crate::window::Window;
 use coco_bytes::get_u32;
 use coco_host::Host;
 
-// The greatest length of an entry's body.
-const MOST: u32 = 67_108_864;
+/// The greatest length of an entry's body, in bytes.
+pub const MOST_ENTRY_BYTES: u32 = 67_108_864;
 
 /// What stands where a gate belongs.
 #[derive(Clone, Copy)]
@@ -82,7 +82,7 @@ pub fn next_gate<H: Host>(
         Head::Closed => Ok(None),
         Head::Open { length } => {
             let next = at + 5 + u64::from(length);
-            if length <= MOST && next < end {
+            if length <= MOST_ENTRY_BYTES && next < end {
                 Ok(Some(next))
             } else {
                 Err(LogFault::NotALog { at })

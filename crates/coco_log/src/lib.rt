@@ -11,4 +11,5 @@ mod writing;
 
 pub use entries::Entries;
 pub use fault::LogFault;
+pub use gates::MOST_ENTRY_BYTES;
 pub use log::Log;

@@ -5,7 +5,7 @@ ghost use Rattle.coco_host.specs.Files.{Files, Become, Follows};
 ghost use Rattle.coco_host.specs.Moments.{SeesOnly};
 ghost use Rattle.coco_log.specs.declared.fault.LogFault.TheVariants as fault;
 ghost use Rattle.coco_log.specs.Faults.{CountsFault, CountsOpen};
-ghost use Rattle.coco_log.specs.Grammar.{most, counted, FitsNoLog};
+ghost use Rattle.coco_log.specs.Grammar.{most_entry_bytes, counted, FitsNoLog};
 ghost use Rattle.coco_log.specs.Making.{MakesLog};
 ghost use Rattle.coco_log.specs.LogState.{without_entries, with_entry, gates, IsAtRest, IsBeforeOrAfter, ChangesOne, SameBut, IsAppended, IsMade, IsOnlyRead, IsFresh, IsOpened, Holds, HasEntry};
 ghost use Rattle.coco_log.specs.Making.{MakesLog};
@@ -162,7 +162,7 @@ impl Log {
     /// what the file reads as, then have the entries from before, or these and the new one.
     pub fn append<H: Host>(&mut self, host: &mut H, body: &[u8]) -> Result<(), LogFault>
         requires fresh { self.old.spent ≡ false }
-        requires short { length body.now ≤ most }
+        requires short { length body.now ≤ most_entry_bytes }
         requires rest { IfSome (H.reads host.old) (λ files. (bodies : List (List ℕ)) × IsAtRest self.old bodies files (H.may_leave host.old)) }
         ensures moments { (files : Files) (bodies : List (List ℕ)) → H.reads host.old ≡ Some files → IsAtRest self.old bodies files (H.may_leave host.old)
             → SeesOnly H.moment H.observed host.old host.new (ChangesOne self.old.file (IsBeforeOrAfter self.old.kind bodies body.now) (H.may_leave host.old) (H.said host.old)) }
@@ -188,7 +188,7 @@ impl Log {
 
 // Makes what belongs behind the gate of an entry, and room for one more place.
 fn stage(piece: &mut Vec<u8>, places: &mut Vec<u64>, body: &[u8]) -> Result<(), NoMemory>
-    requires { length body.now ≤ most }
+    requires { length body.now ≤ most_entry_bytes }
     ensures piece { OnOk result (piece.new.items ≡ counted body.now ++ 0 ∷ []) }
     ensures places { places.new.items ≡ places.old.items }
     ensures room { OnOk result (vec_len places.new < vec_capacity places.new) }

@@ -10,7 +10,7 @@ use Rattle.coco_bytes.specs.Fields.{u32_bytes, u64_bytes}
 use Rattle.coco_entry.specs.declared.layout.Layout.{Layout}
 use Rattle.coco_entry.specs.Layouts.{AreNew, fields_bytes, HasFields, sizes_bytes, is_named, IsLayout, layout_bytes}
 use Rattle.coco_entry.specs.Grammar.{bytes32}
-use Rattle.coco_log.specs.Grammar.{most}
+use Rattle.coco_log.specs.Grammar.{most_entry_bytes}
 use Rattle.coco_store.specs.Contents.{IsGoodLayout, history_of}
 use Rattle.coco_store.specs.Rules.{IsWithinLimits}
 use Rattle.coco_store.specs.Texts.{IsAcceptedText}
@@ -72,7 +72,7 @@ fields_long layout =
       numbers_long layout.node_files,
     )
 
-pub layout_short : (layout : Layout) (body : List ℕ) → IsNewLayout layout → IsGoodLayout (entry_of layout) → body ≡ layout_bytes (entry_of layout) → length body ≤ most
+pub layout_short : (layout : Layout) (body : List ℕ) → IsNewLayout layout → IsGoodLayout (entry_of layout) → body ≡ layout_bytes (entry_of layout) → length body ≤ most_entry_bytes
 layout_short layout body is good is_body =
     let count : length layout.node_files ≡ layout.nodes = ap (λ (l : Layout). length l.node_files) is ∙ length-range_with_len 2 layout.nodes in
     omega (arith, ap length is_body, length-append (fields_bytes layout) [], fields_long layout, count, good.limits.nodes.1, good.accepted.short)

@@ -6,7 +6,7 @@ ghost use Rattle.coco_host.specs.Moments.{SeesOnly};
 ghost use Rattle.coco_ast.specs.Tree.{Procedures};
 ghost use Rattle.coco_entry.specs.Layouts.{layout_bytes, named_by};
 ghost use Rattle.coco_log.specs.Faults.{CountsFault};
-ghost use Rattle.coco_log.specs.Grammar.{most};
+ghost use Rattle.coco_log.specs.Grammar.{most_entry_bytes};
 ghost use Rattle.coco_log.specs.LogState.{ChangesOne};
 ghost use Rattle.coco_store.specs.Contents.{IsGoodLayout};
 ghost use Rattle.coco_store.specs.Texts.{IsAcceptedText};
@@ -120,7 +120,7 @@ fn make_logs<H: Host>(alloc: Global, host: &mut H, files: &[u32], kind: u8) -> R
 
 // Makes the log of layouts, with one of this body.
 fn make_layouts<H: Host>(alloc: Global, host: &mut H, body: &[u8]) -> Result<(), LogFault>
-    requires { length body.now ≤ most }
+    requires { length body.now ≤ most_entry_bytes }
     ensures ok { OnOk result ((before : Files) → H.reads host.old ≡ Some before → HasLayout body.now before (H.reads host.new) (H.may_leave host.new)) }
     ensures moments { (files : Files) → H.reads host.old ≡ Some files → LeavesEmpty 0 (H.may_leave host.old)
         → SeesOnly H.moment H.observed host.old host.new (ChangesOne 0 (MayHave body.now) (H.may_leave host.old) (H.said host.old)) }

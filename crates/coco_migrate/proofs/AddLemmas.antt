@@ -6,7 +6,7 @@ use Rattle.coco_types.specs.Limits.{most_procedure_bytes}
 use Rattle.coco_entry.specs.declared.layout.LayoutEntry.{LayoutEntry}
 use Rattle.coco_entry.specs.Grammar.{bytes32}
 use Rattle.coco_entry.specs.Layouts.{IsLayout, later_bytes, layout_bytes}
-use Rattle.coco_log.specs.Grammar.{most}
+use Rattle.coco_log.specs.Grammar.{most_entry_bytes}
 use Rattle.coco_log.specs.LogState.{IsFresh, LogState}
 use Rattle.coco_store.specs.Contents.{Contents}
 use Rattle.coco_store.specs.Entries.{layouts_kind}
@@ -30,7 +30,7 @@ later_long keep (Some file) = omega arith
 later_long (Some keep) None = omega arith
 later_long None None = omega arith
 
-pub layout_short : (e : LayoutEntry) → IsLayout e → IsWithinLimits e → length e.layout.text ≤ most_procedure_bytes → length (layout_bytes e) ≤ most
+pub layout_short : (e : LayoutEntry) → IsLayout e → IsWithinLimits e → length e.layout.text ≤ most_procedure_bytes → length (layout_bytes e) ≤ most_entry_bytes
 layout_short e is limits text =
     let files = flat_map u32_bytes e.layout.node_files in
     let behind = u64_bytes e.layout.base_epoch ++ bytes32 e.layout.text in

@@ -1,5 +1,6 @@
 -- Where partitions and their copies stand in a ring of nodes.
 use Rattle.std.specs.Prelude.{ℕ, ◌+◌, ◌*◌, ◌%◌, ◌<◌, ◌≤◌}
+use Rattle.coco_types.specs.Limits.{most_nodes, most_partitions}
 use Rattle.coco_ship.specs.declared.ring.Ring.{Ring}
 
 abbrev pub primary_of : Ring → ℕ → ℕ
@@ -16,9 +17,9 @@ table_of ring p j = p * ring.copies + j
 -- the numbers of nodes, partitions and copies that there may be
 pub record IsRing (ring : Ring) : Type 0 where
   pub some_node : 1 ≤ ring.nodes
-  pub nodes : ring.nodes ≤ 8
+  pub nodes : ring.nodes ≤ most_nodes
   pub some_partition : 1 ≤ ring.partitions
-  pub partitions : ring.partitions ≤ 64
+  pub partitions : ring.partitions ≤ most_partitions
   pub copies : ring.copies < ring.nodes
 
 -- there is a copy j of partition p

@@ -7,9 +7,9 @@ pub returns-then-next-end-clause-step : goal.returns-then-next-end-clause-step
 returns-then-next-end-clause-step g c files told long part =
     (c.in-Open.length + 5, omega arith, entry_here (files c.args.window.now.file) c.args.at c.in-Open.length (subst (IsHead (drop c.args.at (files c.args.window.now.file))) c.in-Open.is (c.in_ok-head_at.ensures.head files told part)) (omega arith) (omega arith))
 
-pub returns-else-length-le-MOST-clause-step : goal.returns-else-length-le-MOST-clause-step
-returns-else-length-le-MOST-clause-step g c files told long part = (
+pub returns-else-length-le-MOST_ENTRY_BYTES-clause-step : goal.returns-else-length-le-MOST_ENTRY_BYTES-clause-step
+returns-else-length-le-MOST_ENTRY_BYTES-clause-step g c files told long part = (
   refl,
   inr (broken_here (files c.args.window.now.file) c.args.at c.in-Open.length (subst (IsHead (drop c.args.at (files c.args.window.now.file))) c.in-Open.is (c.in_ok-head_at.ensures.head files told part))
-      (λ short room. ⊎_elim (λ far. omega (arith, far.1, room, long, c.from.ensures)) (λ longer. omega (arith, longer, short)) c.else-length-le-MOST.either)),
+      (λ short room. ⊎_elim (λ far. omega (arith, far.1, room, long, c.from.ensures)) (λ longer. omega (arith, longer, short)) c.else-length-le-MOST_ENTRY_BYTES.either)),
 )

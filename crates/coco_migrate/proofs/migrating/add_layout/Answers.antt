@@ -2,7 +2,7 @@ use Rattle.std.proofs.Common.{List, ℕ, Some, ap, ◌∙◌, subst, sym, ◌≤
 use Rattle.std.proofs.lemmas.Result.{err_from_is_err_and}
 use Rattle.coco_entry.specs.declared.layout.LayoutEntry.{LayoutEntry}
 use Rattle.coco_entry.specs.Layouts.{layout_bytes}
-use Rattle.coco_log.specs.Grammar.{most}
+use Rattle.coco_log.specs.Grammar.{most_entry_bytes}
 use Rattle.coco_append.proofs.GainLemmas.{gained, nothing_gained, same_files, same_left}
 use Rattle.coco_migrate.specs.Keeping.{layouts_file}
 use Rattle.coco_migrate.proofs.AddLemmas.{body_is, keep_grows, layout_short}
@@ -23,7 +23,7 @@ pub append-requires-clause-short : goal.append-requires-clause-short
 append-requires-clause-short g c =
     let entry : LayoutEntry = record { layout = c.args.layout.now; keep = Some c.args.keep; base_file = c.args.base_file } in
     let is = body_is _ _ c.as_slice.result.now (layout_bytes entry) c.new-body.ensures.items c.in_ok-put_layout.ensures.ok c.as_slice.ensures.value in
-    subst (λ (l : List ℕ). length l ≤ most) (sym is) (layout_short entry c.requires.is c.requires.limits c.requires.text)
+    subst (λ (l : List ℕ). length l ≤ most_entry_bytes) (sym is) (layout_short entry c.requires.is c.requires.limits c.requires.text)
 
 pub returns-clause-gains : goal.returns-clause-gains
 returns-clause-gains g c before rests same =
