@@ -54,7 +54,7 @@ pub fn row_of(line: &str) -> Option<(Key, Value)> {
     Some((Key { table, row }, value))
 }
 
-// A whole number, a text between quotes, or none for any other word.
+// A whole number, a text behind a `'`, or none for any other word.
 fn value_of(word: &str) -> Option<Value> {
     if let Some(text) = word.strip_prefix("'") {
         return Text::of(text).map(Value::Text);

@@ -44,14 +44,14 @@ fn number(rt: HostRuntime, place: usize, otherwise: u16) -> io::Result<u16> {
 
 // A phase over each net.
 fn round(rt: HostRuntime, count: u16) -> io::Result<()> {
-    run(rt, "quiet", &mut QuietNet::new(rt.alloc()), count)?;
+    ship_pieces(rt, "quiet", &mut QuietNet::new(rt.alloc()), count)?;
     let mut net = SeededNet::new(rt.alloc());
     net.disturb(1);
-    run(rt, "seeded", &mut net, count)
+    ship_pieces(rt, "seeded", &mut net, count)
 }
 
 // A phase over a new net.
-fn run<N: Net>(rt: HostRuntime, name: &str, net: &mut N, count: u16) -> io::Result<()>
+fn ship_pieces<N: Net>(rt: HostRuntime, name: &str, net: &mut N, count: u16) -> io::Result<()>
     requires { N.sent net.old ≡ [] }
 {
     let Ok(pieces) = pieces(rt.alloc(), count) else {

@@ -20,6 +20,7 @@ use Rattle.coco_epoch.specs.SerialEpoch.{IsSerialEpoch}
 use Rattle.coco_epoch.specs.Shards.{HoldMap}
 use Rattle.coco_order.specs.Execution.{Beginning}
 use Rattle.coco_order.specs.Outcome.{ComeOfExecution}
+use Rattle.coco_parallel.specs.Epochs.{beginning_with}
 use Rattle.coco_prepared.specs.LastWrites.{AreLastWrites}
 use Rattle.coco_shard.specs.RowState.{ShardState}
 use Rattle.coco_store.specs.Contents.{Contents, IsGoodStore, history_of, map_in}
@@ -58,7 +59,12 @@ pub record HasWorked (b : Beginning) (epoch : ℕ) (shards : List ShardState) (d
   pub serial : IsSerialEpoch b.procs b.requests epoch b.opening shards dones pieces
   pub come : ComeOfExecution b epoch dones
 
--- the same with the rows of its prepared entry
+-- whatever map the shards held, an epoch of these requests was run from it, as they have it behind that
+abbrev pub HaveWorked : Procedures → List Request → EpochConfig → List ShardState → List ShardState → List Done → List Piece → Type 0
+HaveWorked procs requests config before after dones pieces =
+    (m : Rows) → HoldMap m before → HasWorked (beginning_with procs m requests before config) config.epoch after dones pieces
+
+-- an epoch with the rows of its prepared entry
 pub record RanOn (b : Beginning) (epoch : ℕ) (held : List Bool) (shards : List ShardState) (dones : List Done) (rows : List Row) : Type 0 where
   pub pieces : List Piece
   pub serial : IsSerialEpoch b.procs b.requests epoch b.opening shards dones pieces

@@ -8,7 +8,7 @@ ghost use Rattle.coco_kept.specs.Keeping.{HoldsKept};
 ghost use Rattle.coco_load.specs.Keeping.{MayFollow};
 ghost use Rattle.coco_parallel.specs.Epochs.{beginning_with};
 ghost use Rattle.coco_prepared.specs.LastWrites.{AreLastWrites};
-ghost use Rattle.coco_cluster.specs.Turning.{HasWorked, MayWork, RanOn};
+ghost use Rattle.coco_cluster.specs.Turning.{HaveWorked, MayWork, RanOn};
 
 use coco_alone::{AloneRoom, run_alone};
 use coco_ast::Checked;
@@ -158,7 +158,7 @@ fn work<R: Threads + Wait + Clock + Sync, G: Gate + Sync>(
     gate: &G,
 ) -> Result<Worked, NoMemory>
     requires { MayWork procs.now requests.items config shards.old.items }
-    ensures worked { IfOk result (λ w. (m : Rows) → HoldMap m shards.old.items → HasWorked (beginning_with procs.now m requests.items shards.old.items config) config.epoch shards.new.items w.dones w.pieces) }
+    ensures worked { IfOk result (λ w. HaveWorked procs.now requests.items config shards.old.items shards.new.items w.dones w.pieces) }
     ensures count { length shards.new.items ≡ length shards.old.items }
     ensures err { OnErr result (shards.new.items ≡ shards.old.items) }
 {
@@ -198,7 +198,7 @@ fn work_as_started<R: Threads + Wait + Sync, G: Gate + Sync>(
     gate: &G,
 ) -> Result<Worked, NoMemory>
     requires { MayWork procs.now requests.items config shards.old.items }
-    ensures worked { IfOk result (λ w. (m : Rows) → HoldMap m shards.old.items → HasWorked (beginning_with procs.now m requests.items shards.old.items config) config.epoch shards.new.items w.dones w.pieces) }
+    ensures worked { IfOk result (λ w. HaveWorked procs.now requests.items config shards.old.items shards.new.items w.dones w.pieces) }
     ensures count { length shards.new.items ≡ length shards.old.items }
     ensures err { OnErr result (shards.new.items ≡ shards.old.items) }
 {
@@ -241,7 +241,7 @@ fn work_side_by_side<R: Threads + Wait + Sync, G: Gate + Sync>(
     gate: &G,
 ) -> Result<Worked, NoMemory>
     requires { MayWork procs.now requests.old config shards.old.items }
-    ensures worked { IfOk result (λ w. (m : Rows) → HoldMap m shards.old.items → HasWorked (beginning_with procs.now m requests.old shards.old.items config) config.epoch shards.new.items w.dones w.pieces) }
+    ensures worked { IfOk result (λ w. HaveWorked procs.now requests.old config shards.old.items shards.new.items w.dones w.pieces) }
     ensures count { length shards.new.items ≡ length shards.old.items }
     ensures err { OnErr result (shards.new.items ≡ shards.old.items) }
 {

@@ -1,7 +1,7 @@
 //! The kept replies, Done after Done.
 
 ghost use Rattle.std.specs.Prelude.{◌≡◌, ◌≤◌, ℕ, List, ◌++◌, Option, length, IfOk, OnOk, OnErr};
-ghost use Rattle.coco_types.specs.declared.call.Done.{Done as Record};
+ghost use Rattle.coco_types.specs.declared.call.Done.{Done};
 ghost use Rattle.coco_ast.specs.History.{ids_of};
 ghost use Rattle.coco_kept.specs.Holding.{NeverFall};
 ghost use Rattle.coco_kept.specs.Keeping.{HoldsKept};
@@ -14,7 +14,7 @@ use std::alloc::Global;
 /// Adds Dones to the kept ones, in order, and makes room for all of them before. Out of memory none is added.
 pub fn keep_dones(alloc: Global, kept: &mut Kept, dones: Dones) -> Result<(), NoMemory>
     requires { MayFollow kept.old dones }
-    ensures kept { OnOk result ((before : Option ℕ) (added : List Record) → HoldsKept kept.old before added → NeverFall (added ++ dones) → HoldsKept kept.new before (added ++ dones)) }
+    ensures kept { OnOk result ((before : Option ℕ) (added : List Done) → HoldsKept kept.old before added → NeverFall (added ++ dones) → HoldsKept kept.new before (added ++ dones)) }
     ensures keep { kept.new.keep ≡ kept.old.keep }
     ensures err { OnErr result (kept.new ≡ record kept.old { room = kept.new.room }) }
 {
@@ -37,7 +37,7 @@ pub fn make_room(alloc: Global, kept: &mut Kept, dones: &[Done]) -> Result<(), N
 pub fn add_dones(kept: &mut Kept, dones: Dones)
     requires follow { MayFollow kept.old dones }
     requires room { length dones ≤ kept.old.room }
-    ensures kept { (before : Option ℕ) (added : List Record) → HoldsKept kept.old before added → NeverFall (added ++ dones) → HoldsKept kept.new before (added ++ dones) }
+    ensures kept { (before : Option ℕ) (added : List Done) → HoldsKept kept.old before added → NeverFall (added ++ dones) → HoldsKept kept.new before (added ++ dones) }
     ensures keep { kept.new.keep ≡ kept.old.keep }
 {
     for done in dones.into_vec() {

@@ -5,7 +5,7 @@ ghost use Rattle.std.specs.List.Sorted.{IsStrictlySortedBy};
 ghost use Rattle.std.specs.Map.{keys_of};
 ghost use Rattle.std.specs.Option.{option_map, option_or};
 ghost use Rattle.coco_types.specs.RowKey.{RowKey, key_cmp};
-ghost use Rattle.coco_types.specs.declared.call.Done.{Done as Record};
+ghost use Rattle.coco_types.specs.declared.call.Done.{Done};
 ghost use Rattle.coco_types.specs.declared.call.Request.{Request as Asked};
 ghost use Rattle.coco_ast.specs.Keyed.{Rows as Map};
 ghost use Rattle.coco_ast.specs.Tree.{Procedures};
@@ -93,5 +93,5 @@ fn rows_of(alloc: Global, last: &BTreeMap<Key, Stamp>) -> Result<Vec<Row>, NoMem
 
 /// Put over the map before the Dones, the rows of their pieces give the map after them, on each partition held.
 pub fn prepared_rows_leave_the_map()
-    ensures { (ps : Procedures) (count : ℕ) (requests : List Asked) (m : Map) (dones : List Record) → LeaveTheMap ps count requests m dones }
+    ensures { (ps : Procedures) (count : ℕ) (requests : List Asked) (m : Map) (dones : List Done) → LeaveTheMap ps count requests m dones }
 {}

@@ -2,7 +2,7 @@
 
 ghost use Rattle.std.specs.Prelude.{◌≡◌, ◌↔◌, ◌<◌, ◌^◌, ◌∷◌, ◌++◌, [], List, Some, is_some, length, ◌==◌, ◌&&◌, IfOk, IfSome, IsTrue, MatchBool};
 ghost use Rattle.coco_types.specs.RowKey.{RowKey};
-ghost use Rattle.coco_types.specs.declared.call.Done.{Done as Record};
+ghost use Rattle.coco_types.specs.declared.call.Done.{Done};
 ghost use Rattle.coco_types.specs.declared.value.Value.{Value as Datum};
 ghost use Rattle.coco_store.specs.Entries.{BaseEntry, Head, Dones, Values, base_bytes};
 ghost use Rattle.coco_store.specs.Refusals.{BaseBreaks};
@@ -210,7 +210,7 @@ fn takes_done(
     procs: &Checked,
     done: &Done,
 ) -> Result<bool, NoMemory>
-    ensures { (s : Setting) (before : List Record) → s.tree ≡ procs.now → s.entry.layout.base_epoch ≡ base_epoch → AreNoted s.entry.keep before noted.old
+    ensures { (s : Setting) (before : List Done) → s.tree ≡ procs.now → s.entry.layout.base_epoch ≡ base_epoch → AreNoted s.entry.keep before noted.old
         → IfOk result (λ takes. MatchBool takes
         (IsKeptDone s before done.now × AreNoted s.entry.keep (before ++ done.now ∷ []) noted.new)
         (¬ (IsKeptDone s before done.now))) }
@@ -229,7 +229,7 @@ fn first_broken_done(
     dones: &[Done],
 ) -> Result<Option<usize>, NoMemory>
     ensures within { IfOk result (λ place. IfSome place (λ i. i < length dones.now)) }
-    ensures found { (s : Setting) (before : List Record) → s.tree ≡ procs.now → s.entry.layout.base_epoch ≡ base_epoch → AreNoted s.entry.keep before noted.old
+    ensures found { (s : Setting) (before : List Done) → s.tree ≡ procs.now → s.entry.layout.base_epoch ≡ base_epoch → AreNoted s.entry.keep before noted.old
         → IfOk result (λ place. FindsBroken place (IsKeptDone s) before dones.now (AreNoted s.entry.keep (before ++ dones.now) noted.new)) }
 {
     for (place, done) in dones.iter().enumerate() {

@@ -2,7 +2,7 @@
 
 ghost use Rattle.std.specs.Prelude.{◌≡◌, ◌<◌, ◌^◌, ◌∷◌, ◌++◌, [], List, ℕ, length, nat_lt, ◌&&◌, IfOk, IfSome, MatchBool};
 ghost use Rattle.coco_types.specs.Limits.{epochs_end};
-ghost use Rattle.coco_types.specs.declared.call.Done.{Done as Record};
+ghost use Rattle.coco_types.specs.declared.call.Done.{Done};
 ghost use Rattle.coco_entry.specs.Commits.{commit_bytes};
 ghost use Rattle.coco_entry.specs.declared.commit.Commit.{Commit as CommitEntry};
 ghost use Rattle.coco_store.specs.Entries.{BaseEntry};
@@ -59,7 +59,7 @@ impl HistoryRules {
     // Notes a Done that keeps its rules behind those before it; else the answer is false.
     fn takes(&mut self, procs: &Checked, done: &Done) -> Result<bool, NoMemory>
         ensures epoch { self.new.last_epoch ≡ self.old.last_epoch }
-        ensures takes { (s : Setting) (base : List BaseEntry) (before : List Record) → s.tree ≡ procs.now → IsBehindDones s base before self.old
+        ensures takes { (s : Setting) (base : List BaseEntry) (before : List Done) → s.tree ≡ procs.now → IsBehindDones s base before self.old
             → IfOk result (λ takes. MatchBool takes
             (IsCommittedDone s base before done.now × IsBehindDones s base (before ++ done.now ∷ []) self.new)
             (¬ (IsCommittedDone s base before done.now))) }
@@ -74,7 +74,7 @@ impl HistoryRules {
     fn first_broken(&mut self, procs: &Checked, dones: &[Done]) -> Result<Option<usize>, NoMemory>
         ensures within { IfOk result (λ place. IfSome place (λ i. i < length dones.now)) }
         ensures epoch { self.new.last_epoch ≡ self.old.last_epoch }
-        ensures found { (s : Setting) (base : List BaseEntry) (before : List Record) → s.tree ≡ procs.now → IsBehindDones s base before self.old
+        ensures found { (s : Setting) (base : List BaseEntry) (before : List Done) → s.tree ≡ procs.now → IsBehindDones s base before self.old
             → IfOk result (λ place. FindsBroken place (IsCommittedDone s base) before dones.now (IsBehindDones s base (before ++ dones.now) self.new)) }
     {
         for (place, done) in dones.iter().enumerate() {

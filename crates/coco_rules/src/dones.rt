@@ -3,7 +3,7 @@
 ghost use Rattle.std.specs.Prelude.{◌≡◌, ◌+◌, ◌-◌, ◌<◌, ◌∷◌, ◌++◌, [], List, None, Some, IfOk, IsTrue, MatchBool};
 ghost use Rattle.std.specs.Option.{option_map};
 ghost use Rattle.coco_types.specs.Limits.{most_batch_lines};
-ghost use Rattle.coco_types.specs.declared.call.Done.{Done as Record};
+ghost use Rattle.coco_types.specs.declared.call.Done.{Done};
 ghost use Rattle.coco_ast.specs.Fitting.{any_writes, is_taken};
 ghost use Rattle.coco_ast.specs.Meaning.{procedure_at};
 ghost use Rattle.coco_entry.specs.Bases.{is_before as comes_before, stamp_of as its_stamp, stamp_rises};
@@ -146,7 +146,7 @@ impl Noted {
     /// Notes a Done that keeps the rules behind those before it; else the answer is false. After that,
     /// and out of memory, nothing is said of what is noted.
     pub(crate) fn takes(&mut self, procs: &Checked, done: &Done) -> Result<bool, NoMemory>
-        ensures { (s : Setting) (before : List Record) → s.tree ≡ procs.now → AreNoted s.entry.keep before self.old
+        ensures { (s : Setting) (before : List Done) → s.tree ≡ procs.now → AreNoted s.entry.keep before self.old
             → IfOk result (λ takes. MatchBool takes
             (IsNextDone s before done.now × AreNoted s.entry.keep (before ++ done.now ∷ []) self.new)
             (¬ (IsNextDone s before done.now))) }

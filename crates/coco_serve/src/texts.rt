@@ -2,7 +2,7 @@
 //! forget one of them, and the others behind it.
 ghost use Rattle.std.specs.Prelude.{◌≡◌, ◌++◌, ℕ, List, Vec, map, IfOk, OnOk};
 ghost use Rattle.std.specs.Option.{option_map};
-ghost use Rattle.coco_types.specs.declared.call.Done.{Done as Record};
+ghost use Rattle.coco_types.specs.declared.call.Done.{Done};
 ghost use Rattle.coco_serve.specs.Texts.{early_text, texts_over};
 
 use coco_batches::{LineAnswer, write_answers};
@@ -45,7 +45,7 @@ pub fn late_texts(
     answers: &[LineAnswer],
     early: Vec<Option<Vec<u8>>>,
 ) -> Result<Vec<u8>, NoMemory>
-    ensures { (before : List Record) → map (option_map (λ t. t.items)) early.items ≡ map (early_text before) answers.now
+    ensures { (before : List Done) → map (option_map (λ t. t.items)) early.items ≡ map (early_text before) answers.now
         → IfOk result (λ out. out.items ≡ texts_over before kept.now.dones answers.now) }
 {
     let mut out = Vec::new(alloc);

@@ -4,7 +4,7 @@ use Rattle.coco_ship.specs.Shipping.{AreBegun}
 use Rattle.coco_ship.proofs.ExampleLemmas.{none_other}
 use Rattle.coco_bench_ship.specs.Numbered.{three}
 use Rattle.coco_bench_ship.proofs.NumberLemmas.{new_begun, numbered_shippable}
-use Rattle.coco_bench_ship.proofs.run.Goals as goal
+use Rattle.coco_bench_ship.proofs.ship_pieces.Goals as goal
 
 pub ship_epoch-answer-requires-clause-fresh : goal.ship_epoch-answer-requires-clause-fresh
 ship_epoch-answer-requires-clause-fresh g c = none_other 1 (g.N.Net.sent c.args.net.now) c.requires
