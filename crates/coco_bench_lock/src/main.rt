@@ -4,8 +4,6 @@
 pub mod lane;
 pub mod measure;
 pub mod readers;
-#[cfg(test)]
-mod tests;
 
 use measure::{Run, on_bare, on_shards};
 use readers::Order;

@@ -5,6 +5,3 @@ pub mod claims;
 mod hand;
 
 pub use claims::{ClaimSeat, Claims};
-
-#[cfg(test)]
-mod tests;

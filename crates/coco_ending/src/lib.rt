@@ -4,8 +4,6 @@
 mod ending;
 mod error;
 mod fault;
-#[cfg(test)]
-mod tests;
 
 pub use ending::Ending;
 pub use error::TextError;

@@ -1,13 +1,32 @@
 //! The order of commits, at times that concurrency control gave.
 
 use coco_order::ordered;
-use coco_types::{Args, Call, Done, KeptReply, Reply};
+use coco_types::{Args, Call, Done, KeptReply, NoMemory, Packed};
 use std::alloc::Global;
-use std::process::Abort;
 use std::test::Fail;
 
-fn done(alloc: Global, epoch: u64, time: u64, id: u64) -> Result<Done, Fail> {
-    Ok(Done {
+// An epoch, a time in it and an id.
+type Stamp = (u64, u64, u64);
+
+// Dones so stamped, and their ids in the order of commit.
+const CASES: [(&str, &[Stamp], &[u64]); 3] = [
+    (
+        "times go before ids",
+        &[(1, 2, 2), (1, 1, 7), (1, 1, 3), (1, 0, 9)],
+        &[9, 3, 7, 2],
+    ),
+    ("epochs go before times", &[(2, 1, 1), (1, 5, 2)], &[2, 1]),
+    // get(1) as id 1 read row 1 and extended it to 1; put(1, 7) as id 2 then locked it, read until 1.
+    (
+        "a reader goes before the writer that locked behind it",
+        &[(1, 2, 2), (1, 1, 1)],
+        &[1, 2],
+    ),
+];
+
+fn done(alloc: Global, stamp: Stamp) -> Done {
+    let (epoch, time, id) = stamp;
+    Done {
         id,
         call: Call {
             proc_no: 0,
@@ -16,43 +35,24 @@ fn done(alloc: Global, epoch: u64, time: u64, id: u64) -> Result<Done, Fail> {
         },
         epoch,
         time,
-        reply: KeptReply::of(alloc, &Reply::Ok(None))?,
-    })
+        reply: KeptReply::answered(Packed::none()),
+    }
 }
 
-fn expect(
-    rt: &impl Abort,
-    alloc: Global,
-    given: &[(u64, u64, u64)],
-    ids: &[u64],
-) -> Result<(), Fail> {
+fn are_ordered(alloc: Global, stamps: &[Stamp], ids: &[u64]) -> Result<bool, NoMemory> {
     let mut dones = Vec::new(alloc);
-    for (epoch, time, id) in given {
-        dones.push(done(alloc, *epoch, *time, *id)?)?;
+    for stamp in stamps {
+        dones.push(done(alloc, *stamp))?;
     }
-    let mut found = Vec::new(alloc);
-    for done in ordered(dones) {
-        found.push(done.id)?;
+    let dones = ordered(dones);
+    Ok(dones.len() == ids.len() && dones.iter().zip(ids).all(|(done, id)| done.id == *id))
+}
+
+#[test]
+fn commits_go_by_epoch_then_time_then_id(rt: HostRuntime) -> Result<(), Fail> {
+    for (name, stamps, ids) in &CASES {
+        let is_well = are_ordered(rt.alloc(), stamps, ids)?;
+        assert!(rt; is_well, "{name}");
     }
-    assert_eq!(rt; found.as_slice(), ids);
     Ok(())
-}
-
-#[test]
-fn times_go_before_ids(rt: HostRuntime) -> Result<(), Fail> {
-    let given = [(1, 2, 2), (1, 1, 7), (1, 1, 3), (1, 0, 9)];
-    expect(&rt, rt.alloc(), given.as_slice(), [9, 3, 7, 2].as_slice())
-}
-
-#[test]
-fn epochs_go_before_times(rt: HostRuntime) -> Result<(), Fail> {
-    let given = [(2, 1, 1), (1, 5, 2)];
-    expect(&rt, rt.alloc(), given.as_slice(), [2, 1].as_slice())
-}
-
-#[test]
-fn a_reader_goes_before_the_writer_that_locked_behind_it(rt: HostRuntime) -> Result<(), Fail> {
-    // get(1) as id 1 read row 1 and extended it to 1; put(1, 7) as id 2 then locked it, read until 1.
-    let given = [(1, 2, 2), (1, 1, 1)];
-    expect(&rt, rt.alloc(), given.as_slice(), [1, 2].as_slice())
 }

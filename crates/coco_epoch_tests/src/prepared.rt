@@ -1,9 +1,23 @@
 //! The rows of a few pieces.
 
 use coco_prepared::prepared_rows;
-use coco_types::{Key, NoMemory, PackedWrite, PackedWrites, Piece, Value, Write};
+use coco_types::{Key, NoMemory, Packed, PackedWrite, PackedWrites, Piece, Pieces};
 use std::alloc::Global;
 use std::test::Fail;
+
+const HERE: Key = Key { table: 0, row: 5 };
+
+const FIRST: Key = Key { table: 0, row: 3 };
+
+const ELSEWHERE: Key = Key { table: 0, row: 4 };
+
+// Of each piece its partition, its time, and the key and the number that it writes.
+const PIECES: [(u8, u64, Key, i64); 4] = [
+    (1, 1, HERE, 70),
+    (1, 2, FIRST, 30),
+    (0, 3, ELSEWHERE, 40),
+    (1, 4, HERE, 71),
+];
 
 fn piece(
     alloc: Global,
@@ -12,9 +26,8 @@ fn piece(
     key: Key,
     number: i64,
 ) -> Result<Piece, NoMemory> {
-    let value = Some(Value::Int(number));
     let mut writes = PackedWrites::new(alloc);
-    writes.push(PackedWrite::of(alloc, &Write { key, value })?)?;
+    writes.push(PackedWrite::new(key, Packed::of_int(number)))?;
     Ok(Piece {
         place: 0,
         partition,
@@ -23,22 +36,30 @@ fn piece(
     })
 }
 
+fn pieces(alloc: Global) -> Result<Pieces, NoMemory> {
+    let mut pieces = Pieces::new(alloc);
+    for (partition, time, key, number) in &PIECES {
+        pieces.push(piece(alloc, *partition, *time, *key, *number)?)?;
+    }
+    Ok(pieces)
+}
+
+// Whether partition 1 has the last writes of its two keys.
+fn are_last(alloc: Global) -> Result<bool, NoMemory> {
+    let pieces = pieces(alloc)?;
+    let rows = prepared_rows(alloc, pieces.as_slice(), &[false, true])?;
+    Ok(match rows.as_slice() {
+        [first, second] => {
+            (first.key, first.time, first.value.int()) == (FIRST, 2, Some(30))
+                && (second.key, second.time, second.value.int()) == (HERE, 4, Some(71))
+        }
+        _ => false,
+    })
+}
+
 #[test]
 fn each_key_that_is_held_has_its_last_write(rt: HostRuntime) -> Result<(), Fail> {
-    let alloc = rt.alloc();
-    let here = Key { table: 0, row: 5 };
-    let first = Key { table: 0, row: 3 };
-    let elsewhere = Key { table: 0, row: 4 };
-    let mut pieces = Vec::new(alloc);
-    pieces.push(piece(alloc, 1, 1, here, 70)?)?;
-    pieces.push(piece(alloc, 1, 2, first, 30)?)?;
-    pieces.push(piece(alloc, 0, 3, elsewhere, 40)?)?;
-    pieces.push(piece(alloc, 1, 4, here, 71)?)?;
-    let rows = prepared_rows(alloc, pieces.as_slice(), [false, true].as_slice())?;
-    assert_eq!(rt; rows.len(), 2);
-    assert_eq!(rt; (rows[0].key, rows[0].time), (first, 2));
-    assert_eq!(rt; rows[0].value.int(), Some(30));
-    assert_eq!(rt; (rows[1].key, rows[1].time), (here, 4));
-    assert_eq!(rt; rows[1].value.int(), Some(71));
+    let is_well = are_last(rt.alloc())?;
+    assert!(rt; is_well);
     Ok(())
 }

@@ -1,77 +1,98 @@
 //! A tail of two calls of built-in procedures, on two shards without rows.
 
-ghost use Rattle.std.specs.Prelude.{◌≡◌, length};
-ghost use Rattle.coco_ast.specs.Fitting.{Fits};
+ghost use Rattle.std.specs.Prelude.{◌≡◌, ◌≤◌, length, IfOk};
+ghost use Rattle.coco_types.specs.Limits.{most_batch_lines};
+ghost use Rattle.coco_epoch.specs.Running.{FitAll, requests_of};
 ghost use Rattle.coco_epoch.specs.Shards.{AreOfPartitions, AreQuietAfter};
 
-use crate::made::{call_of, two_shards};
+use crate::made::{GET, PUT, Work, answers, two_shards, work_of};
 use coco_ast::Checked;
 use coco_epoch::{PlacedRequest, Progress, promote_all, revert_all};
 use coco_shard::Shard;
-use coco_types::{Call, Key, NoMemory, Request, Value};
+use coco_types::{Done, Key, NoMemory, Piece, Request, Value};
 use std::alloc::Global;
 use std::test::Fail;
 
 const ROW: Key = Key { table: 0, row: 5 };
 
-// The tail of two calls behind time 3.
-fn run_two(
+// The requests at places 0, 4 and so on.
+fn placed(alloc: Global, requests: Vec<Request>) -> Result<Vec<PlacedRequest>, NoMemory>
+    ensures { IfOk result (λ tail. requests_of tail.items ≡ requests.items) }
+{
+    let mut tail = Vec::new(alloc);
+    let mut place: u32 = 0;
+    for request in requests {
+        tail.push(PlacedRequest { place, request })?;
+        place = place.saturating_add(4);
+    }
+    Ok(tail)
+}
+
+// What the tail of these requests behind time 3 comes to.
+fn ran(
     alloc: Global,
     procs: &Checked,
     shards: &mut [Shard],
-    first: Call,
-    second: Call,
+    requests: Vec<Request>,
 ) -> Result<Progress, NoMemory>
     requires two { length shards.old ≡ 2 }
     requires partitions { AreOfPartitions shards.old }
     requires quiet { AreQuietAfter 3 shards.old }
-    requires first_fits { Fits procs.now first }
-    requires second_fits { Fits procs.now second }
+    requires few { length requests.items ≤ most_batch_lines }
+    requires fit { FitAll procs.now requests.items }
 {
-    let mut tail = Vec::with_capacity(alloc, 2)?;
-    let request = Request { id: 7, call: first };
-    tail.push(PlacedRequest { place: 0, request })?;
-    let request = Request {
-        id: 8,
-        call: second,
-    };
-    tail.push(PlacedRequest { place: 4, request })?;
+    let tail = placed(alloc, requests)?;
     let mut progress = Progress::start(alloc, 1, 2)?;
     progress.run_tail(procs, shards, tail, 3)?;
     Ok(progress)
 }
 
+// What the tail of a put and a get of its row comes to.
+fn ran_calls(alloc: Global, shards: &mut [Shard]) -> Result<Progress, Fail>
+    requires two { length shards.old ≡ 2 }
+    requires partitions { AreOfPartitions shards.old }
+    requires quiet { AreQuietAfter 3 shards.old }
+{
+    let Work { procs, requests } = work_of(alloc, &[(7, PUT), (8, GET)])?;
+    let progress = ran(alloc, &procs, shards, requests)?;
+    Ok(progress)
+}
+
+fn are_told(dones: &[Done]) -> bool {
+    match dones {
+        [put, get] => {
+            (put.id, put.time, get.id, get.time) == (7, 4, 8, 5)
+                && answers(put, Some(70))
+                && answers(get, Some(70))
+        }
+        _ => false,
+    }
+}
+
+fn is_only_piece(pieces: &[Piece]) -> bool {
+    match pieces {
+        [put] => (put.place, put.partition, put.time, put.writes.len()) == (0, 1, 4, 1),
+        _ => false,
+    }
+}
+
+fn stands_above(alloc: Global) -> Result<bool, Fail> {
+    let mut shards = two_shards(alloc)?;
+    let progress = ran_calls(alloc, shards.as_mut_slice())?;
+    Ok(are_told(progress.dones.as_slice()) && is_only_piece(progress.pieces.as_slice()))
+}
+
 #[test]
 fn a_tail_stands_above_the_greatest_read_time(rt: HostRuntime) -> Result<(), Fail> {
-    let alloc = rt.alloc();
-    let procs = Checked::built_in(alloc)?;
-    let put = call_of(alloc, &procs, (1, [5, 70].as_slice(), false))?;
-    let get = call_of(alloc, &procs, (0, [5].as_slice(), false))?;
-    let mut shards = two_shards(alloc)?;
-    let progress = run_two(alloc, &procs, shards.as_mut_slice(), put, get)?;
-    let mut told = Vec::new(alloc);
-    for done in &progress.dones {
-        let reply = done.reply.answer().map(|value| value.int());
-        told.push((done.id, done.time, reply))?;
-    }
-    let wanted = [(7, 4, Ok(Some(70))), (8, 5, Ok(Some(70)))];
-    assert!(rt; told.as_slice() == wanted.as_slice());
-    let mut parts = Vec::new(alloc);
-    for piece in progress.pieces.as_slice() {
-        let writes = piece.writes.len();
-        parts.push((piece.place, piece.partition, piece.time, writes))?;
-    }
-    assert!(rt; parts.as_slice() == [(0, 1, 4, 1)].as_slice());
+    let is_well = stands_above(rt.alloc())?;
+    assert!(rt; is_well);
     Ok(())
 }
 
 // What is stable behind such a tail that is committed, or taken back.
 fn left_by(alloc: Global, is_committed: bool) -> Result<Option<Value>, Fail> {
-    let procs = Checked::built_in(alloc)?;
-    let put = call_of(alloc, &procs, (1, [5, 70].as_slice(), false))?;
-    let get = call_of(alloc, &procs, (0, [5].as_slice(), false))?;
     let mut shards = two_shards(alloc)?;
-    run_two(alloc, &procs, shards.as_mut_slice(), put, get)?;
+    ran_calls(alloc, shards.as_mut_slice())?;
     if is_committed {
         promote_all(shards.as_mut_slice());
     } else {

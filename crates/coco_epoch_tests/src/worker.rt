@@ -1,19 +1,19 @@
 //! Worker 0 alone, in one attempt for each request, over three partitions with two copies each.
 
-ghost use Rattle.std.specs.Prelude.{◌≡◌, ◌+◌, ◌<◌, length, vec_len, All, IfOk, OnOk};
-ghost use Rattle.std.specs.List.{AllByRecursion};
-ghost use Rattle.coco_ast.specs.Fitting.{Fits};
+ghost use Rattle.std.specs.Prelude.{◌≡◌, ◌<◌, length, vec_len, IfOk};
+ghost use Rattle.coco_epoch.specs.Running.{FitAll};
 ghost use Rattle.coco_worker.specs.Gains.{AreOf};
 
-use crate::made::{Line, call_of};
+use crate::made::{Line, PUT, are_pieces, tables, three_shards, work_of};
 use coco_ast::Checked;
-use coco_claim::Claims;
+use coco_claim::{ClaimSeat, Claims};
 use coco_copy::CopyTable;
 use coco_gate::OpenGate;
-use coco_journaled::{Journaled, Pass, Room};
+use coco_journaled::{Journaled, Pass};
 use coco_net::{Lose, Net, QuietNet, ScriptNet};
-use coco_occ::{Ended, Outcome, ScriptRooms, Transcript, Why};
+use coco_occ::{Ended, Outcome, ScriptRooms, Tailed, Transcript, Tried, Why};
 use coco_packs::Packs;
+use coco_parallel::desks::open;
 use coco_shard::{Ask, Op, Shard};
 use coco_types::{AttemptId, Key, NoMemory, Pieces, Request};
 use coco_worker::{EpochConfig, Slot, Tail, work};
@@ -29,9 +29,13 @@ const EPOCH: EpochConfig = EpochConfig {
     copies: 2,
 };
 
-const PUT: Line<'static> = (1, &[5, 70], false);
+// An attempt of another worker.
+const OTHER: AttemptId = AttemptId {
+    worker: 1,
+    number: 0,
+};
 
-const GET: Line<'static> = (0, &[4], false);
+const GET_FOUR: Line<'static> = (0, &[4], false);
 
 // Machines behind locks, and two passes of each.
 #[derive(Drop)]
@@ -41,79 +45,35 @@ struct Desk<M: Packs + Drop> {
     others: Vec<Pass<M>>,
 }
 
-impl<M: Packs + Drop> Desk<M> {
-    fn new(alloc: Global) -> Desk<M>
-        ensures of { AreOf result.locks.items result.passes.items }
-        ensures others { AreOf result.locks.items result.others.items }
-        ensures none { vec_len result.locks ≡ 0 }
-    {
-        Desk {
-            locks: Vec::new(alloc),
-            passes: Vec::new(alloc),
-            others: Vec::new(alloc),
-        }
-    }
-
-    fn add(&mut self, alloc: Global, machine: M) -> Result<(), NoMemory>
-        requires of { AreOf self.old.locks.items self.old.passes.items }
-        requires others { AreOf self.old.locks.items self.old.others.items }
-        ensures of { OnOk result (AreOf self.new.locks.items self.new.passes.items) }
-        ensures others { OnOk result (AreOf self.new.locks.items self.new.others.items) }
-        ensures one { OnOk result (vec_len self.new.locks ≡ vec_len self.old.locks + 1) }
-    {
-        let room = Room::new(alloc, 0, 0)?;
-        let Ok((lock, mut passes)) = Journaled::start(alloc, machine, 2, room) else {
-            return Err(NoMemory);
-        };
-        let (Some(other), Some(pass)) = (passes.pop(), passes.pop()) else {
-            unreachable!()
-        };
-        self.locks.push(lock)?;
-        self.passes.push(pass)?;
-        self.others.push(other)?;
-        Ok(())
-    }
-}
-
-fn shards(alloc: Global) -> Result<Desk<Shard>, NoMemory>
+fn opened<M: Packs + Drop>(alloc: Global, machines: Vec<M>) -> Result<Desk<M>, NoMemory>
     ensures of { IfOk result (λ desk. AreOf desk.locks.items desk.passes.items) }
     ensures others { IfOk result (λ desk. AreOf desk.locks.items desk.others.items) }
-    ensures count { IfOk result (λ desk. vec_len desk.locks ≡ 3) }
+    ensures count { IfOk result (λ desk. vec_len desk.locks ≡ vec_len machines) }
 {
-    let mut desk = Desk::new(alloc);
-    for _ in 0..3u8 {
-        desk.add(alloc, Shard::new(alloc))?;
-    }
-    Ok(desk)
+    let Ok((desk, mut rows)) = open(alloc, machines, 2, &mut Vec::new(alloc)) else {
+        return Err(NoMemory);
+    };
+    let (Some(others), Some(passes)) = (rows.pop(), rows.pop()) else {
+        unreachable!()
+    };
+    Ok(Desk {
+        locks: desk.locks,
+        passes,
+        others,
+    })
 }
 
-fn tables(alloc: Global) -> Result<Desk<CopyTable>, NoMemory>
-    ensures of { IfOk result (λ desk. AreOf desk.locks.items desk.passes.items) }
-    ensures count { IfOk result (λ desk. vec_len desk.locks ≡ 6) }
+fn begun_tables(alloc: Global) -> Result<Vec<CopyTable>, NoMemory>
+    ensures { IfOk result (λ tables. length tables.items ≡ 6) }
 {
-    let mut desk = Desk::new(alloc);
-    for _ in 0..6u8 {
-        let mut table = CopyTable::new(alloc);
-        table.begin(EPOCH.epoch);
-        desk.add(alloc, table)?;
+    let mut tables = tables(alloc)?;
+    for table in 0..tables.len() {
+        tables[table].begin(EPOCH.epoch);
     }
-    Ok(desk)
+    Ok(tables)
 }
 
-// The requests of these lines, with ids from 0 on.
-fn requests_of(alloc: Global, procs: &Checked, lines: &[Line<'_>]) -> Result<Vec<Request>, Fail>
-    ensures { IfOk result (λ requests. All (λ r. Fits procs.now r.call) requests.items) }
-{
-    let mut requests = Vec::new(alloc);
-    for line in lines {
-        let id = requests.len() as u64;
-        let call = call_of(alloc, procs, *line)?;
-        requests.push(Request { id, call })?;
-    }
-    Ok(requests)
-}
-
-// A mark of worker 1 on the row, by another pass of its shard.
+// A mark of the other worker on the row, by another pass of its shard.
 fn mark(
     rt: &impl Wait,
     locks: &[Journaled<Shard>],
@@ -123,31 +83,56 @@ fn mark(
     requires of { AreOf locks.now passes.old }
     requires some { 0 < length locks.now }
 {
-    let by = AttemptId {
-        worker: 1,
-        number: 0,
+    let ask = Ask {
+        by: OTHER,
+        op: Op::Lock(key),
     };
-    let op = Op::Lock(key);
     let place = (key.row % locks.len() as u64) as usize;
-    locks[place].step(rt, &mut passes[place], Ask { by, op })?;
+    locks[place].step(rt, &mut passes[place], ask)?;
     Ok(())
 }
 
-// What the worker did for the lines. Another attempt's mark stands on the row, if one is given.
-fn worked<N: Net>(
-    rt: &impl Wait,
+// Claims of the requests, and their only seat.
+fn claims_of(alloc: Global, requests: &[Request]) -> Result<(Claims, ClaimSeat), Fail>
+    ensures count { IfOk result (λ made. made.0.n ≡ length requests.now) }
+    ensures seat { IfOk result (λ made. made.1.claims ≡ made.0) }
+{
+    let Ok(count) = u32::try_from(requests.len()) else {
+        return Err("too many".into());
+    };
+    let (claims, mut seats) = Claims::make(alloc, count, 1)?;
+    let Some(seat) = seats.pop() else {
+        unreachable!()
+    };
+    Ok((claims, seat))
+}
+
+fn slot(
     alloc: Global,
-    net: &N,
-    lines: &[Line<'_>],
-    marked: Option<Key>,
-) -> Result<Slot, Fail> {
-    let procs = Checked::built_in(alloc)?;
-    let requests = requests_of(alloc, &procs, lines)?;
-    let mut shards = shards(alloc)?;
-    if let Some(key) = marked {
-        mark(rt, &shards.locks, shards.others.as_mut_slice(), key)?;
+    passes: Vec<Pass<Shard>>,
+    copy_passes: Vec<Pass<CopyTable>>,
+    seat: ClaimSeat,
+) -> Slot
+    ensures passes { result.passes ≡ passes }
+    ensures copies { result.copy_passes ≡ copy_passes }
+    ensures seat { result.seat ≡ seat }
+{
+    Slot {
+        worker: 0,
+        passes,
+        copy_passes,
+        seat,
+        rooms: ScriptRooms::new(alloc),
+        transcript: Transcript::new(alloc),
+        pieces: Pieces::new(alloc),
+        tail: Tail::new(alloc),
     }
-    worked_off(rt, alloc, net, &procs, &requests, shards)
+}
+
+// What the worker did for the lines. The other attempt's mark stands on the row, if one is given.
+fn worked<N: Net>(rt: &impl Wait, alloc: Global, net: &N, case: &Case<'_>) -> Result<Slot, Fail> {
+    let work = work_of(alloc, case.lines)?;
+    worked_off(rt, alloc, net, &work.procs, &work.requests, case.marked)
 }
 
 fn worked_off<N: Net>(
@@ -156,116 +141,155 @@ fn worked_off<N: Net>(
     net: &N,
     procs: &Checked,
     requests: &[Request],
-    shards: Desk<Shard>,
+    marked: Option<Key>,
 ) -> Result<Slot, Fail>
-    requires fit { AllByRecursion (λ r. Fits procs.now r.call) requests.now }
-    requires of { AreOf shards.locks.items shards.passes.items }
-    requires count { vec_len shards.locks ≡ 3 }
+    requires { FitAll procs.now requests.now }
 {
-    let Ok(count) = u32::try_from(requests.len()) else {
-        return Err("too many".into());
-    };
-    let copies = tables(alloc)?;
-    let (claims, mut seats) = Claims::make(alloc, count, 1)?;
-    let Some(seat) = seats.pop() else {
-        unreachable!()
-    };
-    let mut slot = Slot {
-        worker: 0,
-        passes: shards.passes,
-        copy_passes: copies.passes,
-        seat,
-        rooms: ScriptRooms::new(alloc),
-        transcript: Transcript::new(alloc),
-        pieces: Pieces::new(alloc),
-        tail: Tail::new(alloc),
-    };
-    let gate = OpenGate;
-    let locks = &shards.locks;
-    let tables = &copies.locks;
+    let mut shards = opened(alloc, three_shards(alloc)?)?;
+    if let Some(key) = marked {
+        mark(rt, &shards.locks, shards.others.as_mut_slice(), key)?;
+    }
+    let copies = opened(alloc, begun_tables(alloc)?)?;
+    worked_at(rt, alloc, net, procs, requests, shards, copies)
+}
+
+fn worked_at<N: Net>(
+    rt: &impl Wait,
+    alloc: Global,
+    net: &N,
+    procs: &Checked,
+    requests: &[Request],
+    shards: Desk<Shard>,
+    copies: Desk<CopyTable>,
+) -> Result<Slot, Fail>
+    requires fit { FitAll procs.now requests.now }
+    requires shards { AreOf shards.locks.items shards.passes.items }
+    requires copies { AreOf copies.locks.items copies.passes.items }
+    requires three { vec_len shards.locks ≡ 3 }
+    requires six { vec_len copies.locks ≡ 6 }
+{
+    let (claims, seat) = claims_of(alloc, requests)?;
+    let mut slot = slot(alloc, shards.passes, copies.passes, seat);
+    let (locks, tables) = (&shards.locks, &copies.locks);
     work(
-        rt, alloc, locks, tables, &claims, procs, requests, EPOCH, &mut slot, &gate, net,
+        rt, alloc, locks, tables, &claims, procs, requests, EPOCH, &mut slot, &OpenGate, net,
     )?;
     Ok(slot)
 }
 
-// The time of the commit at a place of the transcript, with how many steps it took.
-fn commit(slot: &Slot, place: usize) -> Option<(u64, usize)> {
-    let tried = slot.transcript.as_slice().get(place)?;
+// Whether the first attempts took two steps each and committed at time 1.
+fn have_committed(transcript: &[Tried], count: usize) -> bool {
+    transcript.len() >= count && transcript.iter().take(count).all(is_at_1)
+}
+
+fn is_at_1(tried: &Tried) -> bool {
     match tried.outcome.get() {
-        Outcome::Committed { time, .. } => Some((time, tried.script.len())),
-        _ => None,
+        Outcome::Committed { time, .. } => time == 1 && tried.script.len() == 2,
+        _ => false,
     }
 }
 
-// The place, the partition and the time of the only piece.
-fn only_piece(slot: &Slot) -> Option<(u32, u8, u64)> {
-    match slot.pieces.as_slice() {
-        [piece] => Some((piece.place, piece.partition, piece.time)),
-        _ => None,
-    }
-}
-
-// The only request of the tail, and the holder of the mark that it met in its only attempt.
-fn only_marked(slot: &Slot) -> Option<(u64, AttemptId)> {
-    let [tailed] = slot.tail.as_slice() else {
-        return None;
+// Whether the tail has this request alone, whose only attempt met a mark of this holder.
+fn is_only_marked(tail: &[Tailed], id: u64, by: AttemptId) -> bool {
+    let [tailed] = tail else {
+        return false;
     };
     match tailed.ends.as_slice() {
-        [Ended::Conflict(Why::Marked { holder, .. })] => Some((tailed.id, *holder)),
-        _ => None,
+        [Ended::Conflict(Why::Marked { holder, .. })] => tailed.id == id && *holder == by,
+        _ => false,
     }
 }
 
-// How many puts all tables were asked for, and how many the last two.
-fn puts(slot: &Slot) -> (usize, usize) {
-    let mut all: usize = 0;
+// Whether the last two tables were asked for so many puts together, and the others for none.
+fn has_put(passes: &[Pass<CopyTable>], wanted: usize) -> bool {
     let mut last: usize = 0;
-    for (table, pass) in slot.copy_passes.iter().enumerate() {
+    for (table, pass) in passes.iter().enumerate() {
         let count = pass.places().len();
-        all = all.saturating_add(count);
         if table >= 4 {
             last = last.saturating_add(count);
+        } else if count > 0 {
+            return false;
         }
     }
-    (all, last)
+    last == wanted
+}
+
+// What there is for the worker, and what comes of it: the commits that it begins with, its pieces, the puts into the last
+// two tables, and the request that is left to the tail, since it met the mark.
+#[derive(Drop)]
+struct Case<'a> {
+    lines: &'a [(u64, Line<'a>)],
+    marked: Option<Key>,
+    commits: usize,
+    pieces: &'a [(u32, u8, u64)],
+    puts: usize,
+    tailed: Option<u64>,
+}
+
+fn comes_to(slot: &Slot, case: &Case<'_>) -> bool {
+    let tail = slot.tail.as_slice();
+    let is_tail = match case.tailed {
+        Some(id) => is_only_marked(tail, id, OTHER),
+        None => tail.is_empty(),
+    };
+    is_tail
+        && have_committed(slot.transcript.as_slice(), case.commits)
+        && are_pieces(slot.pieces.as_slice(), case.pieces)
+        && has_put(slot.copy_passes.as_slice(), case.puts)
+}
+
+fn is_worked<N: Net>(
+    rt: &impl Wait,
+    alloc: Global,
+    net: &N,
+    case: &Case<'_>,
+) -> Result<bool, Fail> {
+    let slot = worked(rt, alloc, net, case)?;
+    Ok(comes_to(&slot, case))
 }
 
 #[test]
 fn a_put_and_a_get_are_worked_off(rt: HostRuntime) -> Result<(), Fail> {
-    let alloc = rt.alloc();
-    let lines = [PUT, GET];
-    let net = QuietNet::new(alloc);
-    let slot = worked(&rt, alloc, &net, &lines, None)?;
-    assert_eq!(rt;
-        (commit(&slot, 0), commit(&slot, 1)),
-        (Some((1, 2)), Some((1, 2)))
-    );
-    assert_eq!(rt; only_piece(&slot), Some((0, 2, 1)));
-    assert_eq!(rt; (puts(&slot), slot.tail.len()), ((2, 2), 0));
+    let case = Case {
+        lines: &[(0, PUT), (1, GET_FOUR)],
+        marked: None,
+        commits: 2,
+        pieces: &[(0, 2, 1)],
+        puts: 2,
+        tailed: None,
+    };
+    let is_well = is_worked(&rt, rt.alloc(), &QuietNet::new(rt.alloc()), &case)?;
+    assert!(rt; is_well);
     Ok(())
 }
 
 #[test]
 fn what_the_net_loses_is_not_put(rt: HostRuntime) -> Result<(), Fail> {
-    let alloc = rt.alloc();
-    let net = ScriptNet::new(alloc, Lose::FirstSend, false, 1);
-    let slot = worked(&rt, alloc, &net, &[PUT], None)?;
-    assert_eq!(rt; (commit(&slot, 0), puts(&slot)), (Some((1, 2)), (0, 0)));
+    let case = Case {
+        lines: &[(0, PUT)],
+        marked: None,
+        commits: 1,
+        pieces: &[(0, 2, 1)],
+        puts: 0,
+        tailed: None,
+    };
+    let net = ScriptNet::new(rt.alloc(), Lose::FirstSend, false, 1);
+    let is_well = is_worked(&rt, rt.alloc(), &net, &case)?;
+    assert!(rt; is_well);
     Ok(())
 }
 
 #[test]
 fn a_request_that_meets_a_mark_is_in_the_tail(rt: HostRuntime) -> Result<(), Fail> {
-    let alloc = rt.alloc();
-    let net = QuietNet::new(alloc);
-    let key = Key { table: 0, row: 5 };
-    let holder = AttemptId {
-        worker: 1,
-        number: 0,
+    let case = Case {
+        lines: &[(0, GET_FOUR), (1, PUT)],
+        marked: Some(Key { table: 0, row: 5 }),
+        commits: 1,
+        pieces: &[],
+        puts: 0,
+        tailed: Some(1),
     };
-    let slot = worked(&rt, alloc, &net, &[GET, PUT], Some(key))?;
-    assert_eq!(rt; only_marked(&slot), Some((1, holder)));
-    assert_eq!(rt; (commit(&slot, 0), only_piece(&slot)), (Some((1, 2)), None));
+    let is_well = is_worked(&rt, rt.alloc(), &QuietNet::new(rt.alloc()), &case)?;
+    assert!(rt; is_well);
     Ok(())
 }

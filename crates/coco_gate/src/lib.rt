@@ -6,6 +6,3 @@ pub mod hold;
 
 pub use gate::{Gate, OpenGate};
 pub use hold::HoldGate;
-
-#[cfg(test)]
-mod tests;

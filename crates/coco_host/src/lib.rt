@@ -10,8 +10,6 @@ mod held;
 pub mod host;
 pub mod memory;
 mod recorded;
-#[cfg(test)]
-mod tests;
 
 pub use folder::FolderHost;
 pub use fuse::FuseHost;

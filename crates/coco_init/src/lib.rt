@@ -3,8 +3,6 @@
 
 mod input;
 mod making;
-#[cfg(test)]
-mod tests;
 mod text;
 
 pub use making::init;

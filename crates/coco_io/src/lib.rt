@@ -7,8 +7,6 @@ pub mod sink;
 pub mod source;
 pub mod standard;
 pub mod stream;
-#[cfg(test)]
-mod tests;
 pub mod trace;
 
 pub use plan::FaultPlan;

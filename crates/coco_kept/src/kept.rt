@@ -3,7 +3,7 @@ ghost use Rattle.std.specs.Prelude.{◌≡◌, ◌+◌, ◌<◌, ◌≤◌, ◌�
 ghost use Rattle.std.specs.Iterator.Runs.{YieldsRefsInOrder};
 ghost use Rattle.std.specs.VecDeque.Iter.{deque_iter_rest, deque_iter_steps};
 ghost use Rattle.std.specs.Option.{option_copied};
-ghost use Rattle.coco_types.specs.declared.call.Done.{Done as Record};
+ghost use Rattle.coco_types.specs.declared.call.Done.{Done};
 ghost use Rattle.coco_types.specs.Limits.{most_kept};
 ghost use Rattle.coco_ast.specs.History.{ids_of, kept_of, floor_of, greatest_with, done_of};
 ghost use Rattle.coco_kept.specs.Finding.{IsFound, is_up_to};
@@ -138,7 +138,7 @@ impl Kept {
     /// The Dones, in order of commit.
     pub fn iter(&self) -> Iter<'_, Done>
         ensures rest { deque_iter_rest result ≡ self.now.dones }
-        ensures runs { YieldsRefsInOrder (deque_iter_steps {X = Record}) deque_iter_rest }
+        ensures runs { YieldsRefsInOrder (deque_iter_steps {X = Done}) deque_iter_rest }
     {
         self.dones.iter()
     }
@@ -189,7 +189,7 @@ impl Kept {
         ensures keep { self.new.keep ≡ self.old.keep }
         ensures room { self.old.room ≤ self.new.room + 1 }
         ensures newest { newest_epoch self.new.dones ≡ done.epoch }
-        ensures kept { (before : Option ℕ) (added : List Record) → HoldsKept self.old before added → newest_epoch added ≤ done.epoch
+        ensures kept { (before : Option ℕ) (added : List Done) → HoldsKept self.old before added → newest_epoch added ≤ done.epoch
             → HoldsKept self.new before (added ++ done ∷ []) }
     {
         self.make_place(done.epoch);
@@ -238,7 +238,7 @@ impl Kept {
 
     fn forget_first(&mut self)
         requires { 0 < length self.old.dones }
-        ensures first { (d : Record) × (self.old.dones ≡ d ∷ self.new.dones) × (self.new.floor ≡ greatest_with self.old.floor (d.id ∷ [])) }
+        ensures first { (d : Done) × (self.old.dones ≡ d ∷ self.new.dones) × (self.new.floor ≡ greatest_with self.old.floor (d.id ∷ [])) }
         ensures keep { self.new.keep ≡ self.old.keep }
         ensures room { self.old.room ≤ self.new.room }
     {
@@ -293,6 +293,3 @@ fn greatest(floor: Option<u64>, id: u64) -> u64
         None => id,
     }
 }
-
-#[cfg(test)]
-mod tests;

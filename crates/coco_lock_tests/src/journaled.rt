@@ -1,13 +1,12 @@
 //! A counter behind the lock, by one thread and by two.
 
-ghost use Rattle.std.specs.Prelude.{◌≡◌, ◌+◌, ◌%◌, ◌^◌, []};
+ghost use Rattle.std.specs.Prelude.{◌≡◌, ◌+◌, ◌%◌, ◌^◌, ◌<◌, length, All};
 
 use coco_journaled::*;
 use coco_packs::{AnswersInPlace, Packs};
 use coco_types::{Machine, NoMemory};
 use std::alloc::Global;
 use std::sync::Wait;
-use std::test::*;
 use std::thread;
 use std::thread::Threads;
 
@@ -74,64 +73,42 @@ impl AnswersInPlace for Tally {
 }
 
 // Asks for 1 twice as many times, by turns with a lent ask.
-fn asked(rt: &impl Wait, tally: &Journaled<Tally>, mut pass: Pass<Tally>, times: u32) -> Pass<Tally>
-    requires { pass.lock ≡ tally.now.id }
-    ensures { result.lock ≡ tally.now.id }
+fn ask_all(rt: &impl Wait, tally: &Journaled<Tally>, pass: &mut Pass<Tally>, times: u32)
+    requires { pass.old.lock ≡ tally.now.id }
+    ensures { pass.new.lock ≡ pass.old.lock }
 {
     let mut before = 0;
     for _ in 0..times {
-        if tally.step(rt, &mut pass, 1).is_err() {
-            return pass;
+        if tally.step(rt, pass, 1).is_err() {
+            return;
         }
-        if tally.step_lent(rt, &mut pass, &1, &mut before).is_err() {
-            return pass;
+        if tally.step_lent(rt, pass, &1, &mut before).is_err() {
+            return;
         }
     }
-    pass
 }
 
-// Two threads ask side by side.
-fn both<R: Threads + Wait + Sync>(
+// Asks by each pass in a thread of its own.
+fn ask_in_threads<R: Threads + Wait + Sync>(
     rt: &R,
     tally: &Journaled<Tally>,
-    one: Pass<Tally>,
-    other: Pass<Tally>,
-) -> (Pass<Tally>, Pass<Tally>)
-    requires one { one.lock ≡ tally.now.id }
-    requires other { other.lock ≡ tally.now.id }
-    ensures one { result.0.lock ≡ tally.now.id }
-    ensures other { result.1.lock ≡ tally.now.id }
+    passes: &mut [Pass<Tally>],
+)
+    requires some { 0 < length passes.old }
+    requires own { All (λ pass. pass.lock ≡ tally.now.id) passes.old }
+    ensures len { length passes.new ≡ length passes.old }
+    ensures own { All (λ pass. pass.lock ≡ tally.now.id) passes.new }
 {
-    thread::join(
+    let threads = passes.len();
+    thread::for_each_mut(
         rt,
-        move || -> Pass<Tally>
-            requires { one.lock ≡ tally.now.id }
-            ensures { result.lock ≡ tally.entry.now.id }
-        { asked(rt, tally, one, 250) },
-        move || -> Pass<Tally>
-            requires { other.lock ≡ tally.now.id }
-            ensures { result.lock ≡ tally.entry.now.id }
-        { asked(rt, tally, other, 250) },
-    )
+        passes,
+        threads,
+        &|_, pass| { ask_all(rt, tally, pass, 250) },
+    );
 }
 
-fn closed(
-    tally: Journaled<Tally>,
-    mut passes: Vec<Pass<Tally>>,
-    one: Pass<Tally>,
-    other: Pass<Tally>,
-) -> Option<Closed<Tally>>
-    requires one { one.lock ≡ tally.id }
-    requires other { other.lock ≡ tally.id }
-    requires all { (tally.notes ≡ 2) × (passes.items ≡ []) }
-{
-    if passes.push(one).is_err() || passes.push(other).is_err() {
-        return None;
-    }
-    Some(tally.close(passes))
-}
-
-// Two threads ask 500 times each, on a lock with this room.
+// What a lock with this room leaves, where two threads asked 500 times each. None where memory is short.
 fn asked_by_two<R: Threads + Wait + Sync>(
     rt: &R,
     alloc: Global,
@@ -140,55 +117,52 @@ fn asked_by_two<R: Threads + Wait + Sync>(
     let Ok((tally, mut passes)) = Journaled::start(alloc, Tally { total: 0 }, 2, room) else {
         return None;
     };
-    let (Some(other), Some(one)) = (passes.pop(), passes.pop()) else {
-        return None;
-    };
-    let (one, other) = both(rt, &tally, one, other);
-    if (one.places().len(), other.places().len()) != (500, 500) {
-        return None;
-    }
-    closed(tally, passes, one, other)
+    ask_in_threads(rt, &tally, passes.as_mut_slice());
+    let is_asked = passes.iter().all(|pass| pass.places().len() == 500);
+    let closed = tally.close(passes);
+    if is_asked { Some(closed) } else { None }
 }
 
 // Whether each entry asks for 1, and is answered how many there were before.
 fn counts_up(journal: &Journal<Tally>) -> bool {
     for place in 0..journal.len() {
-        let Some(entry) = journal.get(place) else {
-            return false;
-        };
-        if (entry.ask, entry.answer) != (1, place as u64) {
-            return false;
+        match journal.get(place) {
+            Some(entry) if entry.ask == 1 && entry.answer == place as u64 => {}
+            _ => return false,
         }
     }
     true
 }
 
-#[test]
-fn two_threads_leave_one_journal_of_all_their_calls(rt: HostRuntime) -> Result<(), Fail> {
-    let room = Room::new(rt.alloc(), 0, 0)?;
-    let closed = asked_by_two(&rt, rt.alloc(), room).ok_or("no memory")?;
-    assert_eq!(rt; (closed.journal.len(), closed.machine.total), (1000, 1000));
-    assert!(rt; counts_up(&closed.journal));
-    assert!(rt; !closed.journal.is_empty());
-    Ok(())
+// Whether the journal has all calls of the two threads.
+fn is_whole(closed: &Closed<Tally>) -> bool {
+    let journal = &closed.journal;
+    let is_counted = journal.len() == 1000 && !journal.is_empty();
+    is_counted && closed.machine.total == 1000 && counts_up(journal)
+}
+
+// Whether the two passes leave lists with room for their places.
+fn has_room(lists: &[Vec<u64>]) -> bool {
+    let is_room = |list: &Vec<u64>| list.is_empty() && list.capacity() >= 500;
+    lists.len() == 2 && lists.iter().all(is_room)
+}
+
+// Whether a lock and another one with its room are stepped by two threads each. None where memory is short.
+fn is_stepped_twice<R: Threads + Wait + Sync>(rt: &R, alloc: Global) -> Option<bool> {
+    let Ok(room) = Room::new(alloc, 0, 0) else {
+        return None;
+    };
+    let first = asked_by_two(rt, alloc, room)?;
+    let is_first = is_whole(&first) && has_room(first.lists.as_slice());
+    let room = Room {
+        journal: first.journal,
+        lists: first.lists,
+    };
+    let second = asked_by_two(rt, alloc, room)?;
+    Some(is_first && is_whole(&second) && second.lists.len() == 2)
 }
 
 #[test]
-fn a_lock_begins_with_the_room_that_the_last_one_left(rt: HostRuntime) -> Result<(), Fail> {
-    let room = Room::new(rt.alloc(), 0, 0)?;
-    let closed = asked_by_two(&rt, rt.alloc(), room).ok_or("no memory")?;
-    assert!(rt;
-        closed
-            .lists
-            .iter()
-            .all(|list| list.is_empty() && list.capacity() >= 500)
-    );
-    let room = Room {
-        journal: closed.journal,
-        lists: closed.lists,
-    };
-    let closed = asked_by_two(&rt, rt.alloc(), room).ok_or("no memory")?;
-    assert_eq!(rt; (closed.journal.len(), closed.lists.len()), (1000, 2));
-    assert!(rt; counts_up(&closed.journal));
-    Ok(())
+fn two_threads_leave_one_journal_and_the_room_of_the_next_lock(rt: HostRuntime) {
+    assert!(rt; is_stepped_twice(&rt, rt.alloc()) == Some(true));
 }

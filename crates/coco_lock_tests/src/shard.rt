@@ -1,10 +1,12 @@
 //! A shard's operations, one by one, and what it packs.
 
+ghost use Rattle.std.specs.Prelude.{◌≡◌};
+ghost use Rattle.coco_shard.specs.RowState.{IsSettled};
+
 use coco_packs::Packs;
 use coco_shard::*;
-use coco_types::{AttemptId, Key, Machine, Text, Value};
+use coco_types::{AttemptId, Key, Machine, NoMemory, Text, Value};
 use std::alloc::Global;
-use std::process::Abort;
 use std::test::Fail;
 
 const FIVE: Key = Key { table: 0, row: 5 };
@@ -20,92 +22,139 @@ fn int(n: i64) -> Option<Value> {
     Some(Value::Int(n))
 }
 
-// Row 5 of table 0 is loaded as 1, locked, and installed as 2 at 1.
-fn written(rt: &impl Abort, alloc: Global) -> Result<Shard, Fail> {
-    let mut shard = Shard::new(alloc);
-    shard.load(FIVE, Some(Value::Int(1)))?;
-    let locked = shard.apply(ask(0, Op::Lock(FIVE)))?;
-    assert_eq!(rt; locked, Answer::Locked { wts: 0, rts: 0 });
+// Whether the shard so answers the worker's operation.
+fn answers(shard: &mut Shard, worker: u32, op: Op, answer: Answer) -> bool {
+    shard.apply(ask(worker, op)) == Ok(answer)
+}
+
+// Whether row 5 of table 0, which is loaded as 1, is locked, and installed as 2 at 1.
+fn is_written(shard: &mut Shard) -> Result<bool, NoMemory>
+    requires { IsSettled shard.old }
+{
+    shard.load(FIVE, int(1))?;
+    let is_locked = answers(shard, 0, Op::Lock(FIVE), Answer::Locked { wts: 0, rts: 0 });
     let op = Op::Install {
         key: FIVE,
         time: 1,
         value: int(2),
     };
-    assert_eq!(rt; shard.apply(ask(0, op))?, Answer::Installed);
-    Ok(shard)
+    Ok(is_locked && answers(shard, 0, op, Answer::Installed))
 }
 
-fn reads(rt: &impl Abort, shard: &mut Shard, time: u64, n: i64) -> Result<(), Fail> {
+// Whether row 5 is read as this number, written at the time and valid until it.
+fn reads(shard: &mut Shard, time: u64, n: i64) -> bool {
     let got = Answer::Got {
         wts: time,
         rts: time,
         value: int(n),
     };
-    assert_eq!(rt; shard.apply(ask(1, Op::Read(FIVE)))?, got);
-    Ok(())
+    answers(shard, 1, Op::Read(FIVE), got)
+}
+
+// Whether a written row 5 has its value of the last epoch beside the newest one.
+fn has_both_values(shard: &mut Shard) -> bool {
+    answers(shard, 1, Op::Past(FIVE), Answer::Stood(int(1)))
+        && reads(shard, 1, 2)
+        && shard.stable(FIVE) == int(1)
+        && shard.greatest_time() == 1
 }
 
 #[test]
 fn past_is_of_the_last_epoch_beside_a_writer(rt: HostRuntime) -> Result<(), Fail> {
-    let mut shard = written(&rt, rt.alloc())?;
-    assert_eq!(rt; shard.apply(ask(1, Op::Past(FIVE)))?, Answer::Stood(int(1)));
-    reads(&rt, &mut shard, 1, 2)?;
-    assert_eq!(rt; shard.stable(FIVE), int(1));
-    assert_eq!(rt; shard.greatest_time(), 1);
+    let mut shard = Shard::new(rt.alloc());
+    let is_written = is_written(&mut shard)?;
+    assert!(rt; is_written && has_both_values(&mut shard));
     Ok(())
 }
 
-#[test]
-fn after_a_revert_the_stable_value_is_read(rt: HostRuntime) -> Result<(), Fail> {
-    let mut shard = written(&rt, rt.alloc())?;
-    shard.revert();
-    reads(&rt, &mut shard, 0, 1)
+// Whether a written row 5 is read as this number behind a promote or a revert.
+fn reads_behind(alloc: Global, promotes: bool, n: i64) -> Result<bool, NoMemory> {
+    let mut shard = Shard::new(alloc);
+    let is_written = is_written(&mut shard)?;
+    if promotes {
+        shard.promote();
+    } else {
+        shard.revert();
+    }
+    Ok(is_written && reads(&mut shard, 0, n))
 }
 
 #[test]
-fn after_a_promote_the_newest_value_is_read(rt: HostRuntime) -> Result<(), Fail> {
-    let mut shard = written(&rt, rt.alloc())?;
-    shard.promote();
-    reads(&rt, &mut shard, 0, 2)
+fn a_revert_leaves_the_stable_value_and_a_promote_the_newest(rt: HostRuntime) -> Result<(), Fail> {
+    let is_reverted = reads_behind(rt.alloc(), false, 1)?;
+    let is_promoted = reads_behind(rt.alloc(), true, 2)?;
+    assert!(rt; is_reverted && is_promoted);
+    Ok(())
+}
+
+fn has_rows(shard: &Shard, rows: &[(Key, Value)]) -> Result<bool, NoMemory> {
+    Ok(shard.rows(true)?.as_slice() == rows)
 }
 
 #[test]
 fn rows_have_the_loaded_values_until_these_are_taken_away(rt: HostRuntime) -> Result<(), Fail> {
     let mut shard = Shard::new(rt.alloc());
-    shard.load(FIVE, Some(Value::Int(1)))?;
-    let rows = shard.rows(true)?;
-    assert_eq!(rt; rows.as_slice(), [(FIVE, Value::Int(1))].as_slice());
+    shard.load(FIVE, int(1))?;
+    let is_loaded = has_rows(&shard, &[(FIVE, Value::Int(1))])?;
     shard.load(FIVE, None)?;
-    assert_eq!(rt; shard.rows(true)?.as_slice().len(), 0);
+    assert!(rt; is_loaded && has_rows(&shard, &[])?);
     Ok(())
+}
+
+// Whether tail steps on row 5 are found at their times.
+fn acts_at_its_times(alloc: Global) -> Result<bool, NoMemory> {
+    let mut shard = Shard::new(alloc);
+    shard.put_at(FIVE, 4, int(3))?;
+    let is_put = shard.read_at(FIVE, 5)? == int(3) && shard.greatest_time() == 5;
+    shard.put_at(FIVE, 6, int(8))?;
+    Ok(is_put && reads(&mut shard, 6, 8))
 }
 
 #[test]
 fn tail_steps_act_at_their_times(rt: HostRuntime) -> Result<(), Fail> {
-    let mut shard = Shard::new(rt.alloc());
-    shard.put_at(FIVE, 4, int(3))?;
-    assert_eq!(rt; shard.read_at(FIVE, 5)?, int(3));
-    assert_eq!(rt; shard.greatest_time(), 5);
-    shard.put_at(FIVE, 6, int(8))?;
-    reads(&rt, &mut shard, 6, 8)
+    assert!(rt; acts_at_its_times(rt.alloc())?);
+    Ok(())
+}
+
+// Whether row 5 has this value, written at one time and valid until another.
+fn has_version(shard: &Shard, wts: u64, rts: u64, value: &Option<Value>) -> bool {
+    match shard.version(FIVE) {
+        Some(version) => {
+            version.wts == wts && version.rts == rts && version.value == value.as_ref()
+        }
+        None => false,
+    }
+}
+
+fn shows_what_is_put(shard: &mut Shard, time: u64, n: Option<i64>) -> bool {
+    let value = n.map(Value::Int);
+    shard.put_lent(FIVE, time, &value).is_ok() && has_version(shard, time, time, &value)
+}
+
+// Whether row 5 has the version of each step on it.
+fn shows_each_step(shard: &mut Shard) -> bool {
+    for (time, n) in [(3, Some(7)), (4, Some(8)), (6, None), (7, Some(9))] {
+        if !shows_what_is_put(shard, time, n) {
+            return false;
+        }
+    }
+    true
+}
+
+// Whether a row 5 that is reverted is as one without a value, which is made valid until 9.
+fn shows_an_extension(shard: &mut Shard) -> bool {
+    shard.revert();
+    shard.extend(FIVE, 9).is_ok() && has_version(shard, 0, 9, &None)
 }
 
 #[test]
 fn a_version_shows_what_the_lent_steps_leave(rt: HostRuntime) -> Result<(), Fail> {
     let mut shard = Shard::new(rt.alloc());
-    assert!(rt; shard.version(FIVE).is_none());
+    let is_missing = shard.version(FIVE).is_none();
     let (worker, number) = (0, 1);
-    assert_eq!(rt; shard.mark(FIVE, AttemptId { worker, number })?, 0);
-    for (time, value) in [(3, int(7)), (4, int(8)), (6, None), (7, int(9))] {
-        shard.put_lent(FIVE, time, &value)?;
-        let version = shard.version(FIVE).ok_or("no row")?;
-        assert_eq!(rt; (version.wts, version.rts), (time, time));
-        assert_eq!(rt; version.value, value.as_ref());
-    }
-    shard.revert();
-    shard.extend(FIVE, 9)?;
-    let version = shard.version(FIVE).ok_or("no row")?;
-    assert_eq!(rt; (version.wts, version.rts), (0, 9));
+    let time = shard.mark(FIVE, AttemptId { worker, number })?;
+    let is_marked = is_missing && time == 0;
+    assert!(rt; is_marked && shows_each_step(&mut shard) && shows_an_extension(&mut shard));
     Ok(())
 }
 
@@ -125,20 +174,20 @@ fn got(value: Option<Value>) -> Answer {
     }
 }
 
-fn ask_is_read_back(alloc: Global, op: Op) -> Result<bool, Fail> {
+fn ask_is_read_back(alloc: Global, op: Op) -> Result<bool, NoMemory> {
     let asked = ask(2, op);
     let packed = Shard::pack_ask(alloc, &asked)?;
     Ok(Shard::unpack_ask(&packed) == asked)
 }
 
-fn answer_is_read_back(alloc: Global, answer: Answer) -> Result<bool, Fail> {
-    let (packed, _left) = Shard::pack_answer(&answer, Shard::spare(alloc)?);
-    Ok(Shard::unpack_answer(&packed) == answer)
+fn answer_is_read_back(alloc: Global, answer: &Answer) -> Result<bool, NoMemory> {
+    let (packed, _left) = Shard::pack_answer(answer, Shard::spare(alloc)?);
+    Ok(Shard::unpack_answer(&packed) == *answer)
 }
 
-fn value_is_read_back(alloc: Global, value: Option<Value>) -> Result<bool, Fail> {
+fn value_is_read_back(alloc: Global, value: Option<Value>) -> Result<bool, NoMemory> {
     let asked = ask_is_read_back(alloc, install(value))?;
-    let answered = answer_is_read_back(alloc, got(value))?;
+    let answered = answer_is_read_back(alloc, &got(value))?;
     Ok(asked && answered)
 }
 

@@ -3,8 +3,6 @@
 
 mod laws;
 mod migrating;
-#[cfg(test)]
-mod tests;
 
 pub use laws::a_layout_sets_the_keep_number;
 pub use migrating::migrate;

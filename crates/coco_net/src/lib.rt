@@ -16,6 +16,3 @@ pub use net::Net;
 pub use quiet::QuietNet;
 pub use script::{Lose, ScriptNet};
 pub use seeded::SeededNet;
-
-#[cfg(test)]
-mod tests;

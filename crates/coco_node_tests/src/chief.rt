@@ -1,7 +1,12 @@
 //! What the coordinator's core does with the votes of an epoch, and after it starts again.
 
+ghost use Rattle.std.specs.Prelude.{◌≡◌, []};
+ghost use Rattle.coco_chief.specs.Shown.{chief_of};
+ghost use Rattle.coco_chief.specs.Table.{restarted};
+
 use coco_chief::*;
-use coco_msg::Message;
+use coco_msg::{Action, Message};
+use coco_types::NoMemory;
 use std::alloc::Global;
 use std::test::Fail;
 
@@ -15,6 +20,8 @@ const NO: Message = Message::Vote {
     yes: false,
 };
 
+const QUERY: Message = Message::Query { epoch: 1 };
+
 const PREPARES: &str =
     "[Send { to: 0, message: Prepare { epoch: 1 } }, Send { to: 1, message: Prepare { epoch: 1 } }]";
 
@@ -24,40 +31,111 @@ const COMMITS: &str =
 const ABORTS: &str =
     "[Send { to: 0, message: Abort { epoch: 1 } }, Send { to: 1, message: Abort { epoch: 1 } }]";
 
-fn text(alloc: Global, actions: &Vec<Action>) -> Result<String, Fail> {
-    Ok(format!(in alloc; "{actions:?}")?)
+// Whether these are the actions, as they are shown.
+fn are_shown(alloc: Global, actions: Vec<Action>, shown: &str) -> Result<bool, NoMemory> {
+    let text = format!(in alloc; "{actions:?}")?;
+    Ok(text.as_str() == shown)
+}
+
+// Whether the core answers a place's message with these actions.
+fn answers(
+    alloc: Global,
+    core: &mut ChiefCore,
+    from: u8,
+    message: &Message,
+    shown: &str,
+) -> Result<bool, NoMemory> {
+    let actions = core.handle(from, message)?;
+    are_shown(alloc, actions, shown)
+}
+
+// Whether a core of two nodes asks for votes, and is to force epoch 1 once both have voted for it.
+fn asks_and_forces(alloc: Global, core: &mut ChiefCore) -> Result<bool, NoMemory>
+    requires { chief_of core.old ≡ restarted 2 [] }
+{
+    let has_finished = core.finished(0);
+    let actions = core.begin(1)?;
+    let asks = are_shown(alloc, actions, PREPARES)?;
+    for (from, message, shown) in [
+        (0, &YES, "[]"),
+        (0, &YES, "[]"),
+        (2, &YES, "[]"),
+        (0, &QUERY, "[]"),
+        (1, &YES, "[Force { epoch: 1 }]"),
+    ] {
+        if !answers(alloc, core, from, message, shown)? {
+            return Ok(false);
+        }
+    }
+    Ok(has_finished && asks)
+}
+
+fn is_forcing(core: &ChiefCore) -> bool {
+    core.current() == 1 && core.phase() == Phase::Forcing
 }
 
 #[test]
 fn an_epoch_is_forced_once_every_node_has_voted(rt: HostRuntime) -> Result<(), Fail> {
     let alloc = rt.alloc();
     let mut core = ChiefCore::restart(alloc, 2, Vec::new(alloc))?;
-    assert!(rt; core.finished(0));
-    assert_eq!(rt; text(alloc, &core.begin(1)?)?.as_str(), PREPARES);
-    assert_eq!(rt; core.handle(0, &YES)?.len(), 0);
-    assert_eq!(rt; core.handle(0, &YES)?.len(), 0);
-    assert_eq!(rt; core.handle(2, &YES)?.len(), 0);
-    assert_eq!(rt; core.handle(0, &Message::Query { epoch: 1 })?.len(), 0);
-    assert_eq!(rt;
-        text(alloc, &core.handle(1, &YES)?)?.as_str(),
-        "[Force { epoch: 1 }]"
-    );
-    assert_eq!(rt; core.current(), 1);
-    assert_eq!(rt; core.phase(), Phase::Forcing);
-    assert_eq!(rt; core.handle(1, &NO)?.len(), 0);
+    let is_forced = asks_and_forces(alloc, &mut core)? && is_forcing(&core);
+    assert!(rt; is_forced && answers(alloc, &mut core, 1, &NO, "[]")?);
     Ok(())
+}
+
+// Whether a core of two nodes aborts epoch 1 at a no, and says so when it is asked.
+fn aborts(alloc: Global, core: &mut ChiefCore) -> Result<bool, NoMemory>
+    requires { chief_of core.old ≡ restarted 2 [] }
+{
+    core.begin(1)?;
+    let is_aborted = answers(alloc, core, 1, &NO, ABORTS)?;
+    let told = "[Send { to: 0, message: Tell { epoch: 1, committed: false } }]";
+    Ok(is_aborted && answers(alloc, core, 0, &QUERY, told)?)
 }
 
 #[test]
 fn a_no_aborts_the_epoch(rt: HostRuntime) -> Result<(), Fail> {
     let alloc = rt.alloc();
     let mut core = ChiefCore::restart(alloc, 2, Vec::new(alloc))?;
-    core.begin(1)?;
-    assert_eq!(rt; text(alloc, &core.handle(1, &NO)?)?.as_str(), ABORTS);
-    let tell = core.handle(0, &Message::Query { epoch: 1 })?;
-    let told = "[Send { to: 0, message: Tell { epoch: 1, committed: false } }]";
-    assert_eq!(rt; text(alloc, &tell)?.as_str(), told);
+    assert!(rt; aborts(alloc, &mut core)?);
     Ok(())
+}
+
+// Whether the core tells of each of these epochs whether it was committed.
+fn tells_each(alloc: Global, core: &mut ChiefCore) -> Result<bool, NoMemory> {
+    for (epoch, committed) in [
+        (1, true),
+        (3, true),
+        (4, false),
+        (5, true),
+        (8, false),
+        (10, true),
+        (11, false),
+    ] {
+        let told = format!(in alloc;
+            "[Send {{ to: 0, message: Tell {{ epoch: {epoch}, committed: {committed} }} }}]"
+        )?;
+        if !answers(alloc, core, 0, &Message::Query { epoch }, &told)? {
+            return Ok(false);
+        }
+    }
+    Ok(true)
+}
+
+// Whether node 0 is reminded of epoch 10 until it has finished that.
+fn reminds(alloc: Global, core: &mut ChiefCore) -> Result<bool, NoMemory> {
+    let is_first = !core.finished(0);
+    let actions = core.remind()?;
+    let reminder = "[Send { to: 0, message: Commit { epoch: 10 } }]";
+    let is_reminded = are_shown(alloc, actions, reminder)?;
+    let is_early = answers(alloc, core, 0, &Message::Finished { epoch: 9 }, "[]")?;
+    Ok(is_first && is_reminded && is_early && !core.finished(0))
+}
+
+fn is_finished(alloc: Global, core: &mut ChiefCore) -> Result<bool, NoMemory> {
+    let is_heard = answers(alloc, core, 0, &Message::Finished { epoch: 10 }, "[]")?;
+    let actions = core.remind()?;
+    Ok(is_heard && core.finished(0) && actions.is_empty())
 }
 
 #[test]
@@ -66,43 +144,30 @@ fn a_restarted_core_knows_its_committed_epochs(rt: HostRuntime) -> Result<(), Fa
     for epochs in [[1, 2, 3, 5, 9, 10], [10, 3, 9, 1, 5, 2]] {
         let epochs = Vec::from_array(alloc, epochs)?;
         let core = &mut ChiefCore::restart(alloc, 1, epochs)?;
-        for (epoch, committed) in [
-            (1, true),
-            (3, true),
-            (4, false),
-            (5, true),
-            (8, false),
-            (10, true),
-            (11, false),
-        ] {
-            let told = core.handle(0, &Message::Query { epoch })?;
-            let expected = format!(in alloc;
-                "[Send {{ to: 0, message: Tell {{ epoch: {epoch}, committed: {committed} }} }}]"
-            )?;
-            assert_eq!(rt; text(alloc, &told)?.as_str(), expected.as_str());
-        }
-        let reminder = "[Send { to: 0, message: Commit { epoch: 10 } }]";
-        assert!(rt; !core.finished(0));
-        assert_eq!(rt; text(alloc, &core.remind()?)?.as_str(), reminder);
-        assert_eq!(rt; core.handle(0, &Message::Finished { epoch: 9 })?.len(), 0);
-        assert!(rt; !core.finished(0));
-        assert_eq!(rt; core.handle(0, &Message::Finished { epoch: 10 })?.len(), 0);
-        assert!(rt; core.finished(0));
-        assert_eq!(rt; core.remind()?.len(), 0);
+        let is_told = tells_each(alloc, core)?;
+        assert!(rt; is_told && reminds(alloc, core)? && is_finished(alloc, core)?);
     }
     Ok(())
+}
+
+// Whether a core of two nodes tells both of the commit of epoch 1 behind its entry.
+fn commits(alloc: Global, core: &mut ChiefCore) -> Result<bool, NoMemory>
+    requires { chief_of core.old ≡ restarted 2 [] }
+{
+    core.begin(1)?;
+    core.handle(0, &YES)?;
+    core.handle(1, &YES)?;
+    if core.phase() != Phase::Forcing || core.current() != 1 {
+        return Ok(false);
+    }
+    let actions = core.forced(1)?;
+    Ok(are_shown(alloc, actions, COMMITS)? && !core.finished(1))
 }
 
 #[test]
 fn a_commit_is_told_to_every_node(rt: HostRuntime) -> Result<(), Fail> {
     let alloc = rt.alloc();
     let mut core = ChiefCore::restart(alloc, 2, Vec::new(alloc))?;
-    core.begin(1)?;
-    core.handle(0, &YES)?;
-    core.handle(1, &YES)?;
-    assert_eq!(rt; core.phase(), Phase::Forcing);
-    assert_eq!(rt; core.current(), 1);
-    assert_eq!(rt; text(alloc, &core.forced(1)?)?.as_str(), COMMITS);
-    assert!(rt; !core.finished(1));
+    assert!(rt; commits(alloc, &mut core)?);
     Ok(())
 }

@@ -4,7 +4,6 @@ use coco_copy::*;
 use coco_packs::Packs;
 use coco_types::{Key, Machine, NoMemory, PackedWrite, Text, Value, Write};
 use std::alloc::Global;
-use std::process::Abort;
 use std::test::Fail;
 
 const FIVE: Key = Key { table: 0, row: 5 };
@@ -15,123 +14,161 @@ fn int(n: i64) -> Option<Value> {
     Some(Value::Int(n))
 }
 
+fn fifty() -> Result<Option<Value>, Fail> {
+    let text = Text::of("fifty").ok_or("no text")?;
+    Ok(Some(Value::Text(text)))
+}
+
 fn put(epoch: u64, time: u64, key: Key, value: Option<Value>) -> CopyAsk {
     let write = Write { key, value };
     CopyAsk::Put { epoch, time, write }
 }
 
-// Row 5 is loaded as 1, epoch 3 is begun, and puts come out of order.
-fn written(rt: &impl Abort, alloc: Global) -> Result<CopyTable, Fail> {
-    let mut table = CopyTable::new(alloc);
+// Whether the copy takes puts of epoch 3 that come out of order, where row 5 is loaded as 1 before.
+fn is_written(table: &mut CopyTable) -> Result<bool, NoMemory> {
     table.load(FIVE, int(1))?;
     table.begin(3);
-    let steps = [
-        (put(3, 2, FIVE, int(20)), CopyAnswer::Applied),
-        (put(3, 1, FIVE, int(10)), CopyAnswer::Older { time: 2 }),
-        (put(3, 2, FIVE, int(21)), CopyAnswer::Older { time: 2 }),
-        (
-            put(2, 9, FIVE, int(90)),
-            CopyAnswer::OtherEpoch { current: 3 },
-        ),
-        (put(3, 4, SIX, None), CopyAnswer::Applied),
-        (put(3, 5, SIX, int(50)), CopyAnswer::Applied),
-    ];
-    for (ask, answer) in steps {
-        assert_eq!(rt; table.apply(ask)?, answer, "{ask:?}");
+    for (epoch, time, key, n, answer) in [
+        (3, 2, FIVE, Some(20), CopyAnswer::Applied),
+        (3, 1, FIVE, Some(10), CopyAnswer::Older { time: 2 }),
+        (3, 2, FIVE, Some(21), CopyAnswer::Older { time: 2 }),
+        (2, 9, FIVE, Some(90), CopyAnswer::OtherEpoch { current: 3 }),
+        (3, 4, SIX, None, CopyAnswer::Applied),
+        (3, 5, SIX, Some(50), CopyAnswer::Applied),
+    ] {
+        if table.apply(put(epoch, time, key, n.map(Value::Int)))? != answer {
+            return Ok(false);
+        }
     }
-    Ok(table)
+    Ok(true)
+}
+
+fn pends(table: &CopyTable, key: Key, time: u64, value: Option<Value>) -> bool {
+    table.pending(key) == Some((time, value))
 }
 
 #[test]
 fn the_greatest_time_of_the_epoch_pends(rt: HostRuntime) -> Result<(), Fail> {
-    let table = written(&rt, rt.alloc())?;
-    assert_eq!(rt; table.pending(FIVE), Some((2, int(20))));
-    assert_eq!(rt; table.pending(SIX), Some((5, int(50))));
-    assert_eq!(rt; table.stable(FIVE), int(1));
-    assert_eq!(rt; table.stable(SIX), None);
+    let mut table = CopyTable::new(rt.alloc());
+    let is_written = is_written(&mut table)?;
+    let is_pending = pends(&table, FIVE, 2, int(20)) && pends(&table, SIX, 5, int(50));
+    let is_stable = table.stable(FIVE) == int(1) && table.stable(SIX).is_none();
+    assert!(rt; is_written && is_pending && is_stable);
     Ok(())
+}
+
+fn has_rows(table: &CopyTable, rows: &[(Key, Value)]) -> Result<bool, NoMemory> {
+    Ok(table.rows()?.as_slice() == rows)
+}
+
+// Whether a promote makes what pends stable, and another takes a row away.
+fn promotes(table: &mut CopyTable) -> Result<bool, NoMemory> {
+    table.promote();
+    let is_promoted = has_rows(table, &[(FIVE, Value::Int(20)), (SIX, Value::Int(50))])?;
+    let is_at_rest = table.pending(FIVE).is_none();
+    table.begin(4);
+    table.apply(put(4, 1, FIVE, None))?;
+    table.promote();
+    Ok(is_promoted && is_at_rest && has_rows(table, &[(SIX, Value::Int(50))])?)
 }
 
 #[test]
 fn a_promote_makes_what_pends_stable(rt: HostRuntime) -> Result<(), Fail> {
-    let mut table = written(&rt, rt.alloc())?;
-    table.promote();
-    let rows = table.rows()?;
-    let expected = [(FIVE, Value::Int(20)), (SIX, Value::Int(50))];
-    assert_eq!(rt; rows.as_slice(), expected.as_slice());
-    assert_eq!(rt; table.pending(FIVE), None);
-    table.begin(4);
-    table.apply(put(4, 1, FIVE, None))?;
-    table.promote();
-    assert_eq!(rt;
-        table.rows()?.as_slice(),
-        [(SIX, Value::Int(50))].as_slice()
-    );
+    let mut table = CopyTable::new(rt.alloc());
+    let is_written = is_written(&mut table)?;
+    assert!(rt; is_written && promotes(&mut table)?);
     Ok(())
+}
+
+// Whether a revert leaves the loaded row alone, which a load takes away.
+fn reverts(table: &mut CopyTable) -> Result<bool, NoMemory> {
+    table.revert();
+    let is_at_rest = table.pending(SIX).is_none();
+    let is_reverted = has_rows(table, &[(FIVE, Value::Int(1))])?;
+    table.load(FIVE, None)?;
+    Ok(is_at_rest && is_reverted && has_rows(table, &[])?)
 }
 
 #[test]
 fn a_revert_forgets_what_pends(rt: HostRuntime) -> Result<(), Fail> {
-    let mut table = written(&rt, rt.alloc())?;
-    table.revert();
-    assert_eq!(rt; table.pending(SIX), None);
-    assert_eq!(rt;
-        table.rows()?.as_slice(),
-        [(FIVE, Value::Int(1))].as_slice()
-    );
-    table.load(FIVE, None)?;
-    assert!(rt; table.rows()?.is_empty());
+    let mut table = CopyTable::new(rt.alloc());
+    let is_written = is_written(&mut table)?;
+    assert!(rt; is_written && reverts(&mut table)?);
     Ok(())
 }
 
-fn packed(alloc: Global, key: Key, value: Option<Value>) -> Result<PackedWrite, NoMemory> {
-    PackedWrite::of(alloc, &Write { key, value })
+// Whether the copy so answers a put whose write is packed.
+fn puts_packed(
+    table: &mut CopyTable,
+    alloc: Global,
+    put: (u64, u64, Key, Option<Value>),
+    answer: CopyAnswer,
+) -> Result<bool, NoMemory> {
+    let (epoch, time, key, value) = put;
+    let write = PackedWrite::of(alloc, &Write { key, value })?;
+    Ok(table.put(epoch, time, write)? == answer)
+}
+
+// Whether packed writes are put by their times, and a promote makes the last one stable.
+fn takes_packed(
+    table: &mut CopyTable,
+    alloc: Global,
+    value: Option<Value>,
+) -> Result<bool, NoMemory> {
+    let older = CopyAnswer::Older { time: 2 };
+    let is_older = puts_packed(table, alloc, (3, 1, FIVE, value), older)?;
+    let is_put = puts_packed(table, alloc, (3, 3, FIVE, value), CopyAnswer::Applied)?;
+    let is_pending = pends(table, FIVE, 3, value);
+    table.promote();
+    let is_stable = table.stable(FIVE) == value;
+    let other = CopyAnswer::OtherEpoch { current: 3 };
+    let is_late = puts_packed(table, alloc, (4, 1, SIX, None), other)?;
+    Ok(is_older && is_put && is_pending && is_stable && is_late)
 }
 
 #[test]
 fn a_packed_write_is_put(rt: HostRuntime) -> Result<(), Fail> {
-    let text = Text::of("fifty").ok_or("no text")?;
-    let fifty = Some(Value::Text(text));
-    let mut table = written(&rt, rt.alloc())?;
-    let older = packed(rt.alloc(), FIVE, fifty)?;
-    assert_eq!(rt; table.put(3, 1, older)?, CopyAnswer::Older { time: 2 });
-    let newer = packed(rt.alloc(), FIVE, fifty)?;
-    assert_eq!(rt; table.put(3, 3, newer)?, CopyAnswer::Applied);
-    assert_eq!(rt; table.pending(FIVE), Some((3, fifty)));
-    table.promote();
-    assert_eq!(rt; table.stable(FIVE), fifty);
-    let late = packed(rt.alloc(), SIX, None)?;
-    assert_eq!(rt;
-        table.put(4, 1, late)?,
-        CopyAnswer::OtherEpoch { current: 3 }
-    );
+    let mut table = CopyTable::new(rt.alloc());
+    let is_written = is_written(&mut table)?;
+    assert!(rt; is_written && takes_packed(&mut table, rt.alloc(), fifty()?)?);
     Ok(())
+}
+
+// Whether a value is loaded over a row, and put over another.
+fn takes(table: &mut CopyTable, value: Option<Value>) -> Result<bool, NoMemory> {
+    table.load(FIVE, value)?;
+    let is_loaded = table.stable(FIVE) == value;
+    let answer = table.apply(put(3, 6, SIX, value))?;
+    table.promote();
+    Ok(is_loaded && answer == CopyAnswer::Applied && table.stable(SIX) == value)
 }
 
 #[test]
 fn a_text_is_put_and_loaded_over_a_row(rt: HostRuntime) -> Result<(), Fail> {
-    let text = Text::of("fifty").ok_or("no text")?;
-    let fifty = Some(Value::Text(text));
-    let mut table = written(&rt, rt.alloc())?;
-    table.load(FIVE, fifty)?;
-    assert_eq!(rt; table.stable(FIVE), fifty);
-    assert_eq!(rt; table.apply(put(3, 6, SIX, fifty))?, CopyAnswer::Applied);
-    table.promote();
-    assert_eq!(rt; table.stable(SIX), fifty);
+    let mut table = CopyTable::new(rt.alloc());
+    let is_written = is_written(&mut table)?;
+    assert!(rt; is_written && takes(&mut table, fifty()?)?);
     Ok(())
+}
+
+fn put_is_read_back(alloc: Global, value: Option<Value>) -> Result<bool, NoMemory> {
+    let asked = put(3, 2, FIVE, value);
+    let packed = CopyTable::pack_ask(alloc, &asked)?;
+    Ok(CopyTable::unpack_ask(&packed) == asked)
+}
+
+fn answer_is_read_back(alloc: Global) -> Result<bool, NoMemory> {
+    let older = CopyAnswer::Older { time: 2 };
+    CopyTable::spare(alloc)?;
+    let (packed, _left) = CopyTable::pack_answer(&older, ());
+    Ok(CopyTable::unpack_answer(&packed) == older)
 }
 
 #[test]
 fn a_packed_put_is_read_back(rt: HostRuntime) -> Result<(), Fail> {
-    let text = Text::of("fifty").ok_or("no text")?;
-    for value in [None, int(5), Some(Value::Text(text))] {
-        let asked = put(3, 2, FIVE, value);
-        let packed = CopyTable::pack_ask(rt.alloc(), &asked)?;
-        assert_eq!(rt; CopyTable::unpack_ask(&packed), asked);
-    }
-    let older = CopyAnswer::Older { time: 2 };
-    CopyTable::spare(rt.alloc())?;
-    let (packed, _left) = CopyTable::pack_answer(&older, ());
-    assert_eq!(rt; CopyTable::unpack_answer(&packed), older);
+    let none = put_is_read_back(rt.alloc(), None)?;
+    let number = put_is_read_back(rt.alloc(), int(5))?;
+    let text = put_is_read_back(rt.alloc(), fifty()?)?;
+    assert!(rt; none && number && text && answer_is_read_back(rt.alloc())?);
     Ok(())
 }

@@ -1,4 +1,5 @@
-//! Tests of copies, of messages, and of the cores of nodes and coordinator. There is nothing else here.
+//! Tests of copies, of messages, of the cores of nodes and coordinator, and of worlds of them. There is nothing else here.
+#![tactic(auto)]
 
 #[cfg(test)]
 mod chief;
@@ -8,3 +9,5 @@ mod copies;
 mod messages;
 #[cfg(test)]
 mod node;
+#[cfg(test)]
+mod world;

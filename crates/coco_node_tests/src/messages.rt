@@ -1,11 +1,25 @@
 //! Messages as bytes, and the fields at which other bytes are refused.
 
 ghost use Rattle.std.specs.Prelude.{◌≡◌, [], ◌∷◌, IfOk};
+ghost use Rattle.coco_msg.specs.Bytes.{HasBytes};
 
 use coco_msg::*;
 use coco_types::{Key, NoMemory, PackedWrite, Sequence, Value, Write};
 use std::alloc::Global;
 use std::test::Fail;
+
+const SHIP: [u8; 46] = [
+    1, 0, 0, 0, 0, 0, 0, 0, 1, 2, 0, 0, 0, 3, 0, 0, 0, 0, 0, 0, 0, 4, 0, 0, 0, 1, 0, 0, 0, 0, 0, 0,
+    0, 0, 0, 5, 1, 0, 0, 0, 0, 0, 0, 0, 70, 0,
+];
+
+const TOTAL: [u8; 18] = [2, 0, 0, 0, 0, 0, 0, 0, 1, 0, 0, 0, 0, 1, 0, 0, 0, 0];
+
+fn has_bytes(alloc: Global, message: &Message, bytes: &[u8]) -> Result<bool, NoMemory>
+    requires { HasBytes message.now }
+{
+    Ok(message_bytes(alloc, message)?.as_slice() == bytes)
+}
 
 fn one_place(alloc: Global, place: u32) -> Result<Places, NoMemory>
     ensures { IfOk result (λ places. places ≡ place ∷ []) }
@@ -15,42 +29,35 @@ fn one_place(alloc: Global, place: u32) -> Result<Places, NoMemory>
     Ok(places)
 }
 
-const SHIP: [u8; 46] = [
-    1, 0, 0, 0, 0, 0, 0, 0, 1, 2, 0, 0, 0, 3, 0, 0, 0, 0, 0, 0, 0, 4, 0, 0, 0, 1, 0, 0, 0, 0, 0, 0,
-    0, 0, 0, 5, 1, 0, 0, 0, 0, 0, 0, 0, 70, 0,
-];
-
-const TOTAL: [u8; 18] = [2, 0, 0, 0, 0, 0, 0, 0, 1, 0, 0, 0, 0, 1, 0, 0, 0, 0];
+fn total_has_bytes(alloc: Global) -> Result<bool, NoMemory> {
+    let total = Message::Total {
+        epoch: 1,
+        partition: 0,
+        places: one_place(alloc, 0)?,
+    };
+    has_bytes(alloc, &total, &TOTAL)
+}
 
 #[test]
 fn a_message_is_its_tag_its_epoch_and_its_fields(rt: HostRuntime) -> Result<(), Fail> {
-    let prepare = message_bytes(rt.alloc(), &Message::Prepare { epoch: 1 })?;
-    assert_eq!(rt; prepare.as_slice(), [5, 0, 0, 0, 0, 0, 0, 0, 1].as_slice());
+    let prepare = Message::Prepare { epoch: 1 };
+    let is_prepare = has_bytes(rt.alloc(), &prepare, &[5, 0, 0, 0, 0, 0, 0, 0, 1])?;
     let vote = Message::Vote {
         epoch: 1,
         yes: true,
     };
-    let vote = message_bytes(rt.alloc(), &vote)?;
-    assert_eq!(rt; vote.as_slice(), [6, 0, 0, 0, 0, 0, 0, 0, 1, 1].as_slice());
-    let zero = one_place(rt.alloc(), 0)?;
-    let total = Message::Total {
-        epoch: 1,
-        partition: 0,
-        places: zero,
-    };
-    let total = message_bytes(rt.alloc(), &total)?;
-    assert_eq!(rt; total.as_slice(), TOTAL.as_slice());
+    let is_vote = has_bytes(rt.alloc(), &vote, &[6, 0, 0, 0, 0, 0, 0, 0, 1, 1])?;
+    assert!(rt; is_prepare && is_vote && total_has_bytes(rt.alloc())?);
     Ok(())
 }
 
-#[test]
-fn a_ship_is_read_as_it_was_written(rt: HostRuntime) -> Result<(), Fail> {
+fn ship_has_bytes(alloc: Global) -> Result<bool, NoMemory> {
     let write = Write {
         key: Key { table: 0, row: 5 },
         value: Some(Value::Int(70)),
     };
-    let mut writes = Sequence::new(rt.alloc());
-    writes.push(PackedWrite::of(rt.alloc(), &write)?)?;
+    let mut writes = Sequence::new(alloc);
+    writes.push(PackedWrite::of(alloc, &write)?)?;
     let ship = Message::Ship {
         epoch: 1,
         partition: 2,
@@ -58,29 +65,35 @@ fn a_ship_is_read_as_it_was_written(rt: HostRuntime) -> Result<(), Fail> {
         time: 4,
         writes,
     };
-    let bytes = message_bytes(rt.alloc(), &ship)?;
-    assert_eq!(rt; bytes.as_slice(), &SHIP[..45]);
-    let Ok(
+    has_bytes(alloc, &ship, &SHIP[..45])
+}
+
+// Whether this is the Ship of those bytes.
+fn is_ship(message: &Message) -> bool {
+    match message {
         Message::Ship {
             epoch,
             partition,
             place,
             time,
             writes,
-        },
-    ) = read_message(rt.alloc(), &SHIP[..45])
-    else {
-        return Err(Fail::from("no ship"));
-    };
-    assert_eq!(rt; (epoch, partition, place, time), (1, 2, 3, 4));
-    assert_eq!(rt; writes.len(), 1);
+        } => (*epoch, *partition, *place, *time) == (1, 2, 3, 4) && writes.len() == 1,
+        _ => false,
+    }
+}
+
+#[test]
+fn a_ship_is_read_as_it_was_written(rt: HostRuntime) -> Result<(), Fail> {
+    let is_written = ship_has_bytes(rt.alloc())?;
+    let message = read_message(rt.alloc(), &SHIP[..45])?;
+    assert!(rt; is_written && is_ship(&message));
     Ok(())
 }
 
-fn bad_place(read: Result<Message, MessageFault>) -> Option<usize> {
-    match read {
-        Err(MessageFault::Bad { at }) => Some(at),
-        Err(MessageFault::NoMemory) | Ok(_) => None,
+fn is_bad_at(alloc: Global, bytes: &[u8], place: usize) -> bool {
+    match read_message(alloc, bytes) {
+        Err(MessageFault::Bad { at }) => at == place,
+        Err(MessageFault::NoMemory) | Ok(_) => false,
     }
 }
 
@@ -102,7 +115,7 @@ fn other_bytes_are_bad_at_the_first_field_that_can_not_stand(rt: HostRuntime) {
         (&SHIP, 45),
     ];
     for (bytes, at) in cases {
-        assert_eq!(rt; bad_place(read_message(rt.alloc(), bytes)), Some(at));
+        assert!(rt; is_bad_at(rt.alloc(), bytes, at), "at {at}");
     }
 }
 

@@ -1,29 +1,10 @@
 //! What a node's core does with the messages of an epoch, and after it starts again.
 
-use coco_msg::Message;
+use coco_msg::{Action, Message};
 use coco_node::*;
+use coco_types::NoMemory;
 use std::alloc::Global;
 use std::test::Fail;
-
-// A core's actions in a few words.
-fn told(alloc: Global, actions: &[Action]) -> Result<String, Fail> {
-    let mut words = String::new(alloc);
-    for action in actions {
-        let word = match action {
-            Action::Send { to, message } => format!(in alloc; "to {to} {message:?} ")?,
-            Action::Force { epoch } => format!(in alloc; "force {epoch} ")?,
-            Action::Promote { epoch } => format!(in alloc; "promote {epoch} ")?,
-            Action::Revert { epoch } => format!(in alloc; "revert {epoch} ")?,
-        };
-        words.push_str(&word)?;
-    }
-    Ok(words)
-}
-
-fn heard(alloc: Global, core: &mut NodeCore, message: &Message) -> Result<String, Fail> {
-    let actions = core.handle(alloc, COORDINATOR, message)?;
-    told(alloc, &actions)
-}
 
 const YES: &str = "to 8 Vote { epoch: 1, yes: true } ";
 
@@ -37,67 +18,131 @@ const ABORT: Message = Message::Abort { epoch: 1 };
 
 const PREPARE: Message = Message::Prepare { epoch: 1 };
 
+// An action in a few words.
+fn told(alloc: Global, action: &Action) -> Result<String, NoMemory> {
+    let words = match action {
+        Action::Send { to, message } => format!(in alloc; "to {to} {message:?} "),
+        Action::Force { epoch } => format!(in alloc; "force {epoch} "),
+        Action::Promote { epoch } => format!(in alloc; "promote {epoch} "),
+        Action::Revert { epoch } => format!(in alloc; "revert {epoch} "),
+    };
+    Ok(words?)
+}
+
+// Whether these are the actions, each in a few words.
+fn are_told(alloc: Global, actions: Vec<Action>, words: &str) -> Result<bool, NoMemory> {
+    let mut all = String::new(alloc);
+    for action in &actions {
+        all.push_str(&told(alloc, action)?)?;
+    }
+    Ok(all.as_str() == words)
+}
+
+// Whether the core answers each of the coordinator's messages with these actions.
+fn answers(
+    alloc: Global,
+    core: &mut NodeCore,
+    messages: &[(&Message, &str)],
+) -> Result<bool, NoMemory> {
+    for (message, words) in messages {
+        let actions = core.handle(alloc, COORDINATOR, message)?;
+        if !are_told(alloc, actions, words)? {
+            return Ok(false);
+        }
+    }
+    Ok(true)
+}
+
+// Whether the core forces epoch 1 once, and says nothing while its entry isn't there.
+fn forces_once(alloc: Global, core: &mut NodeCore) -> Result<bool, NoMemory> {
+    let is_forced = answers(
+        alloc,
+        core,
+        &[(&PREPARE, "force 1 "), (&PREPARE, ""), (&COMMIT, "")],
+    )?;
+    Ok(is_forced && core.node() == 1)
+}
+
+// Whether the core votes behind its entry of epoch 1, and promotes the epoch once.
+fn promotes_once(alloc: Global, core: &mut NodeCore) -> Result<bool, NoMemory> {
+    answers(
+        alloc,
+        core,
+        &[
+            (&PREPARE, YES),
+            (&COMMIT, PROMOTED),
+            (&COMMIT, FINISHED),
+            (&ABORT, ""),
+        ],
+    )
+}
+
 #[test]
 fn a_node_votes_behind_its_entry_and_promotes_once(rt: HostRuntime) -> Result<(), Fail> {
     let alloc = rt.alloc();
     let mut core = NodeCore::restart(1, Vec::new(alloc), None);
-    assert_eq!(rt; core.node(), 1);
-    assert_eq!(rt; heard(alloc, &mut core, &PREPARE)?.as_str(), "force 1 ");
-    assert_eq!(rt; heard(alloc, &mut core, &PREPARE)?.as_str(), "");
-    assert_eq!(rt; heard(alloc, &mut core, &COMMIT)?.as_str(), "");
-    assert_eq!(rt; core.forcing(), 1);
+    assert!(rt; forces_once(alloc, &mut core)?);
+    assert!(rt; core.forcing() == 1);
     let actions = core.forced(alloc, 1)?;
-    assert_eq!(rt; told(alloc, &actions)?.as_str(), YES);
-    assert_eq!(rt; heard(alloc, &mut core, &PREPARE)?.as_str(), YES);
-    assert_eq!(rt; heard(alloc, &mut core, &COMMIT)?.as_str(), PROMOTED);
-    assert_eq!(rt; heard(alloc, &mut core, &COMMIT)?.as_str(), FINISHED);
-    assert_eq!(rt; heard(alloc, &mut core, &ABORT)?.as_str(), "");
+    assert!(rt; are_told(alloc, actions, YES)? && promotes_once(alloc, &mut core)?);
     Ok(())
 }
 
 // A node that began anew with an entry of epoch 1.
-fn restarted(alloc: Global, lost: Option<u64>) -> Result<NodeCore, Fail> {
+fn restarted(alloc: Global, lost: Option<u64>) -> Result<NodeCore, NoMemory> {
     let epochs = vec![in alloc; 1]?;
     Ok(NodeCore::restart(0, epochs, lost))
 }
 
+// Whether the core asks these things of its own accord.
+fn asks(alloc: Global, core: &NodeCore, words: &str) -> Result<bool, NoMemory> {
+    are_told(alloc, core.ask(alloc)?, words)
+}
+
+// Whether a restarted core asks once what became of epoch 1, and then does this.
+fn does_as_told(alloc: Global, committed: bool, done: &str) -> Result<bool, NoMemory> {
+    let mut core = restarted(alloc, None)?;
+    let is_asked = asks(alloc, &core, "to 8 Query { epoch: 1 } ")?;
+    let tell = Message::Tell {
+        epoch: 1,
+        committed,
+    };
+    let is_done = answers(alloc, &mut core, &[(&tell, done)])?;
+    Ok(is_asked && is_done && asks(alloc, &core, "")?)
+}
+
 #[test]
 fn a_restarted_node_asks_and_does_what_it_is_told(rt: HostRuntime) -> Result<(), Fail> {
-    let alloc = rt.alloc();
-    let cases = [(false, "revert 1 "), (true, PROMOTED)];
-    for (committed, done) in cases {
-        let mut core = restarted(alloc, None)?;
-        let asked = core.ask(alloc)?;
-        assert_eq!(rt; told(alloc, &asked)?.as_str(), "to 8 Query { epoch: 1 } ");
-        let tell = Message::Tell {
-            epoch: 1,
-            committed,
-        };
-        assert_eq!(rt; heard(alloc, &mut core, &tell)?.as_str(), done);
-        assert_eq!(rt; core.ask(alloc)?.len(), 0);
-    }
+    let is_reverted = does_as_told(rt.alloc(), false, "revert 1 ")?;
+    let is_promoted = does_as_told(rt.alloc(), true, PROMOTED)?;
+    assert!(rt; is_reverted && is_promoted);
     Ok(())
+}
+
+// Whether a core whose rows of epoch 3 are lost says no to it alone, and lets an epoch that it forces go.
+fn says_no_to_lost_rows(alloc: Global, core: &mut NodeCore) -> Result<bool, NoMemory> {
+    answers(
+        alloc,
+        core,
+        &[
+            (
+                &Message::Prepare { epoch: 3 },
+                "to 8 Vote { epoch: 3, yes: false } ",
+            ),
+            (&Message::Prepare { epoch: 2 }, ""),
+            (&Message::Prepare { epoch: 0 }, ""),
+            (&Message::Prepare { epoch: 4 }, "force 4 "),
+            (&Message::Abort { epoch: 4 }, ""),
+            (&Message::Finished { epoch: 1 }, ""),
+        ],
+    )
 }
 
 #[test]
 fn only_the_coordinator_is_heard_and_lost_rows_are_no_yes(rt: HostRuntime) -> Result<(), Fail> {
     let alloc = rt.alloc();
     let mut core = restarted(alloc, Some(3))?;
-    assert_eq!(rt; core.handle(alloc, 0, &COMMIT)?.len(), 0);
-    let cases = [
-        (
-            Message::Prepare { epoch: 3 },
-            "to 8 Vote { epoch: 3, yes: false } ",
-        ),
-        (Message::Prepare { epoch: 2 }, ""),
-        (Message::Prepare { epoch: 0 }, ""),
-        (Message::Prepare { epoch: 4 }, "force 4 "),
-        (Message::Abort { epoch: 4 }, ""),
-        (Message::Finished { epoch: 1 }, ""),
-    ];
-    for (message, done) in cases {
-        assert_eq!(rt; heard(alloc, &mut core, &message)?.as_str(), done);
-    }
-    assert_eq!(rt; core.forcing(), 0);
+    let is_deaf = core.handle(alloc, 0, &COMMIT)?.is_empty();
+    assert!(rt; is_deaf && says_no_to_lost_rows(alloc, &mut core)? && core.forcing() == 0);
     Ok(())
 }

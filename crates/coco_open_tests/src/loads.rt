@@ -8,11 +8,8 @@ ghost use Rattle.coco_load.specs.Tables.{AreTables, IsRing};
 use coco_entry::{Layout, Row};
 use coco_kept::Kept;
 use coco_load::*;
-use coco_types::{
-    Args, Call, Done, Dones, KeptReply, Key, NoMemory, Packed, Reply, Sequence, Value,
-};
+use coco_types::{Args, Call, Done, Dones, KeptReply, Key, NoMemory, Packed, Sequence, Value};
 use std::alloc::Global;
-use std::process::Abort;
 use std::test::Fail;
 
 fn layout(alloc: Global) -> Layout
@@ -52,25 +49,24 @@ fn based(alloc: Global, layout: &Layout) -> Result<Tables, NoMemory>
     Ok(tables)
 }
 
-fn row(alloc: Global, number: u32, value: Option<i64>) -> Result<Row, NoMemory> {
-    let value = Packed::of(alloc, &value.map(Value::Int))?;
-    Ok(Row {
+fn row(number: u32, value: Packed) -> Row {
+    Row {
         key: key(number),
         time: 1,
         value,
-    })
+    }
 }
 
 // Loads an entry of a node: row 0 is 10, row 1 is 20, and row 2 goes.
-fn load(alloc: Global, tables: &mut Tables, layout: &Layout, node: u8) -> Result<(), NoMemory>
+fn load(tables: &mut Tables, layout: &Layout, node: u8) -> Result<(), NoMemory>
     requires tables { AreTables layout.now tables.old.shards.items tables.old.copies.items }
     requires node { node < layout.now.nodes }
     ensures { OnOk result (AreTables layout.now tables.new.shards.items tables.new.copies.items) }
 {
     let rows = [
-        row(alloc, 0, Some(10))?,
-        row(alloc, 1, Some(20))?,
-        row(alloc, 2, None)?,
+        row(0, Packed::of_int(10)),
+        row(1, Packed::of_int(20)),
+        row(2, Packed::none()),
     ];
     tables.load_prepared(layout, node, &rows)
 }
@@ -93,52 +89,47 @@ fn seen(tables: &Tables, row: u32) -> Option<[Option<i64>; 2]> {
     ])
 }
 
-fn shows(rt: &impl Abort, tables: &Tables, wanted: &[(u32, [Option<i64>; 2])]) {
-    for (row, values) in wanted {
-        assert_eq!(rt; seen(tables, *row), Some(*values), "row {row}");
-    }
+fn shows(tables: &Tables, wanted: &[[Option<i64>; 2]; 3]) -> bool {
+    seen(tables, 0) == Some(wanted[0])
+        && seen(tables, 1) == Some(wanted[1])
+        && seen(tables, 2) == Some(wanted[2])
+}
+
+// Loads node 0, which has the shard of partition 0 and the copy of partition 1, and then the other one.
+fn are_loaded(alloc: Global) -> Result<bool, NoMemory> {
+    let layout = layout(alloc);
+    let mut tables = based(alloc, &layout)?;
+    load(&mut tables, &layout, 0)?;
+    let is_first = shows(
+        &tables,
+        &[[Some(10), Some(1)], [Some(2), Some(20)], [None, Some(3)]],
+    );
+    load(&mut tables, &layout, 1)?;
+    let both = [[Some(10), Some(10)], [Some(20), Some(20)], [None, None]];
+    Ok(is_first && shows(&tables, &both))
 }
 
 #[test]
 fn rows_are_loaded_on_their_nodes(rt: HostRuntime) -> Result<(), Fail> {
-    let alloc = rt.alloc();
-    let layout = layout(alloc);
-    let mut tables = based(alloc, &layout)?;
-    // Node 0 has the shard of partition 0 and the copy of partition 1.
-    load(alloc, &mut tables, &layout, 0)?;
-    let first = [
-        (0, [Some(10), Some(1)]),
-        (1, [Some(2), Some(20)]),
-        (2, [None, Some(3)]),
-    ];
-    shows(&rt, &tables, &first);
-    load(alloc, &mut tables, &layout, 1)?;
-    let both = [
-        (0, [Some(10), Some(10)]),
-        (1, [Some(20), Some(20)]),
-        (2, [None, None]),
-    ];
-    shows(&rt, &tables, &both);
+    assert!(rt; are_loaded(rt.alloc())?);
     Ok(())
 }
 
-fn done(alloc: Global, id: u64, epoch: u64) -> Result<Done, NoMemory>
-    ensures id { IfOk result (λ done. done.id ≡ id) }
-    ensures epoch { IfOk result (λ done. done.epoch ≡ epoch) }
+fn done(alloc: Global, id: u64, epoch: u64) -> Done
+    ensures id { result.id ≡ id }
+    ensures epoch { result.epoch ≡ epoch }
 {
-    let call = Call {
-        proc_no: 0,
-        snapshot: false,
-        args: Args::new(alloc),
-    };
-    let reply = KeptReply::of(alloc, &Reply::Ok(None))?;
-    Ok(Done {
+    Done {
         id,
-        call,
+        call: Call {
+            proc_no: 0,
+            snapshot: false,
+            args: Args::new(alloc),
+        },
         epoch,
         time: 1,
-        reply,
-    })
+        reply: KeptReply::answered(Packed::none()),
+    }
 }
 
 fn two_dones(alloc: Global) -> Result<Dones, NoMemory>
@@ -146,28 +137,34 @@ fn two_dones(alloc: Global) -> Result<Dones, NoMemory>
     ensures rising { IfOk result (λ dones. NeverFall dones) }
 {
     let mut dones = Sequence::new(alloc);
-    let first = done(alloc, 7, 1)?;
-    let second = done(alloc, 5, 2)?;
+    let first = done(alloc, 7, 1);
+    let second = done(alloc, 5, 2);
     dones.push(first)?;
     dones.push(second)?;
     Ok(dones)
 }
 
-#[test]
-fn dones_of_the_last_epoch_are_kept(rt: HostRuntime) -> Result<(), Fail> {
-    let alloc = rt.alloc();
+// Adds them to what keeps the last epoch alone.
+fn keep_last(alloc: Global) -> Result<Kept, NoMemory> {
     let mut kept = Kept::new(alloc, Some(1), None);
     let dones = two_dones(alloc)?;
     keep_dones(alloc, &mut kept, dones)?;
-    assert_eq!(rt; kept.len(), 1);
-    assert_eq!(rt; kept.nth(0).map(|done| done.id), Some(5));
-    assert_eq!(rt; kept.floor(), Some(7));
+    Ok(kept)
+}
+
+#[test]
+fn dones_of_the_last_epoch_are_kept(rt: HostRuntime) -> Result<(), Fail> {
+    let kept = keep_last(rt.alloc())?;
+    let is_second = matches!(kept.nth(0), Some(done) if done.id == 5);
+    assert!(rt; is_second && kept.len() == 1 && kept.floor() == Some(7));
     Ok(())
 }
 
 #[test]
 fn the_next_epoch_is_above_all(rt: HostRuntime) {
-    for (next, epoch, after) in [(5, 3, 5), (5, 4, 5), (5, 5, 6), (5, 7, 8)] {
-        assert_eq!(rt; next_epoch(next, epoch), after);
-    }
+    let is_above = next_epoch(5, 3) == 5
+        && next_epoch(5, 4) == 5
+        && next_epoch(5, 5) == 6
+        && next_epoch(5, 7) == 8;
+    assert!(rt; is_above);
 }

@@ -6,7 +6,6 @@ use coco_host::{Host, MemoryHost};
 use coco_read::{OpenFault, Rules, read_file};
 use coco_types::NoMemory;
 use std::alloc::Global;
-use std::test::Fail;
 
 // Bodies of one byte that count up from 0, so many at least.
 #[derive(Drop)]
@@ -48,17 +47,17 @@ impl Rules for Counting {
 }
 
 // Reads a file of these bytes and answers how many entries it has, of which two are wanted; the call of the host
-// with this number fails.
-fn count_of(alloc: Global, bytes: &[u8], failing: u64) -> Result<Result<u64, OpenFault>, Fail> {
-    let mut host = MemoryHost::new(alloc, vec![in alloc; failing]?);
-    host.write_at(5, 0, bytes)?;
+// with this number fails. None where the host has no memory for them.
+fn count_of(alloc: Global, bytes: &[u8], failing: u64) -> Option<Result<u64, OpenFault>> {
+    let mut host = MemoryHost::new(alloc, vec![in alloc; failing].ok()?);
+    host.write_at(5, 0, bytes).ok()?;
     let mut rules = Counting {
         wanted: 2,
         taken: Vec::new(alloc),
     };
     match read_file(alloc, &mut host, 5, 1, &mut rules) {
-        Ok(log) => Ok(Ok(log.count())),
-        Err(fault) => Ok(Err(fault)),
+        Ok(log) => Some(Ok(log.count())),
+        Err(fault) => Some(Err(fault)),
     }
 }
 
@@ -66,41 +65,39 @@ fn count_of(alloc: Global, bytes: &[u8], failing: u64) -> Result<Result<u64, Ope
 const TWO_ENTRIES: [u8; 21] = *b"COCOLOG\x01\x01\x00\x00\x00\x01\x00\x01\x00\x00\x00\x01\x01\x00";
 
 #[test]
-fn a_file_is_read_and_each_call_that_fails_is_a_fault_of_the_disk(
-    rt: HostRuntime,
-) -> Result<(), Fail> {
-    for failing in 1..5 {
-        let read = count_of(rt.alloc(), &TWO_ENTRIES, failing)?;
-        assert_eq!(rt; read, Err(OpenFault::Disk), "call {failing}");
+fn a_file_is_read_and_each_call_that_fails_is_a_fault_of_the_disk(rt: HostRuntime) {
+    for failing in 1..6 {
+        let wanted = if failing < 5 {
+            Err(OpenFault::Disk)
+        } else {
+            Ok(2)
+        };
+        let read = count_of(rt.alloc(), &TWO_ENTRIES, failing);
+        assert!(rt; read == Some(wanted), "call {failing}");
     }
-    assert_eq!(rt; count_of(rt.alloc(), &TWO_ENTRIES, 5)?, Ok(2));
-    Ok(())
 }
 
 #[test]
-fn the_first_refusal_is_answered(rt: HostRuntime) -> Result<(), Fail> {
-    for (bytes, at) in [
-        (b"COCOLOG\x02\x00".as_slice(), 7),
-        (b"COCOLOG\x01\x00".as_slice(), 8),
+fn the_first_refusal_is_answered(rt: HostRuntime) {
+    let cases: [(&[u8], u64); 6] = [
+        (b"COCOLOG\x02\x00", 7),
+        (b"COCOLOG\x01\x00", 8),
+        (b"COCOLOG\x01\x01\x00\x00\x00\x01\x00\x01\x00", 14),
         (
-            b"COCOLOG\x01\x01\x00\x00\x00\x01\x00\x01\x00".as_slice(),
-            14,
-        ),
-        (
-            b"COCOLOG\x01\x01\x00\x00\x00\x01\x00\x01\x00\x00\x00\x01\x05\x00".as_slice(),
+            b"COCOLOG\x01\x01\x00\x00\x00\x01\x00\x01\x00\x00\x00\x01\x05\x00",
             19,
         ),
         (
-            b"COCOLOG\x01\x01\x00\x00\x00\x01\x00\x01\x00\x00\x00\x02\x01\x07\x00".as_slice(),
+            b"COCOLOG\x01\x01\x00\x00\x00\x01\x00\x01\x00\x00\x00\x02\x01\x07\x00",
             20,
         ),
-        (
-            b"COCOLOG\x01\x01\x00\x00\x00\x01\x03\x01\x00".as_slice(),
-            13,
-        ),
-    ] {
-        let refused = OpenFault::NotAStore { file: 5, at };
-        assert_eq!(rt; count_of(rt.alloc(), bytes, 100)?, Err(refused));
+        (b"COCOLOG\x01\x01\x00\x00\x00\x01\x03\x01\x00", 13),
+    ];
+    for (bytes, at) in &cases {
+        let refused = OpenFault::NotAStore { file: 5, at: *at };
+        assert!(rt;
+            count_of(rt.alloc(), bytes, 100) == Some(Err(refused)),
+            "{at}"
+        );
     }
-    Ok(())
 }

@@ -1,10 +1,10 @@
 //! The worked stores of one node, opened from their bytes.
 
-use crate::made::{COMMITS, PREPARED, host_of};
-use coco_host::{Host, MemoryHost};
+use crate::made::{COMMITS, LAYOUTS, PREPARED, host_with};
+use coco_host::MemoryHost;
 use coco_read::OpenFault;
 use coco_recover::{Opened, read_without, recover, recover_whole};
-use coco_types::{Key, Value};
+use coco_types::{Key, OutFault, Value};
 use std::alloc::Global;
 use std::test::Fail;
 
@@ -37,8 +37,9 @@ const TWO_NODES: [u8; 73] = [
     2, 0, 0, 0, 3, 0, 0, 0, 0, 0, 0, 0, 0, 0, 0, 0, 0, 0,
 ];
 
-// What is seen of an opened store: the number of its next epoch, how many replies it keeps, and its row 5.
-type Seen = (u64, u64, Option<i64>);
+// What is seen of an opened store: the number of its next epoch, how many replies it keeps, its row 5, how many nodes
+// its last layout has, and where that layout's body begins.
+type Seen = (u64, u64, Option<i64>, u8, u64);
 
 fn number(value: Option<Value>) -> Option<i64> {
     match value {
@@ -53,24 +54,21 @@ fn seen(store: &Opened) -> Seen {
         Some(shard) => number(shard.stable(five)),
         None => None,
     };
-    (store.next_epoch, store.kept.len(), value)
-}
-
-fn host_with_base(alloc: Global) -> Result<MemoryHost, Fail> {
-    let mut host = host_of(alloc, &COMMITS, &PREPARED)?;
-    host.write_at(0, 0, &TWO_LAYOUTS)?;
-    host.write_at(3, 0, &BASE)?;
-    host.write_at(4, 0, &NO_COMMITS)?;
-    host.write_at(5, 0, &NONE_PREPARED)?;
-    Ok(host)
+    (
+        store.next_epoch,
+        store.kept.len(),
+        value,
+        store.layout.nodes,
+        store.layout_place,
+    )
 }
 
 // What is seen once a store is opened, with all replies or by its keep number.
-fn opened(alloc: Global, mut host: MemoryHost, is_whole: bool) -> Result<Seen, OpenFault> {
+fn opened(alloc: Global, host: &mut MemoryHost, is_whole: bool) -> Result<Seen, OpenFault> {
     let store = if is_whole {
-        recover_whole(alloc, &mut host)
+        recover_whole(alloc, host)
     } else {
-        recover(alloc, &mut host)
+        recover(alloc, host)
     };
     match store {
         Ok(store) => Ok(seen(&store)),
@@ -78,80 +76,106 @@ fn opened(alloc: Global, mut host: MemoryHost, is_whole: bool) -> Result<Seen, O
     }
 }
 
-// How many nodes the last layout of a store has, and where its body begins.
-fn layout(alloc: Global, host: &mut MemoryHost) -> Result<(u8, u64), OpenFault> {
-    let store = recover(alloc, host)?;
-    Ok((store.layout.nodes, store.layout_place))
+type Files = &'static [(u32, &'static [u8])];
+
+// Of the store that is refused the node lacks the entry of the committed epoch, which is found at its last gate.
+const STORES: [(&str, Files, Result<Seen, OpenFault>); 7] = [
+    (
+        "no epoch",
+        &[(0, &LAYOUTS), (1, &NO_COMMITS), (2, &NONE_PREPARED)],
+        Ok((1, 0, None, 1, 13)),
+    ),
+    (
+        "a prepared epoch",
+        &[(0, &LAYOUTS), (1, &NO_COMMITS), (2, &PREPARED)],
+        Ok((2, 0, None, 1, 13)),
+    ),
+    (
+        "a committed epoch",
+        &[(0, &LAYOUTS), (1, &COMMITS), (2, &PREPARED)],
+        Ok((2, 1, Some(70), 1, 13)),
+    ),
+    (
+        "an epoch that was not prepared",
+        &[(0, &LAYOUTS), (1, &COMMITS), (2, &NONE_PREPARED)],
+        Err(OpenFault::NotAStore { file: 2, at: 8 }),
+    ),
+    (
+        "a base",
+        &[
+            (0, &TWO_LAYOUTS),
+            (1, &COMMITS),
+            (2, &PREPARED),
+            (3, &BASE),
+            (4, &NO_COMMITS),
+            (5, &NONE_PREPARED),
+        ],
+        Ok((3, 2, Some(70), 1, 43)),
+    ),
+    (
+        "a file of no node",
+        &[
+            (0, &LAYOUTS),
+            (1, &NO_COMMITS),
+            (2, &NONE_PREPARED),
+            (3, &NONE_PREPARED),
+        ],
+        Ok((1, 0, None, 1, 13)),
+    ),
+    (
+        "two nodes",
+        &[
+            (0, &TWO_NODES),
+            (1, &NO_COMMITS),
+            (2, &NONE_PREPARED),
+            (3, &NONE_PREPARED),
+        ],
+        Ok((1, 0, None, 2, 43)),
+    ),
+];
+
+fn is_opened(
+    alloc: Global,
+    files: Files,
+    is_whole: bool,
+    wanted: &Result<Seen, OpenFault>,
+) -> Result<bool, OutFault> {
+    let mut host = host_with(alloc, files)?;
+    Ok(opened(alloc, &mut host, is_whole) == *wanted)
 }
 
 #[test]
-fn the_worked_stores_are_opened(rt: HostRuntime) -> Result<(), Fail> {
-    for is_whole in [false, true] {
-        for (commits, prepared, wanted) in [
-            (
-                NO_COMMITS.as_slice(),
-                NONE_PREPARED.as_slice(),
-                (1, 0, None),
-            ),
-            (NO_COMMITS.as_slice(), PREPARED.as_slice(), (2, 0, None)),
-            (COMMITS.as_slice(), PREPARED.as_slice(), (2, 1, Some(70))),
-        ] {
-            let host = host_of(rt.alloc(), commits, prepared)?;
-            assert_eq!(rt; opened(rt.alloc(), host, is_whole), Ok(wanted));
-        }
-        let host = host_with_base(rt.alloc())?;
-        assert_eq!(rt; opened(rt.alloc(), host, is_whole), Ok((3, 2, Some(70))));
+fn stores_are_opened_with_their_last_layout_or_refused(rt: HostRuntime) -> Result<(), Fail> {
+    for (name, files, wanted) in &STORES {
+        let is_well = is_opened(rt.alloc(), files, false, wanted)?
+            && is_opened(rt.alloc(), files, true, wanted)?;
+        assert!(rt; is_well, "{name}");
     }
     Ok(())
 }
 
-// The node lacks the entry of the committed epoch, which is found at its last gate.
-#[test]
-fn a_store_that_lacks_an_entry_is_refused(rt: HostRuntime) -> Result<(), Fail> {
-    let host = host_of(rt.alloc(), &COMMITS, &NONE_PREPARED)?;
-    let refused = OpenFault::NotAStore { file: 2, at: 8 };
-    assert_eq!(rt; opened(rt.alloc(), host, false), Err(refused));
-    Ok(())
-}
-
-#[test]
-fn the_last_layout_is_told_with_its_place(rt: HostRuntime) -> Result<(), Fail> {
-    let mut host = host_of(rt.alloc(), &NO_COMMITS, &NONE_PREPARED)?;
-    host.write_at(3, 0, &NONE_PREPARED)?;
-    assert_eq!(rt; layout(rt.alloc(), &mut host), Ok((1, 13)));
-    host.write_at(0, 0, &TWO_NODES)?;
-    assert_eq!(rt; layout(rt.alloc(), &mut host), Ok((2, 43)));
-    Ok(())
-}
-
-// What is seen of a store of which a node's file isn't read: its epochs, and which of two nodes have a log.
-fn seen_without(
-    alloc: Global,
-    host: &mut MemoryHost,
-    node: u8,
-) -> Result<(Vec<u64>, bool, bool), OpenFault> {
+// Whether a store of which a node's file isn't read has committed epoch 1, and a log of the first of two nodes alone.
+fn is_first_alone(alloc: Global, host: &mut MemoryHost, node: u8) -> Result<bool, OpenFault> {
     let parts = read_without(alloc, host, node)?;
-    Ok((
-        parts.epochs,
-        matches!(parts.nodes.first(), Some(Some(_))),
-        matches!(parts.nodes.get(1), Some(Some(_))),
-    ))
+    Ok(
+        parts.epochs.as_slice() == [1].as_slice()
+            && matches!(parts.nodes.first(), Some(Some(_)))
+            && !matches!(parts.nodes.get(1), Some(Some(_))),
+    )
 }
 
-// The second node's file isn't there: the store is read without it, and refused without the other.
+// Whether a store without its second node's file is read without that node, and refused without another and with all.
+fn is_left_out(alloc: Global) -> Result<bool, OutFault> {
+    let mut host = host_with(alloc, &[(0, &TWO_NODES), (1, &COMMITS), (2, &PREPARED)])?;
+    let refused = OpenFault::NotAStore { file: 3, at: 0 };
+    let is_read = is_first_alone(alloc, &mut host, 1) == Ok(true);
+    let is_refused = is_first_alone(alloc, &mut host, 0) == Err(refused)
+        && is_first_alone(alloc, &mut host, 2) == Err(refused);
+    Ok(is_read && is_refused && opened(alloc, &mut host, false) == Err(refused))
+}
+
 #[test]
 fn a_node_is_left_out(rt: HostRuntime) -> Result<(), Fail> {
-    let mut host = host_of(rt.alloc(), &COMMITS, &PREPARED)?;
-    host.write_at(0, 0, &TWO_NODES)?;
-    let (epochs, first, second) = seen_without(rt.alloc(), &mut host, 1)?;
-    assert_eq!(rt; epochs.as_slice(), [1].as_slice());
-    assert_eq!(rt; (first, second), (true, false));
-    let refused = OpenFault::NotAStore { file: 3, at: 0 };
-    for node in [0, 2] {
-        assert!(rt;
-            matches!(seen_without(rt.alloc(), &mut host, node), Err(fault) if fault == refused)
-        );
-    }
-    assert!(rt; matches!(recover(rt.alloc(), &mut host), Err(fault) if fault == refused));
+    assert!(rt; is_left_out(rt.alloc())?);
     Ok(())
 }

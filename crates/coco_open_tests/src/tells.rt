@@ -1,8 +1,10 @@
 //! What both commands say of small stores in memory, and of files that are none.
 
-use crate::made::{COMMITS, PREPARED, host_of};
+use crate::made::{COMMITS, LAYOUTS, PREPARED, host_with};
 use coco_ending::Ending;
 use coco_tell::{dump, verify};
+use coco_types::OutFault;
+use std::alloc::Global;
 use std::test::Fail;
 
 const SERIAL: &str =
@@ -17,6 +19,19 @@ const NOT_SERIAL: &str =
 {"computed":{"ok":70},"id":1,"kept":{"ok":71},"place":1}
 "#;
 
+fn is_told(
+    alloc: Global,
+    commits: &[u8],
+    dumped: Ending,
+    verified: Ending,
+    said: &str,
+) -> Result<bool, OutFault> {
+    let mut host = host_with(alloc, &[(0, &LAYOUTS), (1, commits), (2, &PREPARED)])?;
+    let is_dumped = dump(alloc, &mut host) == dumped;
+    let is_verified = verify(alloc, &mut host) == verified;
+    Ok(is_dumped && is_verified && host.said() == said.as_bytes())
+}
+
 // The store as it was made, the one with another reply, and one that is cut behind its first gate.
 #[test]
 fn a_store_is_dumped_and_verified(rt: HostRuntime) -> Result<(), Fail> {
@@ -24,18 +39,14 @@ fn a_store_is_dumped_and_verified(rt: HostRuntime) -> Result<(), Fail> {
     unlike[73] = 71;
     let refused = Ending::NotAStore { file: 1, at: 8 };
     let differs = Ending::NotSerial { place: 1 };
-    for (commits, dumped, verified, said) in [
+    let cases = [
         (&COMMITS[..], Ending::Finished, Ending::Finished, SERIAL),
         (&unlike[..], Ending::Finished, differs, NOT_SERIAL),
         (&COMMITS[..20], refused, refused, ""),
-    ] {
-        let mut host = host_of(rt.alloc(), commits, &PREPARED)?;
-        let is_dumped = dump(rt.alloc(), &mut host) == dumped;
-        let is_verified = verify(rt.alloc(), &mut host) == verified;
-        assert!(rt;
-            is_dumped && is_verified && host.said() == said.as_bytes(),
-            "{said}"
-        );
+    ];
+    for (commits, dumped, verified, said) in &cases {
+        let is_told = is_told(rt.alloc(), commits, *dumped, *verified, said)?;
+        assert!(rt; is_told, "{said}");
     }
     Ok(())
 }

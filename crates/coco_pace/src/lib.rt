@@ -7,9 +7,6 @@ ghost use Rattle.coco_pace.specs.Choosing.{after_epoch, is_due, moved, nothing_k
 
 use std::time::Duration;
 
-#[cfg(test)]
-mod tests;
-
 /// So many times its own time has to pass before a trial.
 const TIMES: u128 = 16;
 

@@ -7,6 +7,3 @@ pub mod script;
 
 pub use power::{Power, SteadyPower};
 pub use script::ScriptPower;
-
-#[cfg(test)]
-mod tests;

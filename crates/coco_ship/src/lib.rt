@@ -12,6 +12,3 @@ mod take;
 
 pub use ring::Ring;
 pub use ship::{ShipFault, ship_epoch};
-
-#[cfg(test)]
-mod tests;

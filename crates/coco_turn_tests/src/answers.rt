@@ -73,6 +73,24 @@ const AT_ONE_TIME: &str = r#"{"epoch":1,"id":1,"ok":1,"time":1}
 {"epoch":1,"id":2,"ok":2,"time":1}
 "#;
 
+// Whether all lines are answered, and so.
+fn are_answered<R: Threads + Wait + Clock + Sync>(
+    rt: &R,
+    alloc: Global,
+    keep: Option<u16>,
+    size: u32,
+    lines: &str,
+    said: &str,
+) -> Result<bool, Fail>
+    requires keep { IfSome keep (λ n. 0 < n) }
+    requires some { 0 < size }
+    requires few { size ≤ most_batch_lines }
+{
+    let mut host = MemoryHost::new(alloc, Vec::new(alloc));
+    let ending = answer(rt, alloc, &mut host, keep, size, lines)?;
+    Ok(ending == Served::Finished && host.said() == said.as_bytes())
+}
+
 #[test]
 fn lines_are_answered(rt: HostRuntime) -> Result<(), Fail> {
     for (keep, size, lines, said) in [
@@ -81,36 +99,45 @@ fn lines_are_answered(rt: HostRuntime) -> Result<(), Fail> {
         (Some(1), 2, LINES, IN_PAIRS),
         (None, 2, TWO_PUTS, AT_ONE_TIME),
     ] {
-        let mut host = MemoryHost::new(rt.alloc(), Vec::new(rt.alloc()));
-        let ending = answer(&rt, rt.alloc(), &mut host, keep, size, lines)?;
-        assert_eq!(rt; ending, Served::Finished);
-        assert_eq!(rt; host.said(), said.as_bytes());
+        let is_well = are_answered(&rt, rt.alloc(), keep, size, lines, said)?;
+        assert!(rt; is_well, "{said}");
     }
     Ok(())
 }
 
+// How the lines end where this call fails, and how many bytes are said then.
+fn failed<R: Threads + Wait + Clock + Sync>(
+    rt: &R,
+    alloc: Global,
+    call: u64,
+) -> Result<(Served, usize), Fail> {
+    let mut host = MemoryHost::new(alloc, vec![in alloc; call]?);
+    let ending = answer(rt, alloc, &mut host, None, 1, LINES)?;
+    Ok((ending, host.said().len()))
+}
+
 // Two calls make each of the two logs, eight write each epoch, and one says each answer of 36 bytes.
+fn expected(call: u64) -> (Served, usize) {
+    let ending = match call {
+        12 | 21 | 30 | 31 => Served::SayFault,
+        32.. => Served::Finished,
+        _ => Served::DiskFault,
+    };
+    let said = match call {
+        0..=12 => 0,
+        13..=21 => 36,
+        22..=30 => 72,
+        31 => 108,
+        32.. => 144,
+    };
+    (ending, said)
+}
+
 #[test]
 fn a_failing_call_leaves_the_answers_before_it(rt: HostRuntime) -> Result<(), Fail> {
     for call in 4..33u64 {
-        let mut fails = Vec::new(rt.alloc());
-        fails.push(call)?;
-        let mut host = MemoryHost::new(rt.alloc(), fails);
-        let ending = answer(&rt, rt.alloc(), &mut host, None, 1, LINES)?;
-        let expected = match call {
-            12 | 21 | 30 | 31 => Served::SayFault,
-            32.. => Served::Finished,
-            _ => Served::DiskFault,
-        };
-        assert_eq!(rt; ending, expected);
-        let said = match call {
-            0..=12 => 0,
-            13..=21 => 36,
-            22..=30 => 72,
-            31 => 108,
-            32.. => 144,
-        };
-        assert_eq!(rt; host.said().len(), said);
+        let is_well = failed(&rt, rt.alloc(), call)? == expected(call);
+        assert!(rt; is_well, "call {call}");
     }
     Ok(())
 }

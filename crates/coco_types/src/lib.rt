@@ -29,5 +29,3 @@ pub use sequence::{Bytes, Sequence};
 pub use text::Text;
 pub use value::Value;
 
-#[cfg(test)]
-mod tests;

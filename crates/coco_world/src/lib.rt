@@ -4,6 +4,3 @@
 pub mod laws;
 
 pub use laws::{agreement, finished_nodes_have_finished, invariant, nothing_is_forgotten};
-
-#[cfg(test)]
-mod tests;

@@ -1,8 +1,11 @@
-use Rattle.std.proofs.Common.{◌≡◌, nat_eq, List, [], ◌∷◌, map, sym, subst}
+use Rattle.std.proofs.Common.{nat_eq, [], ◌∷◌, sym, subst}
 use Rattle.std.specs.List.{IsDistinct}
-use Rattle.coco_types.specs.declared.call.Request.{Request}
+use Rattle.std.proofs.lemmas.Result.{IfOk-weaker}
 use Rattle.coco_epoch_tests.proofs.parallel.one_put.Goals as goal
 
-pub returns-clause-distinct : goal.returns-clause-distinct
+apart : IsDistinct nat_eq (1 ∷ [])
 unfolding IsDistinct
-returns-clause-distinct c = subst (λ (rs : List Request). IsDistinct nat_eq (map (λ r. r.id) rs)) (sym c.in_ok-vec.ensures.items) (tt, tt)
+apart = (tt, tt)
+
+pub returns-clause-distinct : goal.returns-clause-distinct
+returns-clause-distinct c = IfOk-weaker c.work_of.result _ _ (λ work ids. subst (IsDistinct nat_eq) (sym ids) apart) c.work_of.ensures.ids

@@ -7,14 +7,14 @@ use Rattle.coco_open_tests.proofs.loads.two_dones.Goals as goal
 
 pub returns-clause-once : goal.returns-clause-once
 returns-clause-once c =
-    let first : Done = c.in_ok-first.first in
-    let second : Done = c.in_ok-second.second in
+    let first : Done = c.done-first.result in
+    let second : Done = c.done-second.result in
     subst HasDistinctIds (sym (c.in_ok-push-2.ensures.ok ∙ ap (λ (l : List Done). l ++ second ∷ []) (c.in_ok-push.ensures.ok ∙ ap (λ (l : List Done). l ++ first ∷ []) c.new-dones.ensures)))
-    (two_once first second c.in_ok-first.ensures.id c.in_ok-second.ensures.id)
+    (two_once first second c.done-first.ensures.id c.done-second.ensures.id)
 
 pub returns-clause-rising : goal.returns-clause-rising
 returns-clause-rising c =
-    let first : Done = c.in_ok-first.first in
-    let second : Done = c.in_ok-second.second in
+    let first : Done = c.done-first.result in
+    let second : Done = c.done-second.result in
     subst NeverFall (sym (c.in_ok-push-2.ensures.ok ∙ ap (λ (l : List Done). l ++ second ∷ []) (c.in_ok-push.ensures.ok ∙ ap (λ (l : List Done). l ++ first ∷ []) c.new-dones.ensures)))
-    (two_rise first second c.in_ok-first.ensures.epoch c.in_ok-second.ensures.epoch)
+    (two_rise first second c.done-first.ensures.epoch c.done-second.ensures.epoch)
