@@ -43,9 +43,9 @@ example() {
         "$program" "$work/store" dump </dev/null >"$work/dump" || failed=1
         same rows <(grep '^{"row"' "$work/dump") "$folder/rows.jsonl"
         # A Done is said as its request and its answer.
-        grep -v '^{"row"' "$work/dump" | sed 's/^{"args":.*,"call":"[a-z]*",/{/; s/"snapshot":[a-z]*,//' | sort >"$work/records"
+        grep -v '^{"row"' "$work/dump" | sed 's/^{"args":.*,"call":"[a-z]*",/{/; s/"snapshot":[a-z]*,//' | sort >"$work/dones"
         grep -v '^{"error"' "$work/said" | sort -u >"$work/replies"
-        same records "$work/records" "$work/replies"
+        same Dones "$work/dones" "$work/replies"
         "$program" "$work/store" verify </dev/null >"$work/verdict" || failed=1
         same verdict "$work/verdict" <(echo "serial $(wc -l <"$work/replies")")
         "$program" "$work/store" run </dev/null >"$work/nothing" || failed=1

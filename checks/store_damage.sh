@@ -114,13 +114,13 @@ input=$work/lines
 on "$work/store" run --epoch 1
 ends 'two epochs' 0
 file=$work/store/1.coco
-[ "$(tail -c 2 "$file" | od -An -tu1 | xargs)" = '70 0' ] || wrong 'the end of the second record'
+[ "$(tail -c 2 "$file" | od -An -tu1 | xargs)" = '70 0' ] || wrong 'the end of the second Done'
 printf '\x47' | dd of="$file" bs=1 seek=$(($(stat -c %s "$file") - 2)) conv=notrunc status=none
 on "$work/store" verify
 ends 'a changed reply' 11 'coco: not serial at 2'
 [ "$(<"$work/said")" = '{"computed":{"ok":70},"id":2,"kept":{"ok":71},"place":2}' ] || wrong "a changed reply: $(<"$work/said")"
 
-# Two epochs of two records each, of which the second writes no row, and a table besides `main`.
+# Two epochs of two Dones each, of which the second writes no row, and a table besides `main`.
 rm -rf "$work/whole"
 input=$work/lines
 printf 'table t;' >"$input"
@@ -129,7 +129,7 @@ ends 'a store with a table' 0
 printf '%s\n' '{"args":[5,70],"call":"put","id":1}' '{"args":[6,"b"],"call":"put","id":2}' \
     '{"args":[5,"a"],"call":"add","id":3}' '{"args":[5],"call":"get","id":4,"snapshot":true}' >"$input"
 on "$work/whole" run --epoch 2
-ends 'epochs of two records' 0
+ends 'epochs of two Dones' 0
 input=/dev/null
 [ "$(stat -c %s "$work/whole/"?.coco | xargs)" = '47 205 94' ] || wrong 'the sizes of the files'
 
@@ -169,10 +169,10 @@ done <<'TABLE'
 1 16 1 1@14 an epoch above 2^40
 1 21 0 1@14 epoch 0
 1 21 2 1@118 the epoch, which the next one has too
-1 25 1 1@74 a count with a record left over
-1 25 3 1@112 a count of a record that is not there
+1 25 1 1@74 a count with a Done left over
+1 25 3 1@112 a count of a Done that is not there
 1 33 0 4 the id
-1 33 3 1@74 an id above that of the next record, at the same time
+1 33 3 1@74 an id above that of the next Done, at the same time
 1 35 0 1@26 a procedure of one parameter
 1 35 3 1@26 a procedure that is not there
 1 36 1 1@26 a snapshot call of a procedure that writes
@@ -181,7 +181,7 @@ done <<'TABLE'
 1 38 3 1@38 the kind of a value
 1 56 64 1@26 a time above 2^62
 1 63 0 1@26 a time that is that of a snapshot call
-1 63 2 1@74 a time above that of the next record
+1 63 2 1@74 a time above that of the next Done
 1 64 2 1@64 the reply
 1 81 4 1@130 an id that comes again
 1 96 2 1@96 the length of a value

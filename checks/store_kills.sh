@@ -48,13 +48,13 @@ told() {
 
 # standing: after a kill the Dones of all batches that were answered are there.
 standing() {
-    local records
+    local dones
     on "$work/store" verify
     ends "the verdict after kill $kills" 0
-    records=$(sed -n 's/^serial //p' "$work/said")
-    records=${records:-1}
-    if [ "$((records % 8))" -ne 0 ] || [ "$records" -lt "$((whole / size * 8))" ]; then
-        wrong "after kill $kills: $whole answers, $records records"
+    dones=$(sed -n 's/^serial //p' "$work/said")
+    dones=${dones:-1}
+    if [ "$((dones % 8))" -ne 0 ] || [ "$dones" -lt "$((whole / size * 8))" ]; then
+        wrong "after kill $kills: $whole answers, $dones Dones"
     fi
 }
 

@@ -62,7 +62,7 @@ IN
 {"epoch":3,"id":3,"ok":9223372036854775807,"time":1}
 OUT
 
-answers 'a repeated line gets the text of its record' 2 3<<'IN' 4<<'OUT'
+answers 'a repeated line gets the text of its Done' 2 3<<'IN' 4<<'OUT'
 {"args":[5,70],"call":"put","id":1}
 {"args":[5,70],"call":"put","id":1}
 {"args":[5,70],"call":"put","id":1}

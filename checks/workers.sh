@@ -142,7 +142,7 @@ TEXT
     same moves "$work/bare" <(seq 0 199 | awk '{ printf "{\"epoch\":%d,\"id\":%d,\"ok\"}\n", 2 + int($1 / 50), 21 + $1 }')
     on "$work/store" dump
     ends "$name, dump" 0
-    [ "$(grep -vc '^{"row"' "$work/said")" -eq 220 ] || wrong "$name: the number of records"
+    [ "$(grep -vc '^{"row"' "$work/said")" -eq 220 ] || wrong "$name: the number of Dones"
     same rows <(grep '^{"row"' "$work/said") <(seq 20 | awk '{ printf "{\"row\":%d,\"table\":\"acct\",\"value\":1000}\n", $1 }')
     on "$work/store" verify
     ends "$name, verify" 0
