@@ -1,4 +1,4 @@
-//! Tests of shards, of the locks with their notes and journals, of claims and of gates. There is nothing else here.
+//! Tests of shards, of the lock with its journal, of claims and of gates. There is nothing else here.
 #![tactic(auto)]
 
 #[cfg(test)]
@@ -9,7 +9,5 @@ mod gate;
 mod journaled;
 #[cfg(test)]
 mod reads;
-#[cfg(test)]
-mod seen;
 #[cfg(test)]
 mod shard;

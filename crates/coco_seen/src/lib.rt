@@ -11,3 +11,6 @@ pub mod view;
 pub use note::{HoldsNote, Note};
 pub use seen::Seen;
 pub use stores::Stores;
+
+#[cfg(test)]
+mod tests;

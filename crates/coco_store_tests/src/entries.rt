@@ -1,9 +1,10 @@
 //! Entries as bytes, and the fields at which other bodies are refused.
 
-ghost use Rattle.std.specs.Prelude.{◌≡◌, IfOk};
+ghost use Rattle.std.specs.Prelude.{◌<◌, ◌≤◌, length};
 
+use crate::made::put_of_seventy;
 use coco_entry::*;
-use coco_types::{Args, Call, Done, KeptReply, Key, NoMemory, Packed, Reply, Sequence, Value};
+use coco_types::{Done, Key, NoMemory, Packed, Value};
 use std::alloc::Global;
 use std::test::Fail;
 
@@ -43,114 +44,133 @@ const ROWS: [u8; 24] = [
     6, 0, 0, 0, 1, 0, 0, 0, 0, 0, 0, 0, 0, 0, 5, 1, 0, 0, 0, 0, 0, 0, 0, 70,
 ];
 
-// `put(5, 70)` as id 1, committed in epoch 1 at time 1.
-fn put_of_seventy(alloc: Global) -> Result<Done, NoMemory>
-    ensures { IfOk result (λ done. done.epoch ≡ 1) }
-{
-    let mut args = Args::new(alloc);
-    args.push(Some(Value::Int(5)))?;
-    args.push(Some(Value::Int(70)))?;
-    Ok(Done {
-        id: 1,
-        call: Call {
-            proc_no: 1,
-            snapshot: false,
-            args,
-        },
-        epoch: 1,
-        time: 1,
-        reply: KeptReply::of(alloc, &Reply::Ok(Some(Value::Int(70))))?,
-    })
+// The coordinator's file and the node's, and what a layout has behind them: its base epoch, and maybe a keep number
+// and a base file.
+type Fields = (u32, u32, u64, Option<u16>, Option<u32>);
+
+// Whether it is the layout of one node, one partition and no copies with these fields.
+fn has_fields(read: &LayoutEntry, fields: &Fields) -> bool {
+    let layout = &read.layout;
+    let (chief_file, node_file, base_epoch, keep, base_file) = fields;
+    (layout.nodes, layout.partitions, layout.copies) == (1, 1, 0)
+        && layout.chief_file == *chief_file
+        && layout.node_files.as_slice() == [*node_file].as_slice()
+        && layout.base_epoch == *base_epoch
+        && read.keep == *keep
+        && read.base_file == *base_file
+}
+
+// Whether this body is read as a layout with these fields, and put back as it was.
+fn is_layout(alloc: Global, body: &[u8], fields: &Fields) -> Result<bool, EntryFault> {
+    let read = read_layout(alloc, body)?;
+    let mut out = Vec::new(alloc);
+    put_layout(&mut out, &read.layout, read.keep, read.base_file)?;
+    Ok(out.as_slice() == body && has_fields(&read, fields))
 }
 
 #[test]
 fn a_layout_has_the_bytes_of_its_version(rt: HostRuntime) -> Result<(), Fail> {
-    let mut out = Vec::new(rt.alloc());
-    let versions: [&[u8]; 3] = [&FIRST, &SECOND, &THIRD];
-    for body in versions {
-        let read = read_layout(rt.alloc(), body)?;
-        out.clear();
-        put_layout(&mut out, &read.layout, read.keep, read.base_file)?;
-        assert_eq!(rt; out.as_slice(), body);
+    let cases: [(&[u8], Fields); 3] = [
+        (&FIRST, (1, 2, 0, None, None)),
+        (&SECOND, (1, 2, 0, Some(1), None)),
+        (&THIRD, (4, 5, 2, None, Some(3))),
+    ];
+    for (body, fields) in &cases {
+        assert!(rt; is_layout(rt.alloc(), body, fields)?, "{}", fields.0);
     }
-    let first = read_layout(rt.alloc(), &FIRST)?;
-    assert_eq!(rt;
-        (
-            first.layout.nodes,
-            first.layout.partitions,
-            first.layout.copies
-        ),
-        (1, 1, 0)
-    );
-    assert_eq!(rt;
-        (first.layout.chief_file, first.layout.node_files.as_slice()),
-        (1, [2].as_slice())
-    );
-    assert_eq!(rt; (first.keep, first.base_file), (None, None));
-    let second = read_layout(rt.alloc(), &SECOND)?;
-    assert_eq!(rt; (second.keep, second.base_file), (Some(1), None));
-    let third = read_layout(rt.alloc(), &THIRD)?;
-    assert_eq!(rt;
-        (third.layout.base_epoch, third.keep, third.base_file),
-        (2, None, Some(3))
-    );
     Ok(())
+}
+
+// Whether a Done was read that is the put of 70, and no other.
+fn is_put_of_seventy(alloc: Global, dones: &[Done]) -> Result<bool, NoMemory> {
+    let done = put_of_seventy(alloc)?;
+    match dones {
+        [only] => Ok(*only == done),
+        _ => Ok(false),
+    }
+}
+
+fn is_commit(alloc: Global) -> Result<bool, EntryFault> {
+    let mut out = Vec::new(alloc);
+    put_commit(&mut out, 1, &[put_of_seventy(alloc)?])?;
+    let commit = read_commit(alloc, &COMMIT)?;
+    let is_put = is_put_of_seventy(alloc, commit.dones.as_slice())?;
+    Ok(is_put && commit.epoch == 1 && out.as_slice() == COMMIT.as_slice())
+}
+
+fn is_prepared(alloc: Global) -> Result<bool, EntryFault> {
+    let row = Row {
+        key: Key { table: 0, row: 5 },
+        time: 1,
+        value: Packed::of_int(70),
+    };
+    let mut out = Vec::new(alloc);
+    put_prepared(&mut out, 1, &[row])?;
+    let prepared = read_prepared(alloc, &PREPARED)?;
+    let is_read = prepared.epoch == 1 && prepared.rows.len() == 1;
+    Ok(is_read && out.as_slice() == PREPARED.as_slice())
 }
 
 #[test]
 fn a_put_of_seventy_has_its_commit_and_its_row(rt: HostRuntime) -> Result<(), Fail> {
-    let mut out = Vec::new(rt.alloc());
-    put_commit(&mut out, 1, &[put_of_seventy(rt.alloc())?])?;
-    assert_eq!(rt; out.as_slice(), COMMIT.as_slice());
-    out.clear();
-    let row = Row {
-        key: Key { table: 0, row: 5 },
-        time: 1,
-        value: Packed::of(rt.alloc(), &Some(Value::Int(70)))?,
-    };
-    put_prepared(&mut out, 1, &[row])?;
-    assert_eq!(rt; out.as_slice(), PREPARED.as_slice());
-    let commit = read_commit(rt.alloc(), &COMMIT)?;
-    assert_eq!(rt; commit.epoch, 1);
-    assert_eq!(rt;
-        commit.dones.as_slice(),
-        [put_of_seventy(rt.alloc())?].as_slice()
-    );
-    let prepared = read_prepared(rt.alloc(), &PREPARED)?;
-    assert_eq!(rt; (prepared.epoch, prepared.rows.len()), (1, 1));
+    assert!(rt; is_commit(rt.alloc())? && is_prepared(rt.alloc())?);
     Ok(())
 }
 
-#[test]
-fn a_base_has_a_head_and_its_items(rt: HostRuntime) -> Result<(), Fail> {
+fn is_head(alloc: Global) -> Result<bool, EntryFault> {
     let head = BaseHead {
         epoch: 2,
         floor: Some(7),
         dones: 1,
         rows: 1,
     };
-    let mut out = Vec::new(rt.alloc());
+    let mut out = Vec::new(alloc);
     put_head(&mut out, &head)?;
-    assert_eq!(rt; out.as_slice(), HEAD.as_slice());
-    assert_eq!(rt; read_head(&HEAD)?, head);
-    out.clear();
-    put_base_dones(&mut out, &[put_of_seventy(rt.alloc())?])?;
-    assert_eq!(rt; out.as_slice(), DONES.as_slice());
-    let dones = read_base_dones(rt.alloc(), &DONES)?;
-    assert_eq!(rt; dones.as_slice(), [put_of_seventy(rt.alloc())?].as_slice());
-    out.clear();
+    Ok(out.as_slice() == HEAD.as_slice() && read_head(&HEAD)? == head)
+}
+
+fn are_dones(alloc: Global) -> Result<bool, EntryFault> {
+    let mut out = Vec::new(alloc);
+    put_base_dones(&mut out, &[put_of_seventy(alloc)?])?;
+    let read = read_base_dones(alloc, &DONES)?;
+    let is_put = is_put_of_seventy(alloc, read.as_slice())?;
+    Ok(is_put && out.as_slice() == DONES.as_slice())
+}
+
+fn are_rows(alloc: Global) -> Result<bool, EntryFault> {
+    let mut out = Vec::new(alloc);
     put_base_rows(&mut out, &[(Key { table: 0, row: 5 }, Value::Int(70))])?;
-    assert_eq!(rt; out.as_slice(), ROWS.as_slice());
-    let rows = read_base_rows(rt.alloc(), &ROWS)?;
-    assert_eq!(rt; rows.len(), 1);
+    let read = read_base_rows(alloc, &ROWS)?;
+    Ok(out.as_slice() == ROWS.as_slice() && read.len() == 1)
+}
+
+#[test]
+fn a_base_has_a_head_and_its_items(rt: HostRuntime) -> Result<(), Fail> {
+    assert!(rt; is_head(rt.alloc())? && are_dones(rt.alloc())? && are_rows(rt.alloc())?);
     Ok(())
 }
 
-fn bad_place<T: Drop>(read: Result<T, EntryFault>) -> Option<usize> {
-    match read {
-        Err(EntryFault::Bad { at }) => Some(at),
-        Err(EntryFault::NoMemory) | Ok(_) => None,
+// Why a body isn't of the same kind as another one.
+fn fault_of(alloc: Global, like: &[u8], body: &[u8]) -> Option<EntryFault> {
+    match like.first() {
+        Some(1) => read_layout(alloc, body).err(),
+        Some(2) => read_commit(alloc, body).err(),
+        Some(3) => read_prepared(alloc, body).err(),
+        _ => fault_of_base(alloc, like, body),
     }
+}
+
+fn fault_of_base(alloc: Global, like: &[u8], body: &[u8]) -> Option<EntryFault> {
+    match like.first() {
+        Some(4) => read_head(body).err(),
+        Some(5) => read_base_dones(alloc, body).err(),
+        _ => read_base_rows(alloc, body).err(),
+    }
+}
+
+// Whether a body, read as what another one is, is bad at this place.
+fn is_bad(alloc: Global, like: &[u8], body: &[u8], place: usize) -> bool {
+    fault_of(alloc, like, body) == Some(EntryFault::Bad { at: place })
 }
 
 // The bytes with one of them changed, up to a length.
@@ -169,67 +189,65 @@ fn changed(
     Ok(out)
 }
 
+// A body, which of its bytes becomes which, how many bytes are left of it, and the place at which it is bad then.
+//
+// Of layouts: tag; version; the coordinator's file 0; a node's file named before; a second node without a file; the
+// base's file named before; a text that the body ends in; a keep number cut off; a byte left over. Of commits: the
+// snapshot's flag, 17 arguments, an argument's kind, the reply's kind, and a second Done that isn't there. Of the
+// others: a row's number out of its limits, a floor's number beside none, no Dones, and a row without a value.
+const BAD_BODIES: [(&[u8], usize, u8, usize, usize); 18] = [
+    (&FIRST, 0, 2, 25, 0),
+    (&FIRST, 1, 4, 25, 1),
+    (&FIRST, 8, 0, 25, 5),
+    (&FIRST, 12, 1, 25, 9),
+    (&FIRST, 2, 2, 16, 13),
+    (&THIRD, 30, 5, 31, 27),
+    (&FIRST, 24, 9, 25, 21),
+    (&SECOND, 0, 1, 26, 25),
+    (&SECOND, 1, 1, 27, 25),
+    (&COMMIT, 23, 2, 61, 23),
+    (&COMMIT, 24, 17, 61, 24),
+    (&COMMIT, 25, 3, 61, 25),
+    (&COMMIT, 51, 2, 61, 51),
+    (&COMMIT, 12, 2, 61, 61),
+    (&PREPARED, 15, 128, 40, 15),
+    (&HEAD, 9, 0, 34, 10),
+    (&DONES, 4, 0, 61, 1),
+    (&ROWS, 15, 0, 16, 15),
+];
+
 #[test]
-fn a_layout_is_bad_at_the_first_field_that_can_not_stand(rt: HostRuntime) -> Result<(), Fail> {
-    // Tag; version; the coordinator's file 0; a node's file named before; a second node without a file;
-    // the base's file named before; a text that the body ends in; a keep number cut off; a byte left over.
-    let cases: [(&[u8], usize, u8, usize, usize); 9] = [
-        (&FIRST, 0, 2, 25, 0),
-        (&FIRST, 1, 4, 25, 1),
-        (&FIRST, 8, 0, 25, 5),
-        (&FIRST, 12, 1, 25, 9),
-        (&FIRST, 2, 2, 16, 13),
-        (&THIRD, 30, 5, 31, 27),
-        (&FIRST, 24, 9, 25, 21),
-        (&SECOND, 0, 1, 26, 25),
-        (&SECOND, 1, 1, 27, 25),
-    ];
-    for (body, at, byte, len, place) in cases {
-        let other = changed(rt.alloc(), body, at, byte, len)?;
-        assert_eq!(rt; bad_place(read_layout(rt.alloc(), &other)), Some(place));
+fn a_body_is_bad_at_the_first_field_that_can_not_stand(rt: HostRuntime) -> Result<(), Fail> {
+    for (body, at, byte, len, place) in &BAD_BODIES {
+        let other = changed(rt.alloc(), body, *at, *byte, *len)?;
+        assert!(rt; is_bad(rt.alloc(), body, &other, *place), "{place}");
     }
     Ok(())
 }
 
-#[test]
-fn dones_and_rows_are_bad_at_the_first_field_that_can_not_stand(
-    rt: HostRuntime,
-) -> Result<(), Fail> {
-    // The snapshot's flag, 17 arguments, an argument's kind, the reply's kind, and a second Done that isn't there.
-    let commits = [
-        (23, 2, 23),
-        (24, 17, 24),
-        (25, 3, 25),
-        (51, 2, 51),
-        (12, 2, 61),
-    ];
-    for (at, byte, place) in commits {
-        let other = changed(rt.alloc(), &COMMIT, at, byte, 61)?;
-        assert_eq!(rt; bad_place(read_commit(rt.alloc(), &other)), Some(place));
-    }
-    let wide = changed(rt.alloc(), &PREPARED, 15, 128, 40)?;
-    assert_eq!(rt; bad_place(read_prepared(rt.alloc(), &wide)), Some(15));
-    let unfloored = changed(rt.alloc(), &HEAD, 9, 0, 34)?;
-    assert_eq!(rt; bad_place(read_head(&unfloored)), Some(10));
-    let none = changed(rt.alloc(), &DONES, 4, 0, 61)?;
-    assert_eq!(rt; bad_place(read_base_dones(rt.alloc(), &none)), Some(1));
-    let absent = changed(rt.alloc(), &ROWS, 15, 0, 16)?;
-    assert_eq!(rt; bad_place(read_base_rows(rt.alloc(), &absent)), Some(15));
-    Ok(())
+// A body whose one item begins here, with this item twice, and their count before them.
+fn twice(alloc: Global, body: &[u8], start: usize) -> Result<Vec<u8>, NoMemory>
+    requires count { 0 < start }
+    requires within { start ≤ length body.now }
+{
+    let mut out = Vec::from_slice(alloc, body)?;
+    out.extend_from_slice(&body[start..])?;
+    out[start - 1] = 2;
+    Ok(out)
+}
+
+// Whether an item twice is bad at the first byte of the second one, here, and Dones that rise are read.
+fn items_must_rise(alloc: Global) -> Result<bool, EntryFault> {
+    let rows = twice(alloc, &PREPARED, 13)?;
+    let dones = twice(alloc, &DONES, 5)?;
+    let rising = changed(alloc, &dones, 76, 2, 117)?;
+    let are_bad = is_bad(alloc, &PREPARED, &rows, 40) && is_bad(alloc, &DONES, &dones, 61);
+    Ok(are_bad && read_base_dones(alloc, &rising)?.len() == 2)
 }
 
 #[test]
 fn an_item_that_does_not_rise_is_bad_at_its_first_byte(rt: HostRuntime) -> Result<(), Fail> {
-    let mut rows = Vec::from_slice(rt.alloc(), &PREPARED)?;
-    rows.extend_from_slice(&PREPARED[13..])?;
-    rows[12] = 2;
-    assert_eq!(rt; bad_place(read_prepared(rt.alloc(), &rows)), Some(40));
-    let mut dones = Vec::from_slice(rt.alloc(), &DONES)?;
-    dones.extend_from_slice(&DONES[5..])?;
-    dones[4] = 2;
-    assert_eq!(rt; bad_place(read_base_dones(rt.alloc(), &dones)), Some(61));
-    dones[76] = 2;
-    assert_eq!(rt; read_base_dones(rt.alloc(), &dones)?.len(), 2);
+    assert!(rt; items_must_rise(rt.alloc())?);
     Ok(())
 }
 

@@ -7,6 +7,8 @@ mod entries;
 #[cfg(test)]
 mod logs;
 #[cfg(test)]
+mod made;
+#[cfg(test)]
 mod makes;
 #[cfg(test)]
 mod rules;

@@ -1,92 +1,137 @@
 //! A log's bytes as they are written and read, and its four calls of the host.
-use coco_host::{Host, MemoryHost};
+
+use crate::made::{failing_host, has_bytes, host_with};
+use coco_host::MemoryHost;
 use coco_log::{Entries, Log, LogFault};
+use std::alloc::Global;
 use std::test::Fail;
 
 // A log of kind 1 with the entries `ab` and an empty one.
 const TWO_ENTRIES: [u8; 21] = *b"COCOLOG\x01\x01\x00\x00\x00\x02ab\x01\x00\x00\x00\x00\x00";
 
+// Makes such a log.
+fn append_two(alloc: Global, host: &mut MemoryHost) -> Result<Log, LogFault> {
+    let mut log = Log::make(alloc, host, 2, 1)?;
+    log.append(host, b"ab")?;
+    log.append(host, b"")?;
+    Ok(log)
+}
+
+fn is_appended(alloc: Global) -> Result<bool, LogFault> {
+    let mut host = MemoryHost::new(alloc, Vec::new(alloc));
+    let log = append_two(alloc, &mut host)?;
+    Ok(log.count() == 2 && !log.spent() && has_bytes(&mut host, 2, &TWO_ENTRIES))
+}
+
 #[test]
 fn entries_stand_behind_open_gates(rt: HostRuntime) -> Result<(), Fail> {
-    let mut host = MemoryHost::new(rt.alloc(), Vec::new(rt.alloc()));
-    let mut log = Log::make(rt.alloc(), &mut host, 2, 1)?;
-    log.append(&mut host, b"ab")?;
-    log.append(&mut host, b"")?;
-    assert_eq!(rt; log.count(), 2);
-    assert_eq!(rt; log.spent(), false);
-    let mut bytes = [0; 30];
-    assert_eq!(rt; host.read_at(2, 0, &mut bytes), Ok(21));
-    assert_eq!(rt; &bytes[..21], TWO_ENTRIES.as_slice());
+    assert!(rt; is_appended(rt.alloc())?);
     Ok(())
+}
+
+// Whether this call of the host, which fails, leaves a log spent.
+fn is_spent_by(alloc: Global, call: u64) -> Result<bool, LogFault> {
+    let mut host = failing_host(alloc, call)?;
+    let mut log = Log::make(alloc, &mut host, 0, 0)?;
+    Ok(log.append(&mut host, b"ab").is_err() && log.spent())
 }
 
 #[test]
 fn a_fault_leaves_the_log_spent(rt: HostRuntime) -> Result<(), Fail> {
     for call in 2..6 {
-        let mut host = MemoryHost::new(rt.alloc(), vec![in rt.alloc(); call]?);
-        let mut log = Log::make(rt.alloc(), &mut host, 0, 0)?;
-        assert!(rt; log.append(&mut host, b"ab").is_err(), "call {call}");
-        assert!(rt; log.spent());
+        assert!(rt; is_spent_by(rt.alloc(), call)?, "call {call}");
     }
     Ok(())
 }
 
+// Whether there is a next entry, with this body at this place.
+fn is_next(
+    host: &mut MemoryHost,
+    entries: &mut Entries,
+    body: &[u8],
+    place: u64,
+) -> Result<bool, LogFault> {
+    Ok(entries.next(host)? && entries.body() == body && entries.place() == place)
+}
+
+// Whether there is no next entry behind these two.
+fn is_end(host: &mut MemoryHost, mut entries: Entries) -> Result<bool, LogFault> {
+    let is_end = !entries.next(host)? && entries.gate() == 20;
+    Ok(entries.into_log().count() == 2 && is_end)
+}
+
+fn are_read(alloc: Global, host: &mut MemoryHost) -> Result<bool, LogFault> {
+    let mut entries = Entries::open(alloc, host, 2, 1)?;
+    let is_first = is_next(host, &mut entries, b"ab", 13)?;
+    let is_second = is_next(host, &mut entries, b"", 20)?;
+    Ok(is_end(host, entries)? && is_first && is_second)
+}
+
 #[test]
 fn entries_are_read_in_order(rt: HostRuntime) -> Result<(), Fail> {
-    let mut host = MemoryHost::new(rt.alloc(), Vec::new(rt.alloc()));
-    host.write_at(2, 0, &TWO_ENTRIES)?;
-    let mut entries = Entries::open(rt.alloc(), &mut host, 2, 1)?;
-    assert!(rt; entries.next(&mut host)?);
-    assert_eq!(rt; entries.body(), b"ab".as_slice());
-    assert_eq!(rt; entries.place(), 13);
-    assert!(rt; entries.next(&mut host)?);
-    assert_eq!(rt; entries.body(), b"".as_slice());
-    assert!(rt; !entries.next(&mut host)?);
-    assert_eq!(rt; entries.gate(), 20);
-    assert_eq!(rt; entries.into_log().count(), 2);
+    let mut host = host_with(rt.alloc(), 2, &TWO_ENTRIES)?;
+    assert!(rt; are_read(rt.alloc(), &mut host)?);
     Ok(())
+}
+
+// Opens a log and appends an entry.
+fn go_on(alloc: Global, host: &mut MemoryHost) -> Result<Log, LogFault> {
+    let mut log = Log::reopen(alloc, host, 0, 1)?;
+    log.append(host, b"c")?;
+    Ok(log)
+}
+
+// Whether a log has an entry of this number, and with this body.
+fn has_entry(
+    alloc: Global,
+    host: &mut MemoryHost,
+    log: &mut Log,
+    number: u64,
+    body: &[u8],
+) -> Result<bool, LogFault> {
+    if number < log.count() {
+        Ok(log.entry(alloc, host, number)?.as_slice() == body)
+    } else {
+        Ok(false)
+    }
+}
+
+// Whether an entry is appended behind the one that is there.
+fn goes_on(alloc: Global, host: &mut MemoryHost) -> Result<bool, LogFault> {
+    let mut log = go_on(alloc, host)?;
+    let is_first = has_entry(alloc, host, &mut log, 0, b"ab")?;
+    let is_second = has_entry(alloc, host, &mut log, 1, b"c")?;
+    Ok(log.count() == 2 && is_first && is_second)
 }
 
 #[test]
 fn a_log_is_opened_whatever_stands_behind_its_last_gate(rt: HostRuntime) -> Result<(), Fail> {
-    let mut host = MemoryHost::new(rt.alloc(), Vec::new(rt.alloc()));
-    host.write_at(0, 0, b"COCOLOG\x01\x01\x00\x00\x00\x02ab\x02\x01\x00\x09")?;
-    let mut log = Log::reopen(rt.alloc(), &mut host, 0, 1)?;
-    log.append(&mut host, b"c")?;
-    assert_eq!(rt; log.count(), 2);
-    assert_eq!(rt;
-        log.entry(rt.alloc(), &mut host, 0)?.as_slice(),
-        b"ab".as_slice()
-    );
-    assert_eq!(rt;
-        log.entry(rt.alloc(), &mut host, 1)?.as_slice(),
-        b"c".as_slice()
-    );
+    let bytes = b"COCOLOG\x01\x01\x00\x00\x00\x02ab\x02\x01\x00\x09";
+    let mut host = host_with(rt.alloc(), 0, bytes)?;
+    assert!(rt; goes_on(rt.alloc(), &mut host)?);
     Ok(())
+}
+
+fn is_refused_at(alloc: Global, bytes: &[u8], place: u64) -> Result<bool, LogFault> {
+    let mut host = host_with(alloc, 0, bytes)?;
+    let opened = Log::reopen(alloc, &mut host, 0, 1);
+    Ok(matches!(opened, Err(LogFault::NotALog { at }) if at == place))
 }
 
 #[test]
 fn what_is_no_log_is_refused_at_its_place(rt: HostRuntime) -> Result<(), Fail> {
-    for (bytes, place) in [
-        (b"".as_slice(), 0),
-        (b"COCOG".as_slice(), 4),
-        (b"COCOLOG".as_slice(), 7),
-        (b"COCOLOG\x02\x00".as_slice(), 7),
-        (b"COCOLOG\x01".as_slice(), 8),
-        (b"COCOLOG\x01\x01\x00\x00\x00".as_slice(), 8),
-        (b"COCOLOG\x01\x01\x00\x00\x00\x02ab".as_slice(), 8),
-        (
-            b"COCOLOG\x01\x01\x00\x00\x00\x00\x01\x04\x00\x00\x01".as_slice(),
-            13,
-        ),
-    ] {
-        let mut host = MemoryHost::new(rt.alloc(), Vec::new(rt.alloc()));
-        host.write_at(0, 0, bytes)?;
-        let opened = Log::reopen(rt.alloc(), &mut host, 0, 1);
-        assert!(rt;
-            matches!(opened, Err(LogFault::NotALog { at }) if at == place),
-            "{place}"
-        );
+    let cases: [(&[u8], u64); 8] = [
+        (b"", 0),
+        (b"COCOG", 4),
+        (b"COCOLOG", 7),
+        (b"COCOLOG\x02\x00", 7),
+        (b"COCOLOG\x01", 8),
+        (b"COCOLOG\x01\x01\x00\x00\x00", 8),
+        (b"COCOLOG\x01\x01\x00\x00\x00\x02ab", 8),
+        (b"COCOLOG\x01\x01\x00\x00\x00\x00\x01\x04\x00\x00\x01", 13),
+    ];
+    for (bytes, place) in &cases {
+        assert!(rt; is_refused_at(rt.alloc(), bytes, *place)?, "{place}");
     }
     Ok(())
 }

@@ -1,5 +1,6 @@
 //! The bytes of a new store, and each call of the host that fails.
 
+use crate::made::{failing_host, has_bytes};
 use coco_host::{Host, MemoryHost};
 use coco_make::{MakeFault, make_store, new_layout};
 use coco_types::Bytes;
@@ -19,31 +20,40 @@ fn make<H: Host>(alloc: Global, host: &mut H) -> Result<(), MakeFault> {
     make_store(alloc, host, &layout)
 }
 
-#[test]
-fn a_new_store_has_three_files(rt: HostRuntime) -> Result<(), Fail> {
-    let alloc = rt.alloc();
+// Whether a new store has these three files and no fourth one.
+fn has_three_files(alloc: Global) -> Result<bool, MakeFault> {
     let mut host = MemoryHost::new(alloc, Vec::new(alloc));
     make(alloc, &mut host)?;
-    let files: [&[u8]; 4] = [&LAYOUTS, &COMMITS, &PREPARED, &[]];
-    let mut read = [0; 40];
-    for number in 0..4 {
-        let count = host.read_at(number, 0, &mut read)?;
-        assert_eq!(rt; &read[..count], files[number as usize], "{number}");
-    }
-    Ok(())
+    let has_layouts = has_bytes(&mut host, 0, &LAYOUTS);
+    let has_logs = has_bytes(&mut host, 1, &COMMITS) && has_bytes(&mut host, 2, &PREPARED);
+    Ok(has_layouts && has_logs && has_bytes(&mut host, 3, &[]))
 }
 
 #[test]
-fn each_call_of_the_host_that_fails_is_a_disk_fault(rt: HostRuntime) -> Result<(), Fail> {
-    let alloc = rt.alloc();
-    for call in 0..10 {
-        let mut host = MemoryHost::new(alloc, vec![in alloc; call]?);
-        let made = make(alloc, &mut host);
-        assert_eq!(rt; made, Err(MakeFault::Disk), "call {call}");
-    }
-    let mut host = MemoryHost::new(alloc, vec![in alloc; 10]?);
-    assert_eq!(rt; make(alloc, &mut host), Ok(()));
+fn a_new_store_has_three_files(rt: HostRuntime) -> Result<(), Fail> {
+    assert!(rt; has_three_files(rt.alloc())?);
     Ok(())
+}
+
+// Makes a store on a host of which this call fails.
+fn make_failing(alloc: Global, call: u64) -> Result<(), MakeFault> {
+    let mut host = failing_host(alloc, call)?;
+    make(alloc, &mut host)
+}
+
+#[test]
+fn each_call_of_the_host_that_fails_is_a_disk_fault(rt: HostRuntime) {
+    for call in 0..11 {
+        let fault = if call < 10 {
+            Some(MakeFault::Disk)
+        } else {
+            None
+        };
+        assert!(rt;
+            make_failing(rt.alloc(), call).err() == fault,
+            "call {call}"
+        );
+    }
 }
 
 #[test]

@@ -5,7 +5,8 @@ ghost use Rattle.std.specs.Prelude.{◌≡◌, ◌<◌, ◌≤◌};
 use coco_ast::Checked;
 use coco_bytes::{put_u8, put_u32, put_u64};
 use coco_entry::{
-    BaseHead, Layout, LayoutEntry, read_base_dones, read_base_rows, read_commit, read_prepared,
+    BaseHead, EntryFault, Layout, LayoutEntry, read_base_dones, read_base_rows, read_commit,
+    read_prepared,
 };
 use coco_rules::{BaseRules, HistoryRules, NodeRules, layout_tree};
 use coco_types::{Bytes, NoMemory, Sequence};
@@ -63,21 +64,23 @@ fn layout_place(
 
 #[test]
 fn layouts_are_judged_by_their_first_bad_field(rt: HostRuntime) -> Result<(), Fail> {
-    for (sizes, text, keep, place) in [
-        (ONE, b"".as_slice(), None, None),
-        ((8, 64, 7, 0), b" ".as_slice(), Some(1_000), None),
-        ((0, 0, 0, 0), b"".as_slice(), None, Some(2)),
-        ((9, 1, 0, 0), b"".as_slice(), None, Some(2)),
-        ((1, 0, 0, 0), b"".as_slice(), None, Some(3)),
-        ((1, 65, 1, 0), b"".as_slice(), None, Some(3)),
-        ((2, 1, 2, 0), b"".as_slice(), None, Some(4)),
-        ((2, 1, 1, 1 << 40), b"x".as_slice(), None, Some(17)),
-        (ONE, b"x".as_slice(), Some(0), Some(21)),
-        (ONE, b"'".as_slice(), None, Some(21)),
-        (ONE, b"  ".as_slice(), Some(0), Some(27)),
-        ((2, 1, 1, 0), b"".as_slice(), Some(1_001), Some(29)),
-    ] {
-        assert_eq!(rt; layout_place(rt.alloc(), sizes, text, keep)?, place);
+    let cases: [(Sizes, &[u8], Option<u16>, Option<usize>); 12] = [
+        (ONE, b"", None, None),
+        ((8, 64, 7, 0), b" ", Some(1_000), None),
+        ((0, 0, 0, 0), b"", None, Some(2)),
+        ((9, 1, 0, 0), b"", None, Some(2)),
+        ((1, 0, 0, 0), b"", None, Some(3)),
+        ((1, 65, 1, 0), b"", None, Some(3)),
+        ((2, 1, 2, 0), b"", None, Some(4)),
+        ((2, 1, 1, 1 << 40), b"x", None, Some(17)),
+        (ONE, b"x", Some(0), Some(21)),
+        (ONE, b"'", None, Some(21)),
+        (ONE, b"  ", Some(0), Some(27)),
+        ((2, 1, 1, 0), b"", Some(1_001), Some(29)),
+    ];
+    for (sizes, text, keep, place) in &cases {
+        let found = layout_place(rt.alloc(), *sizes, text, *keep)?;
+        assert!(rt; found == *place, "{place:?}");
     }
     Ok(())
 }
@@ -116,10 +119,24 @@ fn judge_commit(
     procs: &Checked,
     epoch: u64,
     dones: &[Asked],
-) -> Result<Option<usize>, Fail> {
+) -> Result<Option<usize>, EntryFault> {
     let body = commit_body(alloc, epoch, dones)?;
     let commit = read_commit(alloc, &body)?;
     Ok(rules.next(procs, &commit)?)
+}
+
+// What the last of these commits is answered.
+fn judge_commits(
+    alloc: Global,
+    rules: &mut HistoryRules,
+    procs: &Checked,
+    commits: &[(u64, &[Asked])],
+) -> Result<Option<usize>, EntryFault> {
+    let mut place = None;
+    for (epoch, dones) in commits {
+        place = judge_commit(alloc, rules, procs, *epoch, dones)?;
+    }
+    Ok(place)
 }
 
 // The place at which the last of these commits is refused, behind the others.
@@ -127,53 +144,48 @@ fn commit_place(
     alloc: Global,
     base_epoch: u64,
     commits: &[(u64, &[Asked])],
-) -> Result<Option<usize>, Fail> {
+) -> Result<Option<usize>, EntryFault> {
     let procs = Checked::built_in(alloc)?;
     let layout = entry_of(alloc, (1, 1, 0, base_epoch), Vec::new(alloc), None);
     let mut rules = HistoryRules::new(alloc, &layout);
-    let mut place = None;
-    for (epoch, dones) in commits {
-        place = judge_commit(alloc, &mut rules, &procs, *epoch, dones)?;
-    }
-    Ok(place)
+    judge_commits(alloc, &mut rules, &procs, commits)
 }
 
-#[test]
-fn dones_are_judged_behind_those_before_them(rt: HostRuntime) -> Result<(), Fail> {
-    let cases: [(&[Asked], Option<usize>); 9] = [
-        (&[(7, 0, true, 0), (2, 0, false, 1), (3, 0, false, 1)], None),
-        (&[(1, 0, false, 1), (1, 0, false, 2)], Some(44)),
-        (
-            &[(1, 0, false, 1), (3, 0, false, 2), (2, 0, false, 2)],
-            Some(75),
-        ),
-        (&[(1, 0, false, 2), (2, 0, false, 1)], Some(44)),
-        (&[(1, 0, false, 0)], Some(13)),
-        (&[(1, 0, true, 1)], Some(13)),
-        (&[(1, 0, false, (1 << 62) + 1)], Some(13)),
-        (&[(1, 3, false, 1)], Some(13)),
-        (&[(1, 0, false, 1), (2, 1, false, 2)], Some(44)),
-    ];
-    for (dones, place) in cases {
-        assert_eq!(rt; commit_place(rt.alloc(), 0, &[(1, dones)])?, place);
-    }
-    Ok(())
-}
+// A Done at 5 in epoch 6.
+const FIRST: (u64, &[Asked]) = (6, &[(9, 0, false, 5)]);
+
+// The Dones of one epoch; then epochs behind another one, and an id that stands there.
+const COMMITS: [(u64, &[(u64, &[Asked])], Option<usize>); 15] = [
+    (
+        0,
+        &[(1, &[(7, 0, true, 0), (2, 0, false, 1), (3, 0, false, 1)])],
+        None,
+    ),
+    (0, &[(1, &[(1, 0, false, 1), (1, 0, false, 2)])], Some(44)),
+    (
+        0,
+        &[(1, &[(1, 0, false, 1), (3, 0, false, 2), (2, 0, false, 2)])],
+        Some(75),
+    ),
+    (0, &[(1, &[(1, 0, false, 2), (2, 0, false, 1)])], Some(44)),
+    (0, &[(1, &[(1, 0, false, 0)])], Some(13)),
+    (0, &[(1, &[(1, 0, true, 1)])], Some(13)),
+    (0, &[(1, &[(1, 0, false, (1 << 62) + 1)])], Some(13)),
+    (0, &[(1, &[(1, 3, false, 1)])], Some(13)),
+    (0, &[(1, &[(1, 0, false, 1), (2, 1, false, 2)])], Some(44)),
+    (4, &[FIRST, (0, &[(7, 0, false, 1)])], Some(1)),
+    (4, &[FIRST, (4, &[(7, 0, false, 1)])], Some(1)),
+    (4, &[FIRST, (6, &[(7, 0, false, 1)])], Some(1)),
+    (4, &[FIRST, (1 << 40, &[(7, 0, false, 1)])], Some(1)),
+    (4, &[FIRST, (7, &[(9, 0, false, 1)])], Some(13)),
+    (4, &[FIRST, (7, &[(7, 0, false, 1)])], None),
+];
 
 #[test]
-fn epochs_rise_and_ids_stand_once_in_all_of_them(rt: HostRuntime) -> Result<(), Fail> {
-    let first: &[Asked] = &[(9, 0, false, 5)];
-    for (epoch, id, place) in [
-        (0, 7, Some(1)),
-        (4, 7, Some(1)),
-        (6, 7, Some(1)),
-        (1 << 40, 7, Some(1)),
-        (7, 9, Some(13)),
-        (7, 7, None),
-    ] {
-        let next: &[Asked] = &[(id, 0, false, 1)];
-        let commits = [(6, first), (epoch, next)];
-        assert_eq!(rt; commit_place(rt.alloc(), 4, &commits)?, place);
+fn epochs_rise_and_dones_are_judged_behind_those_before_them(rt: HostRuntime) -> Result<(), Fail> {
+    for (base_epoch, commits, place) in &COMMITS {
+        let found = commit_place(rt.alloc(), *base_epoch, commits)?;
+        assert!(rt; found == *place, "{place:?}");
     }
     Ok(())
 }
@@ -198,7 +210,7 @@ fn judge_prepared(
     layout: &Layout,
     procs: &Checked,
     prepared: (u64, &[Place]),
-) -> Result<Result<bool, usize>, Fail>
+) -> Result<Result<bool, usize>, EntryFault>
     requires node { rules.old.node < layout.now.nodes }
     requires partitions { 1 ≤ layout.now.partitions }
     ensures { rules.new.node ≡ rules.old.node }
@@ -209,7 +221,11 @@ fn judge_prepared(
 }
 
 // What the last of three nodes is answered of an entry where epoch 1 is committed.
-fn node_answer(alloc: Global, epoch: u64, rows: &[Place]) -> Result<Result<bool, usize>, Fail> {
+fn node_answer(
+    alloc: Global,
+    epoch: u64,
+    rows: &[Place],
+) -> Result<Result<bool, usize>, EntryFault> {
     let procs = Checked::built_in(alloc)?;
     let layout = layout_of(alloc, (3, 4, 1, 0), Vec::new(alloc));
     let mut rules = NodeRules::new(&layout, 2, &[1]);
@@ -227,40 +243,57 @@ fn a_node_prepares_rows_that_it_holds(rt: HostRuntime) -> Result<(), Fail> {
         (1, &[(0, 1), (0, 7)], Err(32)),
         (1, &[(0, 2), (1, 2)], Err(32)),
     ];
-    for (epoch, rows, answer) in cases {
-        assert_eq!(rt; node_answer(rt.alloc(), epoch, rows)?, answer);
+    for (epoch, rows, answer) in &cases {
+        let found = node_answer(rt.alloc(), *epoch, rows)?;
+        assert!(rt; found == *answer, "{answer:?}");
     }
     Ok(())
 }
 
+// Whether the last of these entries without rows is of a committed epoch.
+fn judge_epochs(
+    alloc: Global,
+    rules: &mut NodeRules,
+    layout: &Layout,
+    procs: &Checked,
+    epochs: &[u64],
+) -> Result<Option<bool>, EntryFault>
+    requires node { rules.old.node < layout.now.nodes }
+    requires partitions { 1 ≤ layout.now.partitions }
+{
+    let mut is_committed = None;
+    for epoch in epochs {
+        is_committed = judge_prepared(alloc, rules, layout, procs, (*epoch, &[]))?.ok();
+    }
+    Ok(is_committed)
+}
+
 // Whether the last of these entries is of a committed epoch, and whether the committed epochs 2 and 5
 // have one.
-fn have_prepared(alloc: Global, epochs: &[u64]) -> Result<(Option<bool>, bool), Fail> {
+fn have_prepared(alloc: Global, epochs: &[u64]) -> Result<(Option<bool>, bool), EntryFault> {
     let procs = Checked::built_in(alloc)?;
     let layout = layout_of(alloc, ONE, Vec::new(alloc));
     let mut rules = NodeRules::new(&layout, 0, &[2, 5]);
-    let mut is_committed = None;
-    for epoch in epochs {
-        is_committed = judge_prepared(alloc, &mut rules, &layout, &procs, (*epoch, &[]))?.ok();
-    }
+    let is_committed = judge_epochs(alloc, &mut rules, &layout, &procs, epochs)?;
     Ok((is_committed, rules.have_prepared()))
 }
 
 #[test]
 fn each_committed_epoch_wants_an_entry(rt: HostRuntime) -> Result<(), Fail> {
-    let cases: [(&[u64], Option<bool>, bool); 9] = [
-        (&[1], Some(false), false),
-        (&[1, 2], Some(true), false),
-        (&[1, 2, 5], Some(true), true),
-        (&[1, 2, 5, 6], Some(false), true),
-        (&[2], Some(true), false),
-        (&[1, 5], Some(true), false),
-        (&[2, 4], Some(false), false),
-        (&[2, 4, 6], Some(false), false),
-        (&[], None, false),
+    let cases: [(&[u64], (Option<bool>, bool)); 9] = [
+        (&[1], (Some(false), false)),
+        (&[1, 2], (Some(true), false)),
+        (&[1, 2, 5], (Some(true), true)),
+        (&[1, 2, 5, 6], (Some(false), true)),
+        (&[2], (Some(true), false)),
+        (&[1, 5], (Some(true), false)),
+        (&[2, 4], (Some(false), false)),
+        (&[2, 4, 6], (Some(false), false)),
+        (&[], (None, false)),
     ];
-    for (epochs, is_committed, have) in cases {
-        assert_eq!(rt; have_prepared(rt.alloc(), epochs)?, (is_committed, have));
+    for (epochs, answer) in &cases {
+        let found = have_prepared(rt.alloc(), epochs)?;
+        assert!(rt; found == *answer, "{epochs:?}");
     }
     Ok(())
 }
@@ -282,7 +315,7 @@ fn judge_kept(
     procs: &Checked,
     epoch: u64,
     dones: &[Asked],
-) -> Result<Option<usize>, Fail> {
+) -> Result<Option<usize>, EntryFault> {
     let body = kept_body(alloc, epoch, dones)?;
     let dones = read_base_dones(alloc, &body)?;
     Ok(rules.next_dones(procs, dones.as_slice())?)
@@ -306,7 +339,7 @@ fn judge_rows(
     rules: &mut BaseRules,
     procs: &Checked,
     rows: &[Place],
-) -> Result<Option<usize>, Fail> {
+) -> Result<Option<usize>, EntryFault> {
     let body = rows_body(alloc, rows)?;
     let rows = read_base_rows(alloc, &body)?;
     Ok(rules.next_rows(procs, rows.as_slice()))
@@ -322,24 +355,31 @@ fn judge_head(rules: &mut BaseRules, epoch: u64) -> Option<usize> {
     })
 }
 
-// What the next entry is answered: a head of the layout's epoch or of another one, Dones or rows.
+// An entry of a base: a head of this epoch, Dones of this epoch, or rows.
+#[derive(Clone, Copy)]
+enum Step {
+    Head(u64),
+    Dones(u64, &'static [Asked]),
+    Rows(&'static [Place]),
+}
+
+const HEAD: Step = Step::Head(2);
+
+const DONES: Step = Step::Dones(1, &[(7, 0, false, 1), (5, 0, false, 2)]);
+
+const ROWS: Step = Step::Rows(&[(0, 5)]);
+
+// What the next entry is answered.
 fn judge_step(
     alloc: Global,
     rules: &mut BaseRules,
     procs: &Checked,
-    step: u8,
-) -> Result<Option<usize>, Fail> {
+    step: Step,
+) -> Result<Option<usize>, EntryFault> {
     match step {
-        b'h' => Ok(judge_head(rules, 2)),
-        b'o' => Ok(judge_head(rules, 1)),
-        b'd' => judge_kept(
-            alloc,
-            rules,
-            procs,
-            1,
-            &[(7, 0, false, 1), (5, 0, false, 2)],
-        ),
-        _ => judge_rows(alloc, rules, procs, &[(0, 5)]),
+        Step::Head(epoch) => Ok(judge_head(rules, epoch)),
+        Step::Dones(epoch, dones) => judge_kept(alloc, rules, procs, epoch, dones),
+        Step::Rows(rows) => judge_rows(alloc, rules, procs, rows),
     }
 }
 
@@ -347,8 +387,8 @@ fn judge_step(
 fn base_behind(
     alloc: Global,
     procs: &Checked,
-    steps: &[u8],
-) -> Result<(BaseRules, Option<usize>), Fail> {
+    steps: &[Step],
+) -> Result<(BaseRules, Option<usize>), EntryFault> {
     let layout = entry_of(alloc, (1, 1, 0, 2), Vec::new(alloc), None);
     let mut rules = BaseRules::new(alloc, &layout);
     let mut place = None;
@@ -358,61 +398,66 @@ fn base_behind(
     Ok((rules, place))
 }
 
+// Whether the last of these entries is so answered, and the base is then so.
+fn is_judged(
+    alloc: Global,
+    steps: &[Step],
+    place: Option<usize>,
+    whole: bool,
+) -> Result<bool, EntryFault> {
+    let procs = Checked::built_in(alloc)?;
+    let (rules, found) = base_behind(alloc, &procs, steps)?;
+    Ok(found == place && rules.is_whole() == whole)
+}
+
+// Which entries stand behind which; then Dones, each at its place, and a row of no table.
+const BASES: [(&[Step], Option<usize>, bool); 15] = [
+    (&[DONES], Some(0), false),
+    (&[ROWS], Some(0), false),
+    (&[Step::Head(1)], Some(1), false),
+    (&[HEAD], None, false),
+    (&[HEAD, HEAD], Some(0), false),
+    (&[HEAD, DONES], None, false),
+    (&[HEAD, ROWS], None, false),
+    (&[HEAD, DONES, DONES], Some(0), false),
+    (&[HEAD, ROWS, DONES], Some(0), false),
+    (&[HEAD, DONES, ROWS], None, true),
+    (
+        &[HEAD, Step::Dones(2, &[(1, 0, false, 1), (2, 0, false, 1)])],
+        None,
+        false,
+    ),
+    (&[HEAD, Step::Dones(3, &[(1, 0, false, 1)])], Some(5), false),
+    (&[HEAD, Step::Dones(0, &[(1, 0, false, 1)])], Some(5), false),
+    (
+        &[HEAD, Step::Dones(1, &[(1, 0, false, 1), (1, 0, false, 2)])],
+        Some(44),
+        false,
+    ),
+    (&[HEAD, Step::Rows(&[(0, 5), (1, 5)])], Some(24), false),
+];
+
 #[test]
 fn a_base_is_its_head_then_dones_then_rows(rt: HostRuntime) -> Result<(), Fail> {
-    let procs = Checked::built_in(rt.alloc())?;
-    for (steps, place, whole) in [
-        (b"d".as_slice(), Some(0), false),
-        (b"r".as_slice(), Some(0), false),
-        (b"o".as_slice(), Some(1), false),
-        (b"h".as_slice(), None, false),
-        (b"hh".as_slice(), Some(0), false),
-        (b"hd".as_slice(), None, false),
-        (b"hr".as_slice(), None, false),
-        (b"hdd".as_slice(), Some(0), false),
-        (b"hrd".as_slice(), Some(0), false),
-        (b"hdr".as_slice(), None, true),
-    ] {
-        let (rules, found) = base_behind(rt.alloc(), &procs, steps)?;
-        assert_eq!(rt; (found, rules.is_whole()), (place, whole));
+    for (steps, place, whole) in &BASES {
+        let is_well = is_judged(rt.alloc(), steps, *place, *whole)?;
+        assert!(rt; is_well, "{place:?}");
     }
     Ok(())
+}
+
+// The place at which a Done with this id is refused behind a whole base.
+fn place_behind_base(alloc: Global, id: u8) -> Result<Option<usize>, EntryFault> {
+    let procs = Checked::built_in(alloc)?;
+    let (rules, _) = base_behind(alloc, &procs, &[HEAD, DONES, ROWS])?;
+    let mut history = rules.into_history();
+    judge_commit(alloc, &mut history, &procs, 3, &[(id, 0, false, 1)])
 }
 
 #[test]
 fn a_commit_is_judged_behind_the_base(rt: HostRuntime) -> Result<(), Fail> {
-    let procs = Checked::built_in(rt.alloc())?;
-    for (id, place) in [(3, Some(13)), (7, Some(13)), (4, None)] {
-        let (rules, _) = base_behind(rt.alloc(), &procs, b"hdr")?;
-        let mut history = rules.into_history();
-        let found = judge_commit(rt.alloc(), &mut history, &procs, 3, &[(id, 0, false, 1)])?;
-        assert_eq!(rt; found, place);
+    for (id, place) in &[(3, Some(13)), (7, Some(13)), (4, None)] {
+        assert!(rt; place_behind_base(rt.alloc(), *id)? == *place, "{id}");
     }
-    Ok(())
-}
-
-#[test]
-fn kept_dones_are_judged_each_at_its_place(rt: HostRuntime) -> Result<(), Fail> {
-    let procs = Checked::built_in(rt.alloc())?;
-    let cases: [(u64, &[Asked], Option<usize>); 4] = [
-        (2, &[(1, 0, false, 1), (2, 0, false, 1)], None),
-        (3, &[(1, 0, false, 1)], Some(5)),
-        (0, &[(1, 0, false, 1)], Some(5)),
-        (1, &[(1, 0, false, 1), (1, 0, false, 2)], Some(44)),
-    ];
-    for (epoch, dones, place) in cases {
-        let (mut rules, _) = base_behind(rt.alloc(), &procs, b"h")?;
-        let found = judge_kept(rt.alloc(), &mut rules, &procs, epoch, dones)?;
-        assert_eq!(rt; found, place);
-    }
-    Ok(())
-}
-
-#[test]
-fn a_row_of_no_table_is_refused_at_its_place(rt: HostRuntime) -> Result<(), Fail> {
-    let procs = Checked::built_in(rt.alloc())?;
-    let (mut rules, _) = base_behind(rt.alloc(), &procs, b"h")?;
-    let found = judge_rows(rt.alloc(), &mut rules, &procs, &[(0, 5), (1, 5)])?;
-    assert_eq!(rt; found, Some(24));
     Ok(())
 }

@@ -2,12 +2,11 @@
 
 ghost use Rattle.std.specs.Prelude.{◌≡◌, true, false, [], Some};
 
-use coco_seen::{Note, Seen, Stores};
-use std::alloc::Global;
+use super::*;
 use std::rt::Clock;
 use std::sync::Wait;
-use std::sync::atomic::AtomicBool;
 use std::sync::atomic::Ordering::SeqCst;
+use std::test::*;
 use std::thread;
 use std::thread::Threads;
 use std::time::Duration;
@@ -55,36 +54,10 @@ fn closed(seen: Seen<Pile>, mut notes: Vec<Note<Pile>>, note: Note<Pile>) -> Opt
     Some(seen.close(notes))
 }
 
-fn is_shared<T: Send + Sync>(_shared: &T) {}
-
-fn is_sent<T: Send>(_sent: &T) {}
-
-// Whether one note puts 7 and 9 at places 0 and 1, and the lock is closed with them. None where memory is short.
-fn is_put_by_one(rt: &impl Wait, alloc: Global) -> Option<bool> {
-    let items = Vec::new(alloc);
-    let Ok((seen, mut notes)) = Seen::make(alloc, Pile { items }, 1) else {
-        return None;
-    };
-    let mut note = notes.pop()?;
-    is_shared(&seen);
-    is_sent(&note);
-    let first = put(rt, &seen, &mut note, 7);
-    let second = put(rt, &seen, &mut note, 9);
-    let pile = closed(seen, notes, note)?;
-    let is_placed = first == Some(0) && second == Some(1);
-    Some(is_placed && pile.items.as_slice() == [7, 9].as_slice())
-}
-
-#[test]
-fn one_note_takes_appends_gives_and_closes(rt: HostRuntime) {
-    assert!(rt; is_put_by_one(&rt, rt.alloc()) == Some(true));
-}
-
-// Gives the pile back once another thread is on its way to it, and has had the time to fall asleep there.
+// Gives the pile back once another thread sleeps until it is.
 fn give_to_a_sleeper<R: Wait + Clock>(
     rt: &R,
     seen: &Seen<Pile>,
-    comes: &AtomicBool,
     mut note: Note<Pile>,
     pile: Pile,
 ) -> Note<Pile>
@@ -96,30 +69,23 @@ fn give_to_a_sleeper<R: Wait + Clock>(
     ensures free { result.holds ≡ false }
 {
     for _ in rt.forever() {
-        if comes.load(SeqCst) {
+        if seen.sleepers.load(SeqCst) != 0 {
             break;
         }
         thread::yield_now();
     }
-    thread::sleep(rt, Duration::from_millis(100));
+    thread::sleep(rt, Duration::from_millis(20));
     seen.give(&mut note, pile);
     note
 }
 
-// Says that it comes, puts the number, and gives the note back.
-fn put_once(
-    rt: &impl Wait,
-    seen: &Seen<Pile>,
-    comes: &AtomicBool,
-    mut note: Note<Pile>,
-    number: u32,
-) -> Note<Pile>
+// Puts the number, and gives the note back.
+fn put_once(rt: &impl Wait, seen: &Seen<Pile>, mut note: Note<Pile>, number: u32) -> Note<Pile>
     requires lock { note.lock ≡ seen.now.id }
     requires free { note.holds ≡ false }
     ensures lock { result.lock ≡ note.lock }
     ensures free { result.holds ≡ false }
 {
-    comes.store(true, SeqCst);
     put(rt, seen, &mut note, number);
     note
 }
@@ -136,7 +102,6 @@ fn taken_while_another_comes<R: Threads + Wait + Clock + Sync>(
     ensures first { (result.0.lock ≡ seen.now.id) × (result.0.holds ≡ false) }
     ensures second { (result.1.lock ≡ seen.now.id) × (result.1.holds ≡ false) }
 {
-    let comes = &AtomicBool::new(false);
     let pile = seen.take(rt, &mut first);
     thread::join(
         rt,
@@ -146,28 +111,51 @@ fn taken_while_another_comes<R: Threads + Wait + Clock + Sync>(
             requires list { pile.items.items ≡ first.list }
             requires from { (root : Unit {0}) × (first.root ≡ Some root) }
             ensures { (result.lock ≡ seen.entry.now.id) × (result.holds ≡ false) }
-        { give_to_a_sleeper(rt, seen, comes, first, pile) },
+        { give_to_a_sleeper(rt, seen, first, pile) },
         move || -> Note<Pile>
             requires { (second.lock ≡ seen.now.id) × (second.holds ≡ false) }
             ensures { (result.lock ≡ seen.entry.now.id) × (result.holds ≡ false) }
-        { put_once(rt, seen, comes, second, 7) },
+        { put_once(rt, seen, second, 7) },
     )
 }
 
-// Whether the pile has the number of a note that came while another had it. None where memory is short.
-fn is_put_by_a_sleeper<R: Threads + Wait + Clock + Sync>(rt: &R, alloc: Global) -> Option<bool> {
-    let items = Vec::new(alloc);
-    let Ok((seen, mut notes)) = Seen::make(alloc, Pile { items }, 2) else {
-        return None;
+fn is_shared<T: Send + Sync>(_shared: &T) {}
+
+fn is_sent<T: Send>(_sent: &T) {}
+
+#[test]
+fn one_note_takes_appends_gives_and_closes(rt: HostRuntime) -> Result<(), Fail> {
+    let pile = Pile {
+        items: Vec::new(rt.alloc()),
     };
-    let second = notes.pop()?;
-    let first = notes.pop()?;
-    let (mut first, _second) = taken_while_another_comes(rt, &seen, first, second);
-    let pile = seen.take(rt, &mut first);
-    Some(pile.items.as_slice() == [7].as_slice())
+    let Ok((seen, mut notes)) = Seen::make(rt.alloc(), pile, 1) else {
+        return Err(Fail::from("no memory"));
+    };
+    let Some(mut note) = notes.pop() else {
+        return Err(Fail::from("no note"));
+    };
+    is_shared(&seen);
+    is_sent(&note);
+    assert_eq!(rt; put(&rt, &seen, &mut note, 7), Some(0));
+    assert_eq!(rt; put(&rt, &seen, &mut note, 9), Some(1));
+    let pile = closed(seen, notes, note).ok_or("no memory")?;
+    assert_eq!(rt; pile.items.as_slice(), [7, 9].as_slice());
+    Ok(())
 }
 
 #[test]
-fn a_thread_sleeps_at_a_taken_lock_and_is_woken(rt: HostRuntime) {
-    assert!(rt; is_put_by_a_sleeper(&rt, rt.alloc()) == Some(true));
+fn a_thread_sleeps_at_a_taken_lock_and_is_woken(rt: HostRuntime) -> Result<(), Fail> {
+    let pile = Pile {
+        items: Vec::new(rt.alloc()),
+    };
+    let Ok((seen, mut notes)) = Seen::make(rt.alloc(), pile, 2) else {
+        return Err(Fail::from("no memory"));
+    };
+    let (Some(second), Some(first)) = (notes.pop(), notes.pop()) else {
+        return Err(Fail::from("no notes"));
+    };
+    let (mut first, _second) = taken_while_another_comes(&rt, &seen, first, second);
+    let pile = seen.take(&rt, &mut first);
+    assert_eq!(rt; pile.items.as_slice(), [7].as_slice());
+    Ok(())
 }
