@@ -75,7 +75,9 @@ fn holds<H: Host>(host: &mut H, file: u32, wanted: &[u8]) -> bool {
 fn a_put_of_seventy_is_committed(rt: HostRuntime) -> Result<(), Fail> {
     let mut host = MemoryHost::new(rt.alloc(), Vec::new(rt.alloc()));
     let cluster = put_once(&rt, rt.alloc(), &mut host)?;
-    let is_well = has_turned(&cluster) && holds(&mut host, 1, &COMMITS) && holds(&mut host, 2, &PREPARED);
+    let is_well = has_turned(&cluster)
+        && holds(&mut host, 1, &COMMITS)
+        && holds(&mut host, 2, &PREPARED);
     assert!(rt; is_well);
     Ok(())
 }

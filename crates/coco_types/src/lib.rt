@@ -28,4 +28,3 @@ pub use packed_write::{PackedWrite, PackedWrites};
 pub use sequence::{Bytes, Sequence};
 pub use text::Text;
 pub use value::Value;
-
