@@ -1,13 +1,15 @@
 //! Lines, their requests, and the texts of answers.
 
+ghost use Rattle.std.specs.Prelude.{◌<◌};
+
 use coco_ast::Checked;
-use coco_io::MemorySource;
+use coco_io::{MemorySource, Source};
 use coco_lines::{
-    Body, LineError, LineFault, Reader, RequestFault, Scratch, asked_request, done_text,
+    Body, Line, LineError, LineFault, Reader, RequestFault, Scratch, asked_request, done_text,
     error_text, request, write_done, write_error,
 };
 use coco_types::{Args, Call, Cause, Done, KeptReply, NoMemory, Reply, Request, Text, Value};
-use std::alloc::{AllocError, Global};
+use std::alloc::Global;
 use std::test::Fail;
 
 // The first word of each row is the class of the line behind it.
@@ -70,36 +72,44 @@ request {"args":[5],"call":"get","id":9223372036854775808}
 shape {"args":[5],"call":"get","id":1,"snapshot":false,"snapshot":0}
 "#;
 
-// The request of a line by the built-in procedures, or the word of its class.
-fn read(alloc: Global, line: &[u8]) -> Result<Result<Request, &'static str>, NoMemory> {
+// The request of a line by the built-in procedures.
+fn request_of(alloc: Global, line: &[u8]) -> Result<Request, RequestFault> {
     let procs = Checked::built_in(alloc)?;
-    let mut scratch = Scratch::new(alloc);
-    match request(alloc, &mut scratch, &procs, line) {
-        Ok(request) => Ok(Ok(request)),
-        Err(RequestFault::NoMemory) => Err(NoMemory),
-        Err(RequestFault::Line(LineError::Json)) => Ok(Err("json")),
-        Err(RequestFault::Line(LineError::Shape)) => Ok(Err("shape")),
-        Err(RequestFault::Line(LineError::Name)) => Ok(Err("name")),
-        Err(RequestFault::Line(LineError::Args)) => Ok(Err("args")),
-        Err(RequestFault::Line(LineError::Snapshot)) => Ok(Err("snapshot")),
-        Err(RequestFault::Line(_)) => Ok(Err("another")),
+    request(alloc, &mut Scratch::new(alloc), &procs, line)
+}
+
+fn word_of(error: LineError) -> &'static str {
+    match error {
+        LineError::Json => "json",
+        LineError::Shape => "shape",
+        LineError::Name => "name",
+        LineError::Args => "args",
+        LineError::Snapshot => "snapshot",
+        _ => "another",
     }
 }
 
-fn class(alloc: Global, line: &[u8]) -> Result<&'static str, NoMemory> {
-    match read(alloc, line)? {
-        Ok(_) => Ok("request"),
-        Err(word) => Ok(word),
+// Whether a line falls into the class of this word.
+fn is_in_class(alloc: Global, line: &[u8], word: &str) -> Result<bool, NoMemory> {
+    match request_of(alloc, line) {
+        Ok(_) => Ok(word == "request"),
+        Err(RequestFault::Line(error)) => Ok(word == word_of(error)),
+        Err(RequestFault::NoMemory) => Err(NoMemory),
+    }
+}
+
+// Whether the line behind the first word of a row is of the class of this word.
+fn is_in_its_class(alloc: Global, row: &str) -> Result<bool, NoMemory> {
+    match row.split_once(' ') {
+        Some((word, line)) => is_in_class(alloc, line.as_bytes(), word),
+        None => Ok(false),
     }
 }
 
 #[test]
 fn lines_fall_into_the_first_class_that_fits(rt: HostRuntime) -> Result<(), Fail> {
     for row in CLASSES.lines() {
-        let Some((word, line)) = row.split_once(' ') else {
-            return Err(Fail::new("a row without a class"));
-        };
-        assert_eq!(rt; class(rt.alloc(), line.as_bytes())?, word, "{line}");
+        assert!(rt; is_in_its_class(rt.alloc(), row)?, "{row}");
     }
     for line in [
         b"\xff".as_slice(),
@@ -109,7 +119,7 @@ fn lines_fall_into_the_first_class_that_fits(rt: HostRuntime) -> Result<(), Fail
         b"\0",
         b"\"a\tb\"",
     ] {
-        assert_eq!(rt; class(rt.alloc(), line)?, "json");
+        assert!(rt; is_in_class(rt.alloc(), line, "json")?);
     }
     Ok(())
 }
@@ -121,7 +131,7 @@ fn repeated(
     piece: &str,
     count: usize,
     end: &str,
-) -> Result<Vec<u8>, AllocError> {
+) -> Result<Vec<u8>, NoMemory> {
     let mut line = Vec::from_slice(alloc, start.as_bytes())?;
     for _ in 0..count {
         line.extend_from_slice(piece.as_bytes())?;
@@ -130,68 +140,72 @@ fn repeated(
     Ok(line)
 }
 
+// Whether a line with a piece so many times is of the class of this word.
+fn is_repeated(
+    alloc: Global,
+    start: &str,
+    piece: &str,
+    count: usize,
+    end: &str,
+    word: &str,
+) -> Result<bool, NoMemory> {
+    let line = repeated(alloc, start, piece, count, end)?;
+    is_in_class(alloc, line.as_slice(), word)
+}
+
+fn are_texts_limited(alloc: Global) -> Result<bool, NoMemory> {
+    let start = r#"{"call":"get","id":1,"args":["x"#;
+    let end = r#""]}"#;
+    Ok(
+        is_repeated(alloc, start, "x", 255, end, "request")?
+            && is_repeated(alloc, start, "x", 256, end, "args")?,
+    )
+}
+
+fn are_lists_limited(alloc: Global) -> Result<bool, NoMemory> {
+    let start = r#"{"call":"get","id":1,"args":"#;
+    let list = r#"{"call":"get","id":1,"args":["#;
+    Ok(
+        is_repeated(alloc, "", "[", 127, "", "json")?
+            && is_repeated(alloc, start, "[", 200, "", "json")?
+            && is_repeated(alloc, list, "1,", 100, "1]}", "args")?,
+    )
+}
+
 #[test]
 fn texts_have_256_bytes_and_lists_127_levels(rt: HostRuntime) -> Result<(), Fail> {
-    let cases = [
-        (
-            r#"{"call":"get","id":1,"args":["x"#,
-            "x",
-            255,
-            r#""]}"#,
-            "request",
-        ),
-        (
-            r#"{"call":"get","id":1,"args":["x"#,
-            "x",
-            256,
-            r#""]}"#,
-            "args",
-        ),
-        ("", "[", 127, "", "json"),
-        (r#"{"call":"get","id":1,"args":"#, "[", 200, "", "json"),
-    ];
-    for (start, piece, count, end, word) in cases {
-        let line = repeated(rt.alloc(), start, piece, count, end)?;
-        assert_eq!(rt; class(rt.alloc(), line.as_slice())?, word, "{count}");
-    }
-    let line = repeated(
-        rt.alloc(),
-        r#"{"call":"get","id":1,"args":["#,
-        "1,",
-        100,
-        "1]}",
-    )?;
-    assert_eq!(rt; class(rt.alloc(), line.as_slice())?, "args");
+    assert!(rt; are_texts_limited(rt.alloc())?);
+    assert!(rt; are_lists_limited(rt.alloc())?);
     Ok(())
+}
+
+// A call of `put` with the least number and none.
+fn least_put(alloc: Global) -> Result<Call, NoMemory> {
+    let mut args = Args::new(alloc);
+    args.push(Some(Value::Int(i64::MIN)))?;
+    args.push(None)?;
+    Ok(Call {
+        proc_no: 1,
+        args,
+        snapshot: false,
+    })
 }
 
 #[test]
 fn a_line_asks_for_its_request(rt: HostRuntime) -> Result<(), Fail> {
-    let alloc = rt.alloc();
     let line =
         r#"{"args":[-9223372036854775808,null],"call":"get","c\u0061ll":"\u0070ut","id":4,"id":18446744073709551615}"#;
-    let Ok(request) = read(alloc, line.as_bytes())? else {
-        return Err(Fail::new("no request"));
-    };
-    let mut args = Args::new(alloc);
-    args.push(Some(Value::Int(i64::MIN)))?;
-    args.push(None)?;
-    let call = Call {
-        proc_no: 1,
-        args,
-        snapshot: false,
-    };
-    assert!(rt; request == Request { id: u64::MAX, call });
+    let call = least_put(rt.alloc())?;
+    let request = request_of(rt.alloc(), line.as_bytes());
+    assert!(rt; request == Ok(Request { id: u64::MAX, call }));
     Ok(())
 }
 
 #[test]
 fn a_snapshot_call_of_any_procedure_may_be_asked_for(rt: HostRuntime) -> Result<(), Fail> {
-    let alloc = rt.alloc();
-    let procs = Checked::built_in(alloc)?;
+    let procs = Checked::built_in(rt.alloc())?;
     let line = br#"{"args":[1,2],"call":"put","id":7,"snapshot":true}"#;
-    let mut scratch = Scratch::new(alloc);
-    let asked = asked_request(alloc, &mut scratch, &procs, line);
+    let asked = asked_request(rt.alloc(), &mut Scratch::new(rt.alloc()), &procs, line);
     assert!(rt; asked.is_ok_and(|request| request.call.snapshot && request.call.proc_no == 1));
     Ok(())
 }
@@ -210,35 +224,54 @@ fn done(alloc: Global, time: u64, reply: &Reply) -> Result<Done, NoMemory> {
     })
 }
 
-#[test]
-fn a_record_is_said_as_compact_json(rt: HostRuntime) -> Result<(), Fail> {
-    let cases: [(Reply, &str); 8] = [
-        (Reply::Ok(Some(Value::Int(-5))), r#""ok":-5"#),
-        (Reply::Ok(None), r#""ok":null"#),
-        (
-            Reply::Ok(Text::of("a\"\\\n\u{1}é").map(Value::Text)),
-            r#""ok":"a\"\\\n\u0001é""#,
-        ),
-        (Reply::Refused(Cause::User(2)), r#""refused":"user 2""#),
-        (Reply::Refused(Cause::Overflow), r#""refused":"overflow""#),
-        (
-            Reply::Refused(Cause::ZeroDivide),
-            r#""refused":"zero divide""#,
-        ),
-        (Reply::Refused(Cause::Kind), r#""refused":"kind""#),
-        (Reply::Refused(Cause::BadRow), r#""refused":"bad row""#),
-    ];
-    for (reply, member) in &cases {
-        let said = done_text(rt.alloc(), &done(rt.alloc(), 3, reply)?)?;
-        let text = format!(in rt.alloc(); "{{\"epoch\":1,\"id\":2,{member},\"time\":3}}\n")?;
-        assert!(rt; said.as_slice() == text.as_bytes(), "{member}");
+fn put_said(out: &mut Vec<u8>, reply: &Reply) -> Result<(), NoMemory> {
+    let alloc = *out.allocator();
+    let said = done_text(alloc, &done(alloc, 3, reply)?)?;
+    out.extend_from_slice(said.as_slice())?;
+    Ok(())
+}
+
+fn put_answered(out: &mut Vec<u8>, text: Text) -> Result<(), NoMemory> {
+    put_said(out, &Reply::Ok(Some(Value::Int(-5))))?;
+    put_said(out, &Reply::Ok(None))?;
+    put_said(out, &Reply::Ok(Some(Value::Text(text))))
+}
+
+fn put_refused(out: &mut Vec<u8>) -> Result<(), NoMemory> {
+    for cause in [
+        Cause::User(2),
+        Cause::Overflow,
+        Cause::ZeroDivide,
+        Cause::Kind,
+        Cause::BadRow,
+    ] {
+        put_said(out, &Reply::Refused(cause))?;
     }
     Ok(())
 }
 
 #[test]
-fn texts_stand_one_behind_the_other(rt: HostRuntime) -> Result<(), Fail> {
-    let mut out = error_text(rt.alloc(), LineError::Long, 1)?;
+fn a_record_is_said_as_compact_json(rt: HostRuntime) -> Result<(), Fail> {
+    let Some(text) = Text::of("a\"\\\n\u{1}é") else {
+        return Err(Fail::new("too long"));
+    };
+    let mut out = Vec::new(rt.alloc());
+    put_answered(&mut out, text)?;
+    put_refused(&mut out)?;
+    let lines = r#"{"epoch":1,"id":2,"ok":-5,"time":3}
+{"epoch":1,"id":2,"ok":null,"time":3}
+{"epoch":1,"id":2,"ok":"a\"\\\n\u0001é","time":3}
+{"epoch":1,"id":2,"refused":"user 2","time":3}
+{"epoch":1,"id":2,"refused":"overflow","time":3}
+{"epoch":1,"id":2,"refused":"zero divide","time":3}
+{"epoch":1,"id":2,"refused":"kind","time":3}
+{"epoch":1,"id":2,"refused":"bad row","time":3}
+"#;
+    assert!(rt; out.as_slice() == lines.as_bytes());
+    Ok(())
+}
+
+fn put_errors(out: &mut Vec<u8>) -> Result<(), NoMemory> {
     for (error, number) in [
         (LineError::Json, 2),
         (LineError::Shape, 3),
@@ -249,9 +282,21 @@ fn texts_stand_one_behind_the_other(rt: HostRuntime) -> Result<(), Fail> {
         (LineError::Full, 8),
         (LineError::Old, u64::MAX),
     ] {
-        write_error(&mut out, error, number)?;
+        write_error(out, error, number)?;
     }
-    write_done(&mut out, &done(rt.alloc(), 0, &Reply::Ok(None))?)?;
+    Ok(())
+}
+
+fn put_done(out: &mut Vec<u8>, time: u64, reply: &Reply) -> Result<(), NoMemory> {
+    let done = done(*out.allocator(), time, reply)?;
+    write_done(out, &done)
+}
+
+#[test]
+fn texts_stand_one_behind_the_other(rt: HostRuntime) -> Result<(), Fail> {
+    let mut out = error_text(rt.alloc(), LineError::Long, 1)?;
+    put_errors(&mut out)?;
+    put_done(&mut out, 0, &Reply::Ok(None))?;
     let all = r#"{"error":"long","line":1}
 {"error":"json","line":2}
 {"error":"shape","line":3}
@@ -267,29 +312,58 @@ fn texts_stand_one_behind_the_other(rt: HostRuntime) -> Result<(), Fail> {
     Ok(())
 }
 
-// What a reader gives, each line with a bar behind it, a long one as `L`; a full stop stands for the end, and `!` for a read fault.
-fn given(alloc: Global, source: &mut MemorySource) -> Result<Vec<u8>, NoMemory> {
-    let mut reader = Reader::new(alloc);
-    let mut out = Vec::new(alloc);
-    for _ in 0..100 {
-        match reader.next(source) {
-            Ok(Some(line)) => match line.body {
-                Body::Whole(bytes) => out.extend_from_slice(bytes.as_slice())?,
-                Body::Long => out.push(b'L')?,
-            },
-            Ok(None) => {
-                out.push(b'.')?;
-                return Ok(out);
-            }
-            Err(LineFault::NoMemory) => return Err(NoMemory),
-            Err(_) => {
-                out.push(b'!')?;
-                return Ok(out);
-            }
-        }
-        out.push(b'|')?;
+// Puts a line with a bar behind it, a long one as `L`.
+fn put_line(out: &mut Vec<u8>, line: &Line) -> Result<(), NoMemory> {
+    match &line.body {
+        Body::Whole(bytes) => out.extend_from_slice(bytes.as_slice())?,
+        Body::Long => out.push(b'L')?,
     }
+    out.push(b'|')?;
+    Ok(())
+}
+
+// Puts the lines of a source up to its end, which has to come before the hundredth.
+fn put_lines<S: Source>(
+    out: &mut Vec<u8>,
+    reader: &mut Reader,
+    source: &mut S,
+) -> Result<(), LineFault> {
+    for _ in 0..100 {
+        let Some(line) = reader.next(source)? else {
+            return Ok(());
+        };
+        put_line(out, &line)?;
+    }
+    Err(LineFault::TooMuch)
+}
+
+// What a reader gives; behind the lines a full stop stands for the end, and `!` for a read fault.
+fn given<S: Source>(alloc: Global, source: &mut S) -> Result<Vec<u8>, NoMemory> {
+    let mut out = Vec::new(alloc);
+    let end = match put_lines(&mut out, &mut Reader::new(alloc), source) {
+        Ok(()) => b'.',
+        Err(LineFault::Failed) => b'!',
+        Err(LineFault::TooMuch) => b'?',
+        Err(LineFault::NoMemory) => return Err(NoMemory),
+    };
+    out.push(end)?;
     Ok(out)
+}
+
+// Whether these are the lines of a text whose reads give at most so many bytes, and of which these fail.
+fn are_lines(
+    alloc: Global,
+    text: &[u8],
+    most: usize,
+    fails: &[u64],
+    lines: &[u8],
+) -> Result<bool, NoMemory>
+    requires { 0 < most }
+{
+    let text = Vec::from_slice(alloc, text)?;
+    let mut source = MemorySource::new(text, Vec::from_slice(alloc, fails)?);
+    source.short_reads(most);
+    Ok(given(alloc, &mut source)?.as_slice() == lines)
 }
 
 #[test]
@@ -303,12 +377,9 @@ fn lines_end_before_a_line_feed_or_at_the_end(rt: HostRuntime) -> Result<(), Fai
         ("\n\na\r\n", "||a\r|."),
         ("a\nbc\n\nd", "a|bc||d|."),
     ];
-    for (text, lines) in &cases {
+    for (text, lines) in cases {
         for most in [1usize, 2, 3, 100] {
-            let bytes = Vec::from_slice(rt.alloc(), text.as_bytes())?;
-            let mut source = MemorySource::new(bytes, Vec::new(rt.alloc()));
-            source.short_reads(most);
-            assert!(rt; given(rt.alloc(), &mut source)?.as_slice() == lines.as_bytes());
+            assert!(rt; are_lines(rt.alloc(), text.as_bytes(), most, &[], lines.as_bytes())?);
         }
     }
     Ok(())
@@ -324,29 +395,27 @@ fn whole_lines_are_given_before_a_read_fault(rt: HostRuntime) -> Result<(), Fail
         (4, "a|b|!"),
         (5, "a|b|."),
     ] {
-        let bytes = Vec::from_slice(rt.alloc(), b"a\nb\n")?;
-        let mut source = MemorySource::new(bytes, vec![in rt.alloc(); call]?);
-        source.short_reads(1);
-        assert!(rt; given(rt.alloc(), &mut source)?.as_slice() == lines.as_bytes());
+        assert!(rt;
+            are_lines(rt.alloc(), b"a\nb\n", 1, &[call], lines.as_bytes())?,
+            "{call}"
+        );
     }
     Ok(())
 }
 
-// So many bytes `x`, a line feed and an `a`.
-fn long_text(alloc: Global, len: usize) -> Result<Vec<u8>, AllocError> {
-    let mut text = vec![in alloc; b'x'; len]?;
-    text.extend_from_slice(b"\na")?;
-    Ok(text)
-}
-
 #[test]
 fn a_line_of_more_than_65536_bytes_is_long(rt: HostRuntime) -> Result<(), Fail> {
-    let mut source = MemorySource::new(long_text(rt.alloc(), 65_537)?, Vec::new(rt.alloc()));
-    assert!(rt; given(rt.alloc(), &mut source)?.as_slice() == b"L|a|.".as_slice());
-    let mut source = MemorySource::new(long_text(rt.alloc(), 200_000)?, Vec::new(rt.alloc()));
-    source.short_reads(1_000);
-    assert!(rt; given(rt.alloc(), &mut source)?.as_slice() == b"L|a|.".as_slice());
-    let mut source = MemorySource::new(long_text(rt.alloc(), 65_536)?, Vec::new(rt.alloc()));
-    assert!(rt; given(rt.alloc(), &mut source)?.len() == 65_536 + 4);
+    // The bytes of the first line, how many a read gives, and then what is given: so many bytes, and an end.
+    let cases = [
+        (65_537, usize::MAX, 0, "L|a|."),
+        (200_000, 1_000, 0, "L|a|."),
+        (65_536, usize::MAX, 65_536, "|a|."),
+    ];
+    for (count, most, given, end) in cases {
+        let text = repeated(rt.alloc(), "", "x", count, "\na")?;
+        let lines = repeated(rt.alloc(), "", "x", given, end)?;
+        let are_lines = are_lines(rt.alloc(), text.as_slice(), most, &[], lines.as_slice())?;
+        assert!(rt; are_lines, "{count}");
+    }
     Ok(())
 }

@@ -1,7 +1,8 @@
 //! Names, built-in procedures, literals and expressions as they are made.
 
-use coco_ast::{Expr, Literal, Name, TwoOp, builtins};
-use coco_types::Text;
+use coco_ast::{Expr, Literal, Name, Proc, TwoOp, builtins};
+use coco_types::{NoMemory, Text};
+use std::alloc::Global;
 use std::test::Fail;
 
 #[test]
@@ -17,38 +18,52 @@ fn a_name_is_a_word_of_up_to_32_bytes(rt: HostRuntime) {
         ("a23456789012345678901234567890_2", true),
         ("a23456789012345678901234567890_23", false),
     ] {
-        assert_eq!(rt; Name::of(text.as_bytes()).is_some(), is_name);
+        assert!(rt; Name::of(text.as_bytes()).is_some() == is_name, "{text}");
+    }
+}
+
+fn are_built_in(procs: &[Proc]) -> bool {
+    match procs {
+        [get, put, add] => {
+            get.name.as_str() == "get" && put.name.as_str() == "put" && add.name.as_str() == "add"
+        }
+        _ => false,
     }
 }
 
 #[test]
 fn built_in_procedures_stand_in_their_order(rt: HostRuntime) -> Result<(), Fail> {
     let made = builtins(rt.alloc())?;
-    let procs = made.procs.as_slice();
-    assert_eq!(rt; procs.len(), 3);
-    for (proc, name) in procs.iter().zip(["get", "put", "add"]) {
-        assert_eq!(rt; proc.name.as_str(), name);
-    }
+    assert!(rt; are_built_in(made.procs.as_slice()));
     Ok(())
+}
+
+// The sum of a negated number and of the negation of none.
+fn sum(alloc: Global) -> Result<Expr, NoMemory> {
+    let left = Expr::negate(alloc, Expr::Number(1))?;
+    let right = Expr::not(alloc, Expr::None)?;
+    Expr::two(alloc, TwoOp::Add, left, right)
 }
 
 #[test]
 fn expressions_are_made_of_operands(rt: HostRuntime) -> Result<(), Fail> {
-    let alloc = rt.alloc();
-    let left = Expr::negate(alloc, Expr::Number(1))?;
-    let right = Expr::not(alloc, Expr::None)?;
-    let sum = Expr::two(alloc, TwoOp::Add, left, right)?;
-    assert!(rt; matches!(&sum, Expr::Two { .. }));
+    assert!(rt; matches!(sum(rt.alloc())?, Expr::Two { .. }));
     Ok(())
+}
+
+// Whether the literal of this text has its bytes, and is the text again.
+fn has_its_text(alloc: Global, written: &str) -> Result<bool, NoMemory> {
+    let Some(text) = Text::of(written) else {
+        return Ok(false);
+    };
+    let literal = Literal::of(alloc, &text)?;
+    Ok(literal.as_str() == written && literal.text() == text)
 }
 
 #[test]
 fn a_literal_has_its_text(rt: HostRuntime) -> Result<(), Fail> {
     for written in ["", "Zürich"] {
-        let text = Text::of(written).expect(&rt, "at most 256 bytes");
-        let literal = Literal::of(rt.alloc(), &text)?;
-        assert_eq!(rt; literal.as_str(), written);
-        assert!(rt; literal.text() == text);
+        assert!(rt; has_its_text(rt.alloc(), written)?, "{written}");
     }
     Ok(())
 }
