@@ -1,5 +1,5 @@
--- Numbers and counted bytes read back.
-use Rattle.std.proofs.Common.{◌≡◌, ℕ, ℤ, ◌+◌, ◌-◌, ◌^◌, ◌<◌, ◌≤◌, true, false, cond, ltb, List, ◌++◌, length, get_or, take, drop, Ok, Err, refl, sym, ap, subst, ◌∙◌, length-drop, arith}
+-- Numbers, flags and counted bytes read back.
+use Rattle.std.proofs.Common.{◌≡◌, ℕ, ℤ, zero, suc, ◌+◌, ◌-◌, ◌^◌, ◌<◌, ◌≤◌, Bool, true, false, cond, ltb, eqb, List, ◌++◌, length, get_or, take, drop, Ok, Err, refl, sym, ap, subst, ◌∙◌, length-drop, arith}
 use Rattle.std.specs.Prelude.{slice_range}
 use Rattle.std.specs.Int.RustNames.{FitsSigned}
 use Rattle.std.proofs.lemmas.Int.{to_z-of_z, of_z-to_z}
@@ -10,8 +10,8 @@ use Rattle.std.proofs.lemmas.List.{drop_more, take_at, drop-drop, take-append-dr
 use Rattle.std.proofs.lemmas.Nat.{be_bytes_2, be_bytes_4, be_bytes_8, from_be_bytes-to_be_bytes_2, from_be_bytes-to_be_bytes_4, from_be_bytes-to_be_bytes_8}
 use Rattle.coco_bytes.specs.declared.fault.FieldFault.{FieldFault}
 use Rattle.coco_bytes.specs.declared.fault.FieldFault.TheVariants.{Short, Bad}
-use Rattle.coco_bytes.specs.Fields.{Stands, AreBytes, u8_bytes, u16_bytes, u32_bytes, u64_bytes, i64_bytes, bytes16}
-use Rattle.coco_bytes.specs.Reads.{Agree, u8_at, number_at, u16_at, u32_at, u64_at, i64_at, bytes16_at, text16_at}
+use Rattle.coco_bytes.specs.Fields.{Stands, AreBytes, u8_bytes, flag_bytes, u16_bytes, u32_bytes, u64_bytes, i64_bytes, bytes16}
+use Rattle.coco_bytes.specs.Reads.{Agree, u8_at, flag_at, number_at, u16_at, u32_at, u64_at, i64_at, bytes16_at, text16_at}
 use Rattle.coco_bytes.proofs.FieldLemmas.{bind_then, else_then, if_then, ok_then, Stands-then, Stands-first, Stands-second, Stands-fits, AreBytes-drop, AreBytes-take}
 
 -- what is known of the bytes of a number of this width
@@ -96,6 +96,28 @@ u8_again from at n end lt p =
 
 pub u8_agrees : Agree u8_at u8_bytes (λ n. n < 2 ^ 8)
 u8_agrees = record { found = u8_found; again = u8_again }
+
+one_of_two : (n : ℕ) → n < 2 → n ≡ cond (eqb n 1) 1 0
+one_of_two zero h = refl
+one_of_two (suc zero) h = refl
+one_of_two (suc (suc n)) h = absurd (omega arith)
+
+flag_found : (from : List ℕ) (at : ℕ) (flag : Bool) (end : ℕ) → AreBytes from → flag_at from at ≡ Ok (flag, end) → Unit {0} × Stands from at (flag_bytes flag) end
+unfolding flag_at
+flag_found from at flag end fits e =
+    bind_then (u8_at from at) (λ (f : ℕ × ℕ). cond (ltb f.0 2) (Ok (eqb f.0 1, f.1)) (Err (Bad at))) (flag, end) e (λ f read test.
+    if_then (ltb f.0 2) (Bad at) (Ok (eqb f.0 1, f.1)) (flag, end) test (λ small ok.
+    let a = u8_agrees.found from at f.0 f.1 fits read in
+    ok_then FieldFault (λ (q : Bool × ℕ). Unit {0} × Stands from at (flag_bytes q.0) q.1) (eqb f.0 1, f.1) (flag, end) ok
+    (tt, subst (λ (n : ℕ). Stands from at (u8_bytes n) f.1) (one_of_two f.0 (ltb-true _ _ small)) a.1)))
+
+flag_again : (from : List ℕ) (at : ℕ) (flag : Bool) (end : ℕ) → Unit {0} → Stands from at (flag_bytes flag) end → flag_at from at ≡ Ok (flag, end)
+unfolding flag_at
+flag_again from at true end fits p = rw (u8_agrees.again from at 1 end (omega arith) p) refl
+flag_again from at false end fits p = rw (u8_agrees.again from at 0 end (omega arith) p) refl
+
+pub flag_agrees : Agree flag_at flag_bytes (λ _. Unit {0})
+flag_agrees = record { found = flag_found; again = flag_again }
 
 i64_found : (from : List ℕ) (at : ℕ) (n : ℤ) (end : ℕ) → AreBytes from → i64_at from at ≡ Ok (n, end) → FitsSigned w64 n × Stands from at (i64_bytes n) end
 unfolding i64_at

@@ -1,10 +1,14 @@
 -- What bytes a field has, and where it stands in bytes.
-use Rattle.std.specs.Prelude.{◌≡◌, ℕ, ℤ, ◌+◌, ◌<◌, List, [], ◌∷◌, ◌++◌, length, drop, slice_index}
+use Rattle.std.specs.Prelude.{◌≡◌, ℕ, ℤ, ◌+◌, ◌<◌, Bool, List, [], ◌∷◌, ◌++◌, length, drop, slice_index, if◌then◌else◌}
 use Rattle.std.specs.Int.{w16, w32, w64, to_be_bytes, cast_unsigned}
 
 -- numbers have their highest byte first
 abbrev pub u8_bytes : ℕ → List ℕ
 u8_bytes n = n ∷ []
+
+-- 1 where it is so, else 0
+abbrev pub flag_bytes : Bool → List ℕ
+flag_bytes flag = u8_bytes (if flag then 1 else 0)
 
 abbrev pub u16_bytes : ℕ → List ℕ
 u16_bytes n = to_be_bytes w16 n

@@ -1,5 +1,5 @@
 -- What reading a field at a place gives: its value with the place behind it, or the fault there.
-use Rattle.std.specs.Prelude.{◌≡◌, ℕ, ℤ, ◌+◌, ◌-◌, List, length, drop, slice_index, slice_range, Result, Ok, Err, nat_lt, if◌then◌else◌}
+use Rattle.std.specs.Prelude.{◌≡◌, ℕ, ℤ, ◌+◌, ◌-◌, Bool, List, length, drop, slice_index, slice_range, Result, Ok, Err, nat_lt, ◌==◌, if◌then◌else◌}
 use Rattle.std.specs.Int.{Width, w16, w32, w64, byte_len, from_be_bytes, cast_signed}
 use Rattle.coco_bytes.specs.declared.fault.FieldFault.{FieldFault}
 use Rattle.coco_bytes.specs.declared.fault.FieldFault.TheVariants.{Short, Bad}
@@ -16,6 +16,12 @@ abbrev pub ◌>>=◌ : {A B E : Type 0} → Result A E → (A → Result B E) �
 
 unfoldable pub u8_at : List ℕ → ℕ → Read ℕ
 u8_at from at = if nat_lt at (length from) then Ok (slice_index from at, at + 1) else Err (Short at)
+
+-- 0 or 1
+unfoldable pub flag_at : List ℕ → ℕ → Read Bool
+flag_at from at = do
+  flag ← u8_at from at
+  if nat_lt flag.0 2 then Ok (flag.0 == 1, flag.1) else Err (Bad at)
 
 unfoldable pub number_at : Width → List ℕ → ℕ → Read ℕ
 number_at w from at = if nat_lt (length from) (at + byte_len w) then Err (Short at) else Ok (from_be_bytes w (drop at from), at + byte_len w)

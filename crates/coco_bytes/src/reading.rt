@@ -1,7 +1,7 @@
 //! Fields read at a place: the value, and the place behind it.
 
 ghost use Rattle.std.specs.Prelude.{◌≡◌, ◌+◌, ◌≤◌, length, IfOk};
-ghost use Rattle.coco_bytes.specs.Reads.{u8_at, u16_at, u32_at, u64_at, i64_at, bytes16_at};
+ghost use Rattle.coco_bytes.specs.Reads.{u8_at, flag_at, u16_at, u32_at, u64_at, i64_at, bytes16_at};
 
 use crate::FieldFault;
 
@@ -15,6 +15,21 @@ pub fn get_u8(from: &[u8], at: usize) -> Result<(u8, usize), FieldFault>
     match from.get(at) {
         Some(n) => Ok((*n, at + 1)),
         None => Err(FieldFault::Short { at }),
+    }
+}
+
+/// The flag at a place. A byte that is neither 0 nor 1 is bad at its place.
+#[tactic(auto, unfolding(crate::specs::Reads::flag_at))]
+pub fn get_flag(from: &[u8], at: usize) -> Result<(bool, usize), FieldFault>
+    requires { at ≤ length from.now }
+    ensures read { result ≡ flag_at from.now at }
+    ensures within { IfOk result (λ r. r.1 ≤ length from.now) }
+{
+    let (flag, end) = get_u8(from, at)?;
+    if flag < 2 {
+        Ok((flag == 1, end))
+    } else {
+        Err(FieldFault::Bad { at })
     }
 }
 

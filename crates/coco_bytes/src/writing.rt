@@ -1,7 +1,7 @@
 //! Fields put behind bytes. Out of memory the bytes are as before.
 
 ghost use Rattle.std.specs.Prelude.{◌≡◌, ◌<◌, ◌≤◌, ◌^◌, ◌++◌, length, OnOk, OnErr};
-ghost use Rattle.coco_bytes.specs.Fields.{u8_bytes, u16_bytes, u32_bytes, u64_bytes, i64_bytes, bytes16};
+ghost use Rattle.coco_bytes.specs.Fields.{u8_bytes, flag_bytes, u16_bytes, u32_bytes, u64_bytes, i64_bytes, bytes16};
 
 use coco_types::NoMemory;
 
@@ -12,6 +12,14 @@ pub fn put_u8(out: &mut Vec<u8>, n: u8) -> Result<(), NoMemory>
 {
     out.push(n)?;
     Ok(())
+}
+
+/// Puts a flag's byte behind the bytes.
+pub fn put_flag(out: &mut Vec<u8>, flag: bool) -> Result<(), NoMemory>
+    ensures ok { OnOk result (out.new.items ≡ out.old.items ++ flag_bytes flag) }
+    ensures err { OnErr result (out.new.items ≡ out.old.items) }
+{
+    put_u8(out, flag as u8)
 }
 
 /// Puts a number's two bytes behind the bytes.

@@ -7,22 +7,22 @@ use Rattle.coco_types.specs.declared.call.Reply.{Reply}
 use Rattle.coco_types.specs.declared.value.Value.{Value}
 use Rattle.coco_types.specs.RowKey.{RowKey}
 use Rattle.coco_bytes.specs.declared.fault.FieldFault.{FieldFault}
-use Rattle.coco_bytes.specs.Fields.{Stands, u32_bytes, u64_bytes}
-use Rattle.coco_bytes.specs.Reads.{Agree, u32_at, u64_at}
+use Rattle.coco_bytes.specs.Fields.{Stands, flag_bytes, u32_bytes, u64_bytes}
+use Rattle.coco_bytes.specs.Reads.{Agree, flag_at, u32_at, u64_at}
 use Rattle.coco_bytes.specs.Lists.{counted}
 use Rattle.coco_bytes.specs.Values.{value_bytes, IsValue, value_at}
 use Rattle.coco_bytes.proofs.FieldLemmas.{bind_then, ok_then}
-use Rattle.coco_bytes.proofs.NumberLemmas.{u32_agrees, u64_agrees}
+use Rattle.coco_bytes.proofs.NumberLemmas.{flag_agrees, u32_agrees, u64_agrees}
 use Rattle.coco_bytes.proofs.ValueLemmas.{value_agrees}
 use Rattle.coco_entry.specs.declared.base.BaseHead.{BaseHead}
 use Rattle.coco_entry.specs.declared.base.Stamp.{Stamp}
 use Rattle.coco_entry.specs.declared.base.TheConstants.{MOST_ITEMS}
 use Rattle.coco_entry.specs.declared.calls.Timed.{Timed}
 use Rattle.coco_entry.specs.Grammar.{then_by, ◌▸◌}
-use Rattle.coco_entry.specs.Calls.{flag_bytes, flag_at, IsReply, reply_bytes, done_of, timed_at, reply_at}
+use Rattle.coco_entry.specs.Calls.{IsReply, reply_bytes, done_of, timed_at, reply_at}
 use Rattle.coco_entry.specs.Bases.{floor_bytes, IsFloor, floor_number_at, floor_at, IsHead, head_at, AreItems, items_count_at, StampRises, stamp_rises, stamp_of, stamped, stamped_at, DoneRises, base_done_bytes, IsBaseDone, base_done_at, AreBaseDones, base_dones_at, present, present_at, BaseRowRises, base_row_bytes, IsBaseRow, base_row_at, AreBaseRows, base_rows_at}
 use Rattle.coco_entry.proofs.GrammarLemmas.{both_true, true_both, agree_so, then_agrees, pair_agrees, made_agrees, tested_agrees, listed_agrees}
-use Rattle.coco_entry.proofs.CallLemmas.{flag_agrees, IsTimed, bytes_of_timed, timed_agrees, timed_of, reply_agrees}
+use Rattle.coco_entry.proofs.CallLemmas.{IsTimed, bytes_of_timed, timed_agrees, timed_of, reply_agrees}
 use Rattle.coco_entry.proofs.EntryLemmas.{rising_key_agrees}
 
 -- ---- the head

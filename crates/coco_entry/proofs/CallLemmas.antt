@@ -1,6 +1,6 @@
 -- Committed requests read back.
-use Rattle.std.proofs.Common.{◌≡◌, ◌≢◌, ℕ, zero, suc, ◌+◌, ◌^◌, ◌<◌, ◌≤◌, Bool, true, false, cond, ltb, leb, eqb, List, ◌++◌, Option, Ok, Err, refl, sym, arith}
-use Rattle.std.proofs.lemmas.Bool.{ltb-true, lt-ltb, leb-true, le-leb}
+use Rattle.std.proofs.Common.{◌≡◌, ◌≢◌, ℕ, zero, suc, ◌+◌, ◌^◌, ◌<◌, ◌≤◌, Bool, leb, List, ◌++◌, Option, Ok, Err, refl, sym, arith}
+use Rattle.std.proofs.lemmas.Bool.{leb-true, le-leb}
 use Rattle.coco_types.specs.declared.call.Call.{Call}
 use Rattle.coco_types.specs.declared.call.Cause.{Cause}
 use Rattle.coco_types.specs.declared.call.Cause.TheVariants.{User, Overflow, ZeroDivide, Kind, BadRow}
@@ -11,40 +11,16 @@ use Rattle.coco_types.specs.declared.value.Value.{Value}
 use Rattle.coco_types.specs.Limits.{most_arguments}
 use Rattle.coco_bytes.specs.declared.fault.FieldFault.{FieldFault}
 use Rattle.coco_bytes.specs.declared.fault.FieldFault.TheVariants.{Bad}
-use Rattle.coco_bytes.specs.Fields.{Stands, AreBytes, u8_bytes, u16_bytes, u64_bytes}
-use Rattle.coco_bytes.specs.Reads.{Agree, u8_at, u16_at, u64_at}
+use Rattle.coco_bytes.specs.Fields.{Stands, AreBytes, u8_bytes, flag_bytes, u16_bytes, u64_bytes}
+use Rattle.coco_bytes.specs.Reads.{Agree, u8_at, flag_at, u16_at, u64_at}
 use Rattle.coco_bytes.specs.Values.{value_bytes, IsValue, value_at}
 use Rattle.coco_bytes.proofs.FieldLemmas.{bind_then, ok_then, Stands-then, Stands-first, Stands-second}
-use Rattle.coco_bytes.proofs.NumberLemmas.{u8_agrees, u16_agrees, u64_agrees}
+use Rattle.coco_bytes.proofs.NumberLemmas.{u8_agrees, flag_agrees, u16_agrees, u64_agrees}
 use Rattle.coco_bytes.proofs.ValueLemmas.{value_agrees}
 use Rattle.coco_entry.specs.declared.calls.Timed.{Timed}
 use Rattle.coco_entry.specs.Grammar.{◌▸◌, tested}
-use Rattle.coco_entry.specs.Calls.{flag_bytes, flag_at, args_bytes, AreArgs, args_count_at, args_at, call_bytes, IsCall, call_at, cause_bytes, IsCause, cause_of_kind, cause_at, reply_bytes, IsReply, reply_of_kind, reply_at, timed_bytes, timed_at, done_bytes, IsDone, done_of, done_at}
+use Rattle.coco_entry.specs.Calls.{args_bytes, AreArgs, args_count_at, args_at, call_bytes, IsCall, call_at, cause_bytes, IsCause, cause_of_kind, cause_at, reply_bytes, IsReply, reply_of_kind, reply_at, timed_bytes, timed_at, done_bytes, IsDone, done_of, done_at}
 use Rattle.coco_entry.proofs.GrammarLemmas.{agree_so, pair_agrees, made_agrees, tested_agrees, listed_agrees}
-
-abbrev flag_number : Bool → ℕ
-flag_number flag = cond flag 1 0
-
-flag_back : (n : ℕ) → n < 2 → flag_number (eqb n 1) ≡ n
-flag_back zero h = refl
-flag_back (suc zero) h = refl
-flag_back (suc (suc n)) h = absurd (omega arith)
-
-flag_there : (flag : Bool) → eqb (flag_number flag) 1 ≡ flag
-flag_there true = refl
-flag_there false = refl
-
-flag_fits : (flag : Bool) → (flag_number flag < 2 ^ 8) × (flag_number flag < 2)
-flag_fits true = (omega arith, omega arith)
-flag_fits false = (omega arith, omega arith)
-
-pub flag_agrees : Agree flag_at flag_bytes (λ _. Unit {0})
-unfolding flag_at
-flag_agrees =
-    agree_so (made_agrees (λ n. eqb n 1) flag_number (tested (λ n. ltb n 2) u8_at) u8_bytes (λ n. (n < 2 ^ 8) × (n < 2))
-    (tested_agrees (λ n. ltb n 2) (λ n. n < 2) u8_at u8_bytes (λ n. n < 2 ^ 8) u8_agrees (λ n e. ltb-true n 2 e) (λ n h. lt-ltb n 2 h))
-    (λ flag _. flag_there flag) (λ n h. flag_back n h.1))
-    (λ _. refl) (λ _ _. tt) (λ flag _. flag_fits flag)
 
 args_agree : Agree args_at args_bytes AreArgs
 unfolding args_at args_count_at

@@ -1,13 +1,13 @@
 -- The entries of a base file: its head, the Dones that are kept, and the rows of the map.
-use Rattle.std.specs.Prelude.{◌≡◌, ◌⊎◌, ℕ, ◌<◌, ◌≤◌, ◌^◌, Bool, true, List, ◌∷◌, ◌++◌, length, Option, Some, None, Result, Ok, Err, nat_lt, nat_le, ◌==◌, ◌||◌, ◌&&◌, if◌then◌else◌}
+use Rattle.std.specs.Prelude.{◌≡◌, ◌⊎◌, ℕ, ◌<◌, ◌≤◌, ◌^◌, Bool, true, false, List, ◌∷◌, ◌++◌, length, Option, Some, None, Result, Ok, Err, nat_lt, nat_le, ◌==◌, ◌||◌, ◌&&◌, if◌then◌else◌}
 use Rattle.std.specs.Option.{option_map}
 use Rattle.coco_types.specs.declared.call.Done.{Done}
 use Rattle.coco_types.specs.declared.value.Value.{Value}
 use Rattle.coco_types.specs.RowKey.{RowKey}
 use Rattle.coco_bytes.specs.declared.fault.FieldFault.{FieldFault}
 use Rattle.coco_bytes.specs.declared.fault.FieldFault.TheVariants.{Bad}
-use Rattle.coco_bytes.specs.Fields.{u64_bytes}
-use Rattle.coco_bytes.specs.Reads.{◌>>=◌, Read, u32_at, u64_at}
+use Rattle.coco_bytes.specs.Fields.{flag_bytes, u64_bytes}
+use Rattle.coco_bytes.specs.Reads.{◌>>=◌, Read, flag_at, u32_at, u64_at}
 use Rattle.coco_bytes.specs.Lists.{counted, FitInTurn}
 use Rattle.coco_bytes.specs.Values.{key_bytes, IsKey, value_bytes, IsValue, value_at}
 use Rattle.coco_entry.specs.declared.base.BaseHead.{BaseHead}
@@ -15,15 +15,15 @@ use Rattle.coco_entry.specs.declared.base.Stamp.{Stamp}
 use Rattle.coco_entry.specs.declared.base.TheConstants.{MOST_ITEMS}
 use Rattle.coco_entry.specs.declared.calls.Timed.{Timed}
 use Rattle.coco_entry.specs.Grammar.{Reader, then_by, ◌▸◌, made, tested, listed, tagged}
-use Rattle.coco_entry.specs.Calls.{flag_at, done_bytes, IsDone, done_of, timed_at, reply_at}
+use Rattle.coco_entry.specs.Calls.{done_bytes, IsDone, done_of, timed_at, reply_at}
 use Rattle.coco_entry.specs.Rows.{KeyRises, rising_key_at}
 
 -- ---- the head
 
--- without a floor its number is 0
+-- whether there is one, and its number, which is 0 without one
 abbrev pub floor_bytes : Option ℕ → List ℕ
-floor_bytes None = 0 ∷ u64_bytes 0
-floor_bytes (Some floor) = 1 ∷ u64_bytes floor
+floor_bytes None = flag_bytes false ++ u64_bytes 0
+floor_bytes (Some floor) = flag_bytes true ++ u64_bytes floor
 
 abbrev pub IsFloor : Option ℕ → Type 0
 IsFloor None = Unit {0}

@@ -1,5 +1,5 @@
 -- The bytes of a committed request: its id, its call, its time and its reply.
-use Rattle.std.specs.Prelude.{ℕ, zero, suc, ◌<◌, ◌≤◌, ◌^◌, Bool, List, [], ◌∷◌, ◌++◌, length, Option, None, Ok, Err, nat_lt, nat_le, ◌==◌, if◌then◌else◌}
+use Rattle.std.specs.Prelude.{ℕ, zero, suc, ◌<◌, ◌≤◌, ◌^◌, List, [], ◌∷◌, ◌++◌, length, Option, None, Ok, Err, nat_le}
 use Rattle.std.specs.List.{flat_map}
 use Rattle.coco_types.specs.declared.call.Call.{Call}
 use Rattle.coco_types.specs.declared.call.Cause.{Cause}
@@ -10,19 +10,12 @@ use Rattle.coco_types.specs.declared.call.Reply.TheVariants as reply
 use Rattle.coco_types.specs.declared.value.Value.{Value}
 use Rattle.coco_types.specs.Limits.{most_arguments}
 use Rattle.coco_bytes.specs.declared.fault.FieldFault.TheVariants.{Bad}
-use Rattle.coco_bytes.specs.Fields.{u8_bytes, u16_bytes, u64_bytes}
-use Rattle.coco_bytes.specs.Reads.{◌>>=◌, u8_at, u16_at, u64_at}
+use Rattle.coco_bytes.specs.Fields.{u8_bytes, flag_bytes, u16_bytes, u64_bytes}
+use Rattle.coco_bytes.specs.Reads.{◌>>=◌, u8_at, flag_at, u16_at, u64_at}
 use Rattle.coco_bytes.specs.Lists.{FitInTurn}
 use Rattle.coco_bytes.specs.Values.{value_bytes, IsValue, value_at}
 use Rattle.coco_entry.specs.declared.calls.Timed.{Timed}
 use Rattle.coco_entry.specs.Grammar.{Reader, ◌▸◌, made, tested, listed}
-
--- 1 where it is so, else 0
-abbrev pub flag_bytes : Bool → List ℕ
-flag_bytes flag = u8_bytes (if flag then 1 else 0)
-
-unfoldable pub flag_at : Reader Bool
-flag_at = made (λ n. n == 1) (tested (λ n. nat_lt n 2) u8_at)
 
 -- the arguments behind their number
 abbrev pub args_bytes : List (Option Value) → List ℕ

@@ -9,10 +9,11 @@ ghost use Rattle.coco_entry.specs.Bases.{floor_bytes, IsFloor, floor_number_at, 
 
 use crate::EntryFault;
 use crate::calls::{Timed, done_of_parts, get_kept, get_timed, put_done};
-use crate::fields::{emptied, get_flag, get_tag, whole};
+use crate::fields::{emptied, get_tag, whole};
 use crate::prepared::{get_rising_key, key_fits};
 use coco_bytes::{
-    FieldFault, get_u32, get_u64, get_value, put_key, put_u8, put_u32, put_u64, put_value,
+    FieldFault, get_flag, get_u32, get_u64, get_value, put_flag, put_key, put_u8, put_u32, put_u64,
+    put_value,
 };
 use coco_types::{Done, Dones, Key, MapRows, NoMemory, Sequence, Value};
 use std::alloc::Global;
@@ -43,11 +44,11 @@ fn put_floor(out: &mut Vec<u8>, floor: Option<u64>) -> Result<(), NoMemory>
 {
     match floor {
         None => {
-            put_u8(out, 0)?;
+            put_flag(out, false)?;
             put_u64(out, 0)
         }
         Some(floor) => {
-            put_u8(out, 1)?;
+            put_flag(out, true)?;
             put_u64(out, floor)
         }
     }

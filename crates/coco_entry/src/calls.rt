@@ -4,11 +4,13 @@ ghost use Rattle.std.specs.Prelude.{◌≡◌, None, ◌≤◌, ◌++◌, length
 ghost use Rattle.coco_bytes.specs.Lists.{items_at};
 ghost use Rattle.coco_bytes.specs.Values.{value_bytes, IsValue, value_at};
 ghost use Rattle.coco_entry.specs.Grammar.{Answers};
-ghost use Rattle.coco_entry.specs.Calls.{flag_bytes, args_bytes, AreArgs, args_count_at, args_at, call_bytes, IsCall, call_at, cause_bytes, IsCause, cause_of_kind, cause_at, reply_bytes, IsReply, reply_of_kind, reply_at, timed_bytes, timed_at, done_bytes, IsDone, done_of, done_at};
+ghost use Rattle.coco_entry.specs.Calls.{args_bytes, AreArgs, args_count_at, args_at, call_bytes, IsCall, call_at, cause_bytes, IsCause, cause_of_kind, cause_at, reply_bytes, IsReply, reply_of_kind, reply_at, timed_bytes, timed_at, done_bytes, IsDone, done_of, done_at};
 
 use crate::EntryFault;
-use crate::fields::{get_any, get_flag, put_any};
-use coco_bytes::{FieldFault, get_u8, get_u16, get_u64, put_u8, put_u16, put_u64};
+use crate::fields::{get_any, put_any};
+use coco_bytes::{
+    FieldFault, get_flag, get_u8, get_u16, get_u64, put_flag, put_u8, put_u16, put_u64,
+};
 use coco_types::limits::MOST_ARGUMENTS;
 use coco_types::{Args, Call, Cause, Done, KeptReply, NoMemory, Packed};
 use std::alloc::Global;
@@ -38,7 +40,7 @@ fn put_call(out: &mut Vec<u8>, call: &Call) -> Result<(), NoMemory>
     ensures fits { OnOk result (IsCall call.now) }
 {
     put_u16(out, call.proc_no)?;
-    put_u8(out, call.snapshot as u8)?;
+    put_flag(out, call.snapshot)?;
     put_args(out, call.args.as_slice())
 }
 

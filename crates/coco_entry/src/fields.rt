@@ -1,9 +1,8 @@
-//! Fields that several entries have: their tag, flags, and the end.
+//! Fields that several entries have: their tag, packed values, and the end.
 
 ghost use Rattle.std.specs.Prelude.{◌≡◌, ◌≤◌, ◌++◌, [], length, IfOk, OnOk, OnErr};
 ghost use Rattle.coco_bytes.specs.Values.{value_bytes, IsValue, value_at};
 ghost use Rattle.coco_entry.specs.Grammar.{tag_at, whole as whole_of, Answers};
-ghost use Rattle.coco_entry.specs.Calls.{flag_at};
 
 use crate::EntryFault;
 use coco_bytes::{FieldFault, get_i64, get_u8, get_value, packed_fits, put_packed};
@@ -46,21 +45,6 @@ pub fn emptied(out: &mut Vec<u8>, put: Result<(), NoMemory>) -> Result<(), NoMem
         out.clear();
     }
     put
-}
-
-/// The flag at a place, 0 or 1.
-#[tactic(auto, unfolding(crate::specs::Calls::flag_at))]
-pub fn get_flag(from: &[u8], at: usize) -> Result<(bool, usize), FieldFault>
-    requires { at ≤ length from.now }
-    ensures read { result ≡ flag_at from.now at }
-    ensures within { IfOk result (λ r. r.1 ≤ length from.now) }
-{
-    let (flag, end) = get_u8(from, at)?;
-    if flag < 2 {
-        Ok((flag == 1, end))
-    } else {
-        Err(FieldFault::Bad { at })
-    }
 }
 
 /// Puts a packed value or none behind the bytes. Each is one that has bytes.

@@ -16,4 +16,4 @@ pub use base::{
 pub use commit::{Commit, put_commit, read_commit};
 pub use fault::EntryFault;
 pub use layout::{Files, Layout, LayoutEntry, put_layout, read_layout};
-pub use prepared::{Prepared, Row, Rows, put_prepared, read_prepared};
+pub use prepared::{Prepared, Row, Rows, put_prepared, read_prepared, rises};

@@ -62,8 +62,8 @@ fn put_rows(out: &mut Vec<u8>, rows: &[Row]) -> Result<(), NoMemory>
     Ok(())
 }
 
-// Whether a key is above the one before it.
-fn rises(before: &Option<Key>, key: &Key) -> bool
+/// Whether a key is above the one before it.
+pub fn rises(before: &Option<Key>, key: &Key) -> bool
     ensures { result ≡ key_rises before.now key.now }
 {
     match before {

@@ -20,15 +20,9 @@ use crate::MakeFault;
 use coco_entry::{Files, Layout, put_layout};
 use coco_host::Host;
 use coco_log::{Log, LogFault};
+use coco_store::kinds::{COMMITS, LAYOUTS, PREPARED};
 use coco_types::{Bytes, NoMemory};
 use std::alloc::Global;
-
-// The kinds of logs.
-const LAYOUTS: u8 = 0;
-
-const COMMITS: u8 = 1;
-
-const PREPARED: u8 = 2;
 
 /// The layout of a new store: the coordinator's file is 1, those of the nodes are 2, 3 and on, and epochs begin
 /// with 1.

@@ -1,23 +1,23 @@
 -- Messages read back: what is read is spelled so, and what is spelled so is read.
-use Rattle.std.proofs.Common.{◌≡◌, ℕ, zero, suc, ◌+◌, ◌^◌, ◌<◌, Bool, true, false, cond, ltb, eqb, List, ◌∷◌, ◌++◌, length, Option, Some, None, Ok, Err, refl, sym, subst, arith}
+use Rattle.std.proofs.Common.{◌≡◌, ℕ, ◌+◌, ◌^◌, ◌<◌, Bool, true, cond, ltb, eqb, List, ◌∷◌, ◌++◌, length, Option, Some, None, Ok, Err, refl, sym, subst, arith}
 use Rattle.std.proofs.lemmas.Bool.{ltb-true, lt-ltb, ltb-false, eqb-true, eqb-false, eq-eqb}
 use Rattle.coco_types.specs.declared.call.Write.{Write}
 use Rattle.coco_bytes.specs.declared.fault.FieldFault.{FieldFault}
 use Rattle.coco_bytes.specs.declared.fault.FieldFault.TheVariants.{Bad}
-use Rattle.coco_bytes.specs.Fields.{Stands, AreBytes, u8_bytes, u32_bytes, u64_bytes}
-use Rattle.coco_bytes.specs.Reads.{◌>>=◌, Read, Agree, u8_at, u32_at, u64_at}
+use Rattle.coco_bytes.specs.Fields.{Stands, AreBytes, u8_bytes, flag_bytes, u32_bytes, u64_bytes}
+use Rattle.coco_bytes.specs.Reads.{◌>>=◌, Read, Agree, u8_at, flag_at, u32_at, u64_at}
 use Rattle.coco_bytes.specs.Lists.{counted, counted_at}
 use Rattle.coco_bytes.specs.Values.{key_bytes, key_at, value_bytes, value_at}
 use Rattle.coco_bytes.proofs.FieldLemmas.{bind_then, else_then, if_then, ok_then, pick, Stands-all, Stands-then, Stands-first, Stands-second, Stands-whole}
-use Rattle.coco_bytes.proofs.NumberLemmas.{u8_agrees, u32_agrees, u64_agrees}
+use Rattle.coco_bytes.proofs.NumberLemmas.{u8_agrees, flag_agrees, u32_agrees, u64_agrees}
 use Rattle.coco_bytes.proofs.ListLemmas.{counted_agrees}
 use Rattle.coco_bytes.proofs.ValueLemmas.{key_agrees, value_agrees}
 use Rattle.coco_msg.specs.declared.message.Message.{Message}
 use Rattle.coco_msg.specs.declared.message.Message.TheVariants.{Ship, Total, Missing, All, Prepare, Vote, Commit, Finished, Abort, Query, Tell}
-use Rattle.coco_msg.specs.Bytes.{write_bytes, flag_bytes, listed_bytes, ship_bytes, bytes_of, RisesFrom, IsPlace, IsWrite, ArePlaces, AreWrites, IsMessage}
-use Rattle.coco_msg.specs.Reading.{write_at, rises, place_at, flag_at, ship_at, listed_at, total_at, missing_at, all_at, decision_of, decision_at, fields_at, message_in}
+use Rattle.coco_msg.specs.Bytes.{write_bytes, listed_bytes, ship_bytes, bytes_of, RisesFrom, IsPlace, IsWrite, ArePlaces, AreWrites, IsMessage}
+use Rattle.coco_msg.specs.Reading.{write_at, rises, place_at, ship_at, listed_at, total_at, missing_at, all_at, decision_of, decision_at, fields_at, message_in}
 
--- ---- writes, places, flags
+-- ---- writes, places
 
 write_found : (from : List ℕ) (at : ℕ) (w : Write) (end : ℕ) → AreBytes from → write_at from at ≡ Ok (w, end) → IsWrite w × Stands from at (write_bytes w) end
 unfolding write_at
@@ -64,28 +64,6 @@ place_again before from at place end fits p = rw (u32_agrees.again from at place
 
 places_agree : Agree (counted_at place_at) (counted u32_bytes) ArePlaces
 places_agree = counted_agrees place_at u32_bytes IsPlace (λ before. record { found = place_found before; again = place_again before })
-
-one_of_two : (n : ℕ) → n < 2 → n ≡ cond (eqb n 1) 1 0
-one_of_two zero h = refl
-one_of_two (suc zero) h = refl
-one_of_two (suc (suc n)) h = absurd (omega arith)
-
-flag_found : (from : List ℕ) (at : ℕ) (flag : Bool) (end : ℕ) → AreBytes from → flag_at from at ≡ Ok (flag, end) → Unit {0} × Stands from at (flag_bytes flag) end
-unfolding flag_at
-flag_found from at flag end fits e =
-    bind_then (u8_at from at) (λ (f : ℕ × ℕ). cond (ltb f.0 2) (Ok (eqb f.0 1, f.1)) (Err (Bad at))) (flag, end) e (λ f read test.
-    if_then (ltb f.0 2) (Bad at) (Ok (eqb f.0 1, f.1)) (flag, end) test (λ small ok.
-    let a = u8_agrees.found from at f.0 f.1 fits read in
-    ok_then FieldFault (λ (q : Bool × ℕ). Unit {0} × Stands from at (flag_bytes q.0) q.1) (eqb f.0 1, f.1) (flag, end) ok
-    (tt, subst (λ (n : ℕ). Stands from at (u8_bytes n) f.1) (one_of_two f.0 (ltb-true _ _ small)) a.1)))
-
-flag_again : (from : List ℕ) (at : ℕ) (flag : Bool) (end : ℕ) → Unit {0} → Stands from at (flag_bytes flag) end → flag_at from at ≡ Ok (flag, end)
-unfolding flag_at
-flag_again from at true end fits p = rw (u8_agrees.again from at 1 end (omega arith) p) refl
-flag_again from at false end fits p = rw (u8_agrees.again from at 0 end (omega arith) p) refl
-
-pub flag_agrees : Agree flag_at flag_bytes (λ _. Unit {0})
-flag_agrees = record { found = flag_found; again = flag_again }
 
 -- ---- messages, found
 

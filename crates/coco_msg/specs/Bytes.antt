@@ -1,7 +1,7 @@
 -- The bytes of each message: a tag, the epoch and the fields, and nothing more.
-use Rattle.std.specs.Prelude.{ℕ, ◌<◌, ◌^◌, Bool, List, ◌∷◌, ◌++◌, length, Option, Some, None, if◌then◌else◌}
+use Rattle.std.specs.Prelude.{ℕ, ◌<◌, ◌^◌, List, ◌∷◌, ◌++◌, length, Option, Some, None}
 use Rattle.coco_types.specs.declared.call.Write.{Write}
-use Rattle.coco_bytes.specs.Fields.{u8_bytes, u32_bytes, u64_bytes}
+use Rattle.coco_bytes.specs.Fields.{u8_bytes, flag_bytes, u32_bytes, u64_bytes}
 use Rattle.coco_bytes.specs.Lists.{counted, FitInTurn}
 use Rattle.coco_bytes.specs.Values.{key_bytes, IsKey, value_bytes, IsValue}
 use Rattle.coco_msg.specs.declared.message.Message.{Message}
@@ -9,9 +9,6 @@ use Rattle.coco_msg.specs.declared.message.Message.TheVariants.{Ship, Total, Mis
 
 abbrev pub write_bytes : Write → List ℕ
 write_bytes w = key_bytes w.key ++ value_bytes w.value
-
-abbrev pub flag_bytes : Bool → List ℕ
-flag_bytes flag = u8_bytes (if flag then 1 else 0)
 
 abbrev pub listed_bytes : ℕ → ℕ → List ℕ → List ℕ
 listed_bytes epoch partition places = u64_bytes epoch ++ (u8_bytes partition ++ counted u32_bytes places)

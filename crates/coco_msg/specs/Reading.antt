@@ -3,7 +3,7 @@ use Rattle.std.specs.Prelude.{◌≡◌, ℕ, Bool, true, List, length, Option, 
 use Rattle.coco_types.specs.declared.call.Write.{Write}
 use Rattle.coco_bytes.specs.declared.fault.FieldFault.{FieldFault}
 use Rattle.coco_bytes.specs.declared.fault.FieldFault.TheVariants.{Bad}
-use Rattle.coco_bytes.specs.Reads.{◌>>=◌, Read, u8_at, u32_at, u64_at, fault_place}
+use Rattle.coco_bytes.specs.Reads.{◌>>=◌, Read, u8_at, flag_at, u32_at, u64_at, fault_place}
 use Rattle.coco_bytes.specs.Lists.{counted_at}
 use Rattle.coco_bytes.specs.Values.{key_at, value_at}
 use Rattle.coco_msg.specs.declared.fault.MessageFault.{MessageFault}
@@ -26,12 +26,6 @@ unfoldable pub place_at : Option ℕ → List ℕ → ℕ → Read ℕ
 place_at before from at = do
   place ← u32_at from at
   if rises before place.0 then Ok place else Err (Bad at)
-
--- 0 or 1
-unfoldable pub flag_at : List ℕ → ℕ → Read Bool
-flag_at from at = do
-  flag ← u8_at from at
-  if nat_lt flag.0 2 then Ok (flag.0 == 1, flag.1) else Err (Bad at)
 
 unfoldable pub ship_at : List ℕ → ℕ → Read Message
 ship_at from at = do

@@ -3,28 +3,14 @@
 ghost use Rattle.std.specs.Prelude.{◌≡◌, ◌≤◌, length, Ok, IfOk};
 ghost use Rattle.coco_msg.specs.Bytes.{bytes_of, IsMessage};
 ghost use Rattle.coco_msg.specs.declared.message.Message.{Message as Letter};
-ghost use Rattle.coco_msg.specs.Reading.{flag_at, ship_at, listed_at, total_at, missing_at, all_at, decision_of, decision_at, fields_at, message_in, Answers};
+ghost use Rattle.coco_msg.specs.Reading.{ship_at, listed_at, total_at, missing_at, all_at, decision_of, decision_at, fields_at, message_in, Answers};
 
 use crate::MessageFault;
 use crate::lists::{get_places, get_writes};
 use crate::message::{Message, Places};
-use coco_bytes::{get_u8, get_u32, get_u64};
+use coco_bytes::{get_flag, get_u8, get_u32, get_u64};
 use coco_types::PackedWrite;
 use std::alloc::Global;
-
-#[tactic(auto, unfolding(crate::specs::Reading::flag_at))]
-fn get_flag(from: &[u8], at: usize) -> Result<(bool, usize), MessageFault>
-    requires { at ≤ length from.now }
-    ensures read { Answers result (flag_at from.now at) }
-    ensures within { IfOk result (λ r. r.1 ≤ length from.now) }
-{
-    let (flag, end) = get_u8(from, at)?;
-    if flag < 2 {
-        Ok((flag == 1, end))
-    } else {
-        Err(MessageFault::Bad { at })
-    }
-}
 
 #[tactic(auto, unfolding(crate::specs::Reading::ship_at))]
 fn get_ship(

@@ -1,13 +1,13 @@
 //! Messages to bytes.
 
 ghost use Rattle.std.specs.Prelude.{◌≡◌, ◌∷◌, ◌++◌, ◌<◌, ◌^◌, length, IfOk, OnOk, Bool};
-ghost use Rattle.coco_bytes.specs.Fields.{u8_bytes, u32_bytes, u64_bytes};
+ghost use Rattle.coco_bytes.specs.Fields.{u8_bytes, flag_bytes, u32_bytes, u64_bytes};
 ghost use Rattle.coco_msg.specs.declared.message.Message.TheVariants.{Ship};
-ghost use Rattle.coco_msg.specs.Bytes.{bytes_of, HasBytes, listed_bytes, piece_bytes, flag_bytes};
+ghost use Rattle.coco_msg.specs.Bytes.{bytes_of, HasBytes, listed_bytes, piece_bytes};
 
 use crate::lists::{put_places, put_writes};
 use crate::message::{Message, Places};
-use coco_bytes::{put_u8, put_u32, put_u64};
+use coco_bytes::{put_flag, put_u8, put_u32, put_u64};
 use coco_types::{NoMemory, PackedWrites, Piece};
 use std::alloc::Global;
 
@@ -23,7 +23,7 @@ fn put_flagged(out: &mut Vec<u8>, tag: u8, epoch: u64, flag: bool) -> Result<(),
     ensures { OnOk result (out.new.items ≡ out.old.items ++ tag ∷ (u64_bytes epoch ++ flag_bytes flag)) }
 {
     put_head(out, tag, epoch)?;
-    put_u8(out, flag as u8)
+    put_flag(out, flag)
 }
 
 fn put_listed(

@@ -8,7 +8,7 @@ use Rattle.coco_entry.specs.declared.prepared.Prepared.{Prepared}
 use Rattle.coco_log.specs.LogState.{IsFresh, IsOpened, LogState}
 use Rattle.coco_read.specs.EntryRules.{EntryRules, IsFile, IsFirstIn, IsReadLog}
 use Rattle.coco_store.specs.Contents.{Contents, Holds, HoldsBase, HoldsHistory, chief_of, file_of}
-use Rattle.coco_store.specs.Entries.{AreLayouts, BaseEntry, Dones, Head, Values}
+use Rattle.coco_store.specs.Entries.{AreLayouts, BaseEntry, Dones, Head, Values, base_kind, commits_kind, layouts_kind, prepared_kind}
 use Rattle.coco_store.specs.Refusals.{IsFirst, IsFirstRefusal, IsNodeRefused, in_node}
 use Rattle.coco_store.specs.Rules.{EachBehind, HavePrepared, IsNextPrepared, IsWhole}
 use Rattle.coco_recover.specs.Bases.{Basis, IsBased, base_rules, entries_of}
@@ -59,7 +59,7 @@ module _ {E : Type 0} (rules : EntryRules E) (entries : List E) (log : LogState)
   pub is_opened : IsOpened log files may_leave
   is_opened = record { bodies = map rules.bytes_of entries; rest = read.rest }
 
-pub holds_last : (entries : List LayoutEntry) (last : LastLayout) (files : Files) → IsLastOf entries last → IsFile layout_rules 0 entries (files 0) → HoldsLast files last
+pub holds_last : (entries : List LayoutEntry) (last : LastLayout) (files : Files) → IsLastOf entries last → IsFile layout_rules layouts_kind entries (files 0) → HoldsLast files last
 holds_last entries last files of file = record {
   earlier = of.earlier;
   holds = record {
@@ -72,19 +72,19 @@ holds_last entries last files of file = record {
 }
 
 pub holds_parts : (files : Files) (last : LastLayout) (based : Based) (number : ℕ) (entries : List BaseEntry) → last.entry.base_file ≡ Some number → IsBased (setting_of last) based
-    → entries_of based.history.entries.items ≡ entries → IsFile (base_rules (setting_of last)) 3 entries (files number) → HoldsParts files last based.history.entries.items
+    → entries_of based.history.entries.items ≡ entries → IsFile (base_rules (setting_of last)) base_kind entries (files number) → HoldsParts files last based.history.entries.items
 holds_parts files last based number entries is of are file =
     let s = setting_of last in
     let parts = entries_of based.history.entries.items in
-    let now : IsFile (base_rules s) 3 parts (files number) = subst (λ (es : List BaseEntry). IsFile (base_rules s) 3 es (files number)) (sym are) file in
+    let now : IsFile (base_rules s) base_kind parts (files number) = subst (λ (es : List BaseEntry). IsFile (base_rules s) base_kind es (files number)) (sym are) file in
     subst (λ (o : Option ℕ). HoldsBase files s parts o) (sym is) (now.log, record { each = of.behind.each; whole = whole_so parts now.whole })
 
 pub holds_committed : (files : Files) (last : LastLayout) (committed : Committed) (b : Basis) → AreCommitted (setting_of last) committed
-    → IsFile (commit_rules b) 1 committed.commits.items (files (chief_of (setting_of last))) → HoldsCommitted files last committed
+    → IsFile (commit_rules b) commits_kind committed.commits.items (files (chief_of (setting_of last))) → HoldsCommitted files last committed
 holds_committed files last committed b are file = record { are = file.log; each = are.remembered.each }
 
 pub holds_entries : (files : Files) (last : LastLayout) (committed : Committed) (b : NodeBasis) (entries : List Prepared) → b.commits ≡ committed.commits.items
-    → EachBehind (IsNextPrepared (setting_of last) b.node) [] entries → IsFile (node_rules b) 2 entries (files (file_of (setting_of last) b.node)) → HoldsEntries files last committed b.node entries
+    → EachBehind (IsNextPrepared (setting_of last) b.node) [] entries → IsFile (node_rules b) prepared_kind entries (files (file_of (setting_of last) b.node)) → HoldsEntries files last committed b.node entries
 holds_entries files last committed b entries are each file = record {
   are = file.log;
   each = each;

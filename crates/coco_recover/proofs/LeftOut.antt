@@ -14,7 +14,7 @@ use Rattle.coco_log.specs.LogState.{IsFresh, IsOpened, LogState}
 use Rattle.coco_read.specs.EntryRules.{IsFile, IsFirstIn}
 use Rattle.coco_read.proofs.Steps.{not_refused}
 use Rattle.coco_store.specs.Contents.{Contents, HoldsBase, HoldsCommits, HoldsHistory, HoldsLayouts, HoldsNode, IsGoodLayout, chief_of, file_of}
-use Rattle.coco_store.specs.Entries.{AreBase, BaseEntry, prepared_kind}
+use Rattle.coco_store.specs.Entries.{AreBase, BaseEntry, base_kind, commits_kind, layouts_kind, prepared_kind}
 use Rattle.coco_store.specs.Refusals.{BaseBreaks, CommitBreaks, IsFirst, IsFirstRefusal, IsNodeRefused, LayoutBreaks, PreparedBreaks, in_base, in_commits, in_layouts}
 use Rattle.coco_store.specs.Rules.{EachBehind, IsBase, IsNextBase, IsNextCommit, IsNextPrepared, Setting, commit_epochs}
 use Rattle.coco_store.proofs.OneStore.{behind, one_base_file, one_chief_file, one_layouts}
@@ -49,7 +49,7 @@ no_layouts : (earlier : List LayoutEntry) (s : Setting) (file : List ℕ) (at : 
 no_layouts earlier s file at h first =
     let last : IsGoodLayout s.entry = record { limits = h.limits; tree = s.tree; accepted = h.tree } in
     let all = earlier ++ s.entry ∷ [] in
-    let is : IsFile layout_rules 0 all file = record {
+    let is : IsFile layout_rules layouts_kind all file = record {
       log = h.are;
       keep = each_kept (λ _. IsGoodLayout) (λ _ e. LayoutBreaks e) (λ before e good. layout_keeps e good.tree good.limits good.accepted) [] all
           (each_of_all IsGoodLayout [] all (all_append IsGoodLayout earlier (s.entry ∷ []) h.each (last, tt)));
@@ -59,7 +59,7 @@ no_layouts earlier s file at h first =
 
 no_base : (s : Setting) (entries : List BaseEntry) (file : List ℕ) (at : ℕ) → AreBase entries file → IsBase s entries → IsFirstIn (base_rules s) 3 file at → ⊥
 no_base s entries file at are h first =
-    let is : IsFile (base_rules s) 3 entries file = record {
+    let is : IsFile (base_rules s) base_kind entries file = record {
       log = are;
       keep = each_kept (IsNextBase s) (BaseBreaks s) (base_keeps s) [] entries h.each;
       whole = λ broken. broken h.whole;
@@ -69,7 +69,7 @@ no_base s entries file at are h first =
 no_commits : (s : Setting) (base : List BaseEntry) (commits : List Commit) (file : List ℕ) (at : ℕ) → HoldsCommits s base commits file
     → IsFirstIn (commit_rules (record { setting = s; base = base; keep = None })) 1 file at → ⊥
 no_commits s base commits file at h first =
-    let is : IsFile (commit_rules (record { setting = s; base = base; keep = None })) 1 commits file = record {
+    let is : IsFile (commit_rules (record { setting = s; base = base; keep = None })) commits_kind commits file = record {
       log = h.are;
       keep = each_kept (IsNextCommit s base) (CommitBreaks s base) (commit_keeps s base) [] commits h.each;
       whole = λ never. never;
@@ -79,7 +79,7 @@ no_commits s base commits file at h first =
 no_node : (s : Setting) (commits : List Commit) (n : ℕ) (entries : List Prepared) (file : List ℕ) (at : ℕ) → HoldsNode s commits n entries file → IsFirst (IsNodeRefused s commits n file) at → ⊥
 no_node s commits n entries file at h first =
     let rules = node_rules (record { basis = record { setting = s; base = []; keep = None }; commits = commits; nodes = []; node = n }) in
-    let is : IsFile rules 2 entries file = record {
+    let is : IsFile rules prepared_kind entries file = record {
       log = h.are;
       keep = each_kept (IsNextPrepared s n) (PreparedBreaks s n) (prepared_keeps s n) [] entries h.each;
       whole = λ broken. broken h.committed;

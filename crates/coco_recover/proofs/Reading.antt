@@ -5,6 +5,7 @@ use Rattle.coco_host.specs.Files.{Files, NoMore}
 use Rattle.coco_entry.specs.declared.prepared.Prepared.{Prepared}
 use Rattle.coco_log.specs.LogState.{IsFresh, IsOpened, LogState}
 use Rattle.coco_store.specs.Contents.{file_of}
+use Rattle.coco_store.specs.Entries.{prepared_kind}
 use Rattle.coco_store.specs.Rules.{EachBehind, IsNextPrepared}
 use Rattle.coco_recover.specs.Layouts.{setting_of}
 use Rattle.coco_recover.specs.Nodes.{IsLoaded, nodes_of}
@@ -38,7 +39,7 @@ module _ (last : LastLayout) (committed : Committed) where
   }
 
   pub node_read : (old new : Loaded) (entries : List Prepared) (logs more : List LogState) (log : LogState) (n : ℕ) → AreRead last committed old logs n → IsRead last committed n old new entries
-      → IsFresh log (file_of (setting_of last) n) 2 → more ≡ logs ++ log ∷ [] → AreRead last committed new more (n + 1)
+      → IsFresh log (file_of (setting_of last) n) prepared_kind → more ≡ logs ++ log ∷ [] → AreRead last committed new more (n + 1)
   node_read old new entries logs more log n was read fresh are =
       let s = setting_of last in
       record {
@@ -46,7 +47,7 @@ module _ (last : LastLayout) (committed : Committed) where
         nodes = one_longer (nodes_of old) (nodes_of new) entries n read.more was.nodes;
         each = rw read.more (one_more (λ m es. EachBehind (IsNextPrepared s m) [] es) (nodes_of old) entries [] n was.nodes was.each read.each);
         as_many = one_longer logs more log n are was.as_many;
-        fresh = λ other. rw are (one_more (λ m l. IsFresh l (file_of s m) 2) logs log other n was.as_many (was.fresh other) fresh);
+        fresh = λ other. rw are (one_more (λ m l. IsFresh l (file_of s m) prepared_kind) logs log other n was.as_many (was.fresh other) fresh);
       }
 
   pub none_held : (files : Files) (may_leave : Files → Type 0) (nodes : List (List Prepared)) (logs : List LogState) → AreHeld files may_leave last committed nodes logs 0

@@ -11,7 +11,7 @@ use Rattle.coco_load.specs.Epochs.{IsNextTo}
 use Rattle.coco_load.specs.Laws.{BaseDonesFollow, CommittedDonesFollow}
 use Rattle.coco_load.specs.Reading.{maps_read}
 use Rattle.coco_log.specs.LogState.{IsFresh}
-use Rattle.coco_store.specs.Entries.{BaseEntry}
+use Rattle.coco_store.specs.Entries.{BaseEntry, commits_kind, layouts_kind}
 use Rattle.coco_store.specs.Rules.{EachBehind, IsNextCommit, IsNextPrepared, Setting, base_of, commit_epochs, prepared_epochs}
 use Rattle.coco_store.proofs.Naming.{names_apart}
 use Rattle.coco_recover.specs.Bases.{entries_of}
@@ -75,7 +75,7 @@ next_below epochs next is all = let below : is.greatest < epochs_end = member_of
 
 module _ (of_base : BaseDonesFollow) (of_commits : CommittedDonesFollow) (last : LastLayout) (committed : Committed) (loaded : Loaded) (based : Based) (logs : Logs)
     (good : IsGoodLast last) (are : AreCommitted (setting_of last) committed) (read : AreRead last committed loaded logs.nodes.items last.entry.layout.nodes)
-    (root : IsFresh logs.root 0 0) (chief : IsFresh logs.chief last.entry.layout.chief_file 1) where
+    (root : IsFresh logs.root 0 layouts_kind) (chief : IsFresh logs.chief last.entry.layout.chief_file commits_kind) where
   are_logs : AreLogs last.entry.layout logs
   are_logs = record {
     root = root;

@@ -14,10 +14,10 @@ use Rattle.coco_types.specs.declared.value.Value.TheVariants.{Int, Text}
 use Rattle.coco_bytes.specs.declared.fault.FieldFault.{FieldFault}
 use Rattle.coco_bytes.specs.declared.fault.FieldFault.TheVariants.{Short, Bad}
 use Rattle.coco_bytes.specs.Lists.{items_at}
-use Rattle.coco_bytes.specs.Reads.{◌>>=◌, Read, bytes16_at, fault_place, i64_at, number_at, text16_at, u16_at, u32_at, u64_at, u8_at}
+use Rattle.coco_bytes.specs.Reads.{◌>>=◌, Read, bytes16_at, fault_place, flag_at, i64_at, number_at, text16_at, u16_at, u32_at, u64_at, u8_at}
 use Rattle.coco_bytes.specs.Values.{key_at, text_at, value_at, value_of_kind}
 use Rattle.coco_entry.specs.Bases.{base_done_at, base_dones_at, base_dones_in, base_row_at, base_rows_at, base_rows_in, floor_at, floor_number_at, head_at, head_in, items_count_at, present, present_at, stamp_of, stamp_rises, stamped, stamped_at}
-use Rattle.coco_entry.specs.Calls.{args_at, args_count_at, call_at, cause_at, cause_of_kind, done_at, flag_at, reply_at, reply_of_kind, timed_at}
+use Rattle.coco_entry.specs.Calls.{args_at, args_count_at, call_at, cause_at, cause_of_kind, done_at, reply_at, reply_of_kind, timed_at}
 use Rattle.coco_entry.specs.Commits.{commit_at, commit_in}
 use Rattle.coco_entry.specs.Grammar.{IsFaultAt, Reader, bytes32_at, listed, made, tag_at, tagged, tested, then_by, whole, ◌▸◌}
 use Rattle.coco_entry.specs.Layouts.{file_at, files_at, later_at, layout_at, layout_fields_at, layout_in, named_by, sizes_at, version_at}
@@ -85,6 +85,13 @@ u8_within : Stays u8_at
 unfolding u8_at
 u8_within = record {
   within = λ from at h. if_within from (ltb at (length from)) (Ok (get_or from at 0, at + 1)) (Err (Short at)) (λ less. let l = ltb-true at (length from) less in omega (arith, l)) (λ _. h);
+}
+
+flag_within : Stays flag_at
+unfolding flag_at
+flag_within = record {
+  within = λ from at h. bind_within from (u8_at from at) (λ (flag : ℕ × ℕ). cond (ltb flag.0 2) (Ok (eqb flag.0 1, flag.1)) (Err (Bad at))) (u8_within.within from at h)
+      (λ flag hf. if_within from (ltb flag.0 2) (Ok (eqb flag.0 1, flag.1)) (Err (Bad at)) (λ _. hf) (λ _. h));
 }
 
 number_within : (w : Width) → Stays (number_at w)
@@ -197,10 +204,6 @@ unfolding layout_at
 layout_within = made_within _ (then_within version_within (λ version. then_within fields_within (λ layout. later_within (named_by layout) version)))
 
 -- ---- calls and Dones
-
-flag_within : Stays flag_at
-unfolding flag_at
-flag_within = made_within _ (tested_within _ u8_within)
 
 args_within : Stays args_at
 unfolding args_at args_count_at

@@ -8,6 +8,7 @@ ghost use Rattle.coco_log.specs.LogState.{IsFresh, IsOnlyRead, IsOpened};
 ghost use Rattle.coco_read.specs.declared.fault.OpenFault.TheVariants as fault;
 ghost use Rattle.coco_read.specs.Faults.{Counts};
 ghost use Rattle.coco_store.specs.Contents.{file_of};
+ghost use Rattle.coco_store.specs.Entries.{commits_kind, layouts_kind, prepared_kind};
 ghost use Rattle.coco_store.specs.Refusals.{IsFirst, IsFirstRefusal, IsNodeRefused};
 ghost use Rattle.coco_store.specs.Rules.{base_of};
 ghost use Rattle.coco_recover.specs.Bases.{IsBased, IsHistoryOfBase, basis_of, entries_of};
@@ -26,20 +27,12 @@ use coco_host::Host;
 use coco_load::Tables;
 use coco_log::Log;
 use coco_read::{OpenFault, read_file};
+use coco_store::kinds::{BASE, COMMITS, LAYOUTS, PREPARED};
 use coco_types::NoMemory;
 use std::alloc::Global;
 
 // The file of layouts.
 const LAYOUTS_FILE: u32 = 0;
-
-// The kinds of logs.
-const LAYOUTS: u8 = 0;
-
-const COMMITS: u8 = 1;
-
-const PREPARED: u8 = 2;
-
-const BASE: u8 = 3;
 
 /// The last layout, with the log of layouts.
 pub(crate) fn read_layouts<H: Host>(
@@ -47,7 +40,7 @@ pub(crate) fn read_layouts<H: Host>(
     host: &mut H,
 ) -> Result<(LastLayout, Log), OpenFault>
     ensures good { IfOk result (λ read. IsGoodLast read.0) }
-    ensures log { IfOk result (λ read. IsFresh read.1 0 0) }
+    ensures log { IfOk result (λ read. IsFresh read.1 0 layouts_kind) }
     ensures ok { IfOk result (λ read. (files : Files) → H.reads host.old ≡ Some files → HoldsLast files read.0 × IsOpened read.1 files (H.may_leave host.new)) }
     ensures refused { (file at : ℕ) (files : Files) → result ≡ Err (fault.NotAStore file at) → H.reads host.old ≡ Some files → IsHistoryRefusal files file at }
     ensures read { IsOnlyRead H.moment H.observed H.said H.reads H.may_leave host.old host.new }
@@ -103,7 +96,7 @@ pub(crate) fn read_commits<H: Host>(
     requires base { IsHistoryOfBase (setting_of last.now) base }
     ensures committed { IfOk result (λ read. AreCommitted (setting_of last.now) read.0) }
     ensures basis { IfOk result (λ read. basis_of_committed (setting_of last.now) read.0 ≡ basis_of (setting_of last.now) base) }
-    ensures log { IfOk result (λ read. IsFresh read.1 last.now.entry.layout.chief_file 1) }
+    ensures log { IfOk result (λ read. IsFresh read.1 last.now.entry.layout.chief_file commits_kind) }
     ensures ok { IfOk result (λ read. (files : Files) → H.reads host.old ≡ Some files → HoldsCommitted files last.now read.0 × IsOpened read.1 files (H.may_leave host.new)) }
     ensures refused { (file at : ℕ) (files : Files) → result ≡ Err (fault.NotAStore file at) → H.reads host.old ≡ Some files → HoldsLast files last.now
         → HoldsParts files last.now base.entries.items → IsHistoryRefusal files file at }
@@ -136,7 +129,7 @@ pub(crate) fn read_node<H: Host>(
     requires loaded { IsLoaded (setting_of last.now) committed.now loaded }
     ensures ok { IfOk result (λ read. (entries : List PreparedEntry) × IsRead last.now committed.now node loaded read.0 entries
         × ((files : Files) → H.reads host.old ≡ Some files → HoldsEntries files last.now committed.now node entries × IsOpened read.1 files (H.may_leave host.new))) }
-    ensures log { IfOk result (λ read. IsFresh read.1 (file_of (setting_of last.now) node) 2) }
+    ensures log { IfOk result (λ read. IsFresh read.1 (file_of (setting_of last.now) node) prepared_kind) }
     ensures refused { (file at : ℕ) (files : Files) → result ≡ Err (fault.NotAStore file at) → H.reads host.old ≡ Some files
         → (file ≡ file_of (setting_of last.now) node) × IsFirst (IsNodeRefused (setting_of last.now) committed.now.commits.items node (files file)) at }
     ensures read { IsOnlyRead H.moment H.observed H.said H.reads H.may_leave host.old host.new }

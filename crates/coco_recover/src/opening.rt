@@ -8,6 +8,7 @@ ghost use Rattle.coco_log.specs.LogState.{IsFresh, IsOnlyRead};
 ghost use Rattle.coco_read.specs.declared.fault.OpenFault.TheVariants as fault;
 ghost use Rattle.coco_read.specs.Faults.{Counts};
 ghost use Rattle.coco_store.specs.Contents.{Contents, Holds, IsGoodStore};
+ghost use Rattle.coco_store.specs.Entries.{layouts_kind};
 ghost use Rattle.coco_store.specs.Refusals.{IsFirstRefusal};
 ghost use Rattle.coco_recover.specs.Layouts.{IsGoodLast};
 ghost use Rattle.coco_recover.specs.Opening.{AllStand, IsOpening, IsSoundStore, entry_in, its_keep, no_keep};
@@ -105,7 +106,7 @@ fn open_behind<H: Host>(
     keep: Option<u16>,
 ) -> Result<Opened, OpenFault>
     requires good { IsGoodLast last }
-    requires root { IsFresh root 0 0 }
+    requires root { IsFresh root 0 layouts_kind }
     requires keep { IfSome keep (λ n. 0 < n) }
     ensures ok { IfOk result (λ store. (files : Files) → H.reads host.old ≡ Some files → HoldsLast files last → IsOpening (λ c. keep) files store) }
     ensures entry { IfOk result (λ store. entry_in store ≡ last.entry) }

@@ -17,13 +17,14 @@ use Rattle.coco_ast.proofs.Lists.{all_append, all_right, all_weaker}
 use Rattle.coco_bytes.specs.Lists.{last_item}
 use Rattle.coco_bytes.proofs.ListLemmas.{last_item-push}
 use Rattle.coco_entry.specs.Bases.{base_done_bytes, base_row_bytes}
+use Rattle.coco_entry.specs.Rows.{key_rises}
 use Rattle.coco_entry.specs.declared.base.BaseHead.{BaseHead}
 use Rattle.coco_entry.specs.declared.base.TheConstants.{MOST_ITEMS}
 use Rattle.coco_entry.proofs.GrammarLemmas.{both_true, true_both}
 use Rattle.coco_store.specs.Entries.{BaseEntry, Head, Dones, Values, base_bytes}
 use Rattle.coco_store.specs.Refusals.{BaseBreaks, IsFirst, ItemBreaks, bad_order, bad_kept_done, bad_value, order_place}
 use Rattle.coco_store.specs.Rules.{IsKeptDone, IsNextValue, IsWhole, MayFollow, Setting, base_values, dones_of, floor_in, kept_dones, values_of}
-use Rattle.coco_rules.specs.Basing.{EndsAtKey, IsBehindBase, IsToldBy, key_rises, last_of, less_by, may_be_dones, may_be_rows}
+use Rattle.coco_rules.specs.Basing.{EndsAtKey, IsBehindBase, IsToldBy, last_of, less_by, may_be_dones, may_be_rows}
 use Rattle.coco_rules.specs.Behind.{IsBehind}
 use Rattle.coco_rules.specs.Judged.{IsFirstBroken}
 use Rattle.coco_rules.specs.Noting.{AreNoted}

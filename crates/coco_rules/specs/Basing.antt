@@ -2,7 +2,6 @@
 use Rattle.std.specs.Prelude.{◌≡◌, ℕ, ◌-◌, Bool, true, false, nat_le, ◌==◌, if◌then◌else◌, List, [], ◌∷◌, ◌++◌, length, Option, None, Some}
 use Rattle.std.specs.List.{AllByRecursion}
 use Rattle.std.specs.Option.{option_map}
-use Rattle.std.specs.Ordering.{is_lt}
 use Rattle.std.specs.declared.cmp.Ordering.TheVariants.{Less}
 use Rattle.coco_types.specs.RowKey.{RowKey, key_cmp}
 use Rattle.coco_types.specs.declared.value.Value.{Value}
@@ -35,10 +34,6 @@ may_be_rows (Some (sort.Dones is_full)) = true
 may_be_rows (Some (sort.Rows is_full)) = is_full
 
 -- ---- the order of rows
-
-abbrev pub key_rises : Option RowKey → RowKey → Bool
-key_rises None key = true
-key_rises (Some before) key = is_lt (key_cmp before key)
 
 -- the last row has this key, and all others have keys before it
 abbrev pub EndsAtKey : List (RowKey × Value) → Option RowKey → Type 0

@@ -8,7 +8,7 @@ ghost use Rattle.coco_store.specs.Entries.{BaseEntry, Head, Dones, Values, base_
 ghost use Rattle.coco_store.specs.Refusals.{BaseBreaks};
 ghost use Rattle.coco_store.specs.Rules.{IsKeptDone, IsNextBase, IsNextValue, IsWhole, Setting};
 ghost use Rattle.coco_rules.specs.Behind.{IsBehind};
-ghost use Rattle.coco_rules.specs.Basing.{EndsAtKey, IsBehindBase, key_rises, less_by, may_be_dones, may_be_rows};
+ghost use Rattle.coco_rules.specs.Basing.{EndsAtKey, IsBehindBase, less_by, may_be_dones, may_be_rows};
 ghost use Rattle.coco_rules.specs.Judged.{FindsBroken, Judges};
 ghost use Rattle.coco_rules.specs.Noting.{AreNoted};
 
@@ -17,10 +17,9 @@ use crate::dones::Noted;
 use crate::lengths::{base_dones_len, base_rows_len};
 use crate::prepared::has_table;
 use coco_ast::Checked;
-use coco_entry::{BaseHead, LayoutEntry, MOST_ITEMS};
+use coco_entry::{BaseHead, LayoutEntry, MOST_ITEMS, rises};
 use coco_types::{Done, Key, NoMemory, Value};
 use std::alloc::Global;
-use std::cmp::Ordering;
 
 /// What came last in a base file, and whether it was as long as it may be.
 #[derive(Clone, Copy, Debug, PartialEq, Eq)]
@@ -238,16 +237,6 @@ fn first_broken_done(
         }
     }
     Ok(None)
-}
-
-// Whether a key is above the last one.
-fn rises(last: &Option<Key>, key: &Key) -> bool
-    ensures { result ≡ key_rises last.now key.now }
-{
-    match last {
-        Some(last) => last.compare(key) == Ordering::Less,
-        None => true,
-    }
 }
 
 // Goes on to a row that keeps its rules behind those before it; else the answer is false.

@@ -14,6 +14,7 @@ use Rattle.coco_entry.specs.Commits.{commit_bytes, IsCommit}
 use Rattle.coco_entry.specs.Layouts.{layout_bytes, IsLayout, named_by}
 use Rattle.coco_entry.specs.Rows.{prepared_bytes, IsPrepared}
 use Rattle.coco_log.specs.Grammar.{IsLog}
+use Rattle.coco_store.specs.declared.kinds.TheConstants.{LAYOUTS, COMMITS, PREPARED, BASE}
 
 -- an entry of a base file: its head, some of the Dones that are kept, or some of the rows
 pub data BaseEntry : Type 0 where
@@ -36,18 +37,18 @@ pub record IsLogOf {E : Type 0} (kind : ℕ) (bytes_of : E → List ℕ) (Is : E
   pub log : IsLog kind (map bytes_of entries) file
   pub are : AllByRecursion Is entries
 
--- the kinds of logs
+-- the kinds of logs, as the code has them
 abbrev pub layouts_kind : ℕ
-layouts_kind = 0
+layouts_kind = LAYOUTS
 
 abbrev pub commits_kind : ℕ
-commits_kind = 1
+commits_kind = COMMITS
 
 abbrev pub prepared_kind : ℕ
-prepared_kind = 2
+prepared_kind = PREPARED
 
 abbrev pub base_kind : ℕ
-base_kind = 3
+base_kind = BASE
 
 abbrev pub AreLayouts : List LayoutEntry → List ℕ → Type 0
 AreLayouts = IsLogOf layouts_kind layout_bytes IsLayout

@@ -1,6 +1,7 @@
-//! What a store's files hold, and what an entry more makes of it.
+//! What a store's files hold, of which kind each is, and what an entry more makes of it.
 #![tactic(auto)]
 
+pub mod kinds;
 pub mod laws;
 
 pub use laws::{

@@ -3,6 +3,7 @@ use Rattle.std.proofs.lemmas.Result.{err_from_is_err_and}
 use Rattle.coco_read.specs.EntryRules.{IsFile, IsFirstIn}
 use Rattle.coco_read.specs.declared.fault.OpenFault.TheVariants.{NotAStore}
 use Rattle.coco_store.specs.Contents.{file_of}
+use Rattle.coco_store.specs.Entries.{prepared_kind}
 use Rattle.coco_store.specs.Refusals.{IsFirst, IsNodeRefused}
 use Rattle.coco_store.specs.Rules.{EachBehind, IsNextPrepared}
 use Rattle.coco_recover.specs.Layouts.{setting_of}
@@ -51,7 +52,7 @@ returns-clause-ok g c =
       },
       λ files told.
           let read = c.in_ok-log.ensures.ok files told in
-          let file = subst (λ (f : ℕ). IsFile (node_rules b) 2 entries (files f)) stands
-          (subst (λ (b : NodeBasis). IsFile (node_rules b) 2 entries (files number)) begun (file_is (node_rules under) entries log files may number 2 fresh read)) in
-          (holds_entries files last committed b entries refl each file, is_opened (node_rules under) entries log files may number 2 fresh read),
+          let file = subst (λ (f : ℕ). IsFile (node_rules b) prepared_kind entries (files f)) stands
+          (subst (λ (b : NodeBasis). IsFile (node_rules b) prepared_kind entries (files number)) begun (file_is (node_rules under) entries log files may number prepared_kind fresh read)) in
+          (holds_entries files last committed b entries refl each file, is_opened (node_rules under) entries log files may number prepared_kind fresh read),
     )
