@@ -252,6 +252,14 @@ fn an_item_that_does_not_rise_is_bad_at_its_first_byte(rt: HostRuntime) -> Resul
 }
 
 #[test]
+fn a_key_rises_above_the_one_before_it(rt: HostRuntime) {
+    let first = Key { table: 0, row: 5 };
+    let second = Key { table: 1, row: 0 };
+    assert!(rt; rises(&None, &first) && rises(&Some(first), &second));
+    assert!(rt; !rises(&Some(first), &first) && !rises(&Some(second), &first));
+}
+
+#[test]
 fn faults_are_readable(rt: HostRuntime) -> Result<(), Fail> {
     let said = format!(in rt.alloc(); "{}; {}", EntryFault::Bad { at: 3 }, EntryFault::NoMemory)?;
     assert_eq!(rt; said.as_str(), "no entry: bad at byte 3; out of memory");

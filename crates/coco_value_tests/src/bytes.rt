@@ -1,8 +1,9 @@
 //! Fields and values as bytes, and the place of what can't be read.
 
 use coco_bytes::{
-    FieldFault, get_bytes16, get_i64, get_key, get_u8, get_u16, get_u32, get_u64, get_value,
-    put_bytes16, put_i64, put_key, put_u8, put_u16, put_u32, put_u64, put_value,
+    FieldFault, get_bytes16, get_flag, get_i64, get_key, get_u8, get_u16, get_u32, get_u64,
+    get_value, put_bytes16, put_flag, put_i64, put_key, put_u8, put_u16, put_u32, put_u64,
+    put_value,
 };
 use coco_types::{Key, NoMemory, Text, Value};
 use std::test::Fail;
@@ -11,6 +12,8 @@ const FIELDS: [u8; 31] = [
     7, 1, 2, 0, 0, 1, 0, 0, 0, 0, 0, 0, 0, 0, 70, 255, 255, 255, 255, 255, 255, 255, 254, 0, 2,
     104, 105, 0, 3, 1, 2,
 ];
+
+const FLAGS: [u8; 3] = [1, 0, 2];
 
 const VALUES: [u8; 25] = [
     0, 1, 0, 0, 0, 0, 0, 0, 0, 5, 0, 1, 255, 255, 255, 255, 255, 255, 255, 255, 2, 0, 2, 104, 105,
@@ -46,6 +49,17 @@ fn fields_have_their_highest_byte_first(rt: HostRuntime) -> Result<(), Fail> {
     put_signed_and_counted(&mut out)?;
     assert!(rt; out.as_slice() == &FIELDS[..27]);
     assert!(rt; are_numbers_read() && are_signed_and_counted_read());
+    Ok(())
+}
+
+#[test]
+fn a_flag_is_1_where_it_is_so_else_0(rt: HostRuntime) -> Result<(), Fail> {
+    let mut out = Vec::new(rt.alloc());
+    put_flag(&mut out, true)?;
+    put_flag(&mut out, false)?;
+    assert!(rt; out.as_slice() == &FLAGS[..2]);
+    assert!(rt; get_flag(&FLAGS, 0) == Ok((true, 1)) && get_flag(&FLAGS, 1) == Ok((false, 2)));
+    assert!(rt; get_flag(&FLAGS, 2) == Err(bad(2)) && get_flag(&FLAGS, 3) == Err(short(3)));
     Ok(())
 }
 
