@@ -102,6 +102,11 @@ kept h = kept_of h.keep (all_dones h)
 abbrev pub floor : History → Option ℕ
 floor h = floor_of h.keep h.base.floor (all_dones h)
 
+-- whether an id is at most the floor
+abbrev pub is_up_to : Option ℕ → ℕ → Bool
+is_up_to None id = false
+is_up_to (Some n) id = nat_le id n
+
 -- the Done of an id
 abbrev pub done_of : ℕ → List Done → Option Done
 done_of id ds = find (λ d. nat_eq id d.id) ds

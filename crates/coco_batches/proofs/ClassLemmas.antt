@@ -11,13 +11,12 @@ use Rattle.coco_types.specs.declared.call.Done.{Done}
 use Rattle.coco_types.specs.declared.call.Request.{Request}
 use Rattle.coco_types.specs.contracts.call.CallPartialEq.TheImpl as call
 use Rattle.coco_types.proofs.CallEquality.{call_Decides}
-use Rattle.coco_ast.specs.History.{done_of, ids_of, request_of}
+use Rattle.coco_ast.specs.History.{done_of, ids_of, is_up_to, request_of}
 use Rattle.coco_ast.proofs.Lists.{all_swap, distinct_append}
 use Rattle.coco_ast.proofs.GrowthLemmas.{no_ids}
 use Rattle.coco_ast.specs.Tree.{Procedures}
-use Rattle.coco_kept.specs.Finding.{is_up_to}
 use Rattle.coco_kept.specs.Keeping.{Keeping}
-use Rattle.coco_lines.specs.Classes.{is_old, request_tests}
+use Rattle.coco_lines.specs.Classes.{request_tests}
 use Rattle.coco_lines.specs.Reading.{first_that_fits}
 use Rattle.coco_lines.specs.declared.class.Class.TheVariants.{Refused, Same, New}
 use Rattle.coco_lines.specs.declared.error.LineError.TheVariants.{Reused, Old, Full}
@@ -149,10 +148,6 @@ known_once procs k before once new =
 
 -- ---- classes
 
-old_is : (f : Option ℕ) (r : Request) → is_old f r ≡ is_up_to f r.id
-old_is None r = refl
-old_is (Some n) r = refl
-
 module _ (k : Keeping) (before : List Request) (r : Request) where
   pub same_class : (q : Request) → request_under r.id (map request_of k.dones ++ before) ≡ Some q → q.call ≡ r.call → first_that_fits (request_tests (known_of k before) (Some r)) ≡ Some (Same r.id)
   same_class q found same = rw (same_by r q (map request_of k.dones ++ before) found same)
@@ -164,13 +159,13 @@ module _ (k : Keeping) (before : List Request) (r : Request) where
   pub old_class : request_under r.id (map request_of k.dones ++ before) ≡ None → is_up_to k.floor r.id ≡ true → first_that_fits (request_tests (known_of k before) (Some r)) ≡ Some (Refused Old)
   old_class none old =
       let unknown = unknown_by r (map request_of k.dones ++ before) none in
-      rw (none_same r (map request_of k.dones ++ before) unknown, unknown, old_is k.floor r ∙ old)
+      rw (none_same r (map request_of k.dones ++ before) unknown, unknown, old)
 
   full_or_new : (b : Bool) → nat_le most_kept (length (map request_of k.dones ++ before)) ≡ b → is_up_to k.floor r.id ≡ false → request_under r.id (map request_of k.dones ++ before) ≡ None
       → first_that_fits (request_tests (known_of k before) (Some r)) ≡ cond b (Some (Refused Full)) (Some (New r))
   full_or_new b full unold none =
       let unknown = unknown_by r (map request_of k.dones ++ before) none in
-      rw (none_same r (map request_of k.dones ++ before) unknown, unknown, old_is k.floor r ∙ unold, full)
+      rw (none_same r (map request_of k.dones ++ before) unknown, unknown, unold, full)
 
   count : length (map request_of k.dones ++ before) ≡ length k.dones + length before
   count = omega (arith, length-append (map request_of k.dones) before, length-map k.dones request_of)

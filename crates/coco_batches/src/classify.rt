@@ -2,8 +2,7 @@
 
 ghost use Rattle.std.specs.Prelude.{◌≡◌, ◌+◌, ℕ, List, length, None, IfOk};
 ghost use Rattle.coco_ast.specs.Fitting.{Fits};
-ghost use Rattle.coco_ast.specs.History.{done_of};
-ghost use Rattle.coco_kept.specs.Finding.{is_up_to};
+ghost use Rattle.coco_ast.specs.History.{done_of, is_up_to};
 ghost use Rattle.coco_lines.specs.Classes.{IsClass, request_tests};
 ghost use Rattle.coco_lines.specs.Reading.{first_that_fits};
 ghost use Rattle.coco_lines.specs.Reads.{body_of};

@@ -1,16 +1,11 @@
 -- What an id and a call are to the kept Dones.
-use Rattle.std.specs.Prelude.{◌≡◌, ℕ, Bool, true, false, nat_le, Option, None, Some}
+use Rattle.std.specs.Prelude.{◌≡◌, ℕ, true, false, None, Some}
 use Rattle.coco_types.specs.declared.call.Call.{Call}
 use Rattle.coco_types.specs.declared.call.Done.{Done}
-use Rattle.coco_ast.specs.History.{done_of}
+use Rattle.coco_ast.specs.History.{done_of, is_up_to}
 use Rattle.coco_kept.specs.Keeping.{Keeping}
 use Rattle.coco_kept.specs.declared.kept.Found.{Found}
 use Rattle.coco_kept.specs.declared.kept.Found.TheVariants.{New, Same, Reused, Old}
-
--- whether an id is at most the floor
-abbrev pub is_up_to : Option ℕ → ℕ → Bool
-is_up_to None id = false
-is_up_to (Some floor) id = nat_le id floor
 
 -- a held id goes by the call of its Done, and any other one by the floor
 abbrev pub IsFound : Keeping → ℕ → Call → Found → Type 0

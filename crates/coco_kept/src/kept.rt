@@ -5,8 +5,8 @@ ghost use Rattle.std.specs.VecDeque.Iter.{deque_iter_rest, deque_iter_steps};
 ghost use Rattle.std.specs.Option.{option_copied};
 ghost use Rattle.coco_types.specs.declared.call.Done.{Done};
 ghost use Rattle.coco_types.specs.Limits.{most_kept};
-ghost use Rattle.coco_ast.specs.History.{ids_of, kept_of, floor_of, greatest_with, done_of};
-ghost use Rattle.coco_kept.specs.Finding.{IsFound, is_up_to};
+ghost use Rattle.coco_ast.specs.History.{ids_of, is_up_to, kept_of, floor_of, greatest_with, done_of};
+ghost use Rattle.coco_kept.specs.Finding.{IsFound};
 ghost use Rattle.coco_kept.specs.Holding.{AreUpTo, MakesPlace, has_epoch, epoch_count, first_is, least_of, behind_least};
 ghost use Rattle.coco_kept.specs.Keeping.{HasDistinctIds, HoldsKept, newest_epoch};
 

@@ -4,6 +4,7 @@ use Rattle.std.proofs.lemmas.List.Sorted.{list_any-IsPermutation, length_permuta
 use Rattle.coco_types.specs.declared.limits.TheConstants.{MOST_KEPT, MOST_LINE_BYTES}
 use Rattle.coco_types.specs.declared.call.Request.{Request}
 use Rattle.coco_types.specs.contracts.call.CallPartialEq.TheImpl as call
+use Rattle.coco_ast.specs.History.{is_up_to}
 use Rattle.coco_ast.specs.Tree.{Procedures}
 use Rattle.coco_lines.specs.Lines.{Line}
 use Rattle.std.proofs.Common.{if◌then◌else◌, arith}
@@ -15,7 +16,7 @@ use Rattle.coco_lines.specs.declared.reader.Body.{Body}
 use Rattle.coco_lines.specs.declared.reader.Body.TheVariants.{Long, Whole}
 use Rattle.coco_lines.specs.declared.error.LineError.{LineError}
 use Rattle.coco_lines.proofs.ReadingLemmas.{first_of_both, first_of_second}
-use Rattle.coco_lines.specs.Classes.{Known, and_known, is_known, is_same, is_old, is_full, refusing, request_tests, class_tests, IsClass, new_in, AreClasses}
+use Rattle.coco_lines.specs.Classes.{Known, and_known, is_known, is_same, is_full, refusing, request_tests, class_tests, IsClass, new_in, AreClasses}
 use Rattle.coco_lines.specs.declared.class.Class.{Class}
 use Rattle.coco_lines.specs.declared.class.Class.TheVariants.{Refused, Same, New}
 use Rattle.coco_lines.specs.declared.error.LineError.TheVariants as error
@@ -23,7 +24,7 @@ use Rattle.coco_lines.specs.declared.error.LineError.TheVariants as error
 -- the same requests are known, in whatever order, and the same ids may have been forgotten
 pub record AreAlike (k m : Known) : Type 0 where
   pub requests : IsPermutation k.requests m.requests
-  pub floors : (r : Request) → is_old k.floor r ≡ is_old m.floor r
+  pub floors : (r : Request) → is_up_to k.floor r.id ≡ is_up_to m.floor r.id
 
 pub alike_with : (k m : Known) (rs : List Request) → AreAlike k m → AreAlike (and_known k rs) (and_known m rs)
 alike_with k m rs a = record { requests = IsPermutation-append_left rs k.requests m.requests a.requests; floors = a.floors }
@@ -37,8 +38,8 @@ request_alike k m (Some r) a =
     let same : is_same k r ≡ is_same m r = list_any-IsPermutation (λ (q : Request). nat_eq r.id q.id && call.ghosts.eq q.call r.call) k.requests m.requests a.requests in
     let known : is_known k r ≡ is_known m r = list_any-IsPermutation (λ (q : Request). nat_eq r.id q.id) k.requests m.requests a.requests in
     let full : is_full k ≡ is_full m = ap (nat_le MOST_KEPT) (sym (length_permutation k.requests m.requests a.requests)) in
-    ap (λ b. tests_by r b (is_known k r) (is_old k.floor r) (is_full k)) same ∙ ap (λ b. tests_by r (is_same m r) b (is_old k.floor r) (is_full k)) known
-    ∙ ap (λ b. tests_by r (is_same m r) (is_known m r) b (is_full k)) (a.floors r) ∙ ap (λ b. tests_by r (is_same m r) (is_known m r) (is_old m.floor r) b) full
+    ap (λ b. tests_by r b (is_known k r) (is_up_to k.floor r.id) (is_full k)) same ∙ ap (λ b. tests_by r (is_same m r) b (is_up_to k.floor r.id) (is_full k)) known
+    ∙ ap (λ b. tests_by r (is_same m r) (is_known m r) b (is_full k)) (a.floors r) ∙ ap (λ b. tests_by r (is_same m r) (is_known m r) (is_up_to m.floor r.id) b) full
 
 tests_alike : (procs : Procedures) (k m : Known) (line : Line) → AreAlike k m → class_tests procs k line ≡ class_tests procs m line
 unfolding class_tests

@@ -7,11 +7,11 @@ use Rattle.std.proofs.lemmas.List.Sorted.{IsPermutation-trans, IsPermutation-sym
 use Rattle.coco_types.specs.declared.call.Done.{Done}
 use Rattle.coco_types.specs.declared.call.Request.{Request}
 use Rattle.coco_ast.specs.Growth.{GrowsBy, IsEpochOf}
-use Rattle.coco_ast.specs.History.{History, Epoch, RisesAbove, all_dones, dones_in, epoch_dones, epochs_above, followed_by, greatest_with, ids_of, kept, kept_of, forgotten_of, floor, last_epoch, last_number, request_of}
+use Rattle.coco_ast.specs.History.{History, Epoch, RisesAbove, all_dones, dones_in, epoch_dones, epochs_above, followed_by, greatest_with, ids_of, is_up_to, kept, kept_of, forgotten_of, floor, last_epoch, last_number, request_of}
 use Rattle.coco_ast.specs.Tree.{Procedures}
 use Rattle.coco_ast.proofs.Lists.{all_append}
 use Rattle.coco_lines.specs.Batches.{Batch}
-use Rattle.coco_lines.specs.Classes.{is_old, known_in, AreClasses, new_of}
+use Rattle.coco_lines.specs.Classes.{known_in, AreClasses, new_of}
 use Rattle.coco_lines.specs.Growing.{GrowsByBatches}
 use Rattle.coco_lines.specs.Lines.{Line}
 use Rattle.coco_lines.specs.declared.class.Class.{Class}
@@ -74,8 +74,8 @@ at_most_one n m k = grind (arith, nat_tests)
 abbrev reaches : Request → List Request → Bool
 reaches r rs = list_any (λ (q : Request). nat_le r.id q.id) rs
 
-old_by_any : (f : Option ℕ) (ds : List Done) (r : Request) → is_old (greatest_with f (ids_of ds)) r ≡ (is_old f r || reaches r (map request_of ds))
-old_by_any f [] r = or_false (is_old f r)
+old_by_any : (f : Option ℕ) (ds : List Done) (r : Request) → is_up_to (greatest_with f (ids_of ds)) r.id ≡ (is_up_to f r.id || reaches r (map request_of ds))
+old_by_any f [] r = or_false (is_up_to f r.id)
 old_by_any None (d ∷ ds) r = old_by_any (Some d.id) ds r
 old_by_any (Some n) (d ∷ ds) r =
     old_by_any (Some (max n d.id)) ds r ∙ ap (λ b. b || reaches r (map request_of ds)) (at_most_one n d.id r.id) ∙ or_assoc (nat_le r.id n) (nat_le r.id d.id) (reaches r (map request_of ds))
@@ -89,7 +89,7 @@ module _ (h : History) (es fs : List Epoch) (low : AllByRecursion (λ d. d.epoch
       subst (λ l. IsPermutation l (map request_of (kept (behind h fs)))) (sym (kept_passing h.keep (all_dones (behind h es))))
       (subst (λ l. IsPermutation (passing (lets h.keep) (all_dones (behind h es))) l) (sym (kept_passing h.keep (all_dones (behind h fs)))) (passing_alike (lets h.keep) h es fs low first second alike))
 
-  floors_alike : (r : Request) → is_old (floor (behind h es)) r ≡ is_old (floor (behind h fs)) r
+  floors_alike : (r : Request) → is_up_to (floor (behind h es)) r.id ≡ is_up_to (floor (behind h fs)) r.id
   floors_alike r =
       let q : ℕ → Bool = λ n. not (lets h.keep n) in
       let gone : List Epoch → List Done = λ xs. forgotten_of h.keep (all_dones (behind h xs)) in
@@ -97,7 +97,7 @@ module _ (h : History) (es fs : List Epoch) (low : AllByRecursion (λ d. d.epoch
       ap (reaches r) (forgotten_passing h.keep (all_dones (behind h es)))
       ∙ list_any-IsPermutation (λ (p : Request). nat_le r.id p.id) (passing q (all_dones (behind h es))) (passing q (all_dones (behind h fs))) (passing_alike q h es fs low first second alike)
       ∙ ap (reaches r) (sym (forgotten_passing h.keep (all_dones (behind h fs)))) in
-      old_by_any h.base.floor (gone es) r ∙ ap (λ b. is_old h.base.floor r || b) same ∙ sym (old_by_any h.base.floor (gone fs) r)
+      old_by_any h.base.floor (gone es) r ∙ ap (λ b. is_up_to h.base.floor r.id || b) same ∙ sym (old_by_any h.base.floor (gone fs) r)
 
   pub known_alike : AreAlike (known_in (behind h es)) (known_in (behind h fs))
   known_alike = record { requests = kept_alike; floors = floors_alike }

@@ -12,12 +12,12 @@ use Rattle.coco_types.specs.declared.call.Done.{Done}
 use Rattle.coco_types.specs.declared.call.Request.{Request}
 use Rattle.coco_types.specs.contracts.call.CallPartialEq.TheImpl as call
 use Rattle.coco_ast.specs.Growth.{GrowsBy, AreNew}
-use Rattle.coco_ast.specs.History.{History, AreAbove, IsOrdered, all_dones, done_of, floor, is_held, kept, request_of}
+use Rattle.coco_ast.specs.History.{History, AreAbove, IsOrdered, all_dones, done_of, floor, is_held, is_up_to, kept, request_of}
 use Rattle.coco_ast.specs.Tree.{Procedures}
 use Rattle.coco_ast.proofs.GrowthLemmas.{dones_behind, done_of-append, growth_keeps}
 use Rattle.coco_lines.specs.Answers.{answer_by, answers_by, replied_id, text_of}
 use Rattle.coco_lines.specs.Batches.{Batch, joined}
-use Rattle.coco_lines.specs.Classes.{Known, and_known, is_known, is_same, is_old, is_full, known_in, refusing, request_tests, class_tests, IsClass, new_in, new_of, AreClasses}
+use Rattle.coco_lines.specs.Classes.{Known, and_known, is_known, is_same, is_full, known_in, refusing, request_tests, class_tests, IsClass, new_in, new_of, AreClasses}
 use Rattle.coco_lines.specs.Growing.{GrowsByBatch, GrowsByBatches}
 use Rattle.coco_lines.specs.Lines.{Line}
 use Rattle.coco_lines.specs.Reading.{json_of, first_that_fits, reading_tests, request_in, request_on}
@@ -53,9 +53,9 @@ was_read procs k line c some h = past_refusals (reading_tests procs (json_of lin
 -- what a new request is to those that are known
 pub record IsNewTo (k : Known) (r : Request) : Type 0 where
   pub unknown : is_known k r ≡ false
-  pub above : is_old k.floor r ≡ false
+  pub above : is_up_to k.floor r.id ≡ false
 
-new_by : (k : Known) (q r : Request) (a b c d : Bool) → is_known k q ≡ b → is_old k.floor q ≡ c
+new_by : (k : Known) (q r : Request) (a b c d : Bool) → is_known k q ≡ b → is_up_to k.floor q.id ≡ c
     → first_that_fits ((a, Same q.id) ∷ (b, Refused error.Reused) ∷ (c, Refused error.Old) ∷ (d, Refused error.Full) ∷ (true, New q) ∷ []) ≡ Some (New r) → (q ≡ r) × IsNewTo k q
 new_by k q r true b c d known old h = let e : ◌≡◌ {A = Option Class} (Some (Same q.id)) (Some (New r)) = h in cc
 new_by k q r false true c d known old h = let e : ◌≡◌ {A = Option Class} (Some (Refused error.Reused)) (Some (New r)) = h in cc
@@ -74,12 +74,12 @@ same_by k q id false false false false same h = let e : ◌≡◌ {A = Option Cl
 new_read : (k : Known) (o : Option Request) (r : Request) → first_that_fits (request_tests k o) ≡ Some (New r) → (o ≡ Some r) × IsNewTo k r
 new_read k None r h = let e : ◌≡◌ {A = Option Class} None (Some (New r)) = h in absurd (cc)
 new_read k (Some q) r h =
-    let is = new_by k q r (is_same k q) (is_known k q) (is_old k.floor q) (is_full k) refl refl h in
+    let is = new_by k q r (is_same k q) (is_known k q) (is_up_to k.floor q.id) (is_full k) refl refl h in
     (ap Some is.0, subst (IsNewTo k) is.0 is.1)
 
 same_read : (k : Known) (o : Option Request) (id : ℕ) → first_that_fits (request_tests k o) ≡ Some (Same id) → (r : Request) × (o ≡ Some r) × (r.id ≡ id) × (is_same k r ≡ true)
 same_read k None id h = let e : ◌≡◌ {A = Option Class} None (Some (Same id)) = h in absurd (cc)
-same_read k (Some q) id h = let is = same_by k q id (is_same k q) (is_known k q) (is_old k.floor q) (is_full k) refl h in (q, refl, is.0, is.1)
+same_read k (Some q) id h = let is = same_by k q id (is_same k q) (is_known k q) (is_up_to k.floor q.id) (is_full k) refl h in (q, refl, is.0, is.1)
 
 read_is : (procs : Procedures) (line : Line) (r : Request) → request_in procs (json_of line) ≡ Some r → request_on procs line ≡ Some r
 unfolding request_on
@@ -302,12 +302,12 @@ none_kept : (h : History) (rs : List Request) → AllByRecursion (IsNewTo (known
 none_kept h [] all = tt
 none_kept h (r ∷ rs) all = (none_by r.id (kept h) all.0.unknown, none_kept h rs all.1)
 
-all_above : (f : Option ℕ) (rs : List Request) → AllByRecursion (λ r. is_old f r ≡ false) rs → AreAbove f (map (λ r. r.id) rs)
+all_above : (f : Option ℕ) (rs : List Request) → AllByRecursion (λ r. is_up_to f r.id ≡ false) rs → AreAbove f (map (λ r. r.id) rs)
 all_above None rs all = tt
 all_above (Some n) [] all = tt
 all_above (Some n) (r ∷ rs) all = let test : nat_le r.id n ≡ false = all.0 in (grind (arith, nat_tests), all_above (Some n) rs all.1)
 
-all_unold : (k : Known) (rs : List Request) → AllByRecursion (IsNewTo k) rs → AllByRecursion (λ r. is_old k.floor r ≡ false) rs
+all_unold : (k : Known) (rs : List Request) → AllByRecursion (IsNewTo k) rs → AllByRecursion (λ r. is_up_to k.floor r.id ≡ false) rs
 all_unold k [] all = tt
 all_unold k (r ∷ rs) all = (all.0.above, all_unold k rs all.1)
 

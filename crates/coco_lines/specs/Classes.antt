@@ -1,10 +1,10 @@
 -- The classes of lines: one list of tests, of which the first that fits decides.
-use Rattle.std.specs.Prelude.{◌≡◌, ℕ, ◌&&◌, Bool, true, false, nat_eq, nat_le, nat_lt, List, [], ◌∷◌, ◌++◌, length, map, Option, None, Some}
+use Rattle.std.specs.Prelude.{◌≡◌, ℕ, ◌&&◌, Bool, true, nat_eq, nat_le, nat_lt, List, [], ◌∷◌, ◌++◌, length, map, Option, None, Some}
 use Rattle.std.specs.List.{list_any}
 use Rattle.coco_types.specs.declared.limits.TheConstants.{MOST_KEPT, MOST_LINE_BYTES}
 use Rattle.coco_types.specs.declared.call.Request.{Request}
 use Rattle.coco_types.specs.contracts.call.CallPartialEq.TheImpl as call
-use Rattle.coco_ast.specs.History.{History, floor, kept, request_of}
+use Rattle.coco_ast.specs.History.{History, floor, is_up_to, kept, request_of}
 use Rattle.coco_ast.specs.Tree.{Procedures}
 use Rattle.coco_lines.specs.Lines.{Line}
 use Rattle.coco_lines.specs.Reading.{json_of, first_that_fits, reading_tests, request_in}
@@ -33,11 +33,6 @@ is_known k r = list_any (λ q. nat_eq r.id q.id) k.requests
 abbrev pub is_same : Known → Request → Bool
 is_same k r = list_any (λ q. nat_eq r.id q.id && call.ghosts.eq q.call r.call) k.requests
 
--- it may have been forgotten
-abbrev pub is_old : Option ℕ → Request → Bool
-is_old None r = false
-is_old (Some n) r = nat_le r.id n
-
 -- no more can be kept
 abbrev pub is_full : Known → Bool
 is_full k = nat_le MOST_KEPT (length k.requests)
@@ -45,11 +40,11 @@ is_full k = nat_le MOST_KEPT (length k.requests)
 abbrev pub refusing : Bool × LineError → Bool × Class
 refusing t = (t.0, Refused t.1)
 
--- the tests of a request that was read without an error
+-- The tests of a request that was read without an error. An id that is at most the floor may have been forgotten.
 abbrev pub request_tests : Known → Option Request → List (Bool × Class)
 request_tests k None = []
 request_tests k (Some r) =
-    (is_same k r, Same r.id) ∷ (is_known k r, Refused error.Reused) ∷ (is_old k.floor r, Refused error.Old) ∷ (is_full k, Refused error.Full) ∷ (true, New r) ∷ []
+    (is_same k r, Same r.id) ∷ (is_known k r, Refused error.Reused) ∷ (is_up_to k.floor r.id, Refused error.Old) ∷ (is_full k, Refused error.Full) ∷ (true, New r) ∷ []
 
 -- all tests of a line in their order: long, json, shape, name, args, snapshot, same, reused, old, full, new
 unfoldable pub class_tests : Procedures → Known → Line → List (Bool × Class)

@@ -13,14 +13,14 @@ use Rattle.coco_types.specs.declared.call.Request.{Request}
 use Rattle.coco_types.specs.contracts.call.CallPartialEq.TheImpl as call
 use Rattle.coco_types.proofs.CallEquality.{call_Decides}
 use Rattle.coco_ast.specs.Growth.{GrowsBy}
-use Rattle.coco_ast.specs.History.{History, all_dones, followed_by, kept, request_of}
+use Rattle.coco_ast.specs.History.{History, all_dones, followed_by, is_up_to, kept, request_of}
 use Rattle.coco_ast.specs.Tree.{Procedures}
 use Rattle.coco_ast.proofs.GrowthLemmas.{dones_behind}
 use Rattle.coco_ast.proofs.KeptLemmas.{keeps_all}
 use Rattle.coco_serve.specs.Again.{AreAnsweredAgain, again}
 use Rattle.coco_lines.specs.Answers.{answer_by, answers_by}
 use Rattle.coco_lines.specs.Batches.{Batch, joined}
-use Rattle.coco_lines.specs.Classes.{Known, and_known, is_known, is_same, is_old, is_full, known_in, refusing, request_tests, class_tests, IsClass, new_in, new_of, AreClasses}
+use Rattle.coco_lines.specs.Classes.{Known, and_known, is_known, is_same, is_full, known_in, refusing, request_tests, class_tests, IsClass, new_in, new_of, AreClasses}
 use Rattle.coco_lines.specs.Growing.{GrowsByBatches}
 use Rattle.coco_lines.specs.Lines.{Line}
 use Rattle.coco_lines.specs.Reading.{json_of, first_that_fits, reading_tests, request_in}
@@ -113,8 +113,8 @@ asks_alike k m (Some r) a =
     let same : is_same k r ≡ is_same m r = list_any-IsPermutation (λ (q : Request). nat_eq r.id q.id && call.ghosts.eq q.call r.call) k.requests m.requests a.requests in
     let known : is_known k r ≡ is_known m r = list_any-IsPermutation (λ (q : Request). nat_eq r.id q.id) k.requests m.requests a.requests in
     let full : is_full k ≡ is_full m = ap (nat_le MOST_KEPT) (sym (length_permutation k.requests m.requests a.requests)) in
-    ap (λ b. tests_by r b (is_known k r) (is_old k.floor r) (is_full k)) same ∙ ap (λ b. tests_by r (is_same m r) b (is_old k.floor r) (is_full k)) known
-    ∙ ap (λ b. tests_by r (is_same m r) (is_known m r) b (is_full k)) (a.floors r) ∙ ap (λ b. tests_by r (is_same m r) (is_known m r) (is_old m.floor r) b) full
+    ap (λ b. tests_by r b (is_known k r) (is_up_to k.floor r.id) (is_full k)) same ∙ ap (λ b. tests_by r (is_same m r) b (is_up_to k.floor r.id) (is_full k)) known
+    ∙ ap (λ b. tests_by r (is_same m r) (is_known m r) b (is_full k)) (a.floors r) ∙ ap (λ b. tests_by r (is_same m r) (is_known m r) (is_up_to m.floor r.id) b) full
 
 class_alike : (procs : Procedures) (k m : Known) (line : Line) (c : Class) → AreAlike k m → IsClass procs k line c → IsClass procs m line c
 class_alike procs k m line c a is = other_class procs k m line c c is (λ e h. refl) (λ o h. ap first_that_fits (sym (asks_alike k m o a)) ∙ h)
@@ -174,7 +174,7 @@ neither : (b c : Bool) → (b || c) ≡ false → (b ≡ false) × (c ≡ false)
 neither true c e = let f : true ≡ false = e in cc
 neither false c e = (refl, e)
 
-new_by : (k : Known) (q r : Request) (a b c d : Bool) → is_known k q ≡ b → is_old k.floor q ≡ c → is_full k ≡ d → first_that_fits (tests_by q a b c d) ≡ Some (New r) → (q ≡ r) × IsNewTo k q × (is_full k ≡ false)
+new_by : (k : Known) (q r : Request) (a b c d : Bool) → is_known k q ≡ b → is_up_to k.floor q.id ≡ c → is_full k ≡ d → first_that_fits (tests_by q a b c d) ≡ Some (New r) → (q ≡ r) × IsNewTo k q × (is_full k ≡ false)
 new_by k q r true b c d known old full h = let e : ◌≡◌ {A = Option Class} (Some (Same q.id)) (Some (New r)) = h in cc
 new_by k q r false true c d known old full h = let e : ◌≡◌ {A = Option Class} (Some (Refused error.Reused)) (Some (New r)) = h in cc
 new_by k q r false false true d known old full h = let e : ◌≡◌ {A = Option Class} (Some (Refused error.Old)) (Some (New r)) = h in cc
@@ -184,12 +184,12 @@ new_by k q r false false false false known old full h = let e : ◌≡◌ {A = O
 new_asked : (k : Known) (o : Option Request) (r : Request) → first_that_fits (request_tests k o) ≡ Some (New r) → IsNewTo k r × (is_full k ≡ false)
 new_asked k None r h = let e : ◌≡◌ {A = Option Class} None (Some (New r)) = h in absurd (cc)
 new_asked k (Some q) r h =
-    let is = new_by k q r (is_same k q) (is_known k q) (is_old k.floor q) (is_full k) refl refl refl h in
+    let is = new_by k q r (is_same k q) (is_known k q) (is_up_to k.floor q.id) (is_full k) refl refl refl h in
     (subst (IsNewTo k) is.0 is.1, is.2)
 
 pub new_asked_is : (k : Known) (o : Option Request) (r : Request) → first_that_fits (request_tests k o) ≡ Some (New r) → o ≡ Some r
 new_asked_is k None r h = let e : ◌≡◌ {A = Option Class} None (Some (New r)) = h in absurd (cc)
-new_asked_is k (Some q) r h = ap Some (new_by k q r (is_same k q) (is_known k q) (is_old k.floor q) (is_full k) refl refl refl h).0
+new_asked_is k (Some q) r h = ap Some (new_by k q r (is_same k q) (is_known k q) (is_up_to k.floor q.id) (is_full k) refl refl refl h).0
 
 not_new : (r : Request) (e : LineError) → ◌≡◌ {A = Class} (New r) (Refused e) → ⊥
 not_new r e h = cc
@@ -256,18 +256,10 @@ pub known_apart : (k : Known) (r : Request) (qs : List Request) → is_known k r
 known_apart k r [] known all = tt
 known_apart k r (q ∷ qs) known all = (apart_by r q (λ n. list_any (λ (p : Request). nat_eq n p.id) k.requests) known all.0.unknown (nat_eq r.id q.id) refl, known_apart k r qs known all.1)
 
-abbrev old_by : Option ℕ → ℕ → Bool
-old_by None n = false
-old_by (Some m) n = nat_le n m
-
-old_is : (f : Option ℕ) (r : Request) → is_old f r ≡ old_by f r.id
-old_is None r = refl
-old_is (Some m) r = refl
-
-pub old_apart : (k : Known) (r : Request) (qs : List Request) → is_old k.floor r ≡ true → AllByRecursion (IsNewTo k) qs → AreApart r qs
+pub old_apart : (k : Known) (r : Request) (qs : List Request) → is_up_to k.floor r.id ≡ true → AllByRecursion (IsNewTo k) qs → AreApart r qs
 old_apart k r [] old all = tt
 old_apart k r (q ∷ qs) old all =
-    (apart_by r q (old_by k.floor) (sym (old_is k.floor r) ∙ old) (sym (old_is k.floor q) ∙ all.0.above) (nat_eq r.id q.id) refl, old_apart k r qs old all.1)
+    (apart_by r q (is_up_to k.floor) old all.0.above (nat_eq r.id q.id) refl, old_apart k r qs old all.1)
 
 pub none_has : (r : Request) (qs : List Request) → AreApart r qs → has r.id qs ≡ false
 none_has r [] all = refl
@@ -296,24 +288,24 @@ equals_itself r = both_true (nat_eq r.id r.id) (call.ghosts.eq r.call r.call) (n
 abbrev Behind : Known → List Request → Class → Type 0
 Behind k later c = AllByRecursion (IsNewTo (and_known k (new_in c))) later × (is_full (and_known k (new_in c)) ≡ true → later ≡ [])
 
-pub tests_are : (k : Known) (r : Request) (a b c d : Bool) (is : Class) → is_same k r ≡ a → is_known k r ≡ b → is_old k.floor r ≡ c → is_full k ≡ d → first_that_fits (tests_by r a b c d) ≡ Some is
+pub tests_are : (k : Known) (r : Request) (a b c d : Bool) (is : Class) → is_same k r ≡ a → is_known k r ≡ b → is_up_to k.floor r.id ≡ c → is_full k ≡ d → first_that_fits (tests_by r a b c d) ≡ Some is
     → first_that_fits (request_tests k (Some r)) ≡ Some is
 tests_are k r a b c d is p q s t h =
-    ap (λ x. first_that_fits (tests_by r x (is_known k r) (is_old k.floor r) (is_full k))) p ∙ ap (λ x. first_that_fits (tests_by r a x (is_old k.floor r) (is_full k))) q
+    ap (λ x. first_that_fits (tests_by r x (is_known k r) (is_up_to k.floor r.id) (is_full k))) p ∙ ap (λ x. first_that_fits (tests_by r a x (is_up_to k.floor r.id) (is_full k))) q
     ∙ ap (λ x. first_that_fits (tests_by r a b x (is_full k))) s ∙ ap (λ x. first_that_fits (tests_by r a b c x)) t ∙ h
 
 -- that class is the one that it has again
-asked_again : (k : Known) (later : List Request) (r : Request) (c : Class) (a b o f : Bool) → is_same k r ≡ a → is_known k r ≡ b → is_old k.floor r ≡ o → is_full k ≡ f
+asked_again : (k : Known) (later : List Request) (r : Request) (c : Class) (a b o f : Bool) → is_same k r ≡ a → is_known k r ≡ b → is_up_to k.floor r.id ≡ o → is_full k ≡ f
     → first_that_fits (tests_by r a b o f) ≡ Some c → Behind k later c → first_that_fits (request_tests (and_known k (new_in c ++ later)) (Some r)) ≡ Some (again c)
 asked_again k later r (Same id) true b o f same known old full h after =
     let e : ◌≡◌ {A = Option Class} (Some (Same r.id)) (Some (Same id)) = h in
-    tests_are (and_known k later) r true (is_known (and_known k later) r) (is_old k.floor r) (is_full (and_known k later)) (Same id)
+    tests_are (and_known k later) r true (is_known (and_known k later) r) (is_up_to k.floor r.id) (is_full (and_known k later)) (Same id)
     (same_with k r later ∙ first_true (is_same k r) (list_any (equals r) later) same) refl refl refl e
 asked_again k later r (Refused x) true b o f same known old full h after = let e : ◌≡◌ {A = Option Class} (Some (Same r.id)) (Some (Refused x)) = h in absurd (cc)
 asked_again k later r (New q) true b o f same known old full h after = let e : ◌≡◌ {A = Option Class} (Some (Same r.id)) (Some (New q)) = h in absurd (cc)
 asked_again k later r (Refused x) false true o f same known old full h after =
     let apart = known_apart k r later known (all_still_new k [] later after.0) in
-    tests_are (and_known k later) r false true (is_old k.floor r) (is_full (and_known k later)) (Refused x)
+    tests_are (and_known k later) r false true (is_up_to k.floor r.id) (is_full (and_known k later)) (Refused x)
     (same_with k r later ∙ both_false (is_same k r) (list_any (equals r) later) same (none_equals r later apart))
     (known_with k r later ∙ first_true (is_known k r) (has r.id later) known) refl refl h
 asked_again k later r (Same id) false true o f same known old full h after = let e : ◌≡◌ {A = Option Class} (Some (Refused error.Reused)) (Some (Same id)) = h in absurd (cc)
@@ -339,14 +331,14 @@ asked_again k later r (New q) false false false false same known old full h afte
     let all = and_known k (q ∷ later) in
     let here : is_same all r ≡ true = same_with k r (q ∷ later) ∙ either_true (is_same k r) (equals r q || list_any (equals r) later)
     (first_true (equals r q) (list_any (equals r) later) (subst (λ x. equals r x ≡ true) is (equals_itself r))) in
-    tests_are all r true (is_known all r) (is_old k.floor r) (is_full all) (Same q.id) here refl refl refl (ap (λ (x : Request). Some (Same x.id)) is)
+    tests_are all r true (is_known all r) (is_up_to k.floor r.id) (is_full all) (Same q.id) here refl refl refl (ap (λ (x : Request). Some (Same x.id)) is)
 asked_again k later r (Refused x) false false false false same known old full h after = let e : ◌≡◌ {A = Option Class} (Some (New r)) (Some (Refused x)) = h in absurd (cc)
 asked_again k later r (Same id) false false false false same known old full h after = let e : ◌≡◌ {A = Option Class} (Some (New r)) (Some (Same id)) = h in absurd (cc)
 
 any_asked_again : (k : Known) (later : List Request) (o : Option Request) (c : Class) → first_that_fits (request_tests k o) ≡ Some c → Behind k later c
     → first_that_fits (request_tests (and_known k (new_in c ++ later)) o) ≡ Some (again c)
 any_asked_again k later None c h after = let e : ◌≡◌ {A = Option Class} None (Some c) = h in absurd (cc)
-any_asked_again k later (Some r) c h after = asked_again k later r c (is_same k r) (is_known k r) (is_old k.floor r) (is_full k) refl refl refl refl h after
+any_asked_again k later (Some r) c h after = asked_again k later r c (is_same k r) (is_known k r) (is_up_to k.floor r.id) (is_full k) refl refl refl refl h after
 
 class_again : (procs : Procedures) (k : Known) (later : List Request) (line : Line) (c : Class) → IsClass procs k line c → Behind k later c → IsClass procs (and_known k (new_in c ++ later)) line (again c)
 class_again procs k later line c is after =
@@ -376,7 +368,7 @@ classes_again procs k m (line ∷ lines) (c ∷ cs) a are =
 -- ---- a history without a keep number
 
 alike_for : (k m : Known) → IsPermutation k.requests m.requests → k.floor ≡ m.floor → AreAlike k m
-alike_for k m requests floors = record { requests = requests; floors = λ r. ap (λ f. is_old f r) floors }
+alike_for k m requests floors = record { requests = requests; floors = λ r. ap (λ f. is_up_to f r.id) floors }
 
 grown_known : (h : History) (rs : List Request) (g : History) → h.keep ≡ None → GrowsBy h rs g → AreAlike (and_known (known_in h) rs) (known_in g) × (g.keep ≡ None)
 grown_known h [] g all same = (alike_by (and_known (known_in h) []) (known_in g) (none_added (known_in h) ∙ ap known_in (sym same)), ap (λ (x : History). x.keep) same ∙ all)

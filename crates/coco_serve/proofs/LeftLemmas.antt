@@ -11,11 +11,11 @@ use Rattle.coco_types.specs.declared.call.Done.{Done}
 use Rattle.coco_types.specs.declared.call.Request.{Request}
 use Rattle.coco_types.specs.contracts.call.CallPartialEq.TheImpl as call
 use Rattle.coco_ast.specs.Growth.{GrowsBy}
-use Rattle.coco_ast.specs.History.{History, AreAbove, IsOrdered, all_dones, done_of, floor, ids_of, is_held, kept, request_of}
+use Rattle.coco_ast.specs.History.{History, AreAbove, IsOrdered, all_dones, done_of, floor, ids_of, is_held, is_up_to, kept, request_of}
 use Rattle.coco_ast.specs.Tree.{Procedures}
 use Rattle.coco_ast.proofs.KeptLemmas.{follows}
 use Rattle.coco_lines.specs.Batches.{Batch, joined}
-use Rattle.coco_lines.specs.Classes.{Known, and_known, is_known, is_same, is_old, is_full, known_in, request_tests, IsClass, new_in, new_of, AreClasses}
+use Rattle.coco_lines.specs.Classes.{Known, and_known, is_known, is_same, is_full, known_in, request_tests, IsClass, new_in, new_of, AreClasses}
 use Rattle.coco_lines.specs.Growing.{GrowsByBatches}
 use Rattle.coco_lines.specs.Lines.{Line}
 use Rattle.coco_lines.specs.Reading.{first_that_fits}
@@ -91,14 +91,14 @@ has_done equal r (d ∷ ds) once h =
 -- no kept Done has it, and it is at most the floor
 pub record IsPast (h : History) (r : Request) : Type 0 where
   pub unkept : has r.id (map request_of (kept h)) ≡ false
-  pub old : is_old (floor h) r ≡ true
+  pub old : is_up_to (floor h) r.id ≡ true
 
-pub above_one : (f : Option ℕ) (r : Request) → is_old f r ≡ false → AreAbove f (r.id ∷ [])
+pub above_one : (f : Option ℕ) (r : Request) → is_up_to f r.id ≡ false → AreAbove f (r.id ∷ [])
 above_one None r h = tt
 above_one (Some n) r h = let test : nat_le r.id n ≡ false = h in (grind (arith, nat_tests), tt)
 
 -- what lies above one floor lies above the other
-still_old : (f e : Option ℕ) (r : Request) → ((ids : List ℕ) → AreAbove e ids → AreAbove f ids) → is_old f r ≡ true → (b : Bool) → is_old e r ≡ b → b ≡ true
+still_old : (f e : Option ℕ) (r : Request) → ((ids : List ℕ) → AreAbove e ids → AreAbove f ids) → is_up_to f r.id ≡ true → (b : Bool) → is_up_to e r.id ≡ b → b ≡ true
 still_old f e r below old true h = refl
 still_old f e r below old false h = absurd (old_above f r old (below (r.id ∷ []) (above_one e r h)))
 
@@ -118,10 +118,10 @@ kept_with procs h m (q ∷ qs) r grows none =
     ap (λ x. has r.id (map request_of (kept x))) grows.3 ∙ ap (λ l. has r.id (map request_of l)) ((follows procs h e).held)
     ∙ no_more _ _ (any_passing one (is_held h.keep (kept h ++ e.dones)) (kept h ++ e.dones)) all
 
-past_with : (procs : Procedures) (h m : History) (rs : List Request) (r : Request) → GrowsBy h rs m → has r.id (map request_of (kept h) ++ rs) ≡ false → is_old (floor h) r ≡ true → IsPast m r
+past_with : (procs : Procedures) (h m : History) (rs : List Request) (r : Request) → GrowsBy h rs m → has r.id (map request_of (kept h) ++ rs) ≡ false → is_up_to (floor h) r.id ≡ true → IsPast m r
 past_with procs h m rs r grows none old = record {
   unkept = kept_with procs h m rs r grows none;
-  old = still_old (floor h) (floor m) r (gains procs h rs m grows).below old (is_old (floor m) r) refl;
+  old = still_old (floor h) (floor m) r (gains procs h rs m grows).below old (is_up_to (floor m) r.id) refl;
 }
 
 -- an id that was forgotten stays so
@@ -158,7 +158,7 @@ Leaves procs g line c = IsSettled (class_by procs line) c ⊎ LeavesOpen procs g
 
 -- what is known with these requests and isn't kept is past, if it is old
 abbrev Passes : History → Known → Type 0
-Passes g k = (r : Request) → is_known k r ≡ false → is_old k.floor r ≡ true → IsPast g r
+Passes g k = (r : Request) → is_known k r ≡ false → is_up_to k.floor r.id ≡ true → IsPast g r
 
 -- the requests that are new behind a line of this class
 abbrev NewBehind : Known → Class → List Request → Type 0
@@ -167,7 +167,7 @@ NewBehind k c later = AllByRecursion (IsNewTo (and_known k (new_in c))) later
 among : (p : Request → Bool) (k : Known) (rs : List Request) → list_any p k.requests ≡ true → list_any p (k.requests ++ rs) ≡ true
 among p k rs h = list_any-append p k.requests rs ∙ first_true (list_any p k.requests) (list_any p rs) h
 
-left_by : (k : Known) (g : History) (later : List Request) (r : Request) (c : Class) (a b o f : Bool) → is_same k r ≡ a → is_known k r ≡ b → is_old k.floor r ≡ o → first_that_fits (tests_by r a b o f) ≡ Some c
+left_by : (k : Known) (g : History) (later : List Request) (r : Request) (c : Class) (a b o f : Bool) → is_same k r ≡ a → is_known k r ≡ b → is_up_to k.floor r.id ≡ o → first_that_fits (tests_by r a b o f) ≡ Some c
     → IsDistinct nat_eq (ids_of (all_dones g)) → Leads (and_known k (new_in c)) g → Passes g (and_known k (new_in c ++ later)) → NewBehind k c later → LeavesRequest g r c
 left_by k g later r (Same id) true b o f same known old h once leads passes new =
     let e : ◌≡◌ {A = Option Class} (Some (Same r.id)) (Some (Same id)) = h in
@@ -210,7 +210,7 @@ any_left procs k g later line c (Some r) asks h whichever once leads passes new 
   request = r;
   asks = asks;
   whichever = whichever;
-  leaves = left_by k g later r c (is_same k r) (is_known k r) (is_old k.floor r) (is_full k) refl refl refl h once leads passes new;
+  leaves = left_by k g later r c (is_same k r) (is_known k r) (is_up_to k.floor r.id) (is_full k) refl refl refl h once leads passes new;
 }
 
 line_left : (procs : Procedures) (k : Known) (g : History) (later : List Request) (line : Line) (c : Class) → IsClass procs k line c → IsDistinct nat_eq (ids_of (all_dones g)) → Leads (and_known k (new_in c)) g

@@ -6,14 +6,14 @@ use Rattle.coco_types.specs.declared.call.Done.{Done}
 use Rattle.coco_types.specs.declared.call.Request.{Request}
 use Rattle.coco_types.specs.contracts.call.CallPartialEq.TheImpl as call
 use Rattle.coco_ast.specs.Growth.{AreNew}
-use Rattle.coco_ast.specs.History.{History, IsOrdered, all_dones, done_of, floor, is_held, kept, request_of}
+use Rattle.coco_ast.specs.History.{History, IsOrdered, all_dones, done_of, floor, is_held, is_up_to, kept, request_of}
 use Rattle.coco_ast.specs.Tree.{Procedures}
 use Rattle.coco_ast.proofs.GrowthLemmas.{done_of-append, new_have_no_done}
 use Rattle.coco_ast.proofs.Growths.{kept_are_dones}
 use Rattle.coco_ast.proofs.Lists.{all_append}
 use Rattle.coco_lines.specs.Answers.{answer_by, replied_id, text_of}
 use Rattle.coco_lines.specs.Batches.{Batch, joined}
-use Rattle.coco_lines.specs.Classes.{Known, and_known, is_known, is_same, is_old, is_full, known_in, request_tests, IsClass, new_in, AreClasses}
+use Rattle.coco_lines.specs.Classes.{Known, and_known, is_known, is_same, is_full, known_in, request_tests, IsClass, new_in, AreClasses}
 use Rattle.coco_lines.specs.Growing.{GrowsByBatches}
 use Rattle.coco_lines.specs.Lines.{Line}
 use Rattle.coco_lines.specs.Reading.{first_that_fits, request_on}
@@ -104,9 +104,9 @@ module _ (m : History) (ordered : IsOrdered m) (r : Request) (before : List Requ
 
   is_past : (equal : Bool) → HasDone (all_dones m) equal r → done_of r.id (kept m) ≡ None → IsPast m r
   unfolding IsDistinct
-  is_past equal has none = record { unkept = has_none r.id (kept m) none; old = by (is_old (floor m) r) refl }
+  is_past equal has none = record { unkept = has_none r.id (kept m) none; old = by (is_up_to (floor m) r.id) refl }
     where
-      by : (b : Bool) → is_old (floor m) r ≡ b → b ≡ true
+      by : (b : Bool) → is_up_to (floor m) r.id ≡ b → b ≡ true
       by true h = refl
       by false h =
           let fresh : AreNew m (r ∷ []) = record { distinct = (tt, tt); unkept = (none, tt); above = above_one (floor m) r h } in
@@ -119,7 +119,7 @@ module _ (m : History) (ordered : IsOrdered m) (r : Request) (before : List Requ
   kept_again true d there found =
       let k = and_known (known_in m) before in
       let equal = one_done d true there (kept_are_dones m ordered r.id d found) in
-      tests_are k r true (is_known k r) (is_old (floor m) r) (is_full k) (Same r.id)
+      tests_are k r true (is_known k r) (is_up_to (floor m) r.id) (is_full k) (Same r.id)
       (same_with (known_in m) r before ∙ first_true (is_same (known_in m) r) (list_any (equals r) before) (done_equal r (kept m) d equal found)) refl refl refl refl
   kept_again false d there found =
       let k = and_known (known_in m) before in
@@ -129,7 +129,7 @@ module _ (m : History) (ordered : IsOrdered m) (r : Request) (before : List Requ
       let other = has_done true r (all_dones m) ordered.once (any_passing (equals r) (is_held m.keep (all_dones m)) (all_dones m) h) in
       let e : true ≡ false = sym other.compared ∙ one_done other.done false there other.found in
       cc) in
-      tests_are k r false true (is_old (floor m) r) (is_full k) (Refused error.Reused)
+      tests_are k r false true (is_up_to (floor m) r.id) (is_full k) (Refused error.Reused)
       (same_with (known_in m) r before ∙ both_false (is_same (known_in m) r) (list_any (equals r) before) same (none_equals r before apart))
       (known_with (known_in m) r before ∙ first_true (is_known (known_in m) r) (has r.id before) known) refl refl refl
 

@@ -10,12 +10,12 @@ use Rattle.coco_types.specs.declared.call.Done.{Done}
 use Rattle.coco_types.specs.declared.call.Request.{Request}
 use Rattle.coco_types.specs.contracts.call.CallPartialEq.TheImpl as call
 use Rattle.coco_ast.specs.Growth.{AreNew, GrowsBy}
-use Rattle.coco_ast.specs.History.{History, AreAbove, all_dones, floor, is_held, kept, request_of}
+use Rattle.coco_ast.specs.History.{History, AreAbove, all_dones, floor, is_held, is_up_to, kept, request_of}
 use Rattle.coco_ast.specs.Tree.{Procedures}
 use Rattle.coco_ast.proofs.GrowthLemmas.{new_have_no_done}
 use Rattle.coco_ast.proofs.Lists.{all_append, all_left, all_right}
 use Rattle.coco_lines.specs.Batches.{Batch, joined}
-use Rattle.coco_lines.specs.Classes.{Known, and_known, is_known, is_same, is_old, is_full, known_in, request_tests, IsClass, new_in, new_of, AreClasses}
+use Rattle.coco_lines.specs.Classes.{Known, and_known, is_known, is_same, is_full, known_in, request_tests, IsClass, new_in, new_of, AreClasses}
 use Rattle.coco_lines.specs.Growing.{GrowsByBatches}
 use Rattle.coco_lines.specs.Lines.{Line}
 use Rattle.coco_lines.specs.Reading.{first_that_fits}
@@ -41,7 +41,7 @@ pub record Leads (k : Known) (g : History) : Type 0 where
 
 -- the id is there, or may have been forgotten
 abbrev IsTaken : Known → Request → Type 0
-IsTaken k r = (has r.id k.requests ≡ true) ⊎ (is_old k.floor r ≡ true)
+IsTaken k r = (has r.id k.requests ≡ true) ⊎ (is_up_to k.floor r.id ≡ true)
 
 pub same_has : (r : Request) (qs : List Request) → list_any (equals r) qs ≡ true → has r.id qs ≡ true
 same_has r [] h = h
@@ -54,7 +54,7 @@ same_has r (q ∷ qs) h = by (nat_eq r.id q.id) (call.ghosts.eq q.call r.call) h
 not_full : (c : Class) → IsNotFull c → c ≡ Refused error.Full → ⊥
 not_full c fits e = fits e
 
-taken_by : (k : Known) (r : Request) (c : Class) (a b o f : Bool) → is_same k r ≡ a → is_known k r ≡ b → is_old k.floor r ≡ o → first_that_fits (tests_by r a b o f) ≡ Some c → IsNotFull c
+taken_by : (k : Known) (r : Request) (c : Class) (a b o f : Bool) → is_same k r ≡ a → is_known k r ≡ b → is_up_to k.floor r.id ≡ o → first_that_fits (tests_by r a b o f) ≡ Some c → IsNotFull c
     → IsTaken (and_known k (new_in c)) r
 taken_by k r c true b o f same known old h fits = inl (here k r (new_in c) (same_has r k.requests same))
   where
@@ -72,7 +72,7 @@ taken_by k r c false false false false same known old h fits =
     subst (λ x. IsTaken (and_known k (new_in x)) r) is
     (inl (list_any-append (λ (q : Request). nat_eq r.id q.id) k.requests (r ∷ []) ∙ either_true (has r.id k.requests) (has r.id (r ∷ [])) (first_true (nat_eq r.id r.id) false (nat_eq_equiv.refl r.id))))
 
-pub old_above : (f : Option ℕ) (r : Request) → is_old f r ≡ true → AreAbove f (r.id ∷ []) → ⊥
+pub old_above : (f : Option ℕ) (r : Request) → is_up_to f r.id ≡ true → AreAbove f (r.id ∷ []) → ⊥
 old_above None r old above = let e : false ≡ true = old in cc
 old_above (Some n) r old above = let test : nat_le r.id n ≡ true = old in let low : n < r.id = above.0 in grind (arith, nat_tests)
 
@@ -98,7 +98,7 @@ line_spent procs k g line c is fits leads r new =
       | inr now ↦ elim (class_decided procs k line c is) [
         | inl s ↦ refused_not_new c s.fault r s.is (sym (s.whatever (request_tests (known_in g) (asked procs line))) ∙ now.whichever (request_tests (known_in g) (asked procs line)) (New r) now.fits)
         | inr then_ ↦ taken_is_spent procs (and_known k (new_in c)) g line r leads
-            (taken_by k r c (is_same k r) (is_known k r) (is_old k.floor r) (is_full k) refl refl refl
+            (taken_by k r c (is_same k r) (is_known k r) (is_up_to k.floor r.id) (is_full k) refl refl refl
             (asks_one k (asked procs line) r c (new_asked_is (known_in g) (asked procs line) r now.fits) then_.fits) fits) new
       ]
     ]
