@@ -12,6 +12,7 @@ use Rattle.coco_ast.specs.Tree.{Procedure, Procedures}
 use Rattle.coco_ast.specs.Builtins.{get_proc, put_proc, add_proc, builtins}
 use Rattle.coco_ast.specs.Checks.{IsAccepted, HasNoError, behind_builtins, is_among}
 use Rattle.coco_ast.specs.Meaning.{procedure_at}
+use Rattle.coco_ast.specs.Planning.{HasOwnNames}
 use Rattle.coco_ast.specs.Numbering.{IsNamed, IsNumberOf}
 use Rattle.coco_ast.specs.Words.{is_word}
 use Rattle.coco_ast.specs.Views.{procedure_of, procedures_of}
@@ -62,14 +63,14 @@ few_procs tree a =
 
 -- ---- names of their own
 
-same_bytes : (a b : List ℕ) → a ≡ b → pointwise nat_eq a b ≡ true
+pub same_bytes : (a b : List ℕ) → a ≡ b → pointwise nat_eq a b ≡ true
 same_bytes a b e = (bytes_decides a b).1 e
 
-among_first : (b c : Bool) → b ≡ true → b || c ≡ true
+pub among_first : (b c : Bool) → b ≡ true → b || c ≡ true
 among_first true c h = refl
 among_first false c h = let e : false ≡ true = h in cc
 
-among_later : (b c : Bool) → c ≡ true → b || c ≡ true
+pub among_later : (b c : Bool) → c ≡ true → b || c ≡ true
 among_later true c h = refl
 among_later false c h = h
 
@@ -106,6 +107,31 @@ one_place : (text : Procedures) → HasNoError text → (m n : ℕ) (p q : Proce
 one_place text sound m n p q at_m at_n same =
     ⊎_elim (λ below. absurd (no_two text sound m n p q below at_m at_n same))
     (⊎_elim (λ e. e) (λ below. absurd (no_two text sound n m q p below at_n at_m (sym same)))) (places m n)
+
+-- ---- names of parameters
+
+own_one : (x : List ℕ) → HasOwnNames (x ∷ [])
+own_one x zero twice = let e : false ≡ true = twice.2 in cc
+own_one x (suc i) twice = let e : ◌≡◌ {A = Option (List ℕ)} None (Some twice.0) = twice.1 in cc
+
+own_two : (x y : List ℕ) → pointwise nat_eq y x ≡ false → HasOwnNames (x ∷ y ∷ [])
+own_two x y differ zero twice = let e : false ≡ true = twice.2 in cc
+own_two x y differ (suc zero) twice =
+    let here : y ≡ twice.0 = cc (twice.1) in
+    let e : true ≡ false = sym twice.2 ∙ ap (λ (z : List ℕ). pointwise nat_eq z x || false) (sym here) ∙ ap (λ (b : Bool). b || false) differ in cc
+own_two x y differ (suc (suc i)) twice = let e : ◌≡◌ {A = Option (List ℕ)} None (Some twice.0) = twice.1 in cc
+
+own_of_text : (text : Procedures) → HasNoError text → (n : ℕ) (p : Procedure) → slice_get (behind_builtins text).procs n ≡ Some p → HasOwnNames p.params
+own_of_text text sound zero p at = let here : get_proc ≡ p = cc in subst (λ (q : Procedure). HasOwnNames q.params) here (own_one (codes "r"))
+own_of_text text sound (suc zero) p at = let here : put_proc ≡ p = cc in subst (λ (q : Procedure). HasOwnNames q.params) here (own_two (codes "r") (codes "v") refl)
+own_of_text text sound (suc (suc zero)) p at = let here : add_proc ≡ p = cc in subst (λ (q : Procedure). HasOwnNames q.params) here (own_two (codes "r") (codes "n") refl)
+own_of_text text sound (suc (suc (suc k))) p at = λ i twice.
+    sound (record { item = length text.tables + (k + 1); statement = 0; kind = Twice })
+    (inr (record { place = k; procedure = p; there = at; item = refl; within = inr (i, twice) }))
+
+-- no procedure's parameters have the same name
+pub own_params : (tree : Procedures) → IsAccepted tree → (n : ℕ) (p : Procedure) → slice_get tree.procs n ≡ Some p → HasOwnNames p.params
+own_params tree a n p at = own_of_text a.text a.sound n p (subst (λ (u : Procedures). slice_get u.procs n ≡ Some p) a.whole at)
 
 -- ---- the number of a name
 

@@ -12,8 +12,12 @@ pub mod KeptLemmas
 pub mod KeyedLemmas
 pub mod Leading
 pub mod Lists
+pub mod PlanLemmas
+pub mod Planned
 pub mod RunsPutWrites
 pub mod ScheduleLemmas
+pub mod SlotLemmas
+pub mod TermLemmas
 pub mod Trees
 pub mod WordTexts
 pub mod WorkedExamples

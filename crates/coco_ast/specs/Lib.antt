@@ -13,6 +13,8 @@ pub mod Meaning
 pub mod Messages
 pub mod NameView
 pub mod Numbering
+pub mod Planning
+pub mod Plans
 pub mod RunLaws
 pub mod Schedule
 pub mod Tree

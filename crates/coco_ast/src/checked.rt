@@ -8,10 +8,12 @@ ghost use Rattle.coco_ast.specs.Checks.{IsAccepted};
 ghost use Rattle.coco_ast.specs.Fitting.{any_writes, writes_in};
 ghost use Rattle.coco_ast.specs.Meaning.{procedure_at};
 ghost use Rattle.coco_ast.specs.Numbering.{IsNamed};
+ghost use Rattle.coco_ast.specs.Plans.{IsPlanFor};
 ghost use Rattle.coco_ast.specs.Views.{procedure_of, procedures_of, statement_of, statements_of};
 
 use crate::index::{Numbers, numbers_of};
-use crate::{Name, Proc, Procs, Stmt, builtins};
+use crate::planning::plans_of;
+use crate::{Name, Plan, Plans, Proc, Procs, Stmt, builtins};
 use coco_types::NoMemory;
 use std::alloc::Global;
 use std::marker::Model;
@@ -22,11 +24,13 @@ use std::marker::Model;
 pub struct Checked {
     procs: Procs,
     numbers: Numbers,
+    plans: Plans,
 }
 
 impl Model for Checked {
     ghost use Rattle.coco_ast.specs.Checks.{IsAccepted};
     ghost use Rattle.coco_ast.specs.Numbering.{IsIndexOf};
+    ghost use Rattle.coco_ast.specs.Plans.{ArePlansOf};
     ghost use Rattle.coco_ast.specs.Tree.{Procedures};
     ghost use Rattle.coco_ast.specs.TreeCode.{procedures_code};
     ghost use Rattle.coco_ast.specs.Views.{procedures_of};
@@ -37,7 +41,7 @@ impl Model for Checked {
 
     ghost view = { λ c. procedures_of c.procs };
 
-    ghost invariant = { λ c. IsAccepted (procedures_of c.procs) × IsIndexOf c.procs.procs c.numbers };
+    ghost invariant = { λ c. IsAccepted (procedures_of c.procs) × IsIndexOf c.procs.procs c.numbers × ArePlansOf (procedures_of c.procs).procs c.plans.items };
 }
 
 impl Checked {
@@ -47,9 +51,11 @@ impl Checked {
         ensures { IfOk result (λ c. c ≡ procedures_of tree) }
     {
         let numbers = numbers_of(alloc, tree.procs.as_slice())?;
+        let plans = plans_of(alloc, &tree)?;
         Ok(Checked {
             procs: tree,
             numbers,
+            plans,
         })
     }
 
@@ -66,6 +72,14 @@ impl Checked {
         ensures accepted { IsAccepted self.now }
     {
         &self.procs
+    }
+
+    /// How a procedure is run, if there is one of this number.
+    pub fn plan(&self, proc_no: u16) -> Option<&Plan>
+        ensures plan { IsPlanFor (procedure_at self.now.procs proc_no) result }
+        ensures accepted { IsAccepted self.now }
+    {
+        self.plans.as_slice().get(proc_no as usize)
     }
 
     /// The number of the procedure of a name.

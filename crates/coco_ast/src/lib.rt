@@ -8,6 +8,9 @@ mod index;
 pub mod laws;
 pub mod literal;
 pub mod name;
+pub mod plan;
+mod planning;
+mod slots;
 pub mod tree;
 
 pub use builtin::builtins;
@@ -15,4 +18,5 @@ pub use checked::Checked;
 pub use error::{CheckError, CheckKind};
 pub use literal::Literal;
 pub use name::{MOST_NAME_BYTES, Name, continues_word, starts_word};
+pub use plan::{Plan, Plans, Spot, Step, Steps, Term};
 pub use tree::{Block, Expr, Names, Place, Proc, ProcList, Procs, Stmt, TwoOp};

@@ -1,10 +1,11 @@
 -- A run on a map comes to what its state goes on to from the start.
-use Rattle.std.proofs.Common.{◌≡◌, ℕ, zero, suc, ◌+◌, Bool, true, false, cond, ◌||◌, if◌then◌else◌, nat_eq, List, [], ◌∷◌, ◌++◌, Option, None, Some, Ok, Err, refl, sym, ap, ◌∙◌, subst, ℤ, pos, not, neg_ℤ, ◌⊎◌, inl, inr, ⊎_elim, Ordering, Less, Equal, Greater, is_eq}
+use Rattle.std.proofs.Common.{◌≡◌, ℕ, zero, suc, ◌+◌, Bool, true, false, cond, ◌||◌, if◌then◌else◌, nat_eq, nat_lt, List, [], ◌∷◌, ◌++◌, length, Option, None, Some, Ok, Err, refl, sym, ap, ◌∙◌, subst, ℤ, pos, not, neg_ℤ, ◌⊎◌, inl, inr, ⊎_elim, Ordering, Less, Equal, Greater, is_eq, arith}
 use Rattle.std.specs.Prelude.{is_some, unwrap_or}
 use Rattle.std.specs.List.{list_any}
 use Rattle.std.specs.Ordering.{match_ordering}
 use Rattle.std.specs.Cmp.Lexicographic.{pointwise, bytes_decides}
 use Rattle.std.proofs.lemmas.Bool.{and_parts}
+use Rattle.std.proofs.lemmas.Bool.Decides.{nat_tests}
 use Rattle.std.proofs.lemmas.List.{append-nil, map-append}
 use Rattle.coco_types.proofs.Keys.{keys_exact, one_key, key_itself}
 use Rattle.coco_types.specs.RowKey.{RowKey, key_cmp}
@@ -17,7 +18,9 @@ use Rattle.coco_ast.specs.Meaning.{Datum, Computed, Variables, variable_at, valu
 use Rattle.coco_ast.specs.Tree.{Expression, Number, Quoted, None as Nothing, Variable, Not, Negate, Two, RowPlace, Statement, Let, Get, Put, Delete, If, IfElse, Repeat, Refuse, Reply as Replies, Statements, End, Then}
 use Rattle.coco_eval.specs.Places.{Kept, written_at, given_at, or_else, known_at, with_variable, with_given, with_write, Onward, behind, read, chosen, runs_one, runs}
 use Rattle.coco_eval.specs.Places as on
-use Rattle.coco_eval.specs.Slots.{set_at, has_slot, has_slots_in, has_slots}
+use Rattle.coco_ast.specs.Plans.{has_slot, has_slots_in, has_slots}
+use Rattle.coco_eval.specs.Slots.{names_in, set_at}
+use Rattle.coco_eval.proofs.SlotLemmas.{names_set}
 use Rattle.coco_eval.specs.Standing.{keys_of}
 use Rattle.coco_eval.specs.declared.machine.Given.{Given}
 
@@ -38,12 +41,17 @@ either true true v w o apart = absurd (apart refl refl)
 either true false v w o apart = refl
 either false b v w o apart = refl
 
+-- a name has a slot if it is the first one, or has one behind
+first_or : (a : Bool) (place count : ℕ) → nat_lt (cond a 0 (suc place)) (suc count) ≡ cond a true (nat_lt place count)
+first_or true place count = let h : nat_lt 0 (suc count) ≡ true = grind (arith, nat_tests) in h
+first_or false place count = let h : nat_lt (suc place) (suc count) ≡ nat_lt place count = grind (arith, nat_tests) in h
+
 -- what a variable is where another was set
-variable_at-set : (vs : Variables) (x : List ℕ) (d : Datum) (y : List ℕ) → has_slot vs x ≡ true → variable_at (set_at vs x d) y ≡ cond (pointwise nat_eq x y) d (variable_at vs y)
+variable_at-set : (vs : Variables) (x : List ℕ) (d : Datum) (y : List ℕ) → has_slot (names_in vs) x ≡ true → variable_at (set_at vs x d) y ≡ cond (pointwise nat_eq x y) d (variable_at vs y)
 variable_at-set [] x d y h = let e : false ≡ true = h in cc
-variable_at-set (v ∷ vs) x d y h = step (variable_at-set vs x d y) (pointwise nat_eq v.0 x) refl h
+variable_at-set (v ∷ vs) x d y h = step (variable_at-set vs x d y) (pointwise nat_eq v.0 x) refl (sym (first_or (pointwise nat_eq v.0 x) (place_of (names_in vs) x) (length (names_in vs))) ∙ h)
   where
-    step : (has_slot vs x ≡ true → variable_at (set_at vs x d) y ≡ cond (pointwise nat_eq x y) d (variable_at vs y)) → (a : Bool) → pointwise nat_eq v.0 x ≡ a → cond a true (has_slot vs x) ≡ true
+    step : (has_slot (names_in vs) x ≡ true → variable_at (set_at vs x d) y ≡ cond (pointwise nat_eq x y) d (variable_at vs y)) → (a : Bool) → pointwise nat_eq v.0 x ≡ a → cond a true (has_slot (names_in vs) x) ≡ true
         → variable_at (cond a ((v.0, d) ∷ vs) (v ∷ set_at vs x d)) y ≡ cond (pointwise nat_eq x y) d (cond (pointwise nat_eq v.0 y) v.1 (variable_at vs y))
     step rest true is there =
         ap (λ (z : List ℕ). cond (pointwise nat_eq z y) d (variable_at vs y)) (same_name v.0 x is) ∙ sym (twice (pointwise nat_eq x y) d v.1 (variable_at vs y))
@@ -53,13 +61,8 @@ variable_at-set (v ∷ vs) x d y h = step (variable_at-set vs x d y) (pointwise 
         ∙ either (pointwise nat_eq v.0 y) (pointwise nat_eq x y) v.1 d (variable_at vs y)
         (λ at_v at_x. let e : false ≡ true = sym is ∙ ap (λ (z : List ℕ). pointwise nat_eq z x) (same_name v.0 y at_v ∙ sym (same_name x y at_x)) ∙ own_name x in cc)
 
-has_slot-set : (vs : Variables) (x : List ℕ) (d : Datum) (y : List ℕ) → has_slot (set_at vs x d) y ≡ has_slot vs y
-has_slot-set [] x d y = refl
-has_slot-set (v ∷ vs) x d y = step (has_slot-set vs x d y) (pointwise nat_eq v.0 x)
-  where
-    step : has_slot (set_at vs x d) y ≡ has_slot vs y → (a : Bool) → has_slot (cond a ((v.0, d) ∷ vs) (v ∷ set_at vs x d)) y ≡ has_slot (v ∷ vs) y
-    step rest true = refl
-    step rest false = ap (cond (pointwise nat_eq v.0 y) true) rest
+has_slot-set : (vs : Variables) (x : List ℕ) (d : Datum) (y : List ℕ) → has_slot (names_in (set_at vs x d)) y ≡ has_slot (names_in vs) y
+has_slot-set vs x d y = ap (λ (ns : List (List ℕ)). has_slot ns y) (names_set vs x d)
 
 -- an expression has one value where variables have
 value_of-same : (vs ws : Variables) → ((x : List ℕ) → variable_at vs x ≡ variable_at ws x) → (e : Expression) → value_of vs e ≡ value_of ws e
@@ -156,7 +159,7 @@ module _ (m : Rows) (slots : Variables) where
   -- a state of the meaning, and what is kept of it
   pub record Alike (s : State) (c : Kept) : Type 0 where
     pub variables : (x : List ℕ) → variable_at s.variables x ≡ variable_at c.variables x
-    pub slots_stay : (x : List ℕ) → has_slot c.variables x ≡ has_slot slots x
+    pub slots_stay : (x : List ℕ) → has_slot (names_in c.variables) x ≡ has_slot (names_in slots) x
     pub rows : (k : RowKey) → value_at s.rows k ≡ unwrap_or (written_at c.writes k) (value_at m k)
     pub needs : needs_after [] s.accesses ≡ keys_of c.given
     pub writes : writes_after [] s.accesses ≡ c.writes
@@ -169,7 +172,7 @@ module _ (m : Rows) (slots : Variables) where
   FlowsAlike (Refuses s e) (on.Ends c r) = Alike s c × (r ≡ Refused e)
   FlowsAlike _ _ = ⊥
 
-  set_alike : (s : State) (c : Kept) (x : List ℕ) (d : Datum) → has_slot slots x ≡ true → Alike s c → Alike (set_variable s x d) (with_variable c x d)
+  set_alike : (s : State) (c : Kept) (x : List ℕ) (d : Datum) → has_slot (names_in slots) x ≡ true → Alike s c → Alike (set_variable s x d) (with_variable c x d)
   set_alike s c x d there a = record {
     variables = λ y. ap (cond (pointwise nat_eq x y) d) (a.variables y) ∙ sym (variable_at-set c.variables x d y (a.slots_stay x ∙ there));
     slots_stay = λ y. has_slot-set c.variables x d y ∙ a.slots_stay y;
@@ -197,7 +200,7 @@ module _ (m : Rows) (slots : Variables) where
       unwrapped false o e = refl
 
   -- a key that is known is read
-  known_alike : (s : State) (c : Kept) (x : List ℕ) (k : RowKey) (d : Datum) → has_slot slots x ≡ true → Alike s c → value_at s.rows k ≡ d → is_some (known_at c k) ≡ true → Alike (read_row s x k) (with_variable c x d)
+  known_alike : (s : State) (c : Kept) (x : List ℕ) (k : RowKey) (d : Datum) → has_slot (names_in slots) x ≡ true → Alike s c → value_at s.rows k ≡ d → is_some (known_at c k) ≡ true → Alike (read_row s x k) (with_variable c x d)
   known_alike s c x k d there a is known =
       let seen : list_any (is_key k) (seen_after [] s.accesses) ≡ true = a.seen k ∙ known in
       record {
@@ -211,7 +214,7 @@ module _ (m : Rows) (slots : Variables) where
       }
 
   -- a key that isn't known is asked for
-  fresh_alike : (s : State) (c : Kept) (x : List ℕ) (k : RowKey) → has_slot slots x ≡ true → Alike s c → value_at s.rows k ≡ value_at m k → is_some (known_at c k) ≡ false
+  fresh_alike : (s : State) (c : Kept) (x : List ℕ) (k : RowKey) → has_slot (names_in slots) x ≡ true → Alike s c → value_at s.rows k ≡ value_at m k → is_some (known_at c k) ≡ false
       → Alike (read_row s x k) (with_variable (with_given c k (value_at m k)) x (value_at m k))
   fresh_alike s c x k there a is known =
       let d = value_at m k in let seen : list_any (is_key k) (seen_after [] s.accesses) ≡ false = a.seen k ∙ known in
@@ -229,7 +232,7 @@ module _ (m : Rows) (slots : Variables) where
             (or_given (given_at c.given q) (is_key q k) d e (sym (given_at-more c.given (record { key = k; value = d }) q) ∙ h));
       }
 
-  read_alike : (s : State) (c : Kept) (x : List ℕ) (k : RowKey) → has_slot slots x ≡ true → Alike s c → FlowsAlike (Goes (read_row s x k)) (read m c x k (known_at c k))
+  read_alike : (s : State) (c : Kept) (x : List ℕ) (k : RowKey) → has_slot (names_in slots) x ≡ true → Alike s c → FlowsAlike (Goes (read_row s x k)) (read m c x k (known_at c k))
   read_alike s c x k there a = by (written_at c.writes k) (given_at c.given k) refl refl
     where
       by : (w g : Option Datum) → written_at c.writes k ≡ w → given_at c.given k ≡ g → FlowsAlike (Goes (read_row s x k)) (read m c x k (or_else w g))
@@ -264,14 +267,14 @@ module _ (m : Rows) (slots : Variables) where
   after_alike (Refuses s e) (on.Goes c) g k a all = absurd a
   after_alike (Refuses s e) (on.Ends c r) g k a all = a
 
-  turns_alike : (x : List ℕ) → has_slot slots x ≡ true → (body : State → Flow) (part : Kept → Onward) → ((s : State) (c : Kept) → Alike s c → FlowsAlike (body s) (part c))
+  turns_alike : (x : List ℕ) → has_slot (names_in slots) x ≡ true → (body : State → Flow) (part : Kept → Onward) → ((s : State) (c : Kept) → Alike s c → FlowsAlike (body s) (part c))
       → (n i : ℕ) (s : State) (c : Kept) → Alike s c → FlowsAlike (turns body x n i s) (on.turns part x n i c)
   turns_alike x there body part all zero i s c a = a
   turns_alike x there body part all (suc n) i s c a =
       after_alike (body (set_variable s x (Some (Int (pos i))))) (part (with_variable c x (Some (Int (pos i))))) _ _ (all _ _ (set_alike s c x (Some (Int (pos i))) there a)) (λ t d b. turns_alike x there body part all n (i + 1) t d b)
 
   mutual
-    one_alike : (ts : List (List ℕ)) (t : Statement) (s : State) (c : Kept) → has_slots_in slots t ≡ true → Alike s c → FlowsAlike (statement_flow ts t s) (runs_one m ts t c)
+    one_alike : (ts : List (List ℕ)) (t : Statement) (s : State) (c : Kept) → has_slots_in (names_in slots) t ≡ true → Alike s c → FlowsAlike (statement_flow ts t s) (runs_one m ts t c)
     one_alike ts (Let x e) s c there a = with_alike s c _ _ _ _ (value_of-same s.variables c.variables a.variables e) a (λ d. set_alike s c x d there a)
     one_alike ts (Get x p) s c there a = with_alike s c _ _ _ _ (key_of-same ts s.variables c.variables a.variables p) a (λ k. read_alike s c x k there a)
     one_alike ts (Put p e) s c there a = with_alike s c _ _ _ _ (key_of-same ts s.variables c.variables a.variables p) a (λ k. with_alike s c _ _ _ _ (value_of-same s.variables c.variables a.variables e) a (λ d. write_alike s c k d a))
@@ -280,17 +283,17 @@ module _ (m : Rows) (slots : Variables) where
         subst (λ (q : Computed Datum). FlowsAlike (with s (and_then q number_of) (λ z. if is_true z then statements_flow ts b s else Goes s)) (runs_one m ts (If e b) c)) (sym (value_of-same s.variables c.variables a.variables e))
         (chosen_alike s c (and_then (value_of c.variables e) number_of) _ _ a (λ z. if_alike (is_true z) _ _ _ _ (all_alike ts b s c there a) a))
     one_alike ts (IfElse e b d) s c there a =
-        let both = and_parts (has_slots slots b) (has_slots slots d) there in
+        let both = and_parts (has_slots (names_in slots) b) (has_slots (names_in slots) d) there in
         subst (λ (q : Computed Datum). FlowsAlike (with s (and_then q number_of) (λ z. if is_true z then statements_flow ts b s else statements_flow ts d s)) (runs_one m ts (IfElse e b d) c)) (sym (value_of-same s.variables c.variables a.variables e))
         (chosen_alike s c (and_then (value_of c.variables e) number_of) _ _ a (λ z. if_alike (is_true z) _ _ _ _ (all_alike ts b s c both.0 a) (all_alike ts d s c both.1 a)))
     one_alike ts (Repeat n x b) s c there a =
-        let both = and_parts (has_slot slots x) (has_slots slots b) there in
+        let both = and_parts (has_slot (names_in slots) x) (has_slots (names_in slots) b) there in
         turns_alike x both.0 (λ t. statements_flow ts b t) (λ d. runs m ts b d) (λ t d h. all_alike ts b t d both.1 h) n 0 s c a
     one_alike ts (Refuse n) s c there a = (a, refl)
     one_alike ts (Replies e) s c there a = with_alike s c _ _ _ _ (value_of-same s.variables c.variables a.variables e) a (λ v. (a, refl))
 
-    pub all_alike : (ts : List (List ℕ)) (b : Statements) (s : State) (c : Kept) → has_slots slots b ≡ true → Alike s c → FlowsAlike (statements_flow ts b s) (runs m ts b c)
+    pub all_alike : (ts : List (List ℕ)) (b : Statements) (s : State) (c : Kept) → has_slots (names_in slots) b ≡ true → Alike s c → FlowsAlike (statements_flow ts b s) (runs m ts b c)
     all_alike ts End s c there a = a
     all_alike ts (Then first rest) s c there a =
-        let both = and_parts (has_slots_in slots first) (has_slots slots rest) there in
+        let both = and_parts (has_slots_in (names_in slots) first) (has_slots (names_in slots) rest) there in
         after_alike (statement_flow ts first s) (runs_one m ts first c) _ _ (one_alike ts first s c both.0 a) (λ t d b. all_alike ts rest t d both.1 b)

@@ -7,10 +7,12 @@ use Rattle.coco_ast.specs.Checks.{key_weight, statement_weight}
 use Rattle.coco_ast.specs.Keyed.{Rows, value_at}
 use Rattle.coco_ast.specs.Meaning.{value_of, key_of}
 use Rattle.coco_ast.specs.Tree.{Expression, RowPlace, Statement, Let, Get, Put, Delete, If, IfElse, Repeat, Refuse, Reply, Statements, End, Then}
-use Rattle.coco_ast.specs.Views.{statement_of, statements_of}
-use Rattle.coco_ast.specs.declared.tree.Stmt.{Stmt}
-use Rattle.coco_eval.specs.Moves.{kept_of, Ahead, Moves, MovesBlock, MovesGet, MovesOne, MovesTurns, Settles, HasRoom, on_way}
-use Rattle.coco_eval.specs.Places.{Kept, Onward, Goes, behind, with, with_given, with_variable, with_write, turns, runs_one, runs, from, goes_on_first, goes_on_one, goes_on_repeat, goes_on, weight_first, weight_one, weight_repeat, weight_on, depth_one, depth, are_bounded_in, are_bounded}
+use Rattle.coco_ast.specs.Plans.{depth_one, depth}
+use Rattle.coco_ast.specs.declared.plan.Plan.{Plan}
+use Rattle.coco_ast.specs.declared.plan.Step.{Step}
+use Rattle.coco_eval.specs.Moves.{named, kept_of, Ahead, Moves, MovesBlock, MovesGet, MovesOne, MovesTurns, Settles, HasRoom, on_way}
+use Rattle.coco_eval.specs.Planned.{statement_by, statements_by}
+use Rattle.coco_eval.specs.Places.{Kept, Onward, Goes, behind, with, with_given, with_variable, with_write, turns, runs_one, runs, from, goes_on_first, goes_on_one, goes_on_repeat, goes_on, weight_first, weight_one, weight_repeat, weight_on, are_bounded_in, are_bounded}
 use Rattle.coco_eval.specs.declared.machine.Frame.{Frame}
 use Rattle.coco_eval.specs.declared.machine.Machine.{Machine}
 use Rattle.coco_eval.specs.declared.machine.Stop.{Stop}
@@ -21,20 +23,20 @@ use Rattle.coco_eval.proofs.SlotLemmas.{drop_first}
 
 -- ---- the statements of a block
 
-from-statements_of : (n : ℕ) (ss : List Stmt) → from n (statements_of ss) ≡ statements_of (drop n ss)
-from-statements_of zero ss = refl
-from-statements_of (suc n) [] = refl
-from-statements_of (suc n) (s ∷ ss) = from-statements_of n ss
+from-statements_by : (plan : Plan) (n : ℕ) (ss : List Step) → from n (statements_by plan ss) ≡ statements_by plan (drop n ss)
+from-statements_by plan zero ss = refl
+from-statements_by plan (suc n) [] = refl
+from-statements_by plan (suc n) (s ∷ ss) = from-statements_by plan n ss
 
-pub first_at : (ss : List Stmt) (n : ℕ) (s : Stmt) → n < length ss → s ≡ get_or ss n s → from n (statements_of ss) ≡ Then (statement_of s) (from (n + 1) (statements_of ss))
-first_at ss n s lt is = from-statements_of n ss ∙ ap statements_of (drop_first ss n s lt) ∙ ap (λ (t : Stmt). Then (statement_of t) (statements_of (drop (n + 1) ss))) (sym is)
-    ∙ ap (Then (statement_of s)) (sym (from-statements_of (n + 1) ss))
+pub first_at : (plan : Plan) (ss : List Step) (n : ℕ) (s : Step) → n < length ss → s ≡ get_or ss n s → from n (statements_by plan ss) ≡ Then (statement_by plan s) (from (n + 1) (statements_by plan ss))
+first_at plan ss n s lt is = from-statements_by plan n ss ∙ ap (statements_by plan) (drop_first ss n s lt) ∙ ap (λ (t : Step). Then (statement_by plan t) (statements_by plan (drop (n + 1) ss))) (sym is)
+    ∙ ap (Then (statement_by plan s)) (sym (from-statements_by plan (n + 1) ss))
 
-pub from-end : (ss : List Stmt) (n : ℕ) → length ss ≤ n → from n (statements_of ss) ≡ End
-from-end [] zero le = refl
-from-end [] (suc n) le = refl
-from-end (s ∷ ss) zero le = absurd (omega arith)
-from-end (s ∷ ss) (suc n) le = from-end ss n (omega arith)
+pub from-end : (plan : Plan) (ss : List Step) (n : ℕ) → length ss ≤ n → from n (statements_by plan ss) ≡ End
+from-end plan [] zero le = refl
+from-end plan [] (suc n) le = refl
+from-end plan (s ∷ ss) zero le = absurd (omega arith)
+from-end plan (s ∷ ss) (suc n) le = from-end plan ss n (omega arith)
 
 both : (a b : Bool) → (a && b) ≡ true → (a ≡ true) × (b ≡ true)
 both true b h = (refl, h)
@@ -56,9 +58,9 @@ pub record IsAt (n : ℕ) (b : Statements) (s : Statement) : Type 0 where
   pub bounded : are_bounded b ≡ true → are_bounded_in s ≡ true
   pub deep : suc (depth_one s) ≤ depth b
 
-pub is_at : (ss : List Stmt) (n : ℕ) (s : Stmt) → n < length ss → s ≡ get_or ss n s → IsAt n (statements_of ss) (statement_of s)
-is_at ss n s lt is =
-    let b = statements_of ss in let split = first_at ss n s lt is in
+pub is_at : (plan : Plan) (ss : List Step) (n : ℕ) (s : Step) → n < length ss → s ≡ get_or ss n s → IsAt n (statements_by plan ss) (statement_by plan s)
+is_at plan ss n s lt is =
+    let b = statements_by plan ss in let split = first_at plan ss n s lt is in
     record {
       split = split;
       bounded = λ h. (both _ _ (rw split at (bounded_from n b h))).0;
@@ -104,6 +106,7 @@ pub record IsLed (part later : Rows → Onward) (weight later_weight : ℕ) (old
   pub same : (m : Rows) → part m ≡ later m
   pub spends : length mid.writes.items + later_weight ≤ length old.writes.items + weight
   pub given : mid.given ≡ old.given
+  pub names : named mid ≡ named old
   pub writes_room : vec_capacity old.writes ≤ vec_capacity mid.writes
   pub path_room : vec_capacity old.path ≤ vec_capacity mid.path
 
@@ -114,6 +117,7 @@ since stop.Goes part later ahead weight lw weights deep old mid new led to = rec
   spends = omega (arith, led.spends, to.spends);
   within = to.within;
   given = to.given ∙ led.given;
+  names = to.names ∙ led.names;
   writes_room = omega (arith, led.writes_room, to.writes_room);
   path_room = omega (arith, led.path_room, to.path_room);
 }
@@ -122,6 +126,7 @@ since stop.Ends part later ahead weight lw weights deep old mid new led to = rec
   spends = omega (arith, led.spends, to.spends);
   within = to.within;
   given = to.given ∙ led.given;
+  names = to.names ∙ led.names;
   writes_room = omega (arith, led.writes_room, to.writes_room);
   path_room = omega (arith, led.path_room, to.path_room);
 }
@@ -130,6 +135,7 @@ since (stop.Asks w) part later ahead weight lw weights deep old mid new led to =
   spends = omega (arith, led.spends, to.spends);
   within = to.within;
   given = to.given ∙ led.given;
+  names = to.names ∙ led.names;
   writes_room = omega (arith, led.writes_room, to.writes_room);
   path_room = omega (arith, led.path_room, to.path_room);
 }
@@ -139,6 +145,7 @@ led_on p q r w v u a b c first second = record {
   same = λ m. first.same m ∙ second.same m;
   spends = omega (arith, first.spends, second.spends);
   given = second.given ∙ first.given;
+  names = second.names ∙ first.names;
   writes_room = omega (arith, first.writes_room, second.writes_room);
   path_room = omega (arith, first.path_room, second.path_room);
 }
@@ -149,15 +156,17 @@ fresh_led p ts b w old mid led = record {
   same = λ m. led.same m ∙ fresh_first m ts b (kept_of mid);
   spends = omega (arith, led.spends, fresh_first_weight b);
   given = led.given;
+  names = led.names;
   writes_room = led.writes_room;
   path_room = led.path_room;
 }
 
 -- room for a block is room for the statement at a place of it
-pub room_at : (n : ℕ) (b : Statements) (s : Statement) (w : Way) (fs : List Frame) (m : Machine) → IsAt n b s → HasRoom (weight_first w (weight_on fs) (from n b)) (depth b) m → HasRoom (weight_one w (weight_on fs) s) (depth_one s) m
-room_at n b s w fs m at room =
+pub room_at : (ns : List (List ℕ)) (n : ℕ) (b : Statements) (s : Statement) (w : Way) (fs : List Frame) (m : Machine) → IsAt n b s → HasRoom ns (weight_first w (weight_on fs) (from n b)) (depth b) m → HasRoom ns (weight_one w (weight_on fs) s) (depth_one s) m
+room_at ns n b s w fs m at room =
     let weight : weight_first w (weight_on fs) (from n b) ≡ weight_one w (weight_on fs) s + key_weight (from (n + 1) b) = ap (weight_first w (weight_on fs)) at.split in
     record {
+      names = room.names;
       path = room.path;
       path_room = omega (arith, room.path_room, at.deep);
       writes = omega (arith, room.writes, weight);
@@ -173,6 +182,7 @@ gone ts n b s w fs old mid at to =
       same = λ m. ap (λ (t : Statements). goes_on_first m ts w (goes_on m ts fs) t (kept_of old)) at.split ∙ ap (λ (o : Onward). behind o (λ d. runs m ts (from (n + 1) b) d)) (to.reaches.0 m);
       spends = omega (arith, to.spends, weight);
       given = to.given;
+      names = to.names;
       writes_room = to.writes_room;
       path_room = to.path_room;
     }
@@ -187,6 +197,7 @@ ended ts n b s w fs old new at to =
       spends = omega (arith, to.spends, weight);
       within = tt;
       given = to.given;
+      names = to.names;
       writes_room = to.writes_room;
       path_room = to.path_room;
     }
@@ -216,29 +227,32 @@ asked ts n b s v w fs old mid new at to st =
       spends = omega (arith, to.spends, weight, ahead_weight, ap (λ (x : Machine). length x.writes.items) st.others);
       within = omega (arith, to.within, at.deep, ap length st.path, length-append mid.path.items (f ∷ []));
       given = ap (λ (x : Machine). x.given) st.others ∙ to.given;
+      names = ap named st.others ∙ to.names;
       writes_room = omega (arith, to.writes_room, ap (λ (x : Machine). vec_capacity x.writes) st.others);
       path_room = omega (arith, to.path_room, st.room);
     }
 
 -- nothing is left
-pub through : (ts : List (List ℕ)) (ss : List Stmt) (n : ℕ) (p : Rows → Onward) (w : ℕ) (old new : Machine) → length ss ≤ n → IsLed p (λ m. runs m ts (from n (statements_of ss)) (kept_of new)) w (key_weight (from n (statements_of ss))) old new
-    → new.path.items ≡ [] → MovesBlock stop.Goes ts (statements_of ss) p w old new
-through ts ss n p w old new out led path = record {
-  reaches = ((λ m. led.same m ∙ ap (λ (b : Statements). runs m ts b (kept_of new)) (from-end ss n out)), path);
+pub through : (ts : List (List ℕ)) (plan : Plan) (ss : List Step) (n : ℕ) (p : Rows → Onward) (w : ℕ) (old new : Machine) → length ss ≤ n → IsLed p (λ m. runs m ts (from n (statements_by plan ss)) (kept_of new)) w (key_weight (from n (statements_by plan ss))) old new
+    → new.path.items ≡ [] → MovesBlock stop.Goes ts (statements_by plan ss) p w old new
+through ts plan ss n p w old new out led path = record {
+  reaches = ((λ m. led.same m ∙ ap (λ (b : Statements). runs m ts b (kept_of new)) (from-end plan ss n out)), path);
   spends = omega (arith, led.spends);
   within = tt;
   given = led.given;
+  names = led.names;
   writes_room = led.writes_room;
   path_room = led.path_room;
 }
 
-pub through_first : (ts : List (List ℕ)) (ss : List Stmt) (f : Frame) (fs : List Frame) (m : Machine) → length ss ≤ f.at → m.path.items ≡ []
-    → MovesBlock stop.Goes ts (statements_of ss) (λ rows. goes_on rows ts (f ∷ fs) (statements_of ss) (kept_of m)) (weight_on (f ∷ fs) (statements_of ss)) m m
-through_first ts ss f fs m out path = record {
-  reaches = ((λ rows. ap (λ (b : Statements). goes_on_first rows ts f.way (λ inner d. goes_on rows ts fs inner d) b (kept_of m)) (from-end ss f.at out)), path);
+pub through_first : (ts : List (List ℕ)) (plan : Plan) (ss : List Step) (f : Frame) (fs : List Frame) (m : Machine) → length ss ≤ f.at → m.path.items ≡ []
+    → MovesBlock stop.Goes ts (statements_by plan ss) (λ rows. goes_on rows ts (f ∷ fs) (statements_by plan ss) (kept_of m)) (weight_on (f ∷ fs) (statements_by plan ss)) m m
+through_first ts plan ss f fs m out path = record {
+  reaches = ((λ rows. ap (λ (b : Statements). goes_on_first rows ts f.way (λ inner d. goes_on rows ts fs inner d) b (kept_of m)) (from-end plan ss f.at out)), path);
   spends = omega arith;
   within = tt;
   given = refl;
+  names = refl;
   writes_room = omega arith;
   path_room = omega arith;
 }
@@ -248,6 +262,7 @@ through_first ts ss f fs m out path = record {
 -- the counter was set
 pub record Counts (x : List ℕ) (i : ℕ) (old new : Machine) : Type 0 where
   pub kept : kept_of new ≡ with_variable (kept_of old) x (Some (Int (pos i)))
+  pub names : named new ≡ named old
   pub others : new ≡ record old { variables = new.variables }
 
 weight_turn : (n i w : ℕ) → i < n → (n - i) * w ≡ w + (n - suc i) * w
@@ -260,8 +275,9 @@ turn_part : (m : Rows) (ts : List (List ℕ)) (b : Statements) (x : List ℕ) (n
     → turns (runs m ts b) x (n - i) i (kept_of start) ≡ behind (runs m ts b (kept_of mid)) (λ d. turns (runs m ts b) x (n - suc i) (i + 1) d)
 turn_part m ts b x n i start mid lt set = turn (runs m ts b) x n i (kept_of start) lt ∙ ap (λ (k : Kept). behind (runs m ts b k) (λ d. turns (runs m ts b) x (n - suc i) (i + 1) d)) (sym set.kept)
 
-pub room_turn : (w deep : ℕ) (x : List ℕ) (n i : ℕ) (start mid : Machine) → i < n → Counts x i start mid → HasRoom ((n - i) * w) deep start → HasRoom w deep mid
-room_turn w deep x n i start mid lt set room = record {
+pub room_turn : (ns : List (List ℕ)) (w deep : ℕ) (x : List ℕ) (n i : ℕ) (start mid : Machine) → i < n → Counts x i start mid → HasRoom ns ((n - i) * w) deep start → HasRoom ns w deep mid
+room_turn ns w deep x n i start mid lt set room = record {
+  names = set.names ∙ room.names;
   path = ap (λ (s : Machine). s.path.items) set.others ∙ room.path;
   path_room = omega (arith, room.path_room, ap (λ (s : Machine). vec_capacity s.path) set.others);
   writes = omega (arith, room.writes, weight_turn n i w lt, ap (λ (s : Machine). length s.writes.items) set.others);
@@ -277,6 +293,7 @@ turned ts b x n i start mid new lt set to =
       same = λ m. turn_part m ts b x n i start mid lt set ∙ ap (λ (o : Onward). behind o (λ d. turns (runs m ts b) x (n - suc i) (i + 1) d)) (to.reaches.0 m) ∙ ap (λ (k : ℕ). turns (runs m ts b) x k (i + 1) (kept_of new)) e;
       spends = omega (arith, to.spends, weight_turn n i (key_weight b) lt, ap (λ (k : ℕ). k * key_weight b) e, ap (λ (s : Machine). length s.writes.items) set.others);
       given = to.given ∙ ap (λ (s : Machine). s.given) set.others;
+      names = to.names ∙ set.names;
       writes_room = omega (arith, to.writes_room, ap (λ (s : Machine). vec_capacity s.writes) set.others);
       path_room = omega (arith, to.path_room, ap (λ (s : Machine). vec_capacity s.path) set.others);
     }
@@ -291,6 +308,7 @@ turn_stops stop.Ends _ ts b x n i start mid new lt set to = record {
   spends = omega (arith, to.spends, weight_turn n i (key_weight b) lt, ap (λ (s : Machine). length s.writes.items) set.others);
   within = tt;
   given = to.given ∙ ap (λ (s : Machine). s.given) set.others;
+  names = to.names ∙ set.names;
   writes_room = omega (arith, to.writes_room, ap (λ (s : Machine). vec_capacity s.writes) set.others);
   path_room = omega (arith, to.path_room, ap (λ (s : Machine). vec_capacity s.path) set.others);
 }
@@ -299,6 +317,7 @@ turn_stops (stop.Asks w) _ ts b x n i start mid new lt set to = record {
   spends = omega (arith, to.spends, weight_turn n i (key_weight b) lt, ap (λ (s : Machine). length s.writes.items) set.others);
   within = to.within;
   given = to.given ∙ ap (λ (s : Machine). s.given) set.others;
+  names = to.names ∙ set.names;
   writes_room = omega (arith, to.writes_room, ap (λ (s : Machine). vec_capacity s.writes) set.others);
   path_room = omega (arith, to.path_room, ap (λ (s : Machine). vec_capacity s.path) set.others);
 }
@@ -306,8 +325,9 @@ turn_stops (stop.Asks w) _ ts b x n i start mid new lt set to = record {
 -- ---- statements
 
 -- room for what is behind
-pub room_behind : (part later : Rows → Onward) (weight later_weight deep : ℕ) (old mid : Machine) → IsLed part later weight later_weight old mid → mid.path.items ≡ [] → HasRoom weight deep old → HasRoom later_weight deep mid
-room_behind part later weight later_weight deep old mid led path room = record {
+pub room_behind : (ns : List (List ℕ)) (part later : Rows → Onward) (weight later_weight deep : ℕ) (old mid : Machine) → IsLed part later weight later_weight old mid → mid.path.items ≡ [] → HasRoom ns weight deep old → HasRoom ns later_weight deep mid
+room_behind ns part later weight later_weight deep old mid led path room = record {
+  names = led.names ∙ room.names;
   path = path;
   path_room = omega (arith, room.path_room, led.path_room);
   writes = omega (arith, room.writes, led.spends);
@@ -320,6 +340,7 @@ settled stop.Goes o n ahead weights deep old new path to = record {
   spends = to.spends;
   within = tt;
   given = to.given;
+  names = to.names;
   writes_room = to.writes_room;
   path_room = omega (arith, ap (λ (v : Vec Frame Global). vec_capacity v) to.path);
 }
@@ -328,6 +349,7 @@ settled stop.Ends o n ahead weights deep old new path to = record {
   spends = to.spends;
   within = tt;
   given = to.given;
+  names = to.names;
   writes_room = to.writes_room;
   path_room = omega (arith, ap (λ (v : Vec Frame Global). vec_capacity v) to.path);
 }

@@ -1,5 +1,5 @@
 -- What the parts of a run keep, from its start to its end.
-use Rattle.std.proofs.Common.{◌≡◌, ℕ, zero, suc, ◌+◌, ◌*◌, ◌^◌, ◌<◌, ◌≤◌, Bool, true, false, ◌&&◌, nat_le, List, [], ◌∷◌, ◌++◌, length, reverse, Option, None, Some, Vec, Global, slice_get, inl, inr, refl, ap, sym, subst, ◌∙◌, arith, append_assoc, length-append}
+use Rattle.std.proofs.Common.{◌≡◌, ℕ, zero, suc, ◌+◌, ◌*◌, ◌^◌, ◌<◌, ◌≤◌, Bool, true, false, ◌&&◌, nat_le, List, [], ◌∷◌, ◌++◌, length, reverse, Option, None, Some, Bor, Vec, Global, slice_get, inl, inr, refl, ap, sym, subst, ◌∙◌, arith, append_assoc, length-append}
 use Rattle.std.specs.Prelude.{vec_capacity}
 use borrow.Author.Tests.{leb-false}
 use Rattle.std.proofs.lemmas.Bool.{eqb-true}
@@ -23,17 +23,16 @@ use Rattle.coco_ast.specs.Fitting.{Fits, is_taken}
 use Rattle.coco_ast.specs.Keyed.{Rows, value_at, put_over}
 use Rattle.coco_ast.specs.Meaning.{Datum, Run, run, run_of, flow_of, opened, bound, procedure_at, Variables, Flow, Goes, Ends, Refuses, statements_flow}
 use Rattle.coco_ast.specs.Tree.{Statement, Let, Get, Put, Delete, If, IfElse, Repeat, Refuse, Reply as Replies, Statements, End, Then, Procedure, Procedures}
-use Rattle.coco_ast.specs.Views.{procedure_of, statements_of}
-use Rattle.coco_ast.specs.declared.tree.Proc.{Proc}
-use Rattle.coco_ast.specs.declared.tree.Stmt.{Stmt}
+use Rattle.coco_ast.specs.Plans.{IsPlanFor, IsPlanOf, has_slots, depth}
+use Rattle.coco_ast.specs.declared.plan.Plan.{Plan}
 use Rattle.coco_eval.specs.Advance.{Advances, AdvancesIn, IsRoomy, settled_writes}
 use Rattle.coco_eval.specs.Keeping.{IsReady, IsAsking, IsEnded, IsRunOf, Stands, standing_of}
-use Rattle.coco_eval.specs.Moves.{kept_of}
+use Rattle.coco_eval.specs.Moves.{kept_of, named}
 use Rattle.coco_eval.specs.Outcomes.{outcome}
-use Rattle.coco_eval.specs.Places.{Kept, Onward, with_given, runs, goes_on, weight_on, depth, are_bounded_in, are_bounded}
+use Rattle.coco_eval.specs.Places.{Kept, Onward, with_given, runs, goes_on, weight_on, are_bounded_in, are_bounded}
 use Rattle.coco_eval.specs.Places as on
 use Rattle.coco_eval.specs.Preparing.{IsPrepared}
-use Rattle.coco_eval.specs.Slots.{variables_of, has_slots, IsGrown}
+use Rattle.coco_eval.specs.Slots.{names_in, AreAlike}
 use Rattle.coco_eval.specs.Standing.{Ready, Asks, Says, HasGiven, keys_of}
 use Rattle.coco_eval.specs.declared.machine.Frame.{Frame}
 use Rattle.coco_eval.specs.declared.machine.Given.{Given}
@@ -107,14 +106,14 @@ alike_ends m slots (Refuses s e) (on.Goes c) a put = absurd a
 alike_ends m slots (Refuses s e) (on.Ends c r) a put = run_same _ _ _ _ _ _ _ refl a.0.needs refl ∙ ap (λ (q : Reply). outcome m (on.Ends c q)) (sym a.1)
 
 -- a call's run comes to what its procedure's statements lead to from the start
-pub run_begins : (ps : Procedures) (call : Call) (p : Procedure) → procedure_at ps.procs call.proc_no ≡ Some p → (slots : Variables) → IsGrown (bound p.params call.args) slots → has_slots slots p.body ≡ true
+pub run_begins : (ps : Procedures) (call : Call) (p : Procedure) → procedure_at ps.procs call.proc_no ≡ Some p → (slots : Variables) → AreAlike (bound p.params call.args) slots → has_slots (names_in slots) p.body ≡ true
     → (m : Rows) → run ps call m ≡ outcome m (runs m ps.tables p.body (record { variables = slots; given = []; writes = [] }))
 unfolding run
-run_begins ps call p there slots grown has m =
+run_begins ps call p there slots same has m =
     let c : Kept = record { variables = slots; given = []; writes = [] } in let s = opened m p call.args in
     let is = ap (λ (q : Option Procedure). run_of m (flow_of ps m q call.args)) there in
     let a : Alike m slots s c = record {
-      variables = λ x. sym (grown.values x);
+      variables = λ x. sym (same x);
       slots_stay = λ x. refl;
       rows = λ k. refl;
       needs = refl;
@@ -125,22 +124,22 @@ run_begins ps call p there slots grown has m =
     is ∙ alike_ends m slots (statements_flow ps.tables p.body s) (runs m ps.tables p.body c) (all_alike m slots ps.tables p.body s c has a)
     (subst (λ (r : Run). r.rows ≡ put_over m r.writes) is (run_puts_writes ps call m))
 
-pub begun : (ps : Procedures) (call : Call) (p : Procedure) (m : Machine) (spare : Vec Frame Global) (ws : List Write) → IsAccepted ps → procedure_at ps.procs call.proc_no ≡ Some p → IsPrepared p call.args m spare → IsRunOf ps call call.proc_no m spare ws stage.Ready
-begun ps call p m spare ws accepted there is = record {
+pub begun : (ps : Procedures) (call : Call) (p : Procedure) (m : Machine) (spare : Vec Frame Global) (ws : List Write) → (plan : Plan) → IsAccepted ps → procedure_at ps.procs call.proc_no ≡ Some p → IsPlanOf p plan → IsPrepared p plan.names call.args m spare → IsRunOf ps call call.proc_no m spare ws stage.Ready
+begun ps call p m spare ws plan accepted there of is = record {
   procedure = p;
   number_is = refl;
   there = there;
-  roomy = λ _. record { bounded = bounded_found ps accepted call.proc_no p there; path = is.path_room; spare_path = is.spare_room; given = is.given_room; writes = is.writes_room };
+  roomy = λ _. record { names = is.named ∙ of.names; bounded = bounded_found ps accepted call.proc_no p there; path = is.path_room; spare_path = is.spare_room; given = is.given_room; writes = is.writes_room };
   stands = record {
-    goes = λ rows has. run_begins ps call p there (variables_of m.variables) is.grown is.slots rows
+    goes = λ rows has. run_begins ps call p there m.variables is.alike (subst (λ (ns : List (List ℕ)). has_slots ns p.body ≡ true) (sym is.named) of.has_all) rows
         ∙ ap (λ (c : Kept). outcome rows (runs rows ps.tables p.body c)) kept
         ∙ ap (λ (fs : List Frame). outcome rows (goes_on rows ps.tables (reverse fs) p.body (kept_of m))) (sym is.path);
     few = omega (arith, ap (λ (gs : List Given). length gs) is.given, ap (λ (vs : List Write). length vs) is.writes, ap (λ (fs : List Frame). weight_on (reverse fs) p.body) is.path, (small_found ps accepted call.proc_no p there).weight);
   };
 }
   where
-    kept : ◌≡◌ {A = Kept} (record { variables = variables_of m.variables; given = []; writes = [] }) (kept_of m)
-    kept i = record { variables = variables_of m.variables; given = sym is.given i; writes = sym is.writes i }
+    kept : ◌≡◌ {A = Kept} (record { variables = m.variables; given = []; writes = [] }) (kept_of m)
+    kept i = record { variables = m.variables; given = sym is.given i; writes = sym is.writes i }
 
 -- ---- steps
 
@@ -194,7 +193,7 @@ given_next ps call p old new v given others is = record {
 }
   where
     kept : with_given (kept_of old) old.asked v ≡ kept_of new
-    kept i = record { variables = variables_of ((sym others i).variables); given = sym given i; writes = (sym others i).writes.items }
+    kept i = record { variables = (sym others i).variables; given = sym given i; writes = (sym others i).writes.items }
 
 -- ---- what is said
 
@@ -210,23 +209,25 @@ asking_says ps call p m given same is rows has =
 
 -- ---- procedures
 
-pub same_procedure : (ps : List Procedure) (n : ℕ) (p q : Procedure) → Some q ≡ procedure_at ps n → procedure_at ps n ≡ Some p → q ≡ p
-same_procedure ps n p q one other = let h : Some q ≡ Some p = one ∙ other in cc
+pub same_procedure : (p q : Procedure) (o : Option Procedure) → o ≡ Some p → o ≡ Some q → p ≡ q
+same_procedure p q o one other = let h : Some p ≡ Some q = sym one ∙ other in cc
 
-pub no_procedure : (ps : List Procedure) (n : ℕ) (p : Procedure) → None ≡ procedure_at ps n → procedure_at ps n ≡ Some p → ⊥
-no_procedure ps n p one other = let h : None ≡ Some p = one ∙ other in cc
+-- the plan of a procedure that is there is found, and is its plan
+pub is_planned : (p : Procedure) (o : Option Procedure) → o ≡ Some p → IsPlanFor o None → ⊥
+is_planned p None there is = cc
+is_planned p (Some q) there is = is
 
-taken_some : (o : Option Procedure) (call : Call) → is_taken o call ≡ true → None ≡ o → ⊥
-taken_some None call h e = let f : false ≡ true = h in cc
-taken_some (Some p) call h e = cc
+pub planned : (p : Procedure) (plan : Bor Plan) (o : Option Procedure) → o ≡ Some p → IsPlanFor o (Some plan) → IsPlanOf p plan.now
+planned p plan None there is = cc
+planned p plan (Some q) there is = let same : q ≡ p = cc in subst (λ (r : Procedure). IsPlanOf r plan.now) same is
 
-pub is_there : (ps : Procedures) (call : Call) → Fits ps call → None ≡ procedure_at ps.procs call.proc_no → ⊥
-is_there ps call fits e = taken_some (procedure_at ps.procs call.proc_no) call fits e
+taken_some : (o : Option Procedure) (call : Call) → is_taken o call ≡ true → (p : Procedure) × (o ≡ Some p) × (length call.args ≡ length p.params)
+taken_some None call h = let f : false ≡ true = h in cc
+taken_some (Some p) call h = (p, refl, eqb-true (length call.args) (length p.params) (and_parts _ _ h).0)
 
-pub as_many : (ps : Procedures) (call : Call) (p : Procedure) → Fits ps call → Some p ≡ procedure_at ps.procs call.proc_no → length call.args ≡ length p.params
-as_many ps call p fits is =
-    let h : is_taken (Some p) call ≡ true = ap (λ (o : Option Procedure). is_taken o call) is ∙ fits in
-    eqb-true (length call.args) (length p.params) (and_parts _ _ h).0
+-- the procedure of a call that fits, with as many parameters as the call has arguments
+pub called : (ps : Procedures) (call : Call) → Fits ps call → (p : Procedure) × (procedure_at ps.procs call.proc_no ≡ Some p) × (length call.args ≡ length p.params)
+called ps call fits = taken_some (procedure_at ps.procs call.proc_no) call fits
 
 pub is_ready : (s : Stage) (m : Machine) (ws : List Write) → standing_of s m ws ≡ Ready → s ≡ stage.Ready
 is_ready stage.Ready m ws e = refl
@@ -281,6 +282,7 @@ given_of_run ps call n m new spare ws at k v is r given room others =
       number_is = r.number_is;
       there = r.there;
       roomy = λ _. record {
+        names = ap named others ∙ roomy.names;
         bounded = roomy.bounded;
         path = omega (arith, roomy.path, ap (λ (x : Machine). vec_capacity x.path) others);
         spare_path = roomy.spare_path;
@@ -296,15 +298,13 @@ room_to_give ps call n m spare ws at k is r =
     let asking : IsAsking ps call r.procedure m = subst (λ (s : Stage). Stands s ps call r.procedure m ws) (is_asking at m ws k is) r.stands in
     omega (arith, roomy.given, asking.few)
 
-pub body_is : (ps : List Procedure) (n : ℕ) (p : Procedure) (proc : Proc) (ss : List Stmt) → ss ≡ proc.body.items → Some (procedure_of proc) ≡ procedure_at ps n → procedure_at ps n ≡ Some p → statements_of ss ≡ p.body
-body_is ps n p proc ss items one other = ap statements_of items ∙ ap (λ (q : Procedure). q.body) (same_procedure ps n p (procedure_of proc) one other)
-
 -- what going on in a body comes to is what it comes to in the procedure
 pub advances_in : (asks : Bool) (ts us : List (List ℕ)) (b : Statements) (p : Procedure) (old new : Machine) (before after : Vec Frame Global) → us ≡ ts → b ≡ p.body → IsRoomy p old before → Advances asks us b old new
-    → depth b ≤ vec_capacity new.path → depth b ≤ vec_capacity after → new.given ≡ old.given → most_keys ≤ vec_capacity new.writes → AdvancesIn asks ts p old new after
-advances_in asks ts us b p old new before after tables body roomy to path spare given writes = record {
+    → depth b ≤ vec_capacity new.path → depth b ≤ vec_capacity after → new.given ≡ old.given → most_keys ≤ vec_capacity new.writes → named new ≡ named old → AdvancesIn asks ts p old new after
+advances_in asks ts us b p old new before after tables body roomy to path spare given writes names = record {
   advances = subst (λ (vs : List (List ℕ)). Advances asks vs p.body old new) tables (subst (λ (d : Statements). Advances asks us d old new) body to);
   roomy = record {
+    names = names ∙ roomy.names;
     bounded = roomy.bounded;
     path = omega (arith, path, ap depth body);
     spare_path = omega (arith, spare, ap depth body);

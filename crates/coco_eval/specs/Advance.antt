@@ -6,10 +6,11 @@ use Rattle.coco_types.specs.declared.call.Reply.{Reply}
 use Rattle.coco_types.specs.declared.call.Reply.TheVariants.{Ok as Answers, Refused}
 use Rattle.coco_types.specs.declared.call.Write.{Write}
 use Rattle.coco_ast.specs.Keyed.{Rows, value_at}
+use Rattle.coco_ast.specs.Plans.{depth, names_of}
 use Rattle.coco_ast.specs.Tree.{Procedure, Statements}
-use Rattle.coco_eval.specs.Moves.{kept_of}
+use Rattle.coco_eval.specs.Moves.{kept_of, named}
 use Rattle.coco_eval.specs.Outcomes.{outcome}
-use Rattle.coco_eval.specs.Places.{Ends, with_given, goes_on, weight_on, depth, are_bounded}
+use Rattle.coco_eval.specs.Places.{Ends, with_given, goes_on, weight_on, are_bounded}
 use Rattle.coco_eval.specs.declared.machine.Frame.{Frame}
 use Rattle.coco_eval.specs.declared.machine.Machine.{Machine}
 
@@ -26,8 +27,9 @@ abbrev pub settled_writes : Reply → List Write → List Write
 settled_writes (Answers v) ws = ws
 settled_writes (Refused c) ws = []
 
--- there is room for what the procedure may do
+-- its variables are those of the procedure, and there is room for what that may do
 pub record IsRoomy (p : Procedure) (m : Machine) (spare : Vec Frame Global) : Type 0 where
+  pub names : named m ≡ names_of p
   pub bounded : are_bounded p.body ≡ true
   pub path : depth p.body ≤ vec_capacity m.path
   pub spare_path : depth p.body ≤ vec_capacity spare

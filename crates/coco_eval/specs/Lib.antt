@@ -7,6 +7,7 @@ pub mod Moves
 pub mod Needs
 pub mod Outcomes
 pub mod Places
+pub mod Planned
 pub mod Preparing
 pub mod Slots
 pub mod Standing

@@ -3,10 +3,11 @@ use Rattle.std.specs.Prelude.{◌≡◌, ⊤, ℕ, ◌+◌, ◌≤◌, List, [],
 use Rattle.coco_types.specs.Limits.{most_keys}
 use Rattle.coco_types.specs.RowKey.{RowKey}
 use Rattle.coco_ast.specs.Meaning.{Datum}
+use Rattle.coco_ast.specs.Plans.{depth, depth_one}
 use Rattle.coco_ast.specs.Tree.{RowPlace, Statement, Statements}
 use Rattle.coco_ast.specs.Keyed.{Rows, value_at}
-use Rattle.coco_eval.specs.Places.{Kept, Onward, Goes, Ends, with_given, with_variable, known_at, runs, goes_on, goes_on_one, goes_on_get, goes_on_repeat, weight_on, weight_one, weight_get, weight_repeat, depth, depth_one}
-use Rattle.coco_eval.specs.Slots.{variables_of}
+use Rattle.coco_eval.specs.Places.{Kept, Onward, Goes, Ends, with_given, with_variable, known_at, runs, goes_on, goes_on_one, goes_on_get, goes_on_repeat, weight_on, weight_one, weight_get, weight_repeat}
+use Rattle.coco_eval.specs.Slots.{names_in}
 use Rattle.coco_eval.specs.declared.machine.Frame.{Frame}
 use Rattle.coco_eval.specs.declared.machine.Machine.{Machine}
 use Rattle.coco_eval.specs.declared.machine.Stop.{Stop}
@@ -14,8 +15,12 @@ use Rattle.coco_eval.specs.declared.machine.Stop.TheVariants as stop
 use Rattle.coco_eval.specs.declared.machine.Way.{Way}
 use Rattle.coco_eval.specs.declared.machine.Way.TheVariants as way
 
+-- the names of its variables, by slot
+abbrev pub named : Machine → List (List ℕ)
+named m = names_in m.variables
+
 abbrev pub kept_of : Machine → Kept
-kept_of m = record { variables = variables_of m.variables; given = m.given.items; writes = m.writes.items }
+kept_of m = record { variables = m.variables; given = m.given.items; writes = m.writes.items }
 
 -- how a part goes on, by how it stood within its statement and by the place within that
 abbrev pub Ahead : Type 0
@@ -43,6 +48,7 @@ pub record Moves (s : Stop) (part : Rows → Onward) (ahead : Ahead) (weight : �
   pub spends : Spends s weight weights old new
   pub within : IsWithin s depth new
   pub given : new.given ≡ old.given
+  pub names : named new ≡ named old
   pub writes_room : vec_capacity old.writes ≤ vec_capacity new.writes
   pub path_room : vec_capacity old.path ≤ vec_capacity new.path
 
@@ -74,6 +80,7 @@ pub record Settles (s : Stop) (o : Onward) (spent : ℕ) (old new : Machine) : T
   pub reached : IsReached s o new
   pub path : new.path ≡ old.path
   pub given : new.given ≡ old.given
+  pub names : named new ≡ named old
   pub spends : length new.writes.items ≤ length old.writes.items + spent
   pub writes_room : vec_capacity old.writes ≤ vec_capacity new.writes
 
@@ -87,6 +94,7 @@ pub record ReadMoves (s : Stop) (x : List ℕ) (k : RowKey) (old new : Machine) 
   pub read : IsRead s x k old new
   pub path : new.path ≡ old.path
   pub given : new.given ≡ old.given
+  pub names : named new ≡ named old
   pub writes : new.writes ≡ old.writes
 
 -- the same stop, on another way
@@ -95,8 +103,9 @@ on_way stop.Goes w = stop.Goes
 on_way (stop.Asks v) w = stop.Asks w
 on_way stop.Ends w = stop.Ends
 
--- there is room for what a part of this weight and depth may do
-pub record HasRoom (weight deep : ℕ) (m : Machine) : Type 0 where
+-- its variables are these, and there is room for what a part of this weight and depth may do
+pub record HasRoom (ns : List (List ℕ)) (weight deep : ℕ) (m : Machine) : Type 0 where
+  pub names : named m ≡ ns
   pub path : m.path.items ≡ []
   pub path_room : deep ≤ vec_capacity m.path
   pub writes : length m.writes.items + weight ≤ most_keys

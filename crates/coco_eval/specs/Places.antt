@@ -174,23 +174,7 @@ abbrev pub weight_on : List Frame → Statements → ℕ
 weight_on [] b = key_weight b
 weight_on (f ∷ fs) b = weight_first f.way (λ inner. weight_on fs inner) (from f.at b)
 
--- how deep blocks stand in one another, and whether no `repeat` has more turns than it may
-abbrev mutual
-  pub depth_one : Statement → ℕ
-  depth_one (Let x e) = 0
-  depth_one (Get x p) = 0
-  depth_one (Put p e) = 0
-  depth_one (Delete p) = 0
-  depth_one (If e then_part) = depth then_part
-  depth_one (IfElse e then_part else_part) = max (depth then_part) (depth else_part)
-  depth_one (Repeat n x body) = depth body
-  depth_one (Refuse n) = 0
-  depth_one (Replies e) = 0
-
-  pub depth : Statements → ℕ
-  depth End = 0
-  depth (Then first rest) = max (suc (depth_one first)) (depth rest)
-
+-- no `repeat` has more turns than it may
 abbrev mutual
   pub are_bounded_in : Statement → Bool
   are_bounded_in (Let x e) = true

@@ -1,40 +1,34 @@
 -- Variables as they are kept: each name once, with its newest value.
-use Rattle.std.specs.Prelude.{◌≡◌, ℕ, Bool, true, false, ◌&&◌, List, [], ◌∷◌, map, if◌then◌else◌, nat_eq}
+use Rattle.std.specs.Prelude.{◌≡◌, ◌≤◌, ◌<◌, ℕ, List, [], ◌∷◌, map, length, slice_index_or, None, if◌then◌else◌, nat_eq}
 use Rattle.std.specs.Cmp.Lexicographic.{pointwise}
 use Rattle.coco_ast.specs.Meaning.{Datum, Variables, variable_at}
-use Rattle.coco_ast.specs.Tree.{Statement, Let, Get, Put, Delete, If, IfElse, Repeat, Refuse, Reply, Statements, End, Then}
-use Rattle.coco_eval.specs.declared.variables.Variable.{Variable}
+use Rattle.coco_ast.specs.Plans.{AreSlots}
 
-abbrev pub variables_of : List Variable → Variables
-variables_of vs = map (λ v. (v.name, v.value)) vs
+-- each name with its value, none where there is no more
+abbrev pub paired : List (List ℕ) → List Datum → Variables
+paired [] vs = []
+paired (n ∷ ns) [] = (n, None) ∷ paired ns []
+paired (n ∷ ns) (v ∷ vs) = (n, v) ∷ paired ns vs
+
+abbrev pub names_in : Variables → List (List ℕ)
+names_in vs = map (λ v. v.0) vs
 
 -- the variables with this value of one of them
 abbrev pub set_at : Variables → List ℕ → Datum → Variables
 set_at [] x d = []
 set_at (v ∷ vs) x d = if pointwise nat_eq v.0 x then (v.0, d) ∷ vs else v ∷ set_at vs x d
 
-abbrev pub has_slot : Variables → List ℕ → Bool
-has_slot [] x = false
-has_slot (v ∷ vs) x = if pointwise nat_eq v.0 x then true else has_slot vs x
+-- the names have slots of their own, and each its value
+pub record AreInSlots (names : List (List ℕ)) (values : List Datum) (count : ℕ) : Type 0 where
+  pub slots : AreSlots names
+  pub as_many : count ≡ length names
+  pub enough : count ≤ length values
 
--- each variable that the statements set is there
-abbrev mutual
-  pub has_slots_in : Variables → Statement → Bool
-  has_slots_in vs (Let x e) = has_slot vs x
-  has_slots_in vs (Get x p) = has_slot vs x
-  has_slots_in vs (Put p e) = true
-  has_slots_in vs (Delete p) = true
-  has_slots_in vs (If e then_part) = has_slots vs then_part
-  has_slots_in vs (IfElse e then_part else_part) = has_slots vs then_part && has_slots vs else_part
-  has_slots_in vs (Repeat n x body) = has_slot vs x && has_slots vs body
-  has_slots_in vs (Refuse n) = true
-  has_slots_in vs (Reply e) = true
+-- the first values of the list are these, and those behind them up to a place none
+pub record HasValues (count : ℕ) (these values : List Datum) : Type 0 where
+  pub enough : count ≤ length values
+  pub each : (i : ℕ) → i < count → slice_index_or values i None ≡ slice_index_or these i None
 
-  pub has_slots : Variables → Statements → Bool
-  has_slots vs End = true
-  has_slots vs (Then first rest) = has_slots_in vs first && has_slots vs rest
-
--- no variable has another value, and none has gone
-pub record IsGrown (old new : Variables) : Type 0 where
-  pub values : (x : List ℕ) → variable_at new x ≡ variable_at old x
-  pub slots : (x : List ℕ) → has_slot old x ≡ true → has_slot new x ≡ true
+-- no variable has another value
+abbrev pub AreAlike : Variables → Variables → Type 0
+AreAlike old new = (x : List ℕ) → variable_at new x ≡ variable_at old x

@@ -1,26 +1,18 @@
 //! How a run's state goes on, and what its writes are at the end.
 ghost use Rattle.std.specs.Prelude.{◌≡◌, ◌+◌, ◌<◌, ◌≤◌, ◌^◌, true, length, reverse, vec_capacity, Some};
-ghost use Rattle.std.specs.Option.{option_map};
 ghost use Rattle.coco_types.specs.Limits.{most_keys};
-ghost use Rattle.coco_ast.specs.Checks.{IsAccepted};
 ghost use Rattle.coco_ast.specs.Meaning.{procedure_at};
 ghost use Rattle.coco_ast.specs.Tree.{Procedure};
-ghost use Rattle.coco_ast.specs.Views.{procedure_of, statements_of};
+ghost use Rattle.coco_ast.specs.Plans.{depth};
 ghost use Rattle.coco_eval.specs.Advance.{Advances, AdvancesIn, IsRoomy, settled_writes};
-ghost use Rattle.coco_eval.specs.Places.{weight_on, depth, are_bounded};
+ghost use Rattle.coco_eval.specs.Moves.{named};
+ghost use Rattle.coco_eval.specs.Planned.{statements_by};
+ghost use Rattle.coco_eval.specs.Places.{weight_on, are_bounded};
 
 use crate::machine::{Frame, Machine, Stop};
-use coco_ast::{Checked, Name, Proc, Stmt};
+use coco_ast::{Checked, Name, Plan};
 use coco_types::{Reply, Writes};
 use std::mem;
-
-/// The procedure of a number.
-pub fn procedure(procs: &Checked, number: u16) -> Option<&Proc>
-    ensures value { option_map (λ p. procedure_of p.now) result ≡ procedure_at procs.now.procs number }
-    ensures accepted { IsAccepted procs.now }
-{
-    procs.tree().procs.as_slice().get(number as usize)
-}
 
 /// Goes on in a procedure, to a key whose value is needed or to the end. It answers whether it asks.
 pub fn advance(procs: &Checked, number: u16, machine: &mut Machine, spare: &mut Vec<Frame>) -> bool
@@ -28,29 +20,32 @@ pub fn advance(procs: &Checked, number: u16, machine: &mut Machine, spare: &mut 
         × (length machine.old.writes.items + weight_on (reverse machine.old.path.items) p.body ≤ most_keys) }
     ensures { (p : Procedure) → procedure_at procs.now.procs number ≡ Some p → AdvancesIn result procs.now.tables p machine.old machine.new spare.new }
 {
-    let Some(proc) = procedure(procs, number) else {
+    let Some(plan) = procs.plan(number) else {
         unreachable!()
     };
-    go_on(machine, spare, procs.tree().tables.as_slice(), &proc.body)
+    let tables = procs.tree().tables.as_slice();
+    go_on(machine, spare, tables, plan)
 }
 
 // Goes on from the path. The spare list lends its room.
-fn go_on(machine: &mut Machine, spare: &mut Vec<Frame>, tables: &[Name], body: &[Stmt]) -> bool
+fn go_on(machine: &mut Machine, spare: &mut Vec<Frame>, tables: &[Name], plan: &Plan) -> bool
     requires tables { length tables.now < 2 ^ 16 }
-    requires bounded { are_bounded (statements_of body.now) ≡ true }
-    requires path { depth (statements_of body.now) ≤ vec_capacity machine.old.path }
-    requires spare { depth (statements_of body.now) ≤ vec_capacity spare.old }
-    requires few { length machine.old.writes.items + weight_on (reverse machine.old.path.items) (statements_of body.now) ≤ most_keys }
+    requires names { named machine.old ≡ plan.now.names }
+    requires bounded { are_bounded (statements_by plan.now plan.now.steps.items) ≡ true }
+    requires path { depth (statements_by plan.now plan.now.steps.items) ≤ vec_capacity machine.old.path }
+    requires spare { depth (statements_by plan.now plan.now.steps.items) ≤ vec_capacity spare.old }
+    requires few { length machine.old.writes.items + weight_on (reverse machine.old.path.items) (statements_by plan.now plan.now.steps.items) ≤ most_keys }
     requires room { most_keys ≤ vec_capacity machine.old.writes }
-    ensures advances { Advances result tables.now (statements_of body.now) machine.old machine.new }
-    ensures path { depth (statements_of body.now) ≤ vec_capacity machine.new.path }
-    ensures spare { depth (statements_of body.now) ≤ vec_capacity spare.new }
+    ensures advances { Advances result tables.now (statements_by plan.now plan.now.steps.items) machine.old machine.new }
+    ensures path { depth (statements_by plan.now plan.now.steps.items) ≤ vec_capacity machine.new.path }
+    ensures spare { depth (statements_by plan.now plan.now.steps.items) ≤ vec_capacity spare.new }
     ensures given { machine.new.given ≡ machine.old.given }
     ensures room { most_keys ≤ vec_capacity machine.new.writes }
+    ensures named { named machine.new ≡ named machine.old }
 {
     mem::swap(&mut machine.path, spare);
     machine.path.clear();
-    match machine.block(tables, body, spare) {
+    match machine.block(tables, plan, &plan.steps, spare) {
         Stop::Goes => {
             machine.reply = Reply::Ok(None);
             false

@@ -26,27 +26,13 @@ impl Model for Held {
 }
 
 impl Held {
-    /// This value.
-    pub fn of(value: &Operand<'_>) -> Held
-        ensures { result ≡ datum_of value.now }
+    /// None.
+    pub fn none() -> Held
+        ensures { result ≡ None }
     {
-        match value {
-            Operand::None => Held {
-                is_set: false,
-                value: Value::Int(0),
-            },
-            Operand::Int(number) => Held {
-                is_set: true,
-                value: Value::Int(*number),
-            },
-            Operand::Text(text) => Held {
-                is_set: true,
-                value: Value::Text(**text),
-            },
-            Operand::Literal(literal) => Held {
-                is_set: true,
-                value: Value::Text(literal.text()),
-            },
+        Held {
+            is_set: false,
+            value: Value::Int(0),
         }
     }
 

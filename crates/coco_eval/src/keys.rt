@@ -1,33 +1,33 @@
-//! Keys: those that places name, and what is known of one.
+//! Keys: those that rows have, and what is known of one.
 ghost use Rattle.std.specs.Prelude.{◌≡◌, ◌+◌, ◌<◌, ◌≤◌, ◌^◌, length, vec_capacity, vec_len, MatchResult, slice_set, insert, Some};
 ghost use Rattle.std.specs.Option.{option_copied};
 ghost use Rattle.coco_ast.specs.Meaning.{Datum, key_of, place_of as table_number, put_write, row_key};
-ghost use Rattle.coco_ast.specs.Views.{place_of};
+ghost use Rattle.coco_ast.specs.Plans.{place_in};
 ghost use Rattle.coco_types.specs.declared.value.Value.TheVariants.{Int};
 ghost use Rattle.coco_eval.specs.Lending.{datum_of};
 ghost use Rattle.coco_eval.specs.Places.{written_at, given_at};
-ghost use Rattle.coco_eval.specs.Slots.{variables_of};
+ghost use Rattle.coco_eval.specs.Slots.{names_in};
 
 use crate::machine::Given;
 use crate::names::are_same_names;
 use crate::operand::{Operand, owned};
 use crate::values::{leaf, value};
-use crate::variables::Variable;
-use coco_ast::{Name, Place};
+use crate::variables::Slots;
+use coco_ast::{Name, Spot, Term};
 use coco_types::{Cause, Key, Value, Write};
 use std::cmp::Ordering;
 
-/// The key of a place.
+/// The key of a row.
 #[inline(always)]
-pub fn key(tables: &[Name], variables: &[Variable], place: &Place) -> Result<Key, Cause>
+pub fn key(tables: &[Name], terms: &[Term], variables: &Slots, spot: &Spot) -> Result<Key, Cause>
     requires { length tables.now < 2 ^ 16 }
-    ensures { result ≡ key_of tables.now (variables_of variables.now) (place_of place.now) }
+    ensures { result ≡ key_of tables.now variables.now (place_in (names_in variables.now) terms.now spot.now) }
 {
-    if let Some(row) = leaf(&place.row, variables) {
-        return numbered_key(table_number(tables, &place.table), row);
+    if let Some(row) = leaf(terms, spot.row, variables) {
+        return numbered_key(table_number(tables, &spot.table), row);
     }
-    match value(&place.row, variables) {
-        Ok(row) => row_key(table_number(tables, &place.table), &row),
+    match value(terms, spot.row, variables) {
+        Ok(row) => row_key(table_number(tables, &spot.table), &row),
         Err(cause) => Err(cause),
     }
 }

@@ -8,10 +8,10 @@ ghost use Rattle.coco_types.specs.declared.call.Write.{Write as Written};
 ghost use Rattle.coco_eval.specs.Needs.{IsNeedOf, IsNextOf, HasFewKeys};
 ghost use Rattle.coco_eval.specs.Standing.{Ready, Asks, Ended, IsSound};
 
-use crate::advance::{advance, procedure, settle};
+use crate::advance::{advance, settle};
 use crate::machine::{Frame, Given, Machine};
 use crate::noted::Noted;
-use crate::room::{prepare, prepare_again};
+use crate::room::prepare;
 use coco_ast::Checked;
 use coco_types::{Call, Key, NoMemory, Reply, Value, Writes};
 use std::alloc::Global;
@@ -67,10 +67,10 @@ impl Run {
     {
         let mut machine = Machine::new(alloc);
         let mut spare = Vec::new(alloc);
-        let Some(proc) = procedure(procs, call.proc_no) else {
+        let Some(plan) = procs.plan(call.proc_no) else {
             unreachable!()
         };
-        prepare(&mut machine, &mut spare, proc, &call.args)?;
+        prepare(&mut machine, &mut spare, plan, &call.args)?;
         Ok(Run {
             procs: Noted::of(procs),
             call: Noted::of(call),
@@ -90,17 +90,10 @@ impl Run {
         ensures ok { OnOk result (self.new ≡ record { procs = procs.now; call = call.now; given = []; standing = Ready }) }
         ensures err { OnErr result (self.new ≡ self.old) }
     {
-        let Some(proc) = procedure(procs, call.proc_no) else {
+        let Some(plan) = procs.plan(call.proc_no) else {
             unreachable!()
         };
-        let is_same = call.proc_no == self.number;
-        prepare_again(
-            &mut self.machine,
-            &mut self.spare,
-            proc,
-            &call.args,
-            is_same,
-        )?;
+        prepare(&mut self.machine, &mut self.spare, plan, &call.args)?;
         self.procs = Noted::of(procs);
         self.call = Noted::of(call);
         self.number = call.proc_no;

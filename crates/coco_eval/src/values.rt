@@ -1,85 +1,107 @@
 //! The values of expressions.
-ghost use Rattle.std.specs.Prelude.{◌≡◌, not, neg_ℤ, IfSome, Ok, Some};
+ghost use Rattle.std.specs.Prelude.{◌≡◌, ◌<◌, ℕ, List, [], length, true, not, neg_ℤ, IfSome, Ok, None, Some};
 ghost use Rattle.coco_ast.specs.Meaning.{value_of, combined, numbers, number_of, and_then, is_true, truth, within_range};
 ghost use Rattle.coco_ast.specs.Tree.{Two, None as Nothing, Add, Subtract, Multiply, Divide, Remainder};
 ghost use Rattle.coco_types.specs.declared.value.Value.TheVariants.{Int};
-ghost use Rattle.coco_ast.specs.Views.{expression_of, sign_of};
+ghost use Rattle.coco_ast.specs.Plans.{expression_at, term_tree, trees_behind};
+ghost use Rattle.coco_ast.specs.Views.{sign_of};
 ghost use Rattle.coco_eval.specs.Lending.{datum_of, computed_of, whole_of};
-ghost use Rattle.coco_eval.specs.Slots.{variables_of};
+ghost use Rattle.coco_eval.specs.Slots.{names_in};
 
 use crate::operand::{Operand, are_same, number};
-use crate::variables::{Variable, value_at};
-use coco_ast::{Expr, TwoOp};
+use crate::variables::Slots;
+use coco_ast::{Term, TwoOp};
 use coco_types::Cause;
 
-/// What an expression comes to. The value is lent from the expression or from the variables. Most
-/// expressions are whole numbers of one operator at most, and these take the quick way.
+/// What the expression at a place among terms comes to. The value is lent from the terms or from the variables.
+/// Most expressions are whole numbers of one operator at most, and these take the quick way.
 #[inline(always)]
-pub fn value<'a>(expr: &'a Expr, variables: &'a [Variable]) -> Result<Operand<'a>, Cause>
-    ensures { computed_of result ≡ value_of (variables_of variables.now) (expression_of expr.now) }
+pub fn value<'a>(
+    terms: &'a [Term],
+    place: usize,
+    variables: &'a Slots,
+) -> Result<Operand<'a>, Cause>
+    ensures { computed_of result ≡ value_of variables.now (expression_at (names_in variables.now) terms.now place) }
 {
-    match quick(expr, variables) {
+    match quick(terms, place, variables) {
         Some(number) => Ok(Operand::Int(number)),
-        None => any(expr, variables),
+        None => any(terms, place, variables),
     }
 }
 
-fn any<'a>(expr: &'a Expr, variables: &'a [Variable]) -> Result<Operand<'a>, Cause>
-    ensures { computed_of result ≡ value_of (variables_of variables.now) (expression_of expr.now) }
+fn any<'a>(terms: &'a [Term], place: usize, variables: &'a Slots) -> Result<Operand<'a>, Cause>
+    ensures { computed_of result ≡ value_of variables.now (expression_at (names_in variables.now) terms.now place) }
 {
-    match nested(expr, variables) {
+    match nested(terms, place, variables) {
         Some(number) => Ok(Operand::Int(number)),
-        None => computed(expr, variables),
+        None => computed(terms, place, variables),
+    }
+}
+
+// The term at a place with those before it, which its operands are among. Beyond the last one there is none.
+#[inline(always)]
+fn split(terms: &[Term], place: usize) -> Option<(&Term, &[Term])>
+    ensures some { IfSome result (λ r. (names : List (List ℕ)) → expression_at names terms.now place ≡ term_tree names (trees_behind names [] r.1.now) r.0.now) }
+    ensures fewer { IfSome result (λ r. length r.1.now < length terms.now) }
+    ensures none { result ≡ None → (names : List (List ℕ)) → expression_at names terms.now place ≡ Nothing }
+{
+    if place < terms.len() {
+        Some((&terms[place], &terms[..place]))
+    } else {
+        None
     }
 }
 
 // The whole number that an expression comes to. None says nothing: the expression may have operators within
 // one another, come to a text or to none, or be refused. It calls nothing, so that it takes no room.
-fn quick(expr: &Expr, variables: &[Variable]) -> Option<i64>
-    ensures { IfSome result (λ n. value_of (variables_of variables.now) (expression_of expr.now) ≡ Ok (Some (Int n))) }
+fn quick(terms: &[Term], place: usize, variables: &Slots) -> Option<i64>
+    ensures { IfSome result (λ n. value_of variables.now (expression_at (names_in variables.now) terms.now place) ≡ Ok (Some (Int n))) }
 {
-    let Expr::Two { op, left, right } = expr else {
-        return leaf(expr, variables);
+    let (term, before) = split(terms, place)?;
+    let Term::Two { op, left, right } = term else {
+        return leaf(terms, place, variables);
     };
-    if matches!(&**right, Expr::None) {
-        return beside_none(*op, left, variables);
+    if is_none(before, *right) {
+        return beside_none(*op, before, *left, variables);
     }
-    let left = leaf(left, variables)?;
-    let right = leaf(right, variables)?;
+    let left = leaf(before, *left, variables)?;
+    let right = leaf(before, *right, variables)?;
     simple(*op, left, right)
 }
 
 // The same of an expression with operators within one another.
 #[cycle(nested)]
-fn nested(expr: &Expr, variables: &[Variable]) -> Option<i64>
-    ensures { IfSome result (λ n. value_of (variables_of variables.now) (expression_of expr.now) ≡ Ok (Some (Int n))) }
+fn nested(terms: &[Term], place: usize, variables: &Slots) -> Option<i64>
+    ensures { IfSome result (λ n. value_of variables.now (expression_at (names_in variables.now) terms.now place) ≡ Ok (Some (Int n))) }
 {
-    let Expr::Two { op, left, right } = expr else {
+    let (term, before) = split(terms, place)?;
+    let Term::Two { op, left, right } = term else {
         return None;
     };
-    let left = nested_or_quick(left, variables)?;
-    let right = nested_or_quick(right, variables)?;
+    let left = nested_or_quick(before, *left, variables)?;
+    let right = nested_or_quick(before, *right, variables)?;
     of_numbers(*op, left, right).ok()
 }
 
 #[cycle(nested)]
-fn nested_or_quick(expr: &Expr, variables: &[Variable]) -> Option<i64>
-    ensures { IfSome result (λ n. value_of (variables_of variables.now) (expression_of expr.now) ≡ Ok (Some (Int n))) }
+fn nested_or_quick(terms: &[Term], place: usize, variables: &Slots) -> Option<i64>
+    ensures { IfSome result (λ n. value_of variables.now (expression_at (names_in variables.now) terms.now place) ≡ Ok (Some (Int n))) }
 {
-    match quick(expr, variables) {
+    match quick(terms, place, variables) {
         Some(number) => Some(number),
-        None => nested(expr, variables),
+        None => nested(terms, place, variables),
     }
 }
 
 /// The number that a name or a number is.
 #[inline(always)]
-pub fn leaf(expr: &Expr, variables: &[Variable]) -> Option<i64>
-    ensures { IfSome result (λ n. value_of (variables_of variables.now) (expression_of expr.now) ≡ Ok (Some (Int n))) }
+pub fn leaf(terms: &[Term], place: usize, variables: &Slots) -> Option<i64>
+    ensures { IfSome result (λ n. value_of variables.now (expression_at (names_in variables.now) terms.now place) ≡ Ok (Some (Int n))) }
 {
-    match expr {
-        Expr::Number(number) => Some(*number),
-        Expr::Var(name) => match value_at(variables, name) {
+    let (term, _) = split(terms, place)?;
+    match term {
+        Term::Number(number) => Some(*number),
+        Term::Variable(slot) => match variables.at(*slot) {
             Operand::Int(number) => Some(number),
             Operand::None | Operand::Text(_) | Operand::Literal(_) => None,
         },
@@ -87,15 +109,27 @@ pub fn leaf(expr: &Expr, variables: &[Variable]) -> Option<i64>
     }
 }
 
+// Whether the word `none` stands there.
+#[inline(always)]
+fn is_none(terms: &[Term], place: usize) -> bool
+    ensures { result ≡ true → (names : List (List ℕ)) → expression_at names terms.now place ≡ Nothing }
+{
+    match split(terms, place) {
+        Some((term, _)) => matches!(term, Term::None),
+        None => true,
+    }
+}
+
 // A variable is compared with `none`.
 #[inline(always)]
-fn beside_none(op: TwoOp, left: &Expr, variables: &[Variable]) -> Option<i64>
-    ensures { IfSome result (λ n. value_of (variables_of variables.now) (Two (sign_of op) (expression_of left.now) Nothing) ≡ Ok (Some (Int n))) }
+fn beside_none(op: TwoOp, terms: &[Term], left: usize, variables: &Slots) -> Option<i64>
+    ensures { IfSome result (λ n. value_of variables.now (Two (sign_of op) (expression_at (names_in variables.now) terms.now left) Nothing) ≡ Ok (Some (Int n))) }
 {
-    let Expr::Var(name) = left else {
+    let (term, _) = split(terms, left)?;
+    let Term::Variable(slot) = term else {
         return None;
     };
-    let is_none = are_same(&value_at(variables, name), &Operand::None);
+    let is_none = are_same(&variables.at(*slot), &Operand::None);
     match op {
         TwoOp::Equal => Some(as_number(is_none)),
         TwoOp::NotEqual => Some(as_number(!is_none)),
@@ -126,51 +160,63 @@ fn simple(op: TwoOp, left: i64, right: i64) -> Option<i64>
 
 // The value of a name, a number or `none`, and None for any other expression.
 #[inline(always)]
-fn plain<'a>(expr: &'a Expr, variables: &'a [Variable]) -> Option<Operand<'a>>
-    ensures { IfSome result (λ v. value_of (variables_of variables.now) (expression_of expr.now) ≡ Ok (datum_of v)) }
+fn plain<'a>(terms: &'a [Term], place: usize, variables: &'a Slots) -> Option<Operand<'a>>
+    ensures { IfSome result (λ v. value_of variables.now (expression_at (names_in variables.now) terms.now place) ≡ Ok (datum_of v)) }
 {
-    match expr {
-        Expr::Var(name) => Some(value_at(variables, name)),
-        Expr::Number(number) => Some(Operand::Int(*number)),
-        Expr::None => Some(Operand::None),
-        _ => None,
+    match split(terms, place) {
+        None => Some(Operand::None),
+        Some((term, _)) => match term {
+            Term::Variable(slot) => Some(variables.at(*slot)),
+            Term::Number(number) => Some(Operand::Int(*number)),
+            Term::None => Some(Operand::None),
+            _ => None,
+        },
     }
 }
 
+#[cycle(computed)]
 #[inline(never)]
-fn computed<'a>(expr: &'a Expr, variables: &'a [Variable]) -> Result<Operand<'a>, Cause>
-    ensures { computed_of result ≡ value_of (variables_of variables.now) (expression_of expr.now) }
+fn computed<'a>(terms: &'a [Term], place: usize, variables: &'a Slots) -> Result<Operand<'a>, Cause>
+    ensures { computed_of result ≡ value_of variables.now (expression_at (names_in variables.now) terms.now place) }
 {
-    match expr {
-        Expr::Number(number) => Ok(Operand::Int(*number)),
-        Expr::Text(literal) => Ok(Operand::Literal(literal)),
-        Expr::None => Ok(Operand::None),
-        Expr::Var(name) => Ok(value_at(variables, name)),
-        Expr::Not(operand) => match computed(operand, variables) {
+    let Some((term, before)) = split(terms, place) else {
+        return Ok(Operand::None);
+    };
+    match term {
+        Term::Number(number) => Ok(Operand::Int(*number)),
+        Term::Text(literal) => Ok(Operand::Literal(literal)),
+        Term::None => Ok(Operand::None),
+        Term::Variable(slot) => Ok(variables.at(*slot)),
+        Term::Not(operand) => match computed(before, *operand, variables) {
             Ok(operand) => whole(inverted(&operand)),
             Err(cause) => Err(cause),
         },
-        Expr::Negate(operand) => match computed(operand, variables) {
+        Term::Negate(operand) => match computed(before, *operand, variables) {
             Ok(operand) => whole(negated(&operand)),
             Err(cause) => Err(cause),
         },
-        Expr::Two { op, left, right } => {
-            let left = match plain(left, variables) {
-                Some(left) => left,
-                None => match computed(left, variables) {
-                    Ok(left) => left,
-                    Err(cause) => return Err(cause),
-                },
+        Term::Two { op, left, right } => {
+            let left = match part(before, *left, variables) {
+                Ok(left) => left,
+                Err(cause) => return Err(cause),
             };
-            let right = match plain(right, variables) {
-                Some(right) => right,
-                None => match computed(right, variables) {
-                    Ok(right) => right,
-                    Err(cause) => return Err(cause),
-                },
+            let right = match part(before, *right, variables) {
+                Ok(right) => right,
+                Err(cause) => return Err(cause),
             };
             whole(combination(*op, &left, &right))
         }
+    }
+}
+
+#[cycle(computed)]
+#[inline(always)]
+fn part<'a>(terms: &'a [Term], place: usize, variables: &'a Slots) -> Result<Operand<'a>, Cause>
+    ensures { computed_of result ≡ value_of variables.now (expression_at (names_in variables.now) terms.now place) }
+{
+    match plain(terms, place, variables) {
+        Some(value) => Ok(value),
+        None => computed(terms, place, variables),
     }
 }
 

@@ -1,42 +1,37 @@
-//! The variables of a run.
-ghost use Rattle.std.specs.Prelude.{◌≡◌, ◌<◌, ◌∷◌, ◌++◌, [], true, false, Some, length, slice_set, slice_index_or, OnOk, OnErr, MatchOption};
-ghost use Rattle.coco_ast.specs.Meaning.{Datum, variable_at};
-ghost use Rattle.coco_types.specs.declared.value.Value.TheVariants.{Int};
+//! The variables of a run, each in its slot.
+ghost use Rattle.std.specs.Prelude.{◌≡◌, ◌≤◌, ◌<◌, ℕ, [], length, get_or, None, slice_index_or, OnOk};
+ghost use Rattle.coco_ast.specs.Meaning.{variable_at};
+ghost use Rattle.coco_ast.specs.Plans.{AreSlots, name_at};
 ghost use Rattle.coco_eval.specs.Lending.{datum_of};
-ghost use Rattle.coco_eval.specs.Slots.{variables_of, set_at, IsGrown};
+ghost use Rattle.coco_eval.specs.Slots.{HasValues, names_in, paired, set_at};
 
 use crate::held::Held;
-use crate::names::are_same_names;
-use crate::operand::Operand;
-use coco_ast::Name;
-use coco_types::NoMemory;
+use crate::noted::Noted;
+use crate::operand::{Operand, lend};
+use coco_ast::Names;
+use coco_types::{Args, NoMemory};
 use std::alloc::Global;
 use std::marker::Model;
 
-/// A variable with its newest value, none until it is set.
-#[derive(Debug, Drop)]
-pub struct Variable {
-    pub name: Name,
-    pub value: Held,
-}
-
 /// Variables in a list that may be longer: those behind them are of an earlier run, and lend their
-/// room. Contracts see the variables alone.
+/// room. Contracts see the variables alone, each with its name.
 #[derive(Drop)]
 pub struct Slots {
-    list: Vec<Variable>,
+    names: Noted<Names>,
+    values: Vec<Held>,
     used: usize,
 }
 
 impl Model for Slots {
-    ghost use Rattle.std.specs.Prelude.{List, ◌≤◌, length, take};
-    ghost use Rattle.coco_eval.specs.declared.variables.Variable.{Variable};
+    ghost use Rattle.std.specs.Prelude.{take};
+    ghost use Rattle.coco_ast.specs.Meaning.{Variables};
+    ghost use Rattle.coco_eval.specs.Slots.{AreInSlots, paired};
 
-    ghost Value = { List Variable };
+    ghost Value = { Variables };
 
-    ghost view = { λ s. take s.used s.list.items };
+    ghost view = { λ s. paired s.names.value (take s.used s.values.items) };
 
-    ghost invariant = { λ s. s.used ≤ length s.list.items };
+    ghost invariant = { λ s. AreInSlots s.names.value s.values.items s.used };
 }
 
 impl Slots {
@@ -44,117 +39,93 @@ impl Slots {
     pub fn new(alloc: Global) -> Slots
         ensures { result ≡ [] }
     {
+        let names = Names::new(alloc);
         Slots {
-            list: Vec::new(alloc),
+            names: Noted::of(&names),
+            values: Vec::new(alloc),
             used: 0,
         }
     }
 
-    /// Takes all variables away. The list keeps its room.
-    pub fn clear(&mut self)
-        ensures { self.new ≡ [] }
+    /// The variables of these names. The first ones have these values, and the others none.
+    pub fn begin(&mut self, names: &Names, args: &Args) -> Result<(), NoMemory>
+        requires slots { AreSlots names.now }
+        ensures { OnOk result (self.new ≡ paired names.now args.now) }
     {
-        self.used = 0;
-    }
-
-    pub fn as_slice(&self) -> &[Variable]
-        ensures { result.now ≡ self.now }
-    {
-        &self.list[..self.used]
-    }
-
-    /// Adds a variable.
-    #[inline(always)]
-    pub fn push(&mut self, name: &Name, value: &Operand<'_>) -> Result<(), NoMemory>
-        ensures { OnOk result (self.new ≡ self.old ++ record { name = name.now; value = datum_of value.now } ∷ []) }
-    {
-        if self.used < self.list.len() {
-            let variable = &mut self.list[self.used];
-            variable.name = *name;
-            variable.value.store(value);
-        } else {
-            push_new(&mut self.list, name, value)?;
-        }
-        self.used += 1;
+        let count = names.len();
+        set_values(&mut self.values, count, args)?;
+        self.names = Noted::of(names);
+        self.used = count;
         Ok(())
     }
 
-    /// Adds a variable of a whole number, where an earlier run has left the room. It answers whether it has.
-    pub fn push_number(&mut self, name: &Name, number: i64) -> bool
-        ensures yes { result ≡ true → self.new ≡ self.old ++ record { name = name.now; value = Some (Int number) } ∷ [] }
-        ensures no { result ≡ false → self.new ≡ self.old }
-    {
-        if self.used >= self.list.len() {
-            return false;
-        }
-        let variable = &mut self.list[self.used];
-        variable.name = *name;
-        variable.value.store_number(number);
-        self.used += 1;
-        true
-    }
-
-    /// Adds the variable that stood next in an earlier run, without its value, where there was one.
-    pub fn reuse(&mut self)
-        ensures { IsGrown (variables_of self.old) (variables_of self.new) }
-    {
-        if self.used < self.list.len() {
-            self.list[self.used].value.clear();
-            self.used += 1;
-        }
-    }
-
-    /// Sets the variable of a name, where there is one.
+    /// The value in a slot.
     #[inline(always)]
-    pub fn set(&mut self, name: &Name, value: &Operand<'_>)
-        ensures { variables_of self.new ≡ set_at (variables_of self.old) name.now (datum_of value.now) }
+    pub fn at(&self, slot: usize) -> Operand<'_>
+        ensures { datum_of result ≡ variable_at self.now (name_at (names_in self.now) slot) }
     {
-        if let Some(at) = place_of(self.as_slice(), name) {
-            self.list[at].value.store(value);
+        if slot < self.used {
+            self.values[slot].lend()
+        } else {
+            Operand::None
+        }
+    }
+
+    /// Sets the variable in a slot.
+    #[inline(always)]
+    pub fn set(&mut self, slot: usize, value: &Operand<'_>)
+        ensures value { self.new ≡ set_at self.old (name_at (names_in self.old) slot) (datum_of value.now) }
+        ensures names { names_in self.new ≡ names_in self.old }
+    {
+        if slot < self.used {
+            self.values[slot].store(value);
         }
     }
 }
 
-// Makes the list longer. It stands apart, so that a variable in the place of an earlier one has no room of
-// its own to clear.
-#[inline(never)]
-fn push_new(list: &mut Vec<Variable>, name: &Name, value: &Operand<'_>) -> Result<(), NoMemory>
-    ensures ok { OnOk result (list.new.items ≡ list.old.items ++ record { name = name.now; value = datum_of value.now } ∷ []) }
-    ensures err { OnErr result (list.new.items ≡ list.old.items) }
+// Makes a list that long at least, and sets its first values to these, and those behind them to none.
+fn set_values(values: &mut Vec<Held>, count: usize, args: &Args) -> Result<(), NoMemory>
+    ensures longer { length values.old.items ≤ length values.new.items }
+    ensures values { OnOk result (HasValues count args.now values.new.items) }
 {
-    list.push(Variable {
-        name: *name,
-        value: Held::of(value),
-    })?;
+    lengthen(values, count)?;
+    for i in 0..count {
+        set_value(&mut values[i], args, i);
+    }
     Ok(())
 }
 
-/// The value of the variable of a name.
-#[inline(always)]
-pub fn value_at<'a>(variables: &'a [Variable], name: &Name) -> Operand<'a>
-    ensures { datum_of result ≡ variable_at (variables_of variables.now) name.now }
+fn lengthen(values: &mut Vec<Held>, count: usize) -> Result<(), NoMemory>
+    ensures longer { length values.old.items ≤ length values.new.items }
+    ensures enough { OnOk result (count ≤ length values.new.items) }
 {
-    let mut rest = variables;
-    while let Some((variable, others)) = rest.split_first() {
-        if are_same_names(&variable.name, name) {
-            return variable.value.lend();
-        }
-        rest = others;
+    for _ in values.len()..count {
+        values.push(Held::none())?;
     }
-    Operand::None
+    Ok(())
 }
 
-// The place of the variable of a name, if there is one.
-fn place_of(variables: &[Variable], name: &Name) -> Option<usize>
-    ensures { MatchOption result
-        ((d : Datum) → set_at (variables_of variables.now) name.now d ≡ variables_of variables.now)
-        (λ i. (i < length variables.now) × ((v : Variable) (d : Datum) → set_at (variables_of variables.now) name.now d
-        ≡ variables_of (slice_set variables.now i (record { name = (slice_index_or variables.now i v).name; value = d })))) }
+#[inline(always)]
+fn set_value(value: &mut Held, args: &Args, i: usize)
+    ensures { value.new ≡ slice_index_or args.now i None }
 {
-    for i in 0..variables.len() {
-        if are_same_names(&variables[i].name, name) {
-            return Some(i);
-        }
+    if i >= args.len() {
+        return value.clear();
     }
-    None
+    match args.int(i) {
+        Some(number) => value.store_number(number),
+        None => copy_value(value, args, i),
+    }
+}
+
+// A text is copied out of the arguments. It stands apart, so that numbers have no room for a copy to clear.
+#[inline(never)]
+fn copy_value(value: &mut Held, args: &Args, i: usize)
+    requires { i < length args.now }
+    ensures { value.new ≡ slice_index_or args.now i None }
+{
+    match args.get(i) {
+        Some(argument) => value.store(&lend(&argument)),
+        None => unreachable!(),
+    }
 }

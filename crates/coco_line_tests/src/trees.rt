@@ -1,6 +1,6 @@
-//! Names, built-in procedures, literals and expressions as they are made.
+//! Names, built-in procedures with their plans, literals and expressions as they are made.
 
-use coco_ast::{Expr, Literal, Name, Proc, TwoOp, builtins};
+use coco_ast::{Checked, Expr, Literal, Name, Proc, Step, Term, TwoOp, builtins};
 use coco_types::{NoMemory, Text};
 use std::alloc::Global;
 use std::test::Fail;
@@ -35,6 +35,28 @@ fn are_built_in(procs: &[Proc]) -> bool {
 fn built_in_procedures_stand_in_their_order(rt: HostRuntime) -> Result<(), Fail> {
     let made = builtins(rt.alloc())?;
     assert!(rt; are_built_in(made.procs.as_slice()));
+    Ok(())
+}
+
+// The parameters `r` and `n` have slots 0 and 1, and `v`, which is replied, has slot 2. A `let` stands in an `if`.
+fn adds_by_slots(procs: &Checked) -> bool {
+    let Some(plan) = procs.plan(2) else {
+        return false;
+    };
+    let names = plan.names.as_slice();
+    let Some(Step::Reply(place)) = plan.steps.last() else {
+        return false;
+    };
+    names.len() == 3
+        && names[2].as_str() == "v"
+        && plan.depth == 2
+        && matches!(plan.terms.get(*place), Some(Term::Variable(2)))
+}
+
+#[test]
+fn a_plan_has_a_slot_for_each_variable(rt: HostRuntime) -> Result<(), Fail> {
+    let procs = Checked::built_in(rt.alloc())?;
+    assert!(rt; adds_by_slots(&procs));
     Ok(())
 }
 

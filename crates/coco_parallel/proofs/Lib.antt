@@ -22,3 +22,4 @@ mod PieceOrderLemmas
 mod WholeLemmas
 mod PieceLemmas
 mod LeftLemmas
+mod Sharing

@@ -5,6 +5,7 @@ pub mod Having
 pub mod Held
 pub mod Judged
 pub mod Keeping
+pub mod LaidOut
 pub mod LeftOut
 pub mod Loading
 pub mod OneMap

@@ -1,15 +1,23 @@
 use Rattle.std.proofs.Common.{sym, subst}
 use Rattle.coco_types.specs.declared.call.Call.{Call}
 use Rattle.coco_ast.specs.Tree.{Procedures}
-use Rattle.coco_ast.specs.Views.{procedure_of}
 use Rattle.coco_eval.specs.Keeping.{IsRunOf}
 use Rattle.coco_eval.specs.declared.run.Stage.TheVariants as stage
-use Rattle.coco_eval.proofs.StepLemmas.{begun}
+use Rattle.coco_eval.proofs.StepLemmas.{called, is_planned, planned, begun}
 use Rattle.coco_eval.proofs.run.Run.restart.Goals as goal
+
+pub unreachable-requires : goal.unreachable-requires
+unreachable-requires c = let p = called c.args.procs.now c.args.call.now c.requires.fits in is_planned p.0 _ p.1 c.in_default.ensures.plan
+
+pub prepare-requires : goal.prepare-requires
+prepare-requires c =
+    let p = called c.args.procs.now c.args.call.now c.requires.fits in
+    (p.0, planned p.0 c.in-Some.plan _ p.1 c.in-Some.ensures.plan, p.2)
 
 pub invariant_of-self-2 : goal.invariant_of-self-2
 invariant_of-self-2 c =
-    let m = c.prepare_again.new.machine in let spare = c.prepare_again.new.spare in let ws = c.self.inside.writes in let call = c.args.call.now in
+    let m = c.prepare.new.machine in let spare = c.prepare.new.spare in let ws = c.self.inside.writes in let call = c.args.call.now in
+    let p = called c.args.procs.now call c.requires.fits in let of = planned p.0 c.in-Some.plan _ p.1 c.in-Some.ensures.plan in
     subst (λ (ps : Procedures). IsRunOf ps c.of-2.result.value call.proc_no m spare ws stage.Ready) (sym c.of.ensures)
     (subst (λ (d : Call). IsRunOf c.args.procs.now d call.proc_no m spare ws stage.Ready) (sym c.of-2.ensures)
-    (begun c.args.procs.now call (procedure_of c.in-Some.proc.now) m spare ws c.in-Some.ensures.accepted (sym c.in-Some.ensures.value) c.in_ok-prepare_again.ensures.ok))
+    (begun c.args.procs.now call p.0 m spare ws c.in-Some.plan.now c.in-Some.ensures.accepted p.1 of (c.in_ok-prepare.ensures.ok p.0 of p.2)))
