@@ -1,5 +1,5 @@
 -- The trees of plans as they are made.
-use Rattle.std.proofs.Common.{◌≡◌, ℕ, ◌+◌, ◌*◌, ◌<◌, Bool, true, false, ◌&&◌, List, [], ◌∷◌, ◌++◌, map, length, get_or, take, Option, None, Some, Global, refl, sym, ap, ◌∙◌, subst, arith}
+use Rattle.std.proofs.Common.{◌≡◌, ℕ, ◌+◌, ◌*◌, ◌<◌, Bool, true, false, ◌&&◌, List, [], ◌∷◌, ◌++◌, map, length, get_or, take, Option, None, Some, Global, refl, sym, ap, ◌∙◌, subst}
 use Rattle.std.specs.declared.vec.Vec.{Vec}
 use Rattle.std.specs.Global.{Box}
 use Rattle.std.specs.List.{flat_map}
@@ -295,7 +295,7 @@ plan_made p plan longer all slots is names =
       params = ap (take (length p.params)) longer.is ∙ take-append_seam p.params longer.more;
       slots = slots;
       has_all = all.has_all plan.names same;
-      deep = omega (arith, is);
+      deep = is;
     }
 
 plans_push : (ps : List Procedure) (plans : List Plan) (p : Procedure) (plan : Plan) → ArePlansOf ps plans → IsPlanOf p plan → ArePlansOf (ps ++ p ∷ []) (plans ++ plan ∷ [])

@@ -1,5 +1,5 @@
 -- The trees that plans stand for, and what a plan has of its procedure.
-use Rattle.std.specs.Prelude.{◌≡◌, ⊤, ℕ, suc, ◌≤◌, min, max, Bool, true, ◌&&◌, if◌then◌else◌, nat_lt, List, [], ◌∷◌, ◌++◌, map, length, take, Option, None, Some, slice_index_or}
+use Rattle.std.specs.Prelude.{◌≡◌, ⊤, ℕ, suc, min, max, Bool, true, ◌&&◌, if◌then◌else◌, nat_lt, List, [], ◌∷◌, ◌++◌, map, length, take, Option, None, Some, slice_index_or}
 use Rattle.std.specs.Borrow.{Bor}
 use Rattle.std.specs.List.{flat_map}
 use Rattle.coco_ast.specs.Checks.{Placed, own_variables, set_by, statements_in as statements_of}
@@ -129,7 +129,7 @@ pub record IsPlanOf (p : Procedure) (plan : Plan) : Type 0 where
   pub params : take (length p.params) plan.names ≡ p.params
   pub slots : AreSlots plan.names
   pub has_all : has_slots plan.names p.body ≡ true
-  pub deep : depth p.body ≤ plan.depth
+  pub deep : plan.depth ≡ depth p.body
 
 -- each procedure has its plan
 abbrev pub ArePlansOf : List Procedure → List Plan → Type 0

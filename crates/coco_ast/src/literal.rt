@@ -35,6 +35,14 @@ impl Literal {
         Ok(Literal { text })
     }
 
+    /// Another of the same text.
+    pub fn copied(&self, alloc: Global) -> Result<Literal, NoMemory>
+        ensures { IfOk result (λ l. l ≡ self.now) }
+    {
+        let text = String::from_str(alloc, self.as_str())?;
+        Ok(Literal { text })
+    }
+
     /// The text itself.
     pub fn as_str(&self) -> &str
         ensures value { result.now ≡ self.now }

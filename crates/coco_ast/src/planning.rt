@@ -7,7 +7,7 @@ ghost use Rattle.coco_ast.specs.Tree.{Let, Get, Put, Delete, Reply};
 ghost use Rattle.coco_ast.specs.Views.{expression_of, place_of, procedure_of, procedures_of, statement_of, statements_of};
 
 use crate::slots::Slots;
-use crate::{Expr, Literal, Name, Place, Plan, Plans, Proc, Procs, Spot, Step, Steps, Stmt, Term};
+use crate::{Expr, Name, Place, Plan, Plans, Proc, Procs, Spot, Step, Steps, Stmt, Term};
 use coco_types::NoMemory;
 use std::alloc::Global;
 
@@ -241,7 +241,7 @@ fn next_term(
 {
     match expr {
         Expr::Number(number) => Ok(Term::Number(*number)),
-        Expr::Text(text) => Ok(Term::Text(Literal::of(alloc, &text.text())?)),
+        Expr::Text(text) => Ok(Term::Text(text.copied(alloc)?)),
         Expr::None => Ok(Term::None),
         Expr::Var(name) => {
             let slot = slots.slot(name)?;
