@@ -8,8 +8,8 @@ use Rattle.std.proofs.lemmas.List.{append-nil, append_assoc, map-append, take_mo
 use Rattle.std.proofs.Math.Seq.{take-append_seam}
 use Rattle.coco_ast.specs.Checks.{Placed, and_within, in_order, variables_of}
 use Rattle.coco_ast.specs.Meaning.{place_of as slot_of}
-use Rattle.coco_ast.specs.Planning.{names_in, names_throughout, IsLonger, AreMore, ReadsAs, StandsFor, StandsForPlace, IsStepOf, AreStepsOf}
-use Rattle.coco_ast.specs.Plans.{AreSlots, ArePlansOf, IsPlanOf, depth, name_at, expression_at, place_in, statement_in, step_tree, statements_in, has_slots, has_slots_in, with_name, with_names, names_at, names_of}
+use Rattle.coco_ast.specs.Planning.{Adds, names_in, names_throughout, IsLonger, AreMore, ReadsAs, StandsFor, StandsForPlace, IsStepOf, AreStepsOf}
+use Rattle.coco_ast.specs.Plans.{AreSlots, ArePlansOf, IsPlanOf, depth, name_at, expression_at, place_in, statement_in, step_tree, statements_in, has_slots, has_slots_in, with_name, names_at, names_of}
 use Rattle.coco_ast.specs.Tree as tree
 use Rattle.coco_ast.specs.Tree.{Expression, RowPlace, Statement, Statements, Procedure}
 use Rattle.coco_ast.specs.Views.{sign_of, expression_of, expression_step, place_of, procedure_of, statement_of, statements_of, statements_from}
@@ -31,8 +31,31 @@ use Rattle.coco_ast.specs.declared.plan.Step.TheOpen.{Step-F}
 use Rattle.coco_ast.specs.declared.plan.Step.TheFolds.{fold-roll-Step}
 use Rattle.coco_ast.specs.declared.plan.Step.TheVariants as step
 use Rattle.coco_ast.proofs.Trees.{statement-if, statement-if_else, statement-repeat, statements-push}
-use Rattle.coco_ast.proofs.SlotLemmas.{longer_on, with_names-on, slot_stands, slot_has}
+use Rattle.coco_ast.proofs.SlotLemmas.{longer_on, with_names-on, with_names-longer, slot_stands, slot_has}
 use Rattle.coco_ast.proofs.TermLemmas.{more_none, more_on}
+
+-- ---- what parts add
+
+-- a part, and what comes behind it
+module _ {a b : List (List ℕ)} {ts us : List Term} {xs : List (List ℕ)} (one : Adds a b ts us xs) where
+  pub adds_longer : IsLonger a b
+  adds_longer = subst (IsLonger a) (sym one.named) (with_names-longer a xs)
+
+  longer_still : (later : List (List ℕ)) → IsLonger b later → IsLonger a later
+  longer_still later longer = longer_on a b later adds_longer longer
+
+  more_still : (all : List Term) → AreMore us all → AreMore ts all
+  more_still all more = more_on ts us all one.more more
+
+  pub adds_on : {c : List (List ℕ)} {vs : List Term} {ys : List (List ℕ)} → Adds b c us vs ys → Adds a c ts vs (xs ++ ys)
+  adds_on {c} {vs} {ys} other = record { named = with_names-on a b c xs ys one.named other.named; more = more_on ts us vs one.more other.more }
+
+  -- where no names come behind
+  pub adds_alone : Adds a b ts us (xs ++ [])
+  adds_alone = adds_on (record { named = refl; more = more_none us })
+
+pub adds_slot : {a b : List (List ℕ)} {ts : List Term} (x : List ℕ) → b ≡ with_name a x → Adds a b ts ts (x ∷ [])
+adds_slot {a} {b} {ts} x is = record { named = is; more = more_none ts }
 
 -- ---- terms
 
@@ -58,10 +81,10 @@ reads-not ns ts a e whole of stands later longer = ap tree.Not (stands later ts 
 pub reads-negate : (ns : List (List ℕ)) (ts : List Term) (a : ℕ) (e : Box Expr) (whole : Expr) → whole ≡ expr.Negate e → StandsFor ns ts a (expression_of e.value) → ReadsAs ns ts (term.Negate a) (expression_of whole)
 reads-negate ns ts a e whole of stands later longer = ap tree.Negate (stands later ts longer (more_none ts)) ∙ sym (ap expression_of of ∙ expression-negate e)
 
-pub reads-two : (ns new : List (List ℕ)) (ts us : List Term) (op : TwoOp) (a b : ℕ) (d e : Box Expr) (whole : Expr) → whole ≡ expr.Two op d e → IsLonger ns new → AreMore ts us
+pub reads-two : (ns new : List (List ℕ)) (ts us : List Term) {xs : List (List ℕ)} (op : TwoOp) (a b : ℕ) (d e : Box Expr) (whole : Expr) → whole ≡ expr.Two op d e → Adds ns new ts us xs
     → StandsFor ns ts a (expression_of d.value) → StandsFor new us b (expression_of e.value) → ReadsAs new us (term.Two op a b) (expression_of whole)
-reads-two ns new ts us op a b d e whole of grown added one other later longer =
-    ap (λ (l : Expression). tree.Two (sign_of op) l (expression_at later us b)) (one later us (longer_on ns new later grown longer) added)
+reads-two ns new ts us op a b d e whole of adds one other later longer =
+    ap (λ (l : Expression). tree.Two (sign_of op) l (expression_at later us b)) (one later us (longer_still adds later longer) adds.more)
     ∙ ap (tree.Two (sign_of op) (expression_of d.value)) (other later us longer (more_none us)) ∙ sym (ap expression_of of ∙ expression-two op d e)
 
 -- ---- statements
@@ -102,26 +125,26 @@ located table row = record { table = table; row = row }
 pub place_stands : (ns : List (List ℕ)) (ts : List Term) (table : List ℕ) (a : ℕ) (p : Place) → StandsFor ns ts a (expression_of p.row) → table ≡ p.table → StandsForPlace ns ts (record { table = table; row = a }) (place_of p)
 place_stands ns ts table a p row same later all longer more = ap (λ (t : List ℕ). located t (expression_at later all a)) same ∙ ap (located p.table) (row later all longer more)
 
-pub let_step : (ns new : List (List ℕ)) (ts : List Term) (x : List ℕ) (slot a : ℕ) (e : Expression) → new ≡ with_name ns x → slot ≡ slot_of ns x → IsLonger ns new → StandsFor ns ts a e → IsStepOf new ts (tree.Let x e) (step.Let slot a)
-let_step ns new ts x slot a e is at grown stands = record {
+pub let_step : (ns new : List (List ℕ)) (ts : List Term) (x : List ℕ) (slot a : ℕ) (e : Expression) → new ≡ with_name ns x → slot ≡ slot_of ns x → StandsFor ns ts a e → IsStepOf new ts (tree.Let x e) (step.Let slot a)
+let_step ns new ts x slot a e is at stands = record {
   stands = λ later all longer more.
       step-let later all slot a ∙ ap (λ (y : List ℕ). tree.Let y (expression_at later all a)) (ap (name_at later) at ∙ slot_stands ns later x (subst (λ (l : List (List ℕ)). IsLonger l later) is longer))
-      ∙ ap (tree.Let x) (stands later all (longer_on ns new later grown longer) more);
+      ∙ ap (tree.Let x) (stands later all (longer_still (adds_slot {ts = ts} x is) later longer) more);
   has_all = λ later longer. slot_has ns later x (subst (λ (l : List (List ℕ)). IsLonger l later) is longer);
 }
 
-pub get_step : (ns new : List (List ℕ)) (ts : List Term) (x : List ℕ) (slot : ℕ) (a : Spot) (p : RowPlace) → new ≡ with_name ns x → slot ≡ slot_of ns x → IsLonger ns new → StandsForPlace ns ts a p → IsStepOf new ts (tree.Get x p) (step.Get slot a)
-get_step ns new ts x slot a p is at grown stands = record {
+pub get_step : (ns new : List (List ℕ)) (ts : List Term) (x : List ℕ) (slot : ℕ) (a : Spot) (p : RowPlace) → new ≡ with_name ns x → slot ≡ slot_of ns x → StandsForPlace ns ts a p → IsStepOf new ts (tree.Get x p) (step.Get slot a)
+get_step ns new ts x slot a p is at stands = record {
   stands = λ later all longer more.
       step-get later all slot a ∙ ap (λ (y : List ℕ). tree.Get y (place_in later all a)) (ap (name_at later) at ∙ slot_stands ns later x (subst (λ (l : List (List ℕ)). IsLonger l later) is longer))
-      ∙ ap (tree.Get x) (stands later all (longer_on ns new later grown longer) more);
+      ∙ ap (tree.Get x) (stands later all (longer_still (adds_slot {ts = ts} x is) later longer) more);
   has_all = λ later longer. slot_has ns later x (subst (λ (l : List (List ℕ)). IsLonger l later) is longer);
 }
 
-pub put_step : (ns new : List (List ℕ)) (ts us : List Term) (a : Spot) (p : RowPlace) (b : ℕ) (e : Expression) → IsLonger ns new → AreMore ts us → StandsForPlace ns ts a p → StandsFor new us b e → IsStepOf new us (tree.Put p e) (step.Put a b)
-put_step ns new ts us a p b e grown added one other = record {
+pub put_step : (ns new : List (List ℕ)) (ts us : List Term) {xs : List (List ℕ)} (a : Spot) (p : RowPlace) (b : ℕ) (e : Expression) → Adds ns new ts us xs → StandsForPlace ns ts a p → StandsFor new us b e → IsStepOf new us (tree.Put p e) (step.Put a b)
+put_step ns new ts us a p b e adds one other = record {
   stands = λ later all longer more.
-      step-put later all a b ∙ ap (λ (q : RowPlace). tree.Put q (expression_at later all b)) (one later all (longer_on ns new later grown longer) (more_on ts us all added more))
+      step-put later all a b ∙ ap (λ (q : RowPlace). tree.Put q (expression_at later all b)) (one later all (longer_still adds later longer) (more_still adds all more))
       ∙ ap (tree.Put p) (other later all longer more);
   has_all = λ later longer. refl;
 }
@@ -138,39 +161,43 @@ reply_step ns ts a e stands = record {
   has_all = λ later longer. refl;
 }
 
-pub if_step : (ns new : List (List ℕ)) (ts us : List Term) (test : ℕ) (steps : Vec Step Global) (e : Expr) (body : Vec Stmt Global) (other : Option (Vec Stmt Global)) (whole : Stmt) → whole ≡ stmt.If e body other → other ≡ None
-    → IsLonger ns new → AreMore ts us → StandsFor ns ts test (expression_of e) → AreStepsOf new us (statements_of body.items) steps.items → IsStepOf new us (statement_of whole) (step.If test steps None)
-if_step ns new ts us test steps e body other whole of none grown added stands block =
-    subst (λ (s : Statement). IsStepOf new us s (step.If test steps None)) (sym (ap statement_of of ∙ ap (λ (o : Option (Vec Stmt Global)). statement_of (stmt.If e body o)) none ∙ statement-if e body)) (record {
+if_is : (e : Expr) (body : Vec Stmt Global) (other : Option (Vec Stmt Global)) → other ≡ None → statement_of (stmt.If e body other) ≡ tree.If (expression_of e) (statements_of body.items)
+if_is e body other none = ap (λ (o : Option (Vec Stmt Global)). statement_of (stmt.If e body o)) none ∙ statement-if e body
+
+if_else_is : (e : Expr) (body behind : Vec Stmt Global) (other : Option (Vec Stmt Global)) → other ≡ Some behind
+    → statement_of (stmt.If e body other) ≡ tree.IfElse (expression_of e) (statements_of body.items) (statements_of behind.items)
+if_else_is e body behind other some = ap (λ (o : Option (Vec Stmt Global)). statement_of (stmt.If e body o)) some ∙ statement-if_else e body behind
+
+pub if_step : (ns new : List (List ℕ)) (ts us : List Term) {xs : List (List ℕ)} (test : ℕ) (steps : Vec Step Global) (e : Expr) (body : Vec Stmt Global) (other : Option (Vec Stmt Global)) → other ≡ None
+    → Adds ns new ts us xs → StandsFor ns ts test (expression_of e) → AreStepsOf new us (statements_of body.items) steps.items → IsStepOf new us (statement_of (stmt.If e body other)) (step.If test steps None)
+if_step ns new ts us test steps e body other none adds stands block =
+    subst (λ (s : Statement). IsStepOf new us s (step.If test steps None)) (sym (if_is e body other none)) (record {
       stands = λ later all longer more.
           step-if later all test steps
-          ∙ ap (λ (d : Expression). tree.If d (statements_in later all steps.items)) (stands later all (longer_on ns new later grown longer) (more_on ts us all added more))
+          ∙ ap (λ (d : Expression). tree.If d (statements_in later all steps.items)) (stands later all (longer_still adds later longer) (more_still adds all more))
           ∙ ap (tree.If (expression_of e)) (block.stand later all longer more);
       has_all = block.has_all;
     })
 
-pub if_else_step : (ns mid new : List (List ℕ)) (ts us vs : List Term) (test : ℕ) (steps others : Vec Step Global) (e : Expr) (body behind : Vec Stmt Global) (other : Option (Vec Stmt Global)) (whole : Stmt)
-    → whole ≡ stmt.If e body other → other ≡ Some behind → IsLonger ns mid → IsLonger mid new → AreMore ts us → AreMore us vs → StandsFor ns ts test (expression_of e)
-    → AreStepsOf mid us (statements_of body.items) steps.items → AreStepsOf new vs (statements_of behind.items) others.items → IsStepOf new vs (statement_of whole) (step.If test steps (Some others))
-if_else_step ns mid new ts us vs test steps others e body behind other whole of some first second added further stands one two =
-    let up : (later : List (List ℕ)) → IsLonger new later → IsLonger mid later = λ later longer. longer_on mid new later second longer in
-    let on : (all : List Term) → AreMore vs all → AreMore us all = λ all more. more_on us vs all further more in
-    subst (λ (s : Statement). IsStepOf new vs s (step.If test steps (Some others)))
-    (sym (ap statement_of of ∙ ap (λ (o : Option (Vec Stmt Global)). statement_of (stmt.If e body o)) some ∙ statement-if_else e body behind)) (record {
+pub if_else_step : (ns mid new : List (List ℕ)) (ts us vs : List Term) {xs ys : List (List ℕ)} (test : ℕ) (steps others : Vec Step Global) (e : Expr) (body behind : Vec Stmt Global) (other : Option (Vec Stmt Global))
+    → other ≡ Some behind → Adds ns mid ts us xs → Adds mid new us vs ys → StandsFor ns ts test (expression_of e)
+    → AreStepsOf mid us (statements_of body.items) steps.items → AreStepsOf new vs (statements_of behind.items) others.items → IsStepOf new vs (statement_of (stmt.If e body other)) (step.If test steps (Some others))
+if_else_step ns mid new ts us vs test steps others e body behind other some first second stands one two =
+    subst (λ (s : Statement). IsStepOf new vs s (step.If test steps (Some others))) (sym (if_else_is e body behind other some)) (record {
       stands = λ later all longer more.
           step-if_else later all test steps others
           ∙ ap (λ (d : Expression). tree.IfElse d (statements_in later all steps.items) (statements_in later all others.items))
-          (stands later all (longer_on ns mid later first (up later longer)) (more_on ts us all added (on all more)))
-          ∙ ap (λ (b : Statements). tree.IfElse (expression_of e) b (statements_in later all others.items)) (one.stand later all (up later longer) (on all more))
+          (stands later all (longer_still (adds_on first second) later longer) (more_still (adds_on first second) all more))
+          ∙ ap (λ (b : Statements). tree.IfElse (expression_of e) b (statements_in later all others.items)) (one.stand later all (longer_still second later longer) (more_still second all more))
           ∙ ap (tree.IfElse (expression_of e) (statements_of body.items)) (two.stand later all longer more);
-      has_all = λ later longer. both _ _ (one.has_all later (up later longer)) (two.has_all later longer);
+      has_all = λ later longer. both _ _ (one.has_all later (longer_still second later longer)) (two.has_all later longer);
     })
 
-pub repeat_step : (ns mid new : List (List ℕ)) (ts : List Term) (n slot : ℕ) (x : List ℕ) (steps : Vec Step Global) (body : Vec Stmt Global) (whole : Stmt) → whole ≡ stmt.Repeat n x body
-    → mid ≡ with_name ns x → slot ≡ slot_of ns x → IsLonger mid new → AreStepsOf new ts (statements_of body.items) steps.items → IsStepOf new ts (statement_of whole) (step.Repeat n slot steps)
-repeat_step ns mid new ts n slot x steps body whole of is at grown block =
-    let up : (later : List (List ℕ)) → IsLonger new later → IsLonger (with_name ns x) later = λ later longer. subst (λ (l : List (List ℕ)). IsLonger l later) is (longer_on mid new later grown longer) in
-    subst (λ (s : Statement). IsStepOf new ts s (step.Repeat n slot steps)) (sym (ap statement_of of ∙ statement-repeat n x body)) (record {
+pub repeat_step : (ns mid new : List (List ℕ)) (ts us : List Term) {xs : List (List ℕ)} (n slot : ℕ) (x : List ℕ) (steps : Vec Step Global) (body : Vec Stmt Global) (whole : Stmt) → whole ≡ stmt.Repeat n x body
+    → mid ≡ with_name ns x → slot ≡ slot_of ns x → Adds mid new ts us xs → AreStepsOf new us (statements_of body.items) steps.items → IsStepOf new us (statement_of whole) (step.Repeat n slot steps)
+repeat_step ns mid new ts us n slot x steps body whole of is at adds block =
+    let up : (later : List (List ℕ)) → IsLonger new later → IsLonger (with_name ns x) later = λ later longer. subst (λ (l : List (List ℕ)). IsLonger l later) is (longer_still adds later longer) in
+    subst (λ (s : Statement). IsStepOf new us s (step.Repeat n slot steps)) (sym (ap statement_of of ∙ statement-repeat n x body)) (record {
       stands = λ later all longer more.
           step-repeat later all n slot steps ∙ ap (λ (y : List ℕ). tree.Repeat n y (statements_in later all steps.items)) (ap (name_at later) at ∙ slot_stands ns later x (up later longer))
           ∙ ap (tree.Repeat n x) (block.stand later all longer more);
@@ -188,16 +215,16 @@ pub record AreStepsBelow (names : List (List ℕ)) (terms : List Term) (block : 
   pub stand : (later : List (List ℕ)) (all : List Term) → IsLonger names later → AreMore terms all → map (statement_in later all) steps ≡ map statement_of block
   pub has_all : (later : List (List ℕ)) → IsLonger names later → has_slots later (statements_of block) ≡ true
 
-pub steps_more : (ns new : List (List ℕ)) (ts us : List Term) (block ss : List Stmt) (s : Stmt) (steps whole : List Step) (a : Step) → ss ≡ block ++ s ∷ [] → whole ≡ steps ++ a ∷ []
-    → IsLonger ns new → AreMore ts us → AreStepsBelow ns ts block steps → IsStepOf new us (statement_of s) a → AreStepsBelow new us ss whole
-steps_more ns new ts us block ss s steps whole a front behind grown added below one = record {
+pub steps_more : (ns new : List (List ℕ)) (ts us : List Term) {xs : List (List ℕ)} (block ss : List Stmt) (s : Stmt) (steps whole : List Step) (a : Step) → ss ≡ block ++ s ∷ [] → whole ≡ steps ++ a ∷ []
+    → Adds ns new ts us xs → AreStepsBelow ns ts block steps → IsStepOf new us (statement_of s) a → AreStepsBelow new us ss whole
+steps_more ns new ts us block ss s steps whole a front behind adds below one = record {
   stand = λ later all longer more.
       ap (map (statement_in later all)) behind ∙ map-append (statement_in later all) steps (a ∷ [])
-      ∙ ap (λ (l : List Statement). l ++ statement_in later all a ∷ []) (below.stand later all (longer_on ns new later grown longer) (more_on ts us all added more))
+      ∙ ap (λ (l : List Statement). l ++ statement_in later all a ∷ []) (below.stand later all (longer_still adds later longer) (more_still adds all more))
       ∙ ap (λ (t : Statement). map statement_of block ++ t ∷ []) (one.stands later all longer more) ∙ sym (statements-push ss block s front);
   has_all = λ later longer.
       subst (λ (l : List Statement). has_slots later (statements_from l) ≡ true) (sym (statements-push ss block s front))
-      (has_slots-more later (map statement_of block) (statement_of s) (below.has_all later (longer_on ns new later grown longer)) (one.has_all later longer));
+      (has_slots-more later (map statement_of block) (statement_of s) (below.has_all later (longer_still adds later longer)) (one.has_all later longer));
 }
 
 pub steps_whole : (ns : List (List ℕ)) (ts : List Term) (block ss : List Stmt) (steps : List Step) → ss ≡ block → AreStepsBelow ns ts ss steps → AreStepsOf ns ts (statements_of block) steps
@@ -241,48 +268,31 @@ throughout-more (t ∷ ss) s =
     ∙ sym (append_assoc (names_in t) (names_throughout (statements_from ss)) (names_in s))
     ∙ ap (λ (l : List (List ℕ)). l ++ names_in s) (sym (flat_map-append (and_within 1 t) (in_order 1 (statements_from ss))))
 
-pub names_more : (ns now new : List (List ℕ)) (block ss : List Stmt) (s : Stmt) → ss ≡ block ++ s ∷ [] → now ≡ with_names ns (names_throughout (statements_of block)) → new ≡ with_names now (names_in (statement_of s))
-    → new ≡ with_names ns (names_throughout (statements_of ss))
-names_more ns now new block ss s front before one =
-    with_names-on ns now new (names_throughout (statements_of block)) (names_in (statement_of s)) before one
-    ∙ ap (with_names ns) (sym (ap (λ (l : List Statement). names_throughout (statements_from l)) (statements-push ss block s front) ∙ throughout-more (map statement_of block) (statement_of s)))
+pub adds_statement : {a b c : List (List ℕ)} {ts us vs : List Term} (block ss : List Stmt) (s : Stmt) → ss ≡ block ++ s ∷ []
+    → Adds a b ts us (names_throughout (statements_of block)) → Adds b c us vs (names_in (statement_of s)) → Adds a c ts vs (names_throughout (statements_of ss))
+adds_statement {a} {c = c} {ts = ts} {vs = vs} block ss s front before one =
+    subst (Adds a c ts vs) (sym (ap (λ (l : List Statement). names_throughout (statements_from l)) (statements-push ss block s front) ∙ throughout-more (map statement_of block) (statement_of s))) (adds_on before one)
 
-pub two_names : (a b c : List (List ℕ)) (op : TwoOp) (d e : Box Expr) (whole : Expr) → whole ≡ expr.Two op d e → b ≡ with_names a (variables_of (expression_of d.value)) → c ≡ with_names b (variables_of (expression_of e.value))
-    → c ≡ with_names a (variables_of (expression_of whole))
-two_names a b c op d e whole of one other =
-    with_names-on a b c (variables_of (expression_of d.value)) (variables_of (expression_of e.value)) one other ∙ ap (λ (t : Expression). with_names a (variables_of t)) (sym (ap expression_of of ∙ expression-two op d e))
+pub adds_two : {a b c : List (List ℕ)} {ts us vs : List Term} (op : TwoOp) (d e : Box Expr) (whole : Expr) → whole ≡ expr.Two op d e
+    → Adds a b ts us (variables_of (expression_of d.value)) → Adds b c us vs (variables_of (expression_of e.value)) → Adds a c ts vs (variables_of (expression_of whole))
+adds_two {a} {c = c} {ts = ts} {vs = vs} op d e whole of one other = subst (λ (t : Expression). Adds a c ts vs (variables_of t)) (sym (ap expression_of of ∙ expression-two op d e)) (adds_on one other)
 
--- a statement without blocks, by its own expressions and the name that it sets
-pub set_names : (a b c : List (List ℕ)) (x : List ℕ) (vs : List (List ℕ)) → b ≡ with_names a vs → c ≡ with_name b x → c ≡ with_names a ((vs ++ x ∷ []) ++ [])
-set_names a b c x vs one other = with_names-on a b c vs (x ∷ []) one other ∙ ap (with_names a) (sym (append-nil (vs ++ x ∷ [])))
+pub adds_if : {a b c : List (List ℕ)} {ts us vs : List Term} (e : Expr) (body : Vec Stmt Global) (other : Option (Vec Stmt Global)) → other ≡ None
+    → Adds a b ts us (variables_of (expression_of e)) → Adds b c us vs (names_throughout (statements_of body.items)) → Adds a c ts vs (names_in (statement_of (stmt.If e body other)))
+adds_if {a} {c = c} {ts = ts} {vs = vs} e body other none one two = subst (λ (s : Statement). Adds a c ts vs (names_in s)) (sym (if_is e body other none)) (adds_on (adds_alone one) two)
 
-pub own_names : (a b c : List (List ℕ)) (us vs : List (List ℕ)) → b ≡ with_names a us → c ≡ with_names b vs → c ≡ with_names a (((us ++ vs) ++ []) ++ [])
-own_names a b c us vs one other = with_names-on a b c us vs one other ∙ ap (with_names a) (sym (append-nil ((us ++ vs) ++ []) ∙ append-nil (us ++ vs)))
+pub adds_if_else : {a b c d : List (List ℕ)} {ts us vs ws : List Term} (e : Expr) (body behind : Vec Stmt Global) (other : Option (Vec Stmt Global)) → other ≡ Some behind
+    → Adds a b ts us (variables_of (expression_of e)) → Adds b c us vs (names_throughout (statements_of body.items)) → Adds c d vs ws (names_throughout (statements_of behind.items))
+    → Adds a d ts ws (names_in (statement_of (stmt.If e body other)))
+adds_if_else {a} {b} {d = d} {ts = ts} {us = us} {ws = ws} e body behind other some one two three =
+    subst (λ (s : Statement). Adds a d ts ws (names_in s)) (sym (if_else_is e body behind other some))
+    (adds_on (adds_alone one) (subst (Adds b d us ws) (sym (flat_map-append (in_order 1 (statements_of body.items)) (in_order 1 (statements_of behind.items)))) (adds_on two three)))
 
-pub read_names : (a b : List (List ℕ)) (vs : List (List ℕ)) → b ≡ with_names a vs → b ≡ with_names a ((vs ++ []) ++ [])
-read_names a b vs one = one ∙ ap (with_names a) (sym (append-nil (vs ++ []) ∙ append-nil vs))
-
-pub if_names : (a b c : List (List ℕ)) (e : Expr) (body : Vec Stmt Global) (other : Option (Vec Stmt Global)) (whole : Stmt) → whole ≡ stmt.If e body other → other ≡ None
-    → b ≡ with_names a (variables_of (expression_of e)) → c ≡ with_names b (names_throughout (statements_of body.items)) → c ≡ with_names a (names_in (statement_of whole))
-if_names a b c e body other whole of none one two =
-    let own = variables_of (expression_of e) in let within = names_throughout (statements_of body.items) in
-    with_names-on a b c own within one two ∙ ap (λ (l : List (List ℕ)). with_names a (l ++ within)) (sym (append-nil own))
-    ∙ ap (λ (s : Statement). with_names a (names_in s)) (sym (ap statement_of of ∙ ap (λ (o : Option (Vec Stmt Global)). statement_of (stmt.If e body o)) none ∙ statement-if e body))
-
-pub if_else_names : (a b c d : List (List ℕ)) (e : Expr) (body behind : Vec Stmt Global) (other : Option (Vec Stmt Global)) (whole : Stmt) → whole ≡ stmt.If e body other → other ≡ Some behind
-    → b ≡ with_names a (variables_of (expression_of e)) → c ≡ with_names b (names_throughout (statements_of body.items)) → d ≡ with_names c (names_throughout (statements_of behind.items))
-    → d ≡ with_names a (names_in (statement_of whole))
-if_else_names a b c d e body behind other whole of some one two three =
-    let own = variables_of (expression_of e) in let first = names_throughout (statements_of body.items) in let second = names_throughout (statements_of behind.items) in
-    with_names-on a b d own (first ++ second) one (with_names-on b c d first second two three) ∙ ap (λ (l : List (List ℕ)). with_names a (l ++ (first ++ second))) (sym (append-nil own))
-    ∙ ap (λ (l : List (List ℕ)). with_names a ((own ++ []) ++ l)) (sym (flat_map-append (in_order 1 (statements_of body.items)) (in_order 1 (statements_of behind.items))))
-    ∙ ap (λ (s : Statement). with_names a (names_in s)) (sym (ap statement_of of ∙ ap (λ (o : Option (Vec Stmt Global)). statement_of (stmt.If e body o)) some ∙ statement-if_else e body behind))
-
-pub repeat_names : (a b c : List (List ℕ)) (n : ℕ) (x : List ℕ) (body : Vec Stmt Global) (whole : Stmt) → whole ≡ stmt.Repeat n x body
-    → b ≡ with_name a x → c ≡ with_names b (names_throughout (statements_of body.items)) → c ≡ with_names a (names_in (statement_of whole))
-repeat_names a b c n x body whole of one two =
-    with_names-on a b c (x ∷ []) (names_throughout (statements_of body.items)) one two ∙ ap (λ (l : List (List ℕ)). with_names a (x ∷ l)) (same_in_order 1 (1 * n) (statements_of body.items))
-    ∙ ap (λ (s : Statement). with_names a (names_in s)) (sym (ap statement_of of ∙ statement-repeat n x body))
+pub adds_repeat : {a b c : List (List ℕ)} {ts us : List Term} (n : ℕ) (x : List ℕ) (body : Vec Stmt Global) (whole : Stmt) → whole ≡ stmt.Repeat n x body
+    → b ≡ with_name a x → Adds b c ts us (names_throughout (statements_of body.items)) → Adds a c ts us (names_in (statement_of whole))
+adds_repeat {a} {b} {c} {ts} {us} n x body whole of is one =
+    subst (λ (s : Statement). Adds a c ts us (names_in s)) (sym (ap statement_of of ∙ statement-repeat n x body))
+    (adds_on (adds_slot x is) (subst (Adds b c ts us) (same_in_order 1 (1 * n) (statements_of body.items)) one))
 
 -- ---- plans
 

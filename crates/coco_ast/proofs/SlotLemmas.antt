@@ -161,7 +161,7 @@ slot_has ns later x longer =
     let p = place_later ns later x longer in
     slot_is later x (subst (λ (n : ℕ). n < length later) (sym p.0) p.1)
 
-pub with_longer : (ns : List (List ℕ)) (x : List ℕ) → IsLonger ns (with_name ns x)
+with_longer : (ns : List (List ℕ)) (x : List ℕ) → IsLonger ns (with_name ns x)
 with_longer ns x = by_case (has_slot ns x)
   where
     by_case : (b : Bool) → IsLonger ns (cond b ns (ns ++ x ∷ []))
@@ -178,6 +178,10 @@ place_absent ns x none = by_case (has_slot ns x) refl none
 pub with_names-append : (ns xs ys : List (List ℕ)) → with_names ns (xs ++ ys) ≡ with_names (with_names ns xs) ys
 with_names-append ns [] ys = refl
 with_names-append ns (x ∷ xs) ys = with_names-append (with_name ns x) xs ys
+
+pub with_names-longer : (ns xs : List (List ℕ)) → IsLonger ns (with_names ns xs)
+with_names-longer ns [] = record { more = []; is = sym (append-nil ns) }
+with_names-longer ns (x ∷ xs) = longer_on ns (with_name ns x) (with_names (with_name ns x) xs) (with_longer ns x) (with_names-longer (with_name ns x) xs)
 
 -- names that came one after another
 pub with_names-on : (a b c xs ys : List (List ℕ)) → b ≡ with_names a xs → c ≡ with_names b ys → c ≡ with_names a (xs ++ ys)

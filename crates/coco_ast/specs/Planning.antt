@@ -6,7 +6,7 @@ use Rattle.std.specs.Ordering.{nat_cmp}
 use Rattle.std.specs.List.{flat_map}
 use Rattle.coco_ast.specs.Checks.{StandsTwice, and_within, in_order}
 use Rattle.coco_ast.specs.Meaning.{place_of}
-use Rattle.coco_ast.specs.Plans.{AreSlots, has_slot, has_slots, has_slots_in, expression_at, term_tree, trees_behind, place_in, statement_in, statements_in, names_at}
+use Rattle.coco_ast.specs.Plans.{AreSlots, has_slot, has_slots, has_slots_in, expression_at, term_tree, trees_behind, place_in, statement_in, statements_in, names_at, with_names}
 use Rattle.coco_ast.specs.Tree.{Expression, RowPlace, Statement, Statements}
 use Rattle.coco_ast.specs.declared.plan.Term.{Term}
 use Rattle.coco_ast.specs.declared.plan.Spot.{Spot}
@@ -44,6 +44,11 @@ pub record IsLonger (names later : List (List ℕ)) : Type 0 where
 pub record AreMore (terms all : List Term) : Type 0 where
   pub more : List Term
   pub is : all ≡ terms ++ more
+
+-- what a part of a procedure adds: its names, in the order of the text, each new one behind the others, and terms behind those before
+pub record Adds (names later : List (List ℕ)) (terms all : List Term) (part : List (List ℕ)) : Type 0 where
+  pub named : later ≡ with_names names part
+  pub more : AreMore terms all
 
 -- the expression whose term comes next
 abbrev pub ReadsAs : List (List ℕ) → List Term → Term → Expression → Type 0

@@ -1,13 +1,14 @@
 //! How plans are made of procedures.
 ghost use Rattle.std.specs.Prelude.{◌≡◌, ◌+◌, IfOk, OnOk};
 ghost use Rattle.coco_ast.specs.Checks.{IsAccepted, variables_of};
-ghost use Rattle.coco_ast.specs.Planning.{HasOwnNames, names_in, names_throughout, IsLonger, AreMore, ReadsAs, StandsFor, StandsForPlace, IsStepOf, AreStepsOf};
-ghost use Rattle.coco_ast.specs.Plans.{ArePlansOf, IsPlanOf, depth, depth_one, with_names};
+ghost use Rattle.coco_ast.specs.Planning.{HasOwnNames, names_in, names_throughout, Adds, ReadsAs, StandsFor, StandsForPlace, IsStepOf, AreStepsOf};
+ghost use Rattle.coco_ast.specs.Plans.{ArePlansOf, IsPlanOf, depth, depth_one};
 ghost use Rattle.coco_ast.specs.Tree.{Let, Get, Put, Delete, Reply};
+ghost use Rattle.coco_ast.specs.declared.tree.Stmt.TheVariants.{If};
 ghost use Rattle.coco_ast.specs.Views.{expression_of, place_of, procedure_of, procedures_of, statement_of, statements_of};
 
 use crate::slots::Slots;
-use crate::{Expr, Name, Place, Plan, Plans, Proc, Procs, Spot, Step, Steps, Stmt, Term};
+use crate::{Block, Expr, Name, Place, Plan, Plans, Proc, Procs, Spot, Step, Steps, Stmt, Term};
 use coco_types::NoMemory;
 use std::alloc::Global;
 
@@ -52,9 +53,7 @@ fn steps_of(
     alloc: Global,
     block: &[Stmt],
 ) -> Result<Steps, NoMemory>
-    ensures longer { OnOk result (IsLonger slots.old slots.new) }
-    ensures more { OnOk result (AreMore terms.old.items terms.new.items) }
-    ensures names { OnOk result (slots.new ≡ with_names slots.old (names_throughout (statements_of block.now))) }
+    ensures adds { OnOk result (Adds slots.old slots.new terms.old.items terms.new.items (names_throughout (statements_of block.now))) }
     ensures steps { IfOk result (λ steps. AreStepsOf slots.new terms.new.items (statements_of block.now) steps.items) }
 {
     let mut steps = Steps::with_capacity(alloc, block.len())?;
@@ -72,9 +71,7 @@ fn step_of(
     alloc: Global,
     stmt: &Stmt,
 ) -> Result<Step, NoMemory>
-    ensures longer { OnOk result (IsLonger slots.old slots.new) }
-    ensures more { OnOk result (AreMore terms.old.items terms.new.items) }
-    ensures names { OnOk result (slots.new ≡ with_names slots.old (names_in (statement_of stmt.now))) }
+    ensures adds { OnOk result (Adds slots.old slots.new terms.old.items terms.new.items (names_in (statement_of stmt.now))) }
     ensures step { IfOk result (λ step. IsStepOf slots.new terms.new.items (statement_of stmt.now) step) }
 {
     match stmt {
@@ -82,21 +79,7 @@ fn step_of(
         Stmt::Get { name, place } => get_step(slots, terms, alloc, name, place),
         Stmt::Put { place, value } => put_step(slots, terms, alloc, place, value),
         Stmt::Delete { place } => delete_step(slots, terms, alloc, place),
-        Stmt::If { test, yes, no } => {
-            let test = term_of(slots, terms, alloc, test)?;
-            let yes = steps_of(slots, terms, alloc, yes)?;
-            match no {
-                None => Ok(Step::If {
-                    test,
-                    yes,
-                    no: None,
-                }),
-                Some(no) => {
-                    let no = Some(steps_of(slots, terms, alloc, no)?);
-                    Ok(Step::If { test, yes, no })
-                }
-            }
-        }
+        Stmt::If { test, yes, no } => if_step(slots, terms, alloc, test, yes, no),
         Stmt::Repeat { bound, name, block } => {
             let slot = slots.slot(name)?;
             let block = steps_of(slots, terms, alloc, block)?;
@@ -108,6 +91,33 @@ fn step_of(
     }
 }
 
+#[cycle(steps)]
+fn if_step(
+    slots: &mut Slots,
+    terms: &mut Vec<Term>,
+    alloc: Global,
+    test: &Expr,
+    yes: &Block,
+    no: &Option<Block>,
+) -> Result<Step, NoMemory>
+    ensures adds { OnOk result (Adds slots.old slots.new terms.old.items terms.new.items (names_in (statement_of (If test.now yes.now no.now)))) }
+    ensures step { IfOk result (λ step. IsStepOf slots.new terms.new.items (statement_of (If test.now yes.now no.now)) step) }
+{
+    let test = term_of(slots, terms, alloc, test)?;
+    let yes = steps_of(slots, terms, alloc, yes)?;
+    match no {
+        None => Ok(Step::If {
+            test,
+            yes,
+            no: None,
+        }),
+        Some(no) => {
+            let no = Some(steps_of(slots, terms, alloc, no)?);
+            Ok(Step::If { test, yes, no })
+        }
+    }
+}
+
 fn let_step(
     slots: &mut Slots,
     terms: &mut Vec<Term>,
@@ -115,9 +125,7 @@ fn let_step(
     name: &Name,
     value: &Expr,
 ) -> Result<Step, NoMemory>
-    ensures longer { OnOk result (IsLonger slots.old slots.new) }
-    ensures more { OnOk result (AreMore terms.old.items terms.new.items) }
-    ensures names { OnOk result (slots.new ≡ with_names slots.old (names_in (Let name.now (expression_of value.now)))) }
+    ensures adds { OnOk result (Adds slots.old slots.new terms.old.items terms.new.items (names_in (Let name.now (expression_of value.now)))) }
     ensures step { IfOk result (λ step. IsStepOf slots.new terms.new.items (Let name.now (expression_of value.now)) step) }
 {
     let value = term_of(slots, terms, alloc, value)?;
@@ -132,9 +140,7 @@ fn get_step(
     name: &Name,
     place: &Place,
 ) -> Result<Step, NoMemory>
-    ensures longer { OnOk result (IsLonger slots.old slots.new) }
-    ensures more { OnOk result (AreMore terms.old.items terms.new.items) }
-    ensures names { OnOk result (slots.new ≡ with_names slots.old (names_in (Get name.now (place_of place.now)))) }
+    ensures adds { OnOk result (Adds slots.old slots.new terms.old.items terms.new.items (names_in (Get name.now (place_of place.now)))) }
     ensures step { IfOk result (λ step. IsStepOf slots.new terms.new.items (Get name.now (place_of place.now)) step) }
 {
     let spot = spot_of(slots, terms, alloc, place)?;
@@ -149,9 +155,7 @@ fn put_step(
     place: &Place,
     value: &Expr,
 ) -> Result<Step, NoMemory>
-    ensures longer { OnOk result (IsLonger slots.old slots.new) }
-    ensures more { OnOk result (AreMore terms.old.items terms.new.items) }
-    ensures names { OnOk result (slots.new ≡ with_names slots.old (names_in (Put (place_of place.now) (expression_of value.now)))) }
+    ensures adds { OnOk result (Adds slots.old slots.new terms.old.items terms.new.items (names_in (Put (place_of place.now) (expression_of value.now)))) }
     ensures step { IfOk result (λ step. IsStepOf slots.new terms.new.items (Put (place_of place.now) (expression_of value.now)) step) }
 {
     let spot = spot_of(slots, terms, alloc, place)?;
@@ -165,9 +169,7 @@ fn delete_step(
     alloc: Global,
     place: &Place,
 ) -> Result<Step, NoMemory>
-    ensures longer { OnOk result (IsLonger slots.old slots.new) }
-    ensures more { OnOk result (AreMore terms.old.items terms.new.items) }
-    ensures names { OnOk result (slots.new ≡ with_names slots.old (names_in (Delete (place_of place.now)))) }
+    ensures adds { OnOk result (Adds slots.old slots.new terms.old.items terms.new.items (names_in (Delete (place_of place.now)))) }
     ensures step { IfOk result (λ step. IsStepOf slots.new terms.new.items (Delete (place_of place.now)) step) }
 {
     let spot = spot_of(slots, terms, alloc, place)?;
@@ -180,9 +182,7 @@ fn reply_step(
     alloc: Global,
     value: &Expr,
 ) -> Result<Step, NoMemory>
-    ensures longer { OnOk result (IsLonger slots.old slots.new) }
-    ensures more { OnOk result (AreMore terms.old.items terms.new.items) }
-    ensures names { OnOk result (slots.new ≡ with_names slots.old (names_in (Reply (expression_of value.now)))) }
+    ensures adds { OnOk result (Adds slots.old slots.new terms.old.items terms.new.items (names_in (Reply (expression_of value.now)))) }
     ensures step { IfOk result (λ step. IsStepOf slots.new terms.new.items (Reply (expression_of value.now)) step) }
 {
     let value = term_of(slots, terms, alloc, value)?;
@@ -195,9 +195,7 @@ fn spot_of(
     alloc: Global,
     place: &Place,
 ) -> Result<Spot, NoMemory>
-    ensures longer { OnOk result (IsLonger slots.old slots.new) }
-    ensures more { OnOk result (AreMore terms.old.items terms.new.items) }
-    ensures names { OnOk result (slots.new ≡ with_names slots.old (variables_of (place_of place.now).row)) }
+    ensures adds { OnOk result (Adds slots.old slots.new terms.old.items terms.new.items (variables_of (place_of place.now).row)) }
     ensures stands { IfOk result (λ spot. StandsForPlace slots.new terms.new.items spot (place_of place.now)) }
 {
     let row = term_of(slots, terms, alloc, &place.row)?;
@@ -215,9 +213,7 @@ fn term_of(
     alloc: Global,
     expr: &Expr,
 ) -> Result<usize, NoMemory>
-    ensures longer { OnOk result (IsLonger slots.old slots.new) }
-    ensures more { OnOk result (AreMore terms.old.items terms.new.items) }
-    ensures names { OnOk result (slots.new ≡ with_names slots.old (variables_of (expression_of expr.now))) }
+    ensures adds { OnOk result (Adds slots.old slots.new terms.old.items terms.new.items (variables_of (expression_of expr.now))) }
     ensures stands { IfOk result (λ place. StandsFor slots.new terms.new.items place (expression_of expr.now)) }
 {
     let term = next_term(slots, terms, alloc, expr)?;
@@ -234,9 +230,7 @@ fn next_term(
     alloc: Global,
     expr: &Expr,
 ) -> Result<Term, NoMemory>
-    ensures longer { OnOk result (IsLonger slots.old slots.new) }
-    ensures more { OnOk result (AreMore terms.old.items terms.new.items) }
-    ensures names { OnOk result (slots.new ≡ with_names slots.old (variables_of (expression_of expr.now))) }
+    ensures adds { OnOk result (Adds slots.old slots.new terms.old.items terms.new.items (variables_of (expression_of expr.now))) }
     ensures reads { IfOk result (λ term. ReadsAs slots.new terms.new.items term (expression_of expr.now)) }
 {
     match expr {

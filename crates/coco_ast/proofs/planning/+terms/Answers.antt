@@ -1,5 +1,5 @@
 use Rattle.std.proofs.Common.{arith}
-use Rattle.coco_ast.proofs.PlanLemmas.{reads-variable, reads-not, reads-negate, reads-two, two_names}
+use Rattle.coco_ast.proofs.PlanLemmas.{reads-variable, reads-not, reads-negate, reads-two, adds_two}
 use Rattle.coco_ast.proofs.TermLemmas.{stands_there}
 use Rattle.coco_ast.specs.Views.{expression_of}
 use Rattle.coco_ast.proofs.planning.+terms.Goals as goal
@@ -26,10 +26,9 @@ next_term-returns-in_ok-operand-in-Negate-clause-reads t c =
 pub next_term-returns-in_ok-right-in-Two-clause-reads : goal.next_term-returns-in_ok-right-in-Two-clause-reads
 next_term-returns-in_ok-right-in-Two-clause-reads t c =
     reads-two c.term_of-in-Two.new.slots c.term_of-in-Two-2.new.slots c.term_of-in-Two.new.terms.items c.term_of-in-Two-2.new.terms.items c.in-Two.op c.in_ok-left-in-Two.left c.in_ok-right-in-Two.right
-    c.in-Two.left c.in-Two.right c.args.expr.now c.in-Two.is c.in_ok-right-in-Two.ensures.longer c.in_ok-right-in-Two.ensures.more
+    c.in-Two.left c.in-Two.right c.args.expr.now c.in-Two.is c.in_ok-right-in-Two.ensures.adds
     (rw c.deref-in-Two.ensures at c.in_ok-left-in-Two.ensures.stands) (rw c.deref-in-Two-2.ensures at c.in_ok-right-in-Two.ensures.stands)
 
-pub next_term-returns-in_ok-right-in-Two-clause-names : goal.next_term-returns-in_ok-right-in-Two-clause-names
-next_term-returns-in_ok-right-in-Two-clause-names t c =
-    two_names c.args.slots.now c.term_of-in-Two.new.slots c.term_of-in-Two-2.new.slots c.in-Two.op c.in-Two.left c.in-Two.right c.args.expr.now c.in-Two.is
-    (rw c.deref-in-Two.ensures at c.in_ok-left-in-Two.ensures.names) (rw c.deref-in-Two-2.ensures at c.in_ok-right-in-Two.ensures.names)
+pub next_term-returns-in_ok-right-in-Two-clause-adds : goal.next_term-returns-in_ok-right-in-Two-clause-adds
+next_term-returns-in_ok-right-in-Two-clause-adds t c =
+    adds_two c.in-Two.op c.in-Two.left c.in-Two.right c.args.expr.now c.in-Two.is (rw c.deref-in-Two.ensures at c.in_ok-left-in-Two.ensures.adds) (rw c.deref-in-Two-2.ensures at c.in_ok-right-in-Two.ensures.adds)
