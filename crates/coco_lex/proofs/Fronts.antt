@@ -1,9 +1,9 @@
 -- What stands at the front, from what the small functions found there.
-use Rattle.std.proofs.Common.{◌≡◌, ℕ, zero, suc, ◌<◌, ◌≤◌, true, false, ◌↔◌, List, [], ◌∷◌, length, take, map, min, get_or, Bor, Contains, codes, sym, refl, subst, arith, ⊎_elim, length-take}
-use Rattle.std.specs.Cmp.Lexicographic.{pointwise}
-use Rattle.std.specs.Prelude.{nat_eq}
-use Rattle.std.specs.List.{list_any, prefix_len}
-use Rattle.std.proofs.lemmas.Bool.{or_cases}
+use Rattle.std.proofs.Common.{◌≡◌, ℕ, zero, suc, ◌<◌, ◌≤◌, true, false, ◌↔◌, List, [], ◌∷◌, length, take, min, get_or, Contains, codes, sym, refl, subst, arith, ⊎_elim, length-take, leb-true}
+use Rattle.std.specs.Cmp.Lexicographic.{pointwise, unequal}
+use Rattle.std.specs.Prelude.{nat_eq, nat_le}
+use Rattle.std.specs.List.{list_all, list_any, prefix_len}
+use Rattle.std.proofs.lemmas.Bool.{and_parts, or_cases}
 use Rattle.std.proofs.Math.Bool.{or-true}
 use Rattle.std.proofs.lemmas.Slice.Eq.{bytes_eq-Decides}
 use Rattle.std.proofs.lemmas.List.Elements.{All-contains, All-from_recursion}
@@ -45,19 +45,27 @@ word_limits bytes w short = record {
 pub long_word : (rest : List ℕ) (n : ℕ) → is_word_start (get_or rest 0 0) ≡ true → n ≡ prefix_len is_word_byte rest → 32 < n → IsFault rest LongName 0
 long_word rest n s e long = (refl, (prefix_len is_word_byte rest, word_longest rest s, word_is rest s, omega arith))
 
-any_at : (k : Bor (List ℕ)) (ks : List (Bor (List ℕ))) (w : List ℕ) → (k.now ≡ w → pointwise nat_eq k.now w ≡ true) → (Contains (map (λ y. y.now) ks) w → list_any (λ y. pointwise nat_eq y.now w) ks ≡ true) → (i : ℕ) → i < length (map (λ y. y.now) (k ∷ ks)) → get_or (map (λ y. y.now) (k ∷ ks)) i w ≡ w → list_any (λ y. pointwise nat_eq y.now w) (k ∷ ks) ≡ true
+any_at : (k : List ℕ) (ks : List (List ℕ)) (w : List ℕ) → (k ≡ w → pointwise nat_eq k w ≡ true) → (Contains ks w → list_any (λ y. pointwise nat_eq y w) ks ≡ true) → (i : ℕ) → i < length (k ∷ ks) → get_or (k ∷ ks) i w ≡ w → list_any (λ y. pointwise nat_eq y w) (k ∷ ks) ≡ true
 any_at k ks w same rest zero b e = rw (same e) refl
 any_at k ks w same rest (suc i) b e = let found = rest (i, omega arith, e) in rw (found, or-true) refl
 
 -- a search of a table of words
-pub any_contains : (ks : List (Bor (List ℕ))) (w : List ℕ) → (list_any (λ k. pointwise nat_eq k.now w) ks ≡ true) ↔ Contains (map (λ k. k.now) ks) w
+pub any_contains : (ks : List (List ℕ)) (w : List ℕ) → (list_any (λ k. pointwise nat_eq k w) ks ≡ true) ↔ Contains ks w
 any_contains [] w = (λ h. cc h, λ h. absurd (omega (arith, h.1)))
 any_contains (k ∷ ks) w =
-    let same = bytes_eq-Decides k.now w in
+    let same = bytes_eq-Decides k w in
     let rest = any_contains ks w in (
-      λ h. ⊎_elim (λ t. (0, omega arith, same.0 t)) (λ t. let found = rest.0 t in (suc found.0, omega (arith, found.1), found.2)) (or_cases (pointwise nat_eq k.now w) (list_any (λ y. pointwise nat_eq y.now w) ks) h),
+      λ h. ⊎_elim (λ t. (0, omega arith, same.0 t)) (λ t. let found = rest.0 t in (suc found.0, omega (arith, found.1), found.2)) (or_cases (pointwise nat_eq k w) (list_any (λ y. pointwise nat_eq y w) ks) h),
       λ h. any_at k ks w same.1 rest.1 h.0 h.1 h.2,
     )
+
+-- a word is none of those that are all shorter
+pub longer_than_all : (ks : List (List ℕ)) (w : List ℕ) (n : ℕ) → list_all (λ k. nat_le (length k) n) ks ≡ true → n < length w → list_any (λ k. pointwise nat_eq k w) ks ≡ false
+longer_than_all [] w n all lt = refl
+longer_than_all (k ∷ ks) w n all lt =
+    let parts = and_parts (nat_le (length k) n) (list_all (λ y. nat_le (length y) n) ks) all in
+    let short = leb-true (length k) n parts.0 in
+    rw (unequal nat_eq k w (λ e. absurd (omega (arith, e, short, lt))), longer_than_all ks w n parts.1 lt) refl
 
 number_at : (x : ℕ) (xs : List ℕ) (b : ℕ) → (Contains xs b → list_any (λ y. nat_eq y b) xs ≡ true) → (i : ℕ) → i < length (x ∷ xs) → get_or (x ∷ xs) i b ≡ b → list_any (λ y. nat_eq y b) (x ∷ xs) ≡ true
 number_at x xs b rest zero l e = let same = eq-eqb x b e in rw (same) refl

@@ -1,8 +1,9 @@
 //! The token at the front of a rest of the text, or what is wrong there.
 
-ghost use Rattle.std.specs.Prelude.{◌≡◌, ◌≢◌, ℕ, ◌<◌, ◌≤◌, ◌↔◌, length, map, slice_index, take, IsTrue, IsFalse, MatchResult, Contains, codes};
+ghost use Rattle.std.specs.Prelude.{◌≡◌, ◌≢◌, ℕ, ◌<◌, ◌≤◌, ◌↔◌, length, nat_eq, slice_index, take, IsTrue, IsFalse, MatchResult, Contains, codes};
 ghost use Rattle.std.specs.Char.{is_ascii_digit};
-ghost use Rattle.std.specs.List.{prefix_len};
+ghost use Rattle.std.specs.Cmp.Lexicographic.{pointwise};
+ghost use Rattle.std.specs.List.{list_any, prefix_len};
 ghost use Rattle.std.specs.Str.Parse.{digits_value};
 ghost use Rattle.coco_ast.specs.Words.{is_word_start, is_word_byte};
 ghost use Rattle.coco_lex.specs.Bytes.{quote};
@@ -30,11 +31,6 @@ pub(crate) struct Fault {
     pub(crate) kind: LexKind,
     pub(crate) offset: usize,
 }
-
-static KEYWORDS: [&[u8]; 16] = [
-    b"table", b"proc", b"let", b"get", b"put", b"delete", b"if", b"else", b"repeat", b"as",
-    b"refuse", b"reply", b"none", b"not", b"and", b"or",
-];
 
 const SINGLES: &[u8] = b"(){}[],;=<>+-*/%";
 
@@ -125,15 +121,27 @@ fn digits_len(rest: &[u8]) -> usize
 }
 
 fn is_keyword(word: &[u8]) -> bool
-    ensures { IsTrue result ↔ Contains keywords word.now }
+    ensures { result ≡ list_any (λ keyword. pointwise nat_eq keyword word.now) keywords }
 {
-    is_one_of(&KEYWORDS, word)
-}
-
-fn is_one_of(words: &[&[u8]], word: &[u8]) -> bool
-    ensures { IsTrue result ↔ Contains (map (λ w. w.now) words.now) word.now }
-{
-    words.contains(&word)
+    matches!(
+        word,
+        b"table"
+            | b"proc"
+            | b"let"
+            | b"get"
+            | b"put"
+            | b"delete"
+            | b"if"
+            | b"else"
+            | b"repeat"
+            | b"as"
+            | b"refuse"
+            | b"reply"
+            | b"none"
+            | b"not"
+            | b"and"
+            | b"or"
+    )
 }
 
 // Whether the digits stand for a greater number than a token may.

@@ -17,7 +17,7 @@ use Rattle.coco_lex.specs.Tokens.{IsFront}
 use Rattle.coco_lex.specs.declared.token.TokenKind.{TokenKind}
 use Rattle.coco_lex.specs.declared.token.TokenKind.TheVariants as kind
 use Rattle.coco_parse.specs.Readable.{Spells, IsReadable}
-use Rattle.coco_parse.specs.Wording.{unescaped, content}
+use Rattle.coco_parse.specs.Escapes.{unescaped, content}
 use Rattle.coco_parse.proofs.Spellings.{unescape_escape, unescape_plain}
 use Rattle.coco_lex.specs.Tokens.{Follow, IsToken, AreTokens}
 use Rattle.coco_lex.specs.declared.token.Token.{Token}

@@ -1,12 +1,8 @@
 -- What tokens stand for.
-use Rattle.std.proofs.Common.{◌≡◌, ℕ, ◌+◌, ◌<◌, ◌≤◌, true, false, ◌==◌, nat_eq, ⊎_elim, List, [], ◌∷◌, length, drop, get_or, sym, refl, ap, ◌∙◌, arith}
-use Rattle.std.proofs.lemmas.Bool.{cases_Bool, ne_eqb, eq-eqb}
+use Rattle.std.proofs.Common.{◌≡◌, ℕ, ◌+◌, ◌<◌, ◌≤◌, true, false, ◌==◌, List, [], ◌∷◌, length, drop, get_or, sym, refl, ap, ◌∙◌, arith}
+use Rattle.std.proofs.lemmas.Bool.{ne_eqb, eq-eqb}
 use Rattle.std.proofs.lemmas.List.{drop_more, drop_all}
-use Rattle.std.proofs.Common.{cond, None}
-use Rattle.std.specs.Cmp.Lexicographic.{pointwise}
-use Rattle.coco_parse.specs.Counting.{number_in}
-use Rattle.coco_parse.specs.Wording.{unescaped, spelled_by}
-use Rattle.coco_parse.specs.declared.word.Word.{Word}
+use Rattle.coco_parse.specs.Escapes.{unescaped}
 
 -- ---- escapes
 
@@ -30,18 +26,3 @@ pub unescaped_last : (bytes : List ℕ) (n : ℕ) → n < length bytes → lengt
 unescaped_last bytes n h l =
     let none = drop_all (n + 1) bytes l in
     ap unescaped (drop_more bytes n 0 h ∙ ap (λ t. get_or bytes n 0 ∷ t) none) ∙ ap (λ t. get_or bytes n 0 ∷ unescaped t) (sym none)
-
--- ---- fixed words
-
--- none of the words of these rows is a number
-abbrev pub NoNumbers : List (List ℕ × Word) → Type 0
-NoNumbers [] = Unit {0}
-NoNumbers (row ∷ rows) = (number_in row.1 ≡ None) × NoNumbers rows
-
-pub no_number : (rows : List (List ℕ × Word)) (bytes : List ℕ) → NoNumbers rows → number_in (spelled_by rows bytes) ≡ None
-no_number [] bytes h = refl
-no_number (row ∷ rows) bytes h =
-    ⊎_elim
-    (λ t. ap (λ b. number_in (cond b row.1 (spelled_by rows bytes))) t ∙ h.0)
-    (λ f. ap (λ b. number_in (cond b row.1 (spelled_by rows bytes))) f ∙ no_number rows bytes h.1)
-    (cases_Bool (pointwise nat_eq row.0 bytes))

@@ -1,5 +1,6 @@
 pub mod Grammar
 pub mod Limits
+pub mod Escapes
 pub mod Wording
 pub mod Refusal
 pub mod Machine

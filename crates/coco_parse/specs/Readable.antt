@@ -8,7 +8,7 @@ use Rattle.coco_lex.specs.declared.limits.TheConstants.{MOST_NUMBER}
 use Rattle.coco_lex.specs.declared.token.Token.{Token}
 use Rattle.coco_lex.specs.declared.token.TokenKind.{TokenKind}
 use Rattle.coco_lex.specs.declared.token.TokenKind.TheVariants as kind
-use Rattle.coco_parse.specs.Wording.{content}
+use Rattle.coco_parse.specs.Escapes.{content}
 
 abbrev pub Spells : TokenKind → List ℕ → Type 0
 Spells kind.Keyword bytes = Unit {0}

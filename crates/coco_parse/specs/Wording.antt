@@ -1,11 +1,12 @@
 -- What the tokens of a text stand for, without their places.
-use Rattle.std.specs.Prelude.{ℕ, ◌-◌, ◌==◌, if◌then◌else◌, nat_eq, List, [], ◌∷◌, length, take, drop, map, codes}
+use Rattle.std.specs.Prelude.{ℕ, ◌-◌, if◌then◌else◌, nat_eq, List, [], ◌∷◌, take, drop, map, codes}
 use Rattle.std.specs.Cmp.Lexicographic.{pointwise}
 use Rattle.std.specs.Str.Parse.{digits_value}
 use Rattle.coco_ast.specs.declared.tree.TwoOp.TheVariants.{Add, Subtract, Multiply, Divide, Remainder, Equal, NotEqual, Less, AtMost, Greater, AtLeast, And, Or}
 use Rattle.coco_lex.specs.declared.token.Token.{Token}
 use Rattle.coco_lex.specs.declared.token.TokenKind.{TokenKind}
 use Rattle.coco_lex.specs.declared.token.TokenKind.TheVariants as kind
+use Rattle.coco_parse.specs.Escapes.{content}
 use Rattle.coco_parse.specs.declared.word.Word.{Word}
 use Rattle.coco_parse.specs.declared.word.Word.TheVariants.{Table, Proc, Let, Get, Put, Delete, If, Else, Repeat, As, Refuse, Reply, None, Not, Name, Number, Text, Two, OpenParen, CloseParen, OpenBrace, CloseBrace, OpenBracket, CloseBracket, Comma, Semicolon, Assign}
 
@@ -27,16 +28,6 @@ symbol_words =
 abbrev pub spelled_by : List (List ℕ × Word) → List ℕ → Word
 spelled_by [] bytes = None
 spelled_by (row ∷ rows) bytes = if pointwise nat_eq row.0 bytes then row.1 else spelled_by rows bytes
-
--- a text's content, its escapes read
-abbrev pub unescaped : List ℕ → List ℕ
-unescaped [] = []
-unescaped (b ∷ []) = b ∷ []
-unescaped (b ∷ c ∷ bs) = if b == 92 then c ∷ unescaped bs else b ∷ unescaped (c ∷ bs)
-
--- without its quotes
-abbrev pub content : List ℕ → List ℕ
-content bytes = unescaped (take (length bytes - 2) (drop 1 bytes))
 
 abbrev pub word_in : TokenKind → List ℕ → Word
 word_in kind.Keyword bytes = spelled_by keyword_words bytes

@@ -13,11 +13,12 @@ ghost use Rattle.coco_parse.specs.Steps.{next_word, mark_of, frames_of, Begins, 
 use crate::class::closes_list;
 use crate::error::ParseFault;
 use crate::frames::{Frame, collapse, operate, takes_not};
+use crate::quoted::Quoted;
 use crate::state::{Cursor, Mark, Parser};
 use crate::word::Word;
 use coco_ast::{Expr, Place, TwoOp};
 use coco_lex::MOST_NUMBER;
-use coco_types::{NoMemory, Text};
+use coco_types::NoMemory;
 use std::alloc::Global;
 
 // What a word at an operand's place is.
@@ -188,7 +189,7 @@ fn front_of(alloc: Global, word: &Word, frames: &[Frame]) -> Result<Option<Front
 {
     match word {
         Word::Number(n) => Ok(Some(Front::Atom(Expr::Number(*n as i64)))),
-        Word::Text(text) => text_front(alloc, *text),
+        Word::Text(text) => text_front(alloc, text),
         Word::None => Ok(Some(Front::Atom(Expr::None))),
         Word::Name(name) => Ok(Some(Front::Atom(Expr::Var(*name)))),
         Word::OpenParen => Ok(Some(Front::Prefix(Frame::Opened))),
@@ -198,10 +199,10 @@ fn front_of(alloc: Global, word: &Word, frames: &[Frame]) -> Result<Option<Front
     }
 }
 
-fn text_front(alloc: Global, text: Text) -> Result<Option<Front>, NoMemory>
-    ensures { IfOk result (λ begins. (fs : List machine.Frame) → Begins begins fs (Word.Text text)) }
+fn text_front(alloc: Global, text: &Quoted) -> Result<Option<Front>, NoMemory>
+    ensures { IfOk result (λ begins. (fs : List machine.Frame) → Begins begins fs (Word.Text text.now)) }
 {
-    let text = Expr::text(alloc, text)?;
+    let text = Expr::text(alloc, text.text())?;
     Ok(Some(Front::Atom(text)))
 }
 

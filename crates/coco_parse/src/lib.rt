@@ -10,6 +10,7 @@ mod file;
 mod frames;
 pub mod limits;
 pub mod parser;
+pub mod quoted;
 mod reader;
 mod spelling;
 mod state;
@@ -18,4 +19,5 @@ pub mod word;
 
 pub use error::{ParseError, ParseFault, ParseKind};
 pub use parser::{one_reading, parse};
+pub use quoted::Quoted;
 pub use word::Word;

@@ -12,7 +12,6 @@ ghost use Rattle.coco_parse.specs.Wording.{words_of};
 ghost use Rattle.coco_parse.specs.declared.error.ParseError.{ParseError};
 
 use crate::error::{ParseError, ParseFault};
-use crate::spelling::KEYWORDS;
 use crate::state::Parser;
 use coco_ast::Procs;
 use coco_lex::Token;
@@ -36,8 +35,7 @@ pub fn parse(alloc: Global, text: &[u8], tokens: &[Token]) -> Result<Procs, Pars
     ensures only_refusal { (e : ParseError) → IsRefused text.now tokens.now e
         → IsErrAnd result (λ fault. (fault ≡ ParseFault.Refused e) ⊎ (fault ≡ ParseFault.NoMemory)) }
 {
-    let keywords = KEYWORDS;
-    let parser = Parser::new(alloc, text, tokens, &keywords);
+    let parser = Parser::new(alloc, text, tokens);
     parser.file()
 }
 

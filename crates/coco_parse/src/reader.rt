@@ -17,12 +17,12 @@ use coco_lex::MOST_NUMBER;
 
 impl<'a> Parser<'a> {
     // The next word, and None at the end of the text.
-    pub(crate) fn peek(&self, cursor: &Cursor) -> Option<Word>
+    pub(crate) fn peek(&self, cursor: &Cursor) -> Option<Word<'a>>
         ensures word { result ≡ next_word self.now cursor.now }
         ensures least { (n : ℕ) → result ≡ Some (Word.Number n) → n ≤ MOST_NUMBER }
     {
         match self.tokens.get(cursor.at) {
-            Some(token) => Some(word_of(self.keywords, self.text, *token)),
+            Some(token) => Some(word_of(self.text, *token)),
             None => None,
         }
     }

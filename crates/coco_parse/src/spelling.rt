@@ -1,77 +1,85 @@
 //! What a token stands for.
 
-ghost use Rattle.std.specs.Prelude.{◌≡◌, ℕ, ◌+◌, ◌<◌, ◌≤◌, true, ◌∷◌, None, length, map, drop, slice_index, IsUtf8};
+ghost use Rattle.std.specs.Prelude.{◌≡◌, ℕ, ◌≤◌, true, None, nat_eq};
+ghost use Rattle.std.specs.Cmp.Lexicographic.{pointwise};
 ghost use Rattle.std.specs.Str.Parse.{digits_value};
 ghost use Rattle.coco_ast.specs.Words.{is_word};
 ghost use Rattle.coco_lex.specs.Lexeme.{IsDigits};
 ghost use Rattle.coco_parse.specs.Counting.{number_in};
 ghost use Rattle.coco_parse.specs.Readable.{IsReadable};
-ghost use Rattle.coco_parse.specs.Wording.{word_of, keyword_words, symbol_words, spelled_by, content, unescaped};
+ghost use Rattle.coco_parse.specs.Wording.{word_of, keyword_words, symbol_words, spelled_by};
 
+use crate::quoted::Quoted;
 use crate::word::Word;
-use arrayvec::ArrayVec;
 use coco_ast::{Name, TwoOp};
 use coco_lex::{MOST_NUMBER, Token, TokenKind};
-use coco_types::Text;
-use coco_types::limits::MOST_TEXT_BYTES;
 use std::str::from_utf8;
 
-pub(crate) const KEYWORDS: [(&[u8], Word); 16] = [
-    (b"table", Word::Table),
-    (b"proc", Word::Proc),
-    (b"let", Word::Let),
-    (b"get", Word::Get),
-    (b"put", Word::Put),
-    (b"delete", Word::Delete),
-    (b"if", Word::If),
-    (b"else", Word::Else),
-    (b"repeat", Word::Repeat),
-    (b"as", Word::As),
-    (b"refuse", Word::Refuse),
-    (b"reply", Word::Reply),
-    (b"none", Word::None),
-    (b"not", Word::Not),
-    (b"and", Word::Two(TwoOp::And)),
-    (b"or", Word::Two(TwoOp::Or)),
-];
-
-// What a token of the text stands for, by the table of the keywords.
-pub(crate) fn word_of(keywords: &[(&[u8], Word)], text: &[u8], token: Token) -> Word
-    requires keywords { map (λ row. (row.0.now, row.1)) keywords.now ≡ keyword_words }
-    requires readable { IsReadable text.now token }
+// What a token of the text stands for.
+pub(crate) fn word_of(text: &[u8], token: Token) -> Word<'_>
+    requires { IsReadable text.now token }
     ensures word { result ≡ word_of text.now token }
     ensures least { (n : ℕ) → result ≡ Word.Number n → n ≤ MOST_NUMBER }
 {
     let bytes = &text[token.start as usize..token.end as usize];
     match token.kind {
-        TokenKind::Keyword => keyword_word(keywords, bytes),
+        TokenKind::Keyword => keyword_word(bytes),
         TokenKind::Symbol => symbol_word(bytes),
         TokenKind::Name => name_word(bytes),
         TokenKind::Number => number_word(bytes),
-        TokenKind::Text => text_word(bytes),
+        TokenKind::Text => Word::Text(Quoted::of(bytes)),
     }
 }
 
-fn keyword_word(keywords: &[(&[u8], Word)], bytes: &[u8]) -> Word
-    requires { map (λ row. (row.0.now, row.1)) keywords.now ≡ keyword_words }
+// One test after the other, since the branches of a match with so many spellings are too many for a proof.
+fn keyword_word<'a>(bytes: &[u8]) -> Word<'a>
     ensures spelled { result ≡ spelled_by keyword_words bytes.now }
     ensures no_number { number_in result ≡ None }
 {
-    spelled_word(keywords, bytes)
-}
-
-fn spelled_word(rows: &[(&[u8], Word)], bytes: &[u8]) -> Word
-    ensures { result ≡ spelled_by (map (λ row. (row.0.now, row.1)) rows.now) bytes.now }
-{
-    for (spelling, word) in rows {
-        if *spelling == bytes {
-            return *word;
-        }
+    if is(b"table", bytes) {
+        Word::Table
+    } else if is(b"proc", bytes) {
+        Word::Proc
+    } else if is(b"let", bytes) {
+        Word::Let
+    } else if is(b"get", bytes) {
+        Word::Get
+    } else if is(b"put", bytes) {
+        Word::Put
+    } else if is(b"delete", bytes) {
+        Word::Delete
+    } else if is(b"if", bytes) {
+        Word::If
+    } else if is(b"else", bytes) {
+        Word::Else
+    } else if is(b"repeat", bytes) {
+        Word::Repeat
+    } else if is(b"as", bytes) {
+        Word::As
+    } else if is(b"refuse", bytes) {
+        Word::Refuse
+    } else if is(b"reply", bytes) {
+        Word::Reply
+    } else if is(b"none", bytes) {
+        Word::None
+    } else if is(b"not", bytes) {
+        Word::Not
+    } else if is(b"and", bytes) {
+        Word::Two(TwoOp::And)
+    } else if is(b"or", bytes) {
+        Word::Two(TwoOp::Or)
+    } else {
+        Word::None
     }
-    Word::None
 }
 
-fn symbol_word(bytes: &[u8]) -> Word
+fn is(spelling: &[u8], bytes: &[u8]) -> bool
+    ensures { result ≡ pointwise nat_eq spelling.now bytes.now }
+{
+    spelling == bytes
+}
+
+fn symbol_word<'a>(bytes: &[u8]) -> Word<'a>
     ensures spelled { result ≡ spelled_by symbol_words bytes.now }
     ensures no_number { number_in result ≡ None }
 {
@@ -100,7 +108,7 @@ fn symbol_word(bytes: &[u8]) -> Word
     }
 }
 
-fn name_word(bytes: &[u8]) -> Word
+fn name_word<'a>(bytes: &[u8]) -> Word<'a>
     requires { is_word bytes.now ≡ true }
     ensures { result ≡ Word.Name bytes.now }
 {
@@ -110,7 +118,7 @@ fn name_word(bytes: &[u8]) -> Word
     }
 }
 
-fn number_word(bytes: &[u8]) -> Word
+fn number_word<'a>(bytes: &[u8]) -> Word<'a>
     requires digits { IsDigits bytes.now }
     requires fits { digits_value 10 bytes.now ≤ MOST_NUMBER }
     ensures { result ≡ Word.Number (digits_value 10 bytes.now) }
@@ -121,50 +129,5 @@ fn number_word(bytes: &[u8]) -> Word
     match digits.parse::<u64>() {
         Ok(value) => Word::Number(value),
         Err(_) => unreachable!(),
-    }
-}
-
-fn text_word(bytes: &[u8]) -> Word
-    requires quoted { 2 ≤ length bytes.now }
-    requires short { length (content bytes.now) ≤ MOST_TEXT_BYTES }
-    requires utf8 { IsUtf8 (content bytes.now) }
-    ensures { result ≡ Word.Text (content bytes.now) }
-{
-    let content = unescaped(&bytes[1..bytes.len() - 1]);
-    let Ok(content) = from_utf8(content.as_slice()) else {
-        unreachable!()
-    };
-    match Text::of(content) {
-        Some(text) => Word::Text(text),
-        None => unreachable!(),
-    }
-}
-
-// A text's content, its escapes read.
-fn unescaped(bytes: &[u8]) -> ArrayVec<u8, MOST_TEXT_BYTES>
-    requires { length (unescaped bytes.now) ≤ MOST_TEXT_BYTES }
-    ensures { result.items ≡ unescaped bytes.now }
-{
-    let mut content = ArrayVec::new();
-    let mut at = 0;
-    while at < bytes.len() {
-        let byte = content_byte(bytes, at);
-        content.push(bytes[byte]);
-        at = byte + 1;
-    }
-    content
-}
-
-// Where the next byte of the content stands: behind a backslash that escapes it.
-fn content_byte(bytes: &[u8], at: usize) -> usize
-    requires { at < length bytes.now }
-    ensures onward { at ≤ result }
-    ensures within { result < length bytes.now }
-    ensures byte { unescaped (drop at bytes.now) ≡ slice_index bytes.now result ∷ unescaped (drop (result + 1) bytes.now) }
-{
-    if bytes[at] == b'\\' && at + 1 < bytes.len() {
-        at + 1
-    } else {
-        at
     }
 }

@@ -1,13 +1,11 @@
 //! What is parsed, and how far the words have been read.
 
-ghost use Rattle.std.specs.Prelude.{◌≡◌, ◌≤◌, [], length, map};
+ghost use Rattle.std.specs.Prelude.{◌≡◌, ◌≤◌, [], length};
 ghost use Rattle.coco_lex.specs.Tokens.{AreTokens};
 ghost use Rattle.coco_types.specs.declared.limits.TheConstants.{MOST_PROCEDURE_BYTES};
 ghost use Rattle.coco_parse.specs.Counting.{Counts};
-ghost use Rattle.coco_parse.specs.Wording.{keyword_words};
 
 use crate::counter::Counter;
-use crate::word::Word;
 use coco_lex::Token;
 use coco_types::limits::MOST_PROCEDURE_BYTES;
 use std::alloc::Global;
@@ -18,8 +16,6 @@ pub(crate) struct Parser<'a> {
     pub(crate) alloc: Global,
     pub(crate) text: &'a [u8],
     pub(crate) tokens: &'a [Token],
-    pub(crate) keywords: &'a [(&'a [u8], Word)],
-    ghost spelled: { map (λ row. (row.0.now, row.1)) keywords.now ≡ keyword_words },
     ghost are_tokens: { ∥ AreTokens text.now tokens.now ∥₁ },
     ghost short: { length text.now ≤ MOST_PROCEDURE_BYTES },
     ghost few: { length tokens.now ≤ MOST_PROCEDURE_BYTES },
@@ -45,13 +41,7 @@ pub(crate) enum Mark {
 }
 
 impl<'a> Parser<'a> {
-    pub(crate) fn new(
-        alloc: Global,
-        text: &'a [u8],
-        tokens: &'a [Token],
-        keywords: &'a [(&'a [u8], Word)],
-    ) -> Parser<'a>
-        requires keywords { map (λ row. (row.0.now, row.1)) keywords.now ≡ keyword_words }
+    pub(crate) fn new(alloc: Global, text: &'a [u8], tokens: &'a [Token]) -> Parser<'a>
         requires tokens { AreTokens text.now tokens.now }
         requires short { length text.now ≤ MOST_PROCEDURE_BYTES }
         ensures { (result.text.now ≡ text.now) × (result.tokens.now ≡ tokens.now) }
@@ -60,7 +50,6 @@ impl<'a> Parser<'a> {
             alloc,
             text,
             tokens,
-            keywords,
         }
     }
 }

@@ -3,13 +3,13 @@
 ghost use Rattle.std.specs.Prelude.{◌≡◌};
 ghost use Rattle.coco_parse.specs.Counting.{name_in, number_in, operator_in};
 
+use crate::quoted::Quoted;
 use coco_ast::{Name, TwoOp};
-use coco_types::Text;
 
 /// A token without its place. `Two` is an operator with two operands; `Two(TwoOp::Subtract)` also
 /// stands for the minus before one operand.
-#[derive(Clone, Copy)]
-pub enum Word {
+#[derive(Drop)]
+pub enum Word<'a> {
     Table,
     Proc,
     Let,
@@ -26,7 +26,7 @@ pub enum Word {
     Not,
     Name(Name),
     Number(u64),
-    Text(Text),
+    Text(Quoted<'a>),
     Two(TwoOp),
     OpenParen,
     CloseParen,
@@ -39,7 +39,7 @@ pub enum Word {
     Assign,
 }
 
-impl Word {
+impl<'a> Word<'a> {
     pub(crate) fn name(&self) -> Option<Name>
         ensures { result ≡ name_in self.now }
     {

@@ -19,7 +19,8 @@ use Rattle.coco_lex.specs.declared.token.TokenKind.TheVariants as kind
 use Rattle.coco_lex.proofs.Fronts.{any_contains_byte, keywords_are_words, keyword_front, name_front, number_front, symbol_front, symbol_is_two}
 use Rattle.coco_lex.proofs.Heads.{class_of, symbol_class, class_of_symbol}
 use Rattle.coco_lex.proofs.Texts.{text_front}
-use Rattle.coco_parse.specs.Wording.{word_in, unescaped, content}
+use Rattle.coco_parse.specs.Escapes.{unescaped, content}
+use Rattle.coco_parse.specs.Wording.{word_in}
 use Rattle.coco_parse.specs.declared.word.Word.{Word}
 use Rattle.coco_parse.specs.declared.word.Word.TheVariants as word
 use Rattle.coco_print.specs.Printed.{quoted}

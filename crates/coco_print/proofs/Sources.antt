@@ -10,7 +10,8 @@ use Rattle.coco_lex.specs.declared.token.TokenKind.{TokenKind}
 use Rattle.coco_lex.specs.declared.token.TokenKind.TheVariants as kind
 use Rattle.coco_parse.specs.Grammar as grammar
 use Rattle.coco_parse.specs.Grammar.{Level, IsExpression, IsPlace, IsStatement, IsBlock, AreStatements, AreListed, AreParams, IsProcedure, IsFile, IsText}
-use Rattle.coco_parse.specs.Wording.{keyword_words, symbol_words, spelled_by, content, word_in, words_of}
+use Rattle.coco_parse.specs.Escapes.{content}
+use Rattle.coco_parse.specs.Wording.{keyword_words, symbol_words, spelled_by, word_in, words_of}
 use Rattle.coco_parse.specs.declared.word.Word.{Word}
 use Rattle.coco_parse.specs.declared.word.Word.TheVariants as word
 use Rattle.coco_print.specs.ReadsBack.{IsTree}

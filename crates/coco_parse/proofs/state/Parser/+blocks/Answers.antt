@@ -1,4 +1,4 @@
-use Rattle.std.proofs.Common.{[], ◌∷◌, map, Some, None, sym, ap, ◌∙◌, subst, arith}
+use Rattle.std.proofs.Common.{[], map, sym, subst, arith}
 use Rattle.coco_ast.specs.Tree.{Expression, Statement, Statements}
 use Rattle.coco_ast.specs.Tree as tree
 use Rattle.coco_ast.specs.Views.{expression_of, statement_of, statements_of}

@@ -5,8 +5,8 @@ use Rattle.coco_parse.specs.Wording.{word_of}
 use Rattle.coco_parse.proofs.Readables.{readable}
 use Rattle.coco_parse.proofs.state.Parser.peek.Goals as goal
 
-pub word_of-requires-clause-readable : goal.word_of-requires-clause-readable
-word_of-requires-clause-readable c =
+pub word_of-requires : goal.word_of-requires
+word_of-requires c =
     let p = c.args.self.now in
     let found = c.in-Some.ensures.lookup in
     readable p.text.now p.tokens.now c.args.cursor.now.at c.in-Some.token.now p.are_tokens (slice_get_read p.tokens.now _ c.args.cursor.now.at c.in-Some.token.now refl found.3.0 found.1)

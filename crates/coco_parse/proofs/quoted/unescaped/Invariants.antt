@@ -1,6 +1,6 @@
 use Rattle.std.proofs.Common.{length, drop, ◌-◌, ◌≡◌, ◌≤◌, ◌++◌}
-use Rattle.coco_parse.specs.Wording.{unescaped}
-use Rattle.coco_parse.proofs.spelling.unescaped.Given as goal
+use Rattle.coco_parse.specs.Escapes.{unescaped}
+use Rattle.coco_parse.proofs.quoted.unescaped.Given as goal
 
 abbrev pub invariant-loop-at : goal.invariant-loop-at
 invariant-loop-at l = record {
