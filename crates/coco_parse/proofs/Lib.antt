@@ -1,6 +1,7 @@
 pub mod Expressions
 pub mod Verdicts
 pub mod Counters
+pub mod Passing
 pub mod Spellings
 pub mod Steps
 pub mod Choices

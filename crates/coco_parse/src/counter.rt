@@ -1,64 +1,150 @@
 //! What the limits count over the words read so far.
 
-ghost use Rattle.std.specs.Prelude.{◌≡◌, ◌+◌, ◌-◌, ◌^◌, ◌<◌, ◌↔◌, Bool, true, false, List, [], ◌∷◌, ◌++◌, length, None, IsTrue, MatchOption};
-ghost use Rattle.coco_parse.specs.Counting.{Tallies, Counts, is_refuse, is_wide};
-ghost use Rattle.coco_parse.specs.Limits.{Passes, depth, header_names};
-ghost use Rattle.coco_parse.specs.declared.error.ParseKind.{ParseKind};
+ghost use Rattle.std.specs.Prelude.{◌≡◌, ◌+◌, ◌^◌, ◌<◌, true, false, List, [], ◌∷◌, ◌++◌, length, None};
+ghost use Rattle.coco_parse.specs.Counting.{CountsProcedure, CountsExpression, Counts, Counted, CountsOver, is_refuse, is_wide};
+ghost use Rattle.coco_parse.specs.Limits.{is_name, opens, is_operator, begins_expression};
 ghost use Rattle.coco_parse.specs.declared.word.Word.{Word};
 
-use crate::class::{
-    begins_expression, closes, closes_list, is_name, is_operator, is_proc, is_refuse, opens,
-};
 use crate::error::ParseKind;
 use crate::limits::{MOST_CODE, MOST_OPEN, MOST_OPERATORS};
 use crate::word::Word;
 use coco_types::limits::MOST_ARGUMENTS;
 
-// How many words of one kind were read since the last one of another, once such a one was read.
+// What is counted behind the last `proc`; before the first one nothing is.
 #[derive(Clone, Copy)]
-struct Tally {
+struct ProcedureCounter {
     begun: bool,
-    count: usize,
+    // No parenthesis has closed since `proc`.
+    in_header: bool,
+    opened: usize,
+    closed: usize,
+    // The procedure's and its parameters'; none behind the header.
+    names: usize,
 }
 
-impl Tally {
-    fn new() -> Tally
-        ensures { (is what : Word → Bool) → Tallies result is what [] }
-    {
-        Tally {
-            begun: false,
-            count: 0,
-        }
-    }
-
-    // `begins`: the word is of the other kind; `counts`: it is of the one.
-    fn next(self, begins: bool, counts: bool) -> Tally
-        ensures { (is what : Word → Bool) (ws : List Word) (w : Word) → length ws + 1 < 2 ^ 64
-            → Tallies self is what ws → begins ≡ is w → counts ≡ what w → Tallies result is what (ws ++ w ∷ []) }
-    {
-        if begins {
-            return Tally {
-                begun: true,
-                count: 0,
-            };
-        }
-        if !self.begun || !counts {
-            return self;
-        }
-        let count = self.count.saturating_add(1);
-        Tally { begun: true, count }
-    }
+// What is counted behind the last word that begins an expression; before the first one nothing is.
+#[derive(Clone, Copy)]
+struct ExpressionCounter {
+    begun: bool,
+    operators: usize,
 }
 
 // What the limits count, over the words read so far.
 #[derive(Clone, Copy)]
 pub(crate) struct Counter {
-    opened: Tally,
-    closed: Tally,
-    operators: Tally,
-    names: Tally,
-    lists: Tally,
+    procedure: ProcedureCounter,
+    expression: ExpressionCounter,
     pub(crate) refuses: bool,
+}
+
+impl ProcedureCounter {
+    fn new() -> ProcedureCounter
+        ensures { CountsProcedure result [] }
+    {
+        ProcedureCounter {
+            begun: false,
+            in_header: false,
+            opened: 0,
+            closed: 0,
+            names: 0,
+        }
+    }
+
+    // Over `proc`.
+    fn begin(&mut self)
+        ensures { (ws : List Word) → CountsProcedure self.new (ws ++ Word.Proc ∷ []) }
+    {
+        *self = ProcedureCounter {
+            begun: true,
+            in_header: true,
+            opened: 0,
+            closed: 0,
+            names: 0,
+        };
+    }
+
+    // Over a word that opens a parenthesis or a block, unless it passes a limit.
+    fn open(&mut self) -> Option<ParseKind>
+        ensures { CountsOver opens (CountsProcedure self.old) (CountsProcedure self.new) result }
+    {
+        let depth = self.opened.saturating_sub(self.closed);
+        if depth >= MOST_OPEN {
+            return Some(ParseKind::TooDeep);
+        }
+        if self.begun {
+            self.opened = self.opened.saturating_add(1);
+        }
+        None
+    }
+
+    // Over a brace that closes a block.
+    fn close_brace(&mut self)
+        ensures { (ws : List Word) → length ws + 1 < 2 ^ 64 → CountsProcedure self.old ws
+            → CountsProcedure self.new (ws ++ Word.CloseBrace ∷ []) }
+    {
+        if self.begun {
+            self.closed = self.closed.saturating_add(1);
+        }
+    }
+
+    // Over a parenthesis that closes, which ends the header.
+    fn close_paren(&mut self)
+        ensures { (ws : List Word) → length ws + 1 < 2 ^ 64 → CountsProcedure self.old ws
+            → CountsProcedure self.new (ws ++ Word.CloseParen ∷ []) }
+    {
+        self.in_header = false;
+        self.names = 0;
+        if self.begun {
+            self.closed = self.closed.saturating_add(1);
+        }
+    }
+
+    // Over a name, unless it passes a limit.
+    fn name(&mut self) -> Option<ParseKind>
+        ensures { CountsOver is_name (CountsProcedure self.old) (CountsProcedure self.new) result }
+    {
+        if self.in_header {
+            if self.names > MOST_ARGUMENTS {
+                return Some(ParseKind::TooMany);
+            }
+            self.names += 1;
+        }
+        None
+    }
+}
+
+impl ExpressionCounter {
+    fn new() -> ExpressionCounter
+        ensures { CountsExpression result [] }
+    {
+        ExpressionCounter {
+            begun: false,
+            operators: 0,
+        }
+    }
+
+    // Over a word that begins an expression.
+    fn begin(&mut self)
+        ensures { (ws : List Word) (w : Word) → begins_expression w ≡ true → CountsExpression self.new (ws ++ w ∷ []) }
+    {
+        *self = ExpressionCounter {
+            begun: true,
+            operators: 0,
+        };
+    }
+
+    // Over an operator, unless it passes a limit.
+    fn operator(&mut self) -> Option<ParseKind>
+        ensures { CountsOver is_operator (CountsExpression self.old) (CountsExpression self.new) result }
+    {
+        if self.begun {
+            if self.operators >= MOST_OPERATORS {
+                return Some(ParseKind::TooMany);
+            }
+            self.operators += 1;
+        }
+        None
+    }
 }
 
 impl Counter {
@@ -66,87 +152,38 @@ impl Counter {
         ensures { Counts result [] }
     {
         Counter {
-            opened: Tally::new(),
-            closed: Tally::new(),
-            operators: Tally::new(),
-            names: Tally::new(),
-            lists: Tally::new(),
+            procedure: ProcedureCounter::new(),
+            expression: ExpressionCounter::new(),
             refuses: false,
         }
     }
 
-    // The counter behind one more word.
-    pub(crate) fn next(&self, word: &Word) -> Counter
-        ensures refuses { result.refuses ≡ is_refuse word.now }
-        ensures counts { (ws : List Word) → length ws + 1 < 2 ^ 64 → Counts self.now ws → Counts result (ws ++ word.now ∷ []) }
+    // Counts one more word, or gives the limit that it passes: behind that no word is read, so
+    // what the counter has then doesn't matter.
+    pub(crate) fn count(&mut self, word: &Word) -> Option<ParseKind>
+        ensures refuses { self.new.refuses ≡ is_refuse word.now }
+        ensures narrow { result ≡ None → self.old.refuses ≡ true → is_wide word.now ≡ false }
+        ensures counts { (ws : List Word) → length ws + 1 < 2 ^ 64 → Counts self.old ws
+            → Counted result (Counts self.new) (ws ++ word.now ∷ []) }
     {
-        let in_proc = is_proc(word);
-        let in_expression = begins_expression(word);
-        Counter {
-            opened: self.opened.next(in_proc, opens(word)),
-            closed: self.closed.next(in_proc, closes(word)),
-            operators: self.operators.next(in_expression, is_operator(word)),
-            names: self.names.next(in_proc, is_name(word)),
-            lists: self.lists.next(in_proc, closes_list(word)),
-            refuses: is_refuse(word),
+        let behind_refuse = self.refuses;
+        self.refuses = false;
+        match word {
+            Word::Name(_) => return self.procedure.name(),
+            Word::Number(number) => {
+                if behind_refuse && *number > MOST_CODE {
+                    return Some(ParseKind::Range);
+                }
+            }
+            Word::Not | Word::Two(_) => return self.expression.operator(),
+            Word::OpenParen | Word::OpenBrace => return self.procedure.open(),
+            Word::CloseParen => self.procedure.close_paren(),
+            Word::CloseBrace => self.procedure.close_brace(),
+            Word::Assign | Word::OpenBracket | Word::If | Word::Reply => self.expression.begin(),
+            Word::Refuse => self.refuses = true,
+            Word::Proc => self.procedure.begin(),
+            _ => {}
         }
-    }
-
-    fn depth(&self) -> usize
-        ensures { (ws : List Word) → Counts self.now ws → result ≡ depth ws }
-    {
-        self.opened.count.saturating_sub(self.closed.count)
-    }
-
-    fn header_names(&self) -> usize
-        ensures { (ws : List Word) → Counts self.now ws → result ≡ header_names ws }
-    {
-        if self.lists.count > 0 {
-            0
-        } else {
-            self.names.count
-        }
-    }
-
-    // The limit that the word passes, where `next` is the counter behind it.
-    pub(crate) fn passed(&self, word: &Word, next: &Counter) -> Option<ParseKind>
-        ensures narrow { result ≡ None → self.now.refuses ≡ true → is_wide word.now ≡ false }
-        ensures passes { (ws : List Word) → Counts self.now ws → Counts next.now (ws ++ word.now ∷ [])
-            → MatchOption result ((k : ParseKind) → ¬ (Passes k (ws ++ word.now ∷ []))) (λ k. Passes k (ws ++ word.now ∷ [])) }
-    {
-        if next.is_too_deep(word) {
-            Some(ParseKind::TooDeep)
-        } else if next.has_too_many(word) {
-            Some(ParseKind::TooMany)
-        } else if self.refuses && is_wide(word) {
-            Some(ParseKind::Range)
-        } else {
-            None
-        }
-    }
-
-    fn is_too_deep(&self, word: &Word) -> bool
-        ensures { (ws : List Word) → Counts self.now (ws ++ word.now ∷ [])
-            → (IsTrue result ↔ Passes ParseKind.TooDeep (ws ++ word.now ∷ [])) }
-    {
-        opens(word) && self.depth() > MOST_OPEN
-    }
-
-    fn has_too_many(&self, word: &Word) -> bool
-        ensures { (ws : List Word) → Counts self.now (ws ++ word.now ∷ [])
-            → (IsTrue result ↔ Passes ParseKind.TooMany (ws ++ word.now ∷ [])) }
-    {
-        is_operator(word) && self.operators.count > MOST_OPERATORS
-            || is_name(word) && self.header_names() > MOST_ARGUMENTS + 1
-    }
-}
-
-// Whether the word is a number that no refusal has.
-fn is_wide(word: &Word) -> bool
-    ensures { result ≡ is_wide word.now }
-{
-    match word {
-        Word::Number(n) => *n > MOST_CODE,
-        _ => false,
+        None
     }
 }

@@ -35,12 +35,10 @@ impl<'a> Parser<'a> {
         ensures narrow { OnOk result (cursor.old.counter.refuses ≡ true → is_wide word.now ≡ false) }
         ensures reads { (g h : Goal) → step g word.now ≡ Some h → ReadsWords self.now cursor.old cursor.new g result (λ _. h) }
     {
-        let next = cursor.counter.next(word);
-        if let Some(kind) = cursor.counter.passed(word, &next) {
+        if let Some(kind) = cursor.counter.count(word) {
             return Err(self.refusal(cursor, kind));
         }
         cursor.at += 1;
-        cursor.counter = next;
         Ok(())
     }
 
