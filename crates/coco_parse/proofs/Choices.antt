@@ -1,5 +1,5 @@
 -- What the machine's goals do with a word.
-use Rattle.std.proofs.Common.{◌≡◌, ℕ, Bool, true, false, cond, List, [], ◌∷◌, ◌++◌, Option, None, Some, refl, ap, ◌∙◌, subst}
+use Rattle.std.proofs.Common.{◌≡◌, ℕ, Bool, true, false, cond, List, [], ◌∷◌, ◌++◌, Option, None, Some, refl, sym, ap, ◌∙◌, subst}
 use Rattle.coco_ast.specs.Tree.{Expression, RowPlace, Statement, Statements, Procedure}
 use Rattle.coco_ast.specs.Tree as tree
 use Rattle.coco_ast.specs.declared.tree.TwoOp.{TwoOp}
@@ -10,7 +10,9 @@ use Rattle.coco_parse.specs.Machine.{Goal, Fixed, Named, Numbered, Params, Liste
 use Rattle.std.proofs.Common.{map}
 use Rattle.std.proofs.lemmas.List.{reverse-append}
 use Rattle.coco_parse.specs.declared.frames.Frame.{Frame as RustFrame}
-use Rattle.coco_parse.specs.Steps.{Operates, Collapses, frame_of, frames_of, Chooses, is_optional, closes_block}
+use Rattle.coco_parse.specs.Steps.{Operates, Collapses, frame_of, frames_of, atom_in, Opens, Chooses, is_optional, closes_block}
+use Rattle.coco_ast.specs.Views.{expression_of}
+use Rattle.coco_ast.specs.declared.tree.Expr.{Expr}
 use Rattle.coco_parse.specs.declared.choice.Optional.TheVariants as optional
 use Rattle.coco_parse.specs.declared.word.Word.{Word}
 use Rattle.coco_parse.specs.declared.word.Word.TheVariants.{Name, Number, Two, Comma, CloseParen, CloseBrace, Get, Else}
@@ -151,3 +153,14 @@ collapses_ended b d e fs gs h f = subst (λ t. Collapses t d e fs gs) h f
 
 pub frames_push : (fs : List RustFrame) (f : RustFrame) → frames_of (fs ++ f ∷ []) ≡ frame_of f ∷ frames_of fs
 frames_push fs f = ap (map frame_of) (reverse-append fs (f ∷ []))
+
+-- ---- before an operand
+
+atom_step : (fs : List Frame) (m : Mark) (k : Expression → Goal) (w : Word) (a : Option Expression) → atom_in w ≡ a → Opens None fs w → step (Operand fs m k) w ≡ option_map (λ e. Operator e fs m k) a
+atom_step fs m k w a h opens = opens m k ∙ ap (option_map (λ e. Operator e fs m k)) h
+
+pub atom_some : (fs : List Frame) (m : Mark) (k : Expression → Goal) (w : Word) (a : Option Expr) (x : Expr) → a ≡ Some x → option_map expression_of a ≡ atom_in w → Opens None fs w → step (Operand fs m k) w ≡ Some (Operator (expression_of x) fs m k)
+atom_some fs m k w a x e h opens = atom_step fs m k w (Some (expression_of x)) (sym h ∙ ap (option_map expression_of) e) opens
+
+pub atom_none : (fs : List Frame) (m : Mark) (k : Expression → Goal) (w : Word) (a : Option Expr) → a ≡ None → option_map expression_of a ≡ atom_in w → Opens None fs w → step (Operand fs m k) w ≡ None
+atom_none fs m k w a e h opens = atom_step fs m k w None (sym h ∙ ap (option_map expression_of) e) opens

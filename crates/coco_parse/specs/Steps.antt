@@ -1,7 +1,7 @@
 -- How far a parser's cursor has come, and what the machine does next there. Only contracts of private functions and proofs
 -- name it.
-use Rattle.std.specs.Prelude.{◌≡◌, ℕ, ◌-◌, ◌<◌, ◌≤◌, Bool, true, false, List, [], ◌∷◌, ◌++◌, length, take, slice_get, Option, None, Some, map, reverse, Result, OnOk, MatchResult}
-use Rattle.coco_ast.specs.Tree.{Expression, Negate, RowPlace, Statement, Statements, Procedure}
+use Rattle.std.specs.Prelude.{◌≡◌, ℕ, ◌-◌, ◌<◌, ◌≤◌, Bool, true, false, List, [], ◌∷◌, ◌++◌, length, take, slice_get, Option, None, Some, map, reverse, option_map, pos, Result, OnOk, MatchResult}
+use Rattle.coco_ast.specs.Tree.{Expression, Variable, Quoted, Negate, RowPlace, Statement, Statements, Procedure}
 use Rattle.coco_ast.specs.Tree as tree
 use Rattle.coco_ast.specs.Views.{expression_of, sign_of, statement_of, statements_from}
 use Rattle.coco_parse.specs.Counting.{Counts}
@@ -21,10 +21,6 @@ use Rattle.coco_parse.specs.declared.frames.Frame.{Frame as RustFrame}
 use Rattle.coco_parse.specs.declared.frames.Frame.TheVariants as frame
 use Rattle.coco_parse.specs.declared.frames.Fit.{Fit}
 use Rattle.coco_parse.specs.declared.frames.Fit.TheVariants as fit
-use Rattle.coco_parse.specs.declared.expression.Front.{Front}
-use Rattle.coco_parse.specs.declared.expression.Front.TheVariants as front
-use Rattle.coco_parse.specs.declared.expression.Behind.{Behind}
-use Rattle.coco_parse.specs.declared.expression.Behind.TheVariants as behind
 use Rattle.coco_parse.specs.declared.statement.Head.{Head}
 use Rattle.coco_parse.specs.declared.statement.Head.TheVariants as head
 use Rattle.coco_parse.specs.declared.file.Item.{Item}
@@ -32,6 +28,7 @@ use Rattle.coco_parse.specs.declared.file.Item.TheVariants as item
 use Rattle.coco_parse.specs.declared.choice.Optional.{Optional}
 use Rattle.coco_parse.specs.declared.choice.Optional.TheVariants as optional
 use Rattle.coco_parse.specs.declared.word.Word.{Word}
+use Rattle.coco_parse.specs.declared.word.Word.TheVariants as word
 use Rattle.coco_parse.specs.declared.word.Word.TheVariants.{Get, Else, CloseParen, CloseBrace}
 
 abbrev pub words : Parser → List Word
@@ -102,7 +99,7 @@ abbrev pub frame_of : RustFrame → Frame
 frame_of frame.Opened = Opened
 frame_of frame.Inverted = Inverted
 frame_of frame.Negated = Negated
-frame_of (frame.Left op d) = Left op (expression_of d)
+frame_of (frame.Left op d) = Left op (expression_of d.value)
 
 -- the last one is the innermost
 abbrev pub frames_of : List RustFrame → List Frame
@@ -114,20 +111,18 @@ Fits fit.Within f op = (e : Expression) (fs : List Frame) → operate e (f ∷ f
 Fits fit.Apart f op = (e : Expression) (fs : List Frame) → operate e (f ∷ fs) op ≡ None
 Fits fit.Around f op = (e : Expression) (fs : List Frame) → operate e (f ∷ fs) op ≡ operate (around f e) fs op
 
--- behind a word at an operand's place
-abbrev pub behind_front : Front → List Frame → machine.Mark → (Expression → Goal) → Goal
-behind_front (front.Atom e) fs m k = Operator (expression_of e) fs m k
-behind_front (front.Prefix f) fs m k = Operand (frame_of f ∷ fs) m k
+-- the operand that a word is
+abbrev pub atom_in : Word → Option Expression
+atom_in (word.Number n) = Some (tree.Number (pos n))
+atom_in (word.Text bytes) = Some (Quoted bytes)
+atom_in word.None = Some tree.None
+atom_in (word.Name name) = Some (Variable name)
+atom_in _ = None
 
-abbrev pub Begins : Option Front → List Frame → Word → Type 0
-Begins None fs w = (m : machine.Mark) (k : Expression → Goal) → operand_step fs m k w ≡ None
-Begins (Some f) fs w = (m : machine.Mark) (k : Expression → Goal) → operand_step fs m k w ≡ Some (behind_front f fs m k)
-
--- behind what has been read behind an operand: an operator, the parenthesis around it, or the mark behind the whole
-abbrev pub behind_operand : List Frame → machine.Mark → (Expression → Goal) → Behind → Goal
-behind_operand fs m k behind.Operator = Operand fs m k
-behind_operand fs m k (behind.Enclosed e) = Operator (expression_of e) fs m k
-behind_operand fs m k (behind.Whole e) = k (expression_of e)
+-- the frame that a word opens before an operand
+abbrev pub Opens : Option RustFrame → List Frame → Word → Type 0
+Opens None fs w = (m : machine.Mark) (k : Expression → Goal) → operand_step fs m k w ≡ option_map (λ e. Operator e fs m k) (atom_in w)
+Opens (Some f) fs w = (m : machine.Mark) (k : Expression → Goal) → operand_step fs m k w ≡ Some (Operand (frame_of f ∷ fs) m k)
 
 abbrev pub closes_block : Word → Bool
 closes_block CloseBrace = true

@@ -3,12 +3,13 @@
 ghost use Rattle.std.specs.Prelude.{◌≡◌, ℕ, ◌<◌, ◌≤◌, true, false, List, [], None, Some, IfOk};
 ghost use Rattle.coco_ast.specs.Tree.{Expression, RowPlace};
 ghost use Rattle.coco_ast.specs.Views.{expression_of, place_of};
+ghost use Rattle.std.specs.Option.{option_map};
 ghost use Rattle.coco_parse.specs.Limits.{closes_list};
 ghost use Rattle.coco_parse.specs.Counting.{operator_in};
 ghost use Rattle.coco_parse.specs.declared.word.Word.{Word};
 ghost use Rattle.coco_parse.specs.Machine.{Goal, Operand, Operator, at_place};
 ghost use Rattle.coco_parse.specs.Machine as machine;
-ghost use Rattle.coco_parse.specs.Steps.{next_word, mark_of, frames_of, Begins, behind_front, GoesOn, Reads, behind_operand};
+ghost use Rattle.coco_parse.specs.Steps.{next_word, mark_of, frames_of, atom_in, Opens, GoesOn, Reads};
 
 use crate::class::closes_list;
 use crate::error::ParseFault;
@@ -20,22 +21,6 @@ use coco_ast::{Expr, Place, TwoOp};
 use coco_lex::MOST_NUMBER;
 use coco_types::NoMemory;
 use std::alloc::Global;
-
-// What a word at an operand's place is.
-#[derive(Drop)]
-pub(crate) enum Front {
-    Atom(Expr),
-    Prefix(Frame),
-}
-
-// What has been read behind an operand: an operator, the parenthesis around it, or the mark
-// behind the whole expression.
-#[derive(Drop)]
-pub(crate) enum Behind {
-    Operator,
-    Enclosed(Expr),
-    Whole(Expr),
-}
 
 impl<'a> Parser<'a> {
     pub(crate) fn place(&self, cursor: &mut Cursor) -> Result<Place, ParseFault>
@@ -56,11 +41,15 @@ impl<'a> Parser<'a> {
         let mut frames = Vec::new(self.alloc);
         let mut operand = self.operand(cursor, &mut frames)?;
         loop {
-            let behind = self.behind(cursor, &mut frames, operand, end)?;
-            match behind {
-                Behind::Operator => operand = self.operand(cursor, &mut frames)?,
-                Behind::Enclosed(enclosed) => operand = enclosed,
-                Behind::Whole(whole) => return Ok(whole),
+            let Some(word) = self.peek(cursor) else {
+                return Err(self.unexpected(cursor).into());
+            };
+            if let Some(op) = word.operator() {
+                operand = self.behind_operator(cursor, &mut frames, operand, op)?;
+            } else if closes_list(&word) {
+                operand = self.behind_paren(cursor, &mut frames, operand, &word)?;
+            } else {
+                return self.behind_whole(cursor, &mut frames, operand, end, &word);
             }
         }
     }
@@ -71,91 +60,74 @@ impl<'a> Parser<'a> {
         ensures reads { (m : machine.Mark) (k : Expression → Goal) → Reads self.now cursor.old cursor.new (Operand (frames_of frames.old.items) m k) result (λ e. Operator (expression_of e) (frames_of frames.new.items) m k) }
     {
         loop {
-            let front = self.front(cursor, frames)?;
-            match front {
-                Front::Atom(operand) => return Ok(operand),
-                Front::Prefix(frame) => frames.push(frame)?,
-            }
+            let Some(word) = self.peek(cursor) else {
+                return Err(self.unexpected(cursor).into());
+            };
+            let Some(frame) = opened_by(&word, frames) else {
+                return self.atom(cursor, &word);
+            };
+            self.advance(cursor, &word)?;
+            frames.push(frame)?;
         }
     }
 
-    fn front(&self, cursor: &mut Cursor, frames: &[Frame]) -> Result<Front, ParseFault>
+    // The operand that the next word is.
+    fn atom(&self, cursor: &mut Cursor, word: &Word) -> Result<Expr, ParseFault>
+        requires next { next_word self.now cursor.old ≡ Some word.now }
+        requires least { (n : ℕ) → word.now ≡ Word.Number n → n ≤ MOST_NUMBER }
         ensures onward { GoesOn self.now cursor.old cursor.new result }
-        ensures reads { (m : machine.Mark) (k : Expression → Goal) → Reads self.now cursor.old cursor.new (Operand (frames_of frames.now) m k) result (λ f. behind_front f (frames_of frames.now) m k) }
+        ensures reads { (fs : List machine.Frame) (m : machine.Mark) (k : Expression → Goal) → Opens None fs word.now
+            → Reads self.now cursor.old cursor.new (Operand fs m k) result (λ e. Operator (expression_of e) fs m k) }
     {
-        let Some(word) = self.peek(cursor) else {
+        let Some(operand) = atom_of(self.alloc, word)? else {
             return Err(self.unexpected(cursor).into());
         };
-        let begins = front_of(self.alloc, &word, frames)?;
-        let Some(front) = begins else {
-            return Err(self.unexpected(cursor).into());
-        };
-        self.advance(cursor, &word)?;
-        Ok(front)
+        self.advance(cursor, word)?;
+        Ok(operand)
     }
 
-    // One step behind an operand.
-    fn behind(
-        &self,
-        cursor: &mut Cursor,
-        frames: &mut Vec<Frame>,
-        operand: Expr,
-        end: Mark,
-    ) -> Result<Behind, ParseFault>
-        ensures onward { GoesOn self.now cursor.old cursor.new result }
-        ensures reads { (k : Expression → Goal) → Reads self.now cursor.old cursor.new (Operator (expression_of operand) (frames_of frames.old.items) (mark_of end) k) result (behind_operand (frames_of frames.new.items) (mark_of end) k) }
-    {
-        let Some(word) = self.peek(cursor) else {
-            return Err(self.unexpected(cursor).into());
-        };
-        if let Some(op) = word.operator() {
-            return self.behind_operator(cursor, frames, operand, op);
-        }
-        if closes_list(&word) {
-            return self.behind_paren(cursor, frames, operand, &word);
-        }
-        self.behind_whole(cursor, frames, operand, end, &word)
-    }
-
+    // The operand behind an operator that follows one.
     fn behind_operator(
         &self,
         cursor: &mut Cursor,
         frames: &mut Vec<Frame>,
         operand: Expr,
         op: TwoOp,
-    ) -> Result<Behind, ParseFault>
+    ) -> Result<Expr, ParseFault>
         requires { next_word self.now cursor.old ≡ Some (Word.Two op) }
         ensures onward { GoesOn self.now cursor.old cursor.new result }
-        ensures reads { (m : machine.Mark) (k : Expression → Goal) → Reads self.now cursor.old cursor.new (Operator (expression_of operand) (frames_of frames.old.items) m k) result (behind_operand (frames_of frames.new.items) m k) }
+        ensures reads { (m : machine.Mark) (k : Expression → Goal) → Reads self.now cursor.old cursor.new (Operator (expression_of operand) (frames_of frames.old.items) m k) result (λ e. Operator (expression_of e) (frames_of frames.new.items) m k) }
     {
         let follows = operate(self.alloc, operand, frames, op)?;
         if !follows {
             return Err(self.unexpected(cursor).into());
         }
         self.advance(cursor, &Word::Two(op))?;
-        Ok(Behind::Operator)
+        self.operand(cursor, frames)
     }
 
+    // The operand that a closing parenthesis makes.
     fn behind_paren(
         &self,
         cursor: &mut Cursor,
         frames: &mut Vec<Frame>,
         operand: Expr,
         word: &Word,
-    ) -> Result<Behind, ParseFault>
+    ) -> Result<Expr, ParseFault>
         requires next { next_word self.now cursor.old ≡ Some word.now }
         requires closes { closes_list word.now ≡ true }
         ensures onward { GoesOn self.now cursor.old cursor.new result }
-        ensures reads { (m : machine.Mark) (k : Expression → Goal) → Reads self.now cursor.old cursor.new (Operator (expression_of operand) (frames_of frames.old.items) m k) result (behind_operand (frames_of frames.new.items) m k) }
+        ensures reads { (m : machine.Mark) (k : Expression → Goal) → Reads self.now cursor.old cursor.new (Operator (expression_of operand) (frames_of frames.old.items) m k) result (λ e. Operator (expression_of e) (frames_of frames.new.items) m k) }
     {
         let ends = collapse(self.alloc, operand, frames)?;
         if !ends.opened {
             return Err(self.unexpected(cursor).into());
         }
         self.advance(cursor, word)?;
-        Ok(Behind::Enclosed(ends.operand))
+        Ok(ends.operand)
     }
 
+    // The expression that a mark ends.
     fn behind_whole(
         &self,
         cursor: &mut Cursor,
@@ -163,12 +135,12 @@ impl<'a> Parser<'a> {
         operand: Expr,
         end: Mark,
         word: &Word,
-    ) -> Result<Behind, ParseFault>
+    ) -> Result<Expr, ParseFault>
         requires next { next_word self.now cursor.old ≡ Some word.now }
         requires no_operator { operator_in word.now ≡ None }
         requires no_paren { closes_list word.now ≡ false }
         ensures onward { GoesOn self.now cursor.old cursor.new result }
-        ensures reads { (k : Expression → Goal) → Reads self.now cursor.old cursor.new (Operator (expression_of operand) (frames_of frames.old.items) (mark_of end) k) result (behind_operand (frames_of frames.new.items) (mark_of end) k) }
+        ensures reads { (k : Expression → Goal) → Reads self.now cursor.old cursor.new (Operator (expression_of operand) (frames_of frames.old.items) (mark_of end) k) result (λ e. k (expression_of e)) }
     {
         let ends = collapse(self.alloc, operand, frames)?;
         if ends.opened {
@@ -178,48 +150,57 @@ impl<'a> Parser<'a> {
             return Err(self.unexpected(cursor).into());
         }
         self.advance(cursor, word)?;
-        Ok(Behind::Whole(ends.operand))
+        Ok(ends.operand)
     }
 }
 
-// What the word is at an operand's place, and None where it can't stand there.
-fn front_of(alloc: Global, word: &Word, frames: &[Frame]) -> Result<Option<Front>, NoMemory>
+// The operand that a word is, and None where it is none.
+fn atom_of(alloc: Global, word: &Word) -> Result<Option<Expr>, NoMemory>
     requires { (n : ℕ) → word.now ≡ Word.Number n → n ≤ MOST_NUMBER }
-    ensures { IfOk result (λ begins. Begins begins (frames_of frames.now) word.now) }
+    ensures { IfOk result (λ atom. option_map expression_of atom ≡ atom_in word.now) }
 {
     match word {
-        Word::Number(n) => Ok(Some(Front::Atom(Expr::Number(*n as i64)))),
-        Word::Text(text) => text_front(alloc, text),
-        Word::None => Ok(Some(Front::Atom(Expr::None))),
-        Word::Name(name) => Ok(Some(Front::Atom(Expr::Var(*name)))),
-        Word::OpenParen => Ok(Some(Front::Prefix(Frame::Opened))),
-        Word::Two(op) => Ok(sign_front(*op)),
-        Word::Not => Ok(not_front(frames)),
+        Word::Number(n) => Ok(Some(Expr::Number(*n as i64))),
+        Word::Text(text) => text_atom(alloc, text),
+        Word::None => Ok(Some(Expr::None)),
+        Word::Name(name) => Ok(Some(Expr::Var(*name))),
         _ => Ok(None),
     }
 }
 
-fn text_front(alloc: Global, text: &Quoted) -> Result<Option<Front>, NoMemory>
-    ensures { IfOk result (λ begins. (fs : List machine.Frame) → Begins begins fs (Word.Text text.now)) }
+fn text_atom(alloc: Global, text: &Quoted) -> Result<Option<Expr>, NoMemory>
+    ensures { IfOk result (λ atom. option_map expression_of atom ≡ atom_in (Word.Text text.now)) }
 {
     let text = Expr::text(alloc, text.text())?;
-    Ok(Some(Front::Atom(text)))
+    Ok(Some(text))
 }
 
-fn sign_front(op: TwoOp) -> Option<Front>
-    ensures { (fs : List machine.Frame) → Begins result fs (Word.Two op) }
+// The frame that a word opens before an operand, and None where it opens none.
+fn opened_by(word: &Word, frames: &[Frame]) -> Option<Frame>
+    ensures { Opens result (frames_of frames.now) word.now }
 {
-    match op {
-        TwoOp::Subtract => Some(Front::Prefix(Frame::Negated)),
+    match word {
+        Word::OpenParen => Some(Frame::Opened),
+        Word::Two(op) => opened_by_sign(*op),
+        Word::Not => opened_by_not(frames),
         _ => None,
     }
 }
 
-fn not_front(frames: &[Frame]) -> Option<Front>
-    ensures { Begins result (frames_of frames.now) Word.Not }
+fn opened_by_sign(op: TwoOp) -> Option<Frame>
+    ensures { (fs : List machine.Frame) → Opens result fs (Word.Two op) }
+{
+    match op {
+        TwoOp::Subtract => Some(Frame::Negated),
+        _ => None,
+    }
+}
+
+fn opened_by_not(frames: &[Frame]) -> Option<Frame>
+    ensures { Opens result (frames_of frames.now) Word.Not }
 {
     if takes_not(frames) {
-        Some(Front::Prefix(Frame::Inverted))
+        Some(Frame::Inverted)
     } else {
         None
     }

@@ -1,6 +1,6 @@
 //! The frames that wait for an operand, and how an operator fits into them.
 
-ghost use Rattle.std.specs.Prelude.{◌≡◌, true, false, None, Some, nat_le, IfOk};
+ghost use Rattle.std.specs.Prelude.{◌≡◌, ◌∷◌, true, false, None, Some, nat_le, IfOk};
 ghost use Rattle.coco_ast.specs.Views.{expression_of};
 ghost use Rattle.coco_ast.specs.Tree.{Expression};
 ghost use Rattle.coco_parse.specs.Machine.{Left, operate, wants, binding};
@@ -17,7 +17,7 @@ pub(crate) enum Frame {
     Opened,
     Inverted,
     Negated,
-    Left(TwoOp, Expr),
+    Left(TwoOp, Box<Expr>),
 }
 
 // An operator behind an operand in a frame: it takes the operand, it can't follow, or the frame
@@ -43,15 +43,24 @@ pub(crate) fn operate(
         match frame.fit(op) {
             Fit::Within => {
                 frames.push(frame)?;
-                frames.push(Frame::Left(op, operand))?;
+                wait(alloc, operand, frames, op)?;
                 return Ok(true);
             }
             Fit::Apart => return Ok(false),
             Fit::Around => operand = frame.around(alloc, operand)?,
         }
     }
-    frames.push(Frame::Left(op, operand))?;
+    wait(alloc, operand, frames, op)?;
     Ok(true)
+}
+
+// An operand waits on the left of its operator. It is boxed at once, so that frames are small.
+fn wait(alloc: Global, operand: Expr, frames: &mut Vec<Frame>, op: TwoOp) -> Result<(), NoMemory>
+    ensures { IfOk result (λ _. frames_of frames.new.items ≡ Left op (expression_of operand) ∷ frames_of frames.old.items) }
+{
+    let left = Box::new(alloc, operand)?;
+    frames.push(Frame::Left(op, left))?;
+    Ok(())
 }
 
 // The operand that ends where a parenthesis closes or where the expression ends, and whether a
@@ -117,7 +126,10 @@ impl Frame {
             Frame::Opened => Ok(operand),
             Frame::Inverted => Expr::not(alloc, operand),
             Frame::Negated => Expr::negate(alloc, operand),
-            Frame::Left(op, left) => Expr::two(alloc, op, left, operand),
+            Frame::Left(op, left) => {
+                let right = Box::new(alloc, operand)?;
+                Ok(Expr::Two { op, left, right })
+            }
         }
     }
 }

@@ -20,4 +20,4 @@ pub returns-clause-reads : goal.returns-clause-reads
 returns-clause-reads c m k s =
     let p = c.args.self.now in let e = expression_of c.args.operand in let fs = frames_of c.args.frames.now.items in
     let gs = frames_of c.operate.new.frames.items in
-    c.in_ok-advance.ensures.reads (Operator e fs m k) (Operand gs m k) (operator_some e fs gs m k c.args.op (follows_some _ _ _ c.if-not-follows.false c.in_ok-follows.ensures)) s
+    c.operand.ensures.reads m k (c.in_ok-advance.ensures.reads (Operator e fs m k) (Operand gs m k) (operator_some e fs gs m k c.args.op (follows_some _ _ _ c.if-not-follows.false c.in_ok-follows.ensures)) s)

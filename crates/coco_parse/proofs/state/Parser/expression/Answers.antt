@@ -1,7 +1,8 @@
 use Rattle.std.proofs.Common.{sym, subst, arith}
-use Rattle.coco_parse.specs.Machine.{Operand}
-use Rattle.coco_parse.specs.Steps.{Stands, frames_of, mark_of, behind_operand}
-use Rattle.coco_parse.proofs.Steps.{exit_same}
+use Rattle.coco_ast.specs.Views.{expression_of}
+use Rattle.coco_parse.specs.Machine.{Operand, Operator}
+use Rattle.coco_parse.specs.Steps.{Stands, frames_of, mark_of}
+use Rattle.coco_parse.proofs.Steps.{stops_end, exit_same, faulty}
 use Rattle.coco_parse.proofs.state.Parser.expression.Goals as goal
 
 pub returns-in_err-operand-clause-reads : goal.returns-in_err-operand-clause-reads
@@ -10,37 +11,36 @@ returns-in_err-operand-clause-reads c k s =
     let here = subst (λ fs. Stands c.args.self.now c.args.cursor.now (Operand (frames_of fs) m k)) (sym c.new-frames.ensures.items) s in
     exit_same _ _ _ _ c.from_residual.ensures.1 (c.in_err-operand.ensures.reads m k here)
 
-pub loop-frames-init : goal.loop-frames-init
-loop-frames-init c = record {
+pub loop-word-init : goal.loop-word-init
+loop-word-init c = record {
   onward = c.in_ok-operand.ensures.onward;
   reads = λ k s.
       let m = mark_of c.args.end in
       c.in_ok-operand.ensures.reads m k (subst (λ fs. Stands c.args.self.now c.args.cursor.now (Operand (frames_of fs) m k)) (sym c.new-frames.ensures.items) s);
 }
 
-pub returns-in_err-behind-clause-reads : goal.returns-in_err-behind-clause-reads
-returns-in_err-behind-clause-reads c k s = exit_same _ _ _ _ c.from_residual-in_err-behind.ensures.1 (c.in_err-behind.ensures.reads k (c.loop-frames.invariant.reads k s))
+pub returns-in_default-clause-reads : goal.returns-in_default-clause-reads
+returns-in_default-clause-reads c k s =
+    let e = expression_of c.loop-word.operand in let fs = frames_of c.loop-word.frames.items in
+    faulty c.args.self.now _ _ c.into.ensures (c.unexpected.ensures (Operator e fs (mark_of c.args.end) k) (c.loop-word.invariant.reads k s) (stops_end _ _ (sym c.in_default.ensures.word) (λ i. cc i.2)))
 
-pub returns-in-Whole-clause-reads : goal.returns-in-Whole-clause-reads
-returns-in-Whole-clause-reads c k s = subst (λ b. Stands c.args.self.now c.behind.new.cursor (behind_operand (frames_of c.behind.new.frames.items) (mark_of c.args.end) k b)) c.in-Whole.is (c.in_ok-behind.ensures.reads k (c.loop-frames.invariant.reads k s))
+pub returns-in_err-operand-2-clause-reads : goal.returns-in_err-operand-2-clause-reads
+returns-in_err-operand-2-clause-reads c k s = exit_same _ _ _ _ c.from_residual-in_err-operand-2.ensures.1 (c.in_err-operand-2.ensures.reads (mark_of c.args.end) k (c.loop-word.invariant.reads k s))
 
-pub returns-in_err-operand-in-Operator-clause-reads : goal.returns-in_err-operand-in-Operator-clause-reads
-returns-in_err-operand-in-Operator-clause-reads c k s =
-    let m = mark_of c.args.end in
-    let next = subst (λ b. Stands c.args.self.now c.behind.new.cursor (behind_operand (frames_of c.behind.new.frames.items) m k b)) c.in-Operator.is (c.in_ok-behind.ensures.reads k (c.loop-frames.invariant.reads k s)) in
-    exit_same _ _ _ _ c.from_residual-in_err-operand-in-Operator.ensures.1 (c.in_err-operand-in-Operator.ensures.reads m k next)
-
-pub loop-frames-preserved-in-Operator : goal.loop-frames-preserved-in-Operator
-loop-frames-preserved-in-Operator c = record {
-  onward = let h = c.loop-frames.invariant.onward in let i = c.in_ok-behind.ensures.onward in let j = c.in_ok-operand-in-Operator.ensures.onward in omega arith;
-  reads = λ k s.
-      let m = mark_of c.args.end in
-      let next = subst (λ b. Stands c.args.self.now c.behind.new.cursor (behind_operand (frames_of c.behind.new.frames.items) m k b)) c.in-Operator.is (c.in_ok-behind.ensures.reads k (c.loop-frames.invariant.reads k s)) in
-      c.in_ok-operand-in-Operator.ensures.reads m k next;
+pub loop-word-preserved-in-Some-operator : goal.loop-word-preserved-in-Some-operator
+loop-word-preserved-in-Some-operator c = record {
+  onward = let h = c.loop-word.invariant.onward in let i = c.in_ok-operand-2.ensures.onward in omega arith;
+  reads = λ k s. c.in_ok-operand-2.ensures.reads (mark_of c.args.end) k (c.loop-word.invariant.reads k s);
 }
 
-pub loop-frames-preserved : goal.loop-frames-preserved
-loop-frames-preserved c = record {
-  onward = let h = c.loop-frames.invariant.onward in let i = c.in_ok-behind.ensures.onward in omega arith;
-  reads = λ k s. subst (λ b. Stands c.args.self.now c.behind.new.cursor (behind_operand (frames_of c.behind.new.frames.items) (mark_of c.args.end) k b)) c.in-Enclosed.is (c.in_ok-behind.ensures.reads k (c.loop-frames.invariant.reads k s));
+pub returns-in_err-operand-3-clause-reads : goal.returns-in_err-operand-3-clause-reads
+returns-in_err-operand-3-clause-reads c k s = exit_same _ _ _ _ c.from_residual-in_err-operand-3.ensures.1 (c.in_err-operand-3.ensures.reads (mark_of c.args.end) k (c.loop-word.invariant.reads k s))
+
+pub loop-word-preserved : goal.loop-word-preserved
+loop-word-preserved c = record {
+  onward = let h = c.loop-word.invariant.onward in let i = c.in_ok-operand-3.ensures.onward in omega arith;
+  reads = λ k s. c.in_ok-operand-3.ensures.reads (mark_of c.args.end) k (c.loop-word.invariant.reads k s);
 }
+
+pub returns-else-closes_list-clause-reads : goal.returns-else-closes_list-clause-reads
+returns-else-closes_list-clause-reads c k s = c.behind_whole.ensures.reads k (c.loop-word.invariant.reads k s)

@@ -1,30 +1,32 @@
-use Rattle.std.proofs.Common.{sym, ap, ◌∙◌, subst, arith}
+use Rattle.std.proofs.Common.{◌∷◌, None, Some, sym, ap, ◌∙◌, subst, arith}
 use Rattle.coco_parse.specs.Machine.{Operand}
-use Rattle.coco_parse.specs.Steps.{Stands, frames_of, behind_front}
+use Rattle.coco_parse.specs.Steps.{Stands, Opens, frame_of, frames_of}
 use Rattle.coco_parse.proofs.Choices.{frames_push}
-use Rattle.coco_parse.proofs.Steps.{exit_same}
+use Rattle.coco_parse.proofs.Steps.{stops_end, exit_refused, faulty}
 use Rattle.coco_parse.proofs.state.Parser.operand.Goals as goal
 
-pub returns-in_err-front-clause-reads : goal.returns-in_err-front-clause-reads
-returns-in_err-front-clause-reads c m k s =
-    let p = c.args.self.now in
-    let here = subst (λ fs. Stands p c.loop-front.cursor (Operand (frames_of fs) m k)) (sym c.deref.ensures.value) (c.loop-front.invariant.reads m k s) in
-    exit_same _ _ _ _ c.from_residual.ensures.1 (c.in_err-front.ensures.reads m k here)
+pub returns-in_default-clause-reads : goal.returns-in_default-clause-reads
+returns-in_default-clause-reads c m k s = faulty c.args.self.now _ _ c.into.ensures (c.unexpected.ensures (Operand (frames_of c.loop-word.frames.items) m k) (c.loop-word.invariant.reads m k s) (stops_end _ _ (sym c.in_default.ensures.word) (λ i. cc i.2)))
 
-pub returns-in-Atom-clause-reads : goal.returns-in-Atom-clause-reads
-returns-in-Atom-clause-reads c m k s =
-    let p = c.args.self.now in
-    let here = subst (λ fs. Stands p c.loop-front.cursor (Operand (frames_of fs) m k)) (sym c.deref.ensures.value) (c.loop-front.invariant.reads m k s) in
-    let there = subst (λ fs. Stands p c.front.new.cursor (behind_front c.in_ok-front.front (frames_of fs) m k)) c.deref.ensures.value (c.in_ok-front.ensures.reads m k here) in
-    subst (λ f. Stands p c.front.new.cursor (behind_front f (frames_of c.loop-front.frames.items) m k)) c.in-Atom.is there
+pub returns-in_default-opened_by-clause-reads : goal.returns-in_default-opened_by-clause-reads
+returns-in_default-opened_by-clause-reads c m k s =
+    let opens = subst (λ fs. Opens None (frames_of fs) c.in-Some.word) c.deref.ensures.value c.in_default-opened_by.ensures in
+    c.atom.ensures.reads (frames_of c.loop-word.frames.items) m k opens (c.loop-word.invariant.reads m k s)
 
-pub loop-front-preserved : goal.loop-front-preserved
-loop-front-preserved c = record {
-  onward = let h = c.loop-front.invariant.onward in let i = c.in_ok-front.ensures.onward in omega arith;
+pub returns-in_err-advance-clause-reads : goal.returns-in_err-advance-clause-reads
+returns-in_err-advance-clause-reads c m k s =
+    let fs = frames_of c.loop-word.frames.items in
+    let f = c.in-Some-opened_by.frame in
+    let opens = subst (λ gs. Opens (Some f) (frames_of gs) c.in-Some.word) c.deref.ensures.value c.in-Some-opened_by.ensures in
+    exit_refused _ _ c.args.self.now _ c.from_residual.ensures.1 (c.in_err-advance.ensures.reads (Operand fs m k) (Operand (frame_of f ∷ fs) m k) (opens m k) (c.loop-word.invariant.reads m k s))
+
+pub loop-word-preserved : goal.loop-word-preserved
+loop-word-preserved c = record {
+  onward = let h = c.loop-word.invariant.onward in let i = c.in_ok-advance.ensures.onward in omega arith;
   reads = λ m k s.
-      let p = c.args.self.now in
-      let here = subst (λ fs. Stands p c.loop-front.cursor (Operand (frames_of fs) m k)) (sym c.deref.ensures.value) (c.loop-front.invariant.reads m k s) in
-      let there = subst (λ fs. Stands p c.front.new.cursor (behind_front c.in_ok-front.front (frames_of fs) m k)) c.deref.ensures.value (c.in_ok-front.ensures.reads m k here) in
-      let next = subst (λ f. Stands p c.front.new.cursor (behind_front f (frames_of c.loop-front.frames.items) m k)) c.in-Prefix.is there in
-      subst (λ gs. Stands p c.front.new.cursor (Operand gs m k)) (sym (ap frames_of c.in_ok-push-in-Prefix.ensures.items ∙ frames_push c.loop-front.frames.items c.in-Prefix.frame)) next;
+      let fs = frames_of c.loop-word.frames.items in
+      let f = c.in-Some-opened_by.frame in
+      let opens = subst (λ gs. Opens (Some f) (frames_of gs) c.in-Some.word) c.deref.ensures.value c.in-Some-opened_by.ensures in
+      let next = c.in_ok-advance.ensures.reads (Operand fs m k) (Operand (frame_of f ∷ fs) m k) (opens m k) (c.loop-word.invariant.reads m k s) in
+      subst (λ gs. Stands c.args.self.now c.advance.new.cursor (Operand gs m k)) (sym (ap frames_of c.in_ok-push.ensures.items ∙ frames_push c.loop-word.frames.items f)) next;
 }
