@@ -1,5 +1,5 @@
 -- What the tokens of a text stand for, without their places.
-use Rattle.std.specs.Prelude.{ℕ, ◌-◌, if◌then◌else◌, nat_eq, List, [], ◌∷◌, take, drop, map, codes}
+use Rattle.std.specs.Prelude.{ℕ, ◌-◌, if◌then◌else◌, nat_eq, List, [], ◌∷◌, length, take, drop, map, codes}
 use Rattle.std.specs.Cmp.Lexicographic.{pointwise}
 use Rattle.std.specs.Str.Parse.{digits_value}
 use Rattle.coco_ast.specs.declared.tree.TwoOp.TheVariants.{Add, Subtract, Multiply, Divide, Remainder, Equal, NotEqual, Less, AtMost, Greater, AtLeast, And, Or}
@@ -28,6 +28,11 @@ symbol_words =
 abbrev pub spelled_by : List (List ℕ × Word) → List ℕ → Word
 spelled_by [] bytes = None
 spelled_by (row ∷ rows) bytes = if pointwise nat_eq row.0 bytes then row.1 else spelled_by rows bytes
+
+-- those with so many bytes
+abbrev pub of_length : ℕ → List (List ℕ × Word) → List (List ℕ × Word)
+of_length n [] = []
+of_length n (row ∷ rows) = if nat_eq (length row.0) n then row ∷ of_length n rows else of_length n rows
 
 abbrev pub word_in : TokenKind → List ℕ → Word
 word_in kind.Keyword bytes = spelled_by keyword_words bytes

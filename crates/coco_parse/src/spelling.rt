@@ -7,7 +7,7 @@ ghost use Rattle.coco_ast.specs.Words.{is_word};
 ghost use Rattle.coco_lex.specs.Lexeme.{IsDigits};
 ghost use Rattle.coco_parse.specs.Counting.{number_in};
 ghost use Rattle.coco_parse.specs.Readable.{IsReadable};
-ghost use Rattle.coco_parse.specs.Wording.{word_of, keyword_words, symbol_words, spelled_by};
+ghost use Rattle.coco_parse.specs.Wording.{word_of, keyword_words, symbol_words, spelled_by, of_length};
 
 use crate::quoted::Quoted;
 use crate::word::Word;
@@ -31,43 +31,81 @@ pub(crate) fn word_of(text: &[u8], token: Token) -> Word<'_>
     }
 }
 
-// One test after the other, since the branches of a match with so many spellings are too many for a proof.
+// By length, since the branches of one match with so many spellings are too many for a proof. Those
+// of six bytes are too many already.
 fn keyword_word<'a>(bytes: &[u8]) -> Word<'a>
     ensures spelled { result ≡ spelled_by keyword_words bytes.now }
     ensures no_number { number_in result ≡ None }
 {
-    if is(b"table", bytes) {
-        Word::Table
-    } else if is(b"proc", bytes) {
-        Word::Proc
-    } else if is(b"let", bytes) {
-        Word::Let
-    } else if is(b"get", bytes) {
-        Word::Get
-    } else if is(b"put", bytes) {
-        Word::Put
-    } else if is(b"delete", bytes) {
+    match bytes.len() {
+        2 => keyword_of_two(bytes),
+        3 => keyword_of_three(bytes),
+        4 => keyword_of_four(bytes),
+        5 => keyword_of_five(bytes),
+        6 => keyword_of_six(bytes),
+        _ => Word::None,
+    }
+}
+
+fn keyword_of_two<'a>(bytes: &[u8]) -> Word<'a>
+    ensures spelled { result ≡ spelled_by (of_length 2 keyword_words) bytes.now }
+    ensures no_number { number_in result ≡ None }
+{
+    match bytes {
+        b"if" => Word::If,
+        b"as" => Word::As,
+        b"or" => Word::Two(TwoOp::Or),
+        _ => Word::None,
+    }
+}
+
+fn keyword_of_three<'a>(bytes: &[u8]) -> Word<'a>
+    ensures spelled { result ≡ spelled_by (of_length 3 keyword_words) bytes.now }
+    ensures no_number { number_in result ≡ None }
+{
+    match bytes {
+        b"let" => Word::Let,
+        b"get" => Word::Get,
+        b"put" => Word::Put,
+        b"not" => Word::Not,
+        b"and" => Word::Two(TwoOp::And),
+        _ => Word::None,
+    }
+}
+
+fn keyword_of_four<'a>(bytes: &[u8]) -> Word<'a>
+    ensures spelled { result ≡ spelled_by (of_length 4 keyword_words) bytes.now }
+    ensures no_number { number_in result ≡ None }
+{
+    match bytes {
+        b"else" => Word::Else,
+        b"none" => Word::None,
+        b"proc" => Word::Proc,
+        _ => Word::None,
+    }
+}
+
+fn keyword_of_five<'a>(bytes: &[u8]) -> Word<'a>
+    ensures spelled { result ≡ spelled_by (of_length 5 keyword_words) bytes.now }
+    ensures no_number { number_in result ≡ None }
+{
+    match bytes {
+        b"reply" => Word::Reply,
+        b"table" => Word::Table,
+        _ => Word::None,
+    }
+}
+
+fn keyword_of_six<'a>(bytes: &[u8]) -> Word<'a>
+    ensures spelled { result ≡ spelled_by (of_length 6 keyword_words) bytes.now }
+    ensures no_number { number_in result ≡ None }
+{
+    if is(b"delete", bytes) {
         Word::Delete
-    } else if is(b"if", bytes) {
-        Word::If
-    } else if is(b"else", bytes) {
-        Word::Else
     } else if is(b"repeat", bytes) {
         Word::Repeat
-    } else if is(b"as", bytes) {
-        Word::As
     } else if is(b"refuse", bytes) {
         Word::Refuse
-    } else if is(b"reply", bytes) {
-        Word::Reply
-    } else if is(b"none", bytes) {
-        Word::None
-    } else if is(b"not", bytes) {
-        Word::Not
-    } else if is(b"and", bytes) {
-        Word::Two(TwoOp::And)
-    } else if is(b"or", bytes) {
-        Word::Two(TwoOp::Or)
     } else {
         Word::None
     }
