@@ -163,7 +163,7 @@ fn atom_of(alloc: Global, word: &Word) -> Result<Option<Expr>, NoMemory>
         Word::Number(n) => Ok(Some(Expr::Number(*n as i64))),
         Word::Text(text) => text_atom(alloc, text),
         Word::None => Ok(Some(Expr::None)),
-        Word::Name(name) => Ok(Some(Expr::Var(*name))),
+        Word::Name(name) => Ok(Some(Expr::Var(name.name()))),
         _ => Ok(None),
     }
 }

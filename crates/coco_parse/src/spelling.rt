@@ -3,15 +3,15 @@
 ghost use Rattle.std.specs.Prelude.{◌≡◌, ℕ, ◌≤◌, true, None, nat_eq};
 ghost use Rattle.std.specs.Cmp.Lexicographic.{pointwise};
 ghost use Rattle.std.specs.Str.Parse.{digits_value};
-ghost use Rattle.coco_ast.specs.Words.{is_word};
 ghost use Rattle.coco_lex.specs.Lexeme.{IsDigits};
 ghost use Rattle.coco_parse.specs.Counting.{number_in};
 ghost use Rattle.coco_parse.specs.Readable.{IsReadable};
 ghost use Rattle.coco_parse.specs.Wording.{word_of, keyword_words, symbol_words, spelled_by, of_length};
 
 use crate::quoted::Quoted;
+use crate::spelled::Spelled;
 use crate::word::Word;
-use coco_ast::{Name, TwoOp};
+use coco_ast::TwoOp;
 use coco_lex::{MOST_NUMBER, Token, TokenKind};
 use std::str::from_utf8;
 
@@ -25,7 +25,7 @@ pub(crate) fn word_of(text: &[u8], token: Token) -> Word<'_>
     match token.kind {
         TokenKind::Keyword => keyword_word(bytes),
         TokenKind::Symbol => symbol_word(bytes),
-        TokenKind::Name => name_word(bytes),
+        TokenKind::Name => Word::Name(Spelled::of(bytes)),
         TokenKind::Number => number_word(bytes),
         TokenKind::Text => Word::Text(Quoted::of(bytes)),
     }
@@ -143,16 +143,6 @@ fn symbol_word<'a>(bytes: &[u8]) -> Word<'a>
         b"/" => Word::Two(TwoOp::Divide),
         b"%" => Word::Two(TwoOp::Remainder),
         _ => Word::None,
-    }
-}
-
-fn name_word<'a>(bytes: &[u8]) -> Word<'a>
-    requires { is_word bytes.now ≡ true }
-    ensures { result ≡ Word.Name bytes.now }
-{
-    match Name::of(bytes) {
-        Some(name) => Word::Name(name),
-        None => unreachable!(),
     }
 }
 

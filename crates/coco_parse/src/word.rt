@@ -4,6 +4,7 @@ ghost use Rattle.std.specs.Prelude.{◌≡◌};
 ghost use Rattle.coco_parse.specs.Counting.{name_in, number_in, operator_in};
 
 use crate::quoted::Quoted;
+use crate::spelled::Spelled;
 use coco_ast::{Name, TwoOp};
 
 /// A token without its place. `Two` is an operator with two operands; `Two(TwoOp::Subtract)` also
@@ -24,7 +25,7 @@ pub enum Word<'a> {
     Reply,
     None,
     Not,
-    Name(Name),
+    Name(Spelled<'a>),
     Number(u64),
     Text(Quoted<'a>),
     Two(TwoOp),
@@ -44,7 +45,7 @@ impl<'a> Word<'a> {
         ensures { result ≡ name_in self.now }
     {
         match self {
-            Word::Name(name) => Some(*name),
+            Word::Name(name) => Some(name.name()),
             _ => None,
         }
     }
