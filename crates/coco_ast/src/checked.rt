@@ -3,17 +3,15 @@
 ghost use Rattle.std.specs.Prelude.{◌≡◌, ℕ, ◌≤◌, IfOk, IfSome, slice_get, length};
 ghost use Rattle.std.specs.Option.{option_map};
 ghost use Rattle.coco_types.specs.Limits.{most_arguments};
-ghost use Rattle.coco_ast.specs.Builtins as trees;
 ghost use Rattle.coco_ast.specs.Checks.{IsAccepted};
 ghost use Rattle.coco_ast.specs.Fitting.{any_writes, writes_in};
 ghost use Rattle.coco_ast.specs.Meaning.{procedure_at};
 ghost use Rattle.coco_ast.specs.Numbering.{IsNamed};
-ghost use Rattle.coco_ast.specs.Plans.{IsPlanFor};
+ghost use Rattle.coco_ast.specs.Plans.{ArePlansOf, IsPlanFor};
 ghost use Rattle.coco_ast.specs.Views.{procedure_of, procedures_of, statement_of, statements_of};
 
 use crate::index::{Numbers, numbers_of};
-use crate::planning::plans_of;
-use crate::{Name, Plan, Plans, Proc, Procs, Stmt, builtins};
+use crate::{Name, Plan, Plans, Proc, Procs, Stmt};
 use coco_types::NoMemory;
 use std::alloc::Global;
 use std::marker::Model;
@@ -45,26 +43,18 @@ impl Model for Checked {
 }
 
 impl Checked {
-    /// An accepted tree.
-    pub fn of(alloc: Global, tree: Procs) -> Result<Checked, NoMemory>
-        requires { IsAccepted (procedures_of tree) }
+    /// An accepted tree with the plans of its procedures.
+    pub fn of(alloc: Global, tree: Procs, plans: Plans) -> Result<Checked, NoMemory>
+        requires accepted { IsAccepted (procedures_of tree) }
+        requires plans { ArePlansOf (procedures_of tree).procs plans.items }
         ensures { IfOk result (λ c. c ≡ procedures_of tree) }
     {
         let numbers = numbers_of(alloc, tree.procs.as_slice())?;
-        let plans = plans_of(alloc, &tree)?;
         Ok(Checked {
             procs: tree,
             numbers,
             plans,
         })
-    }
-
-    /// The built-in procedures alone.
-    pub fn built_in(alloc: Global) -> Result<Checked, NoMemory>
-        ensures { IfOk result (λ c. c ≡ trees.builtins) }
-    {
-        let tree = builtins(alloc)?;
-        Checked::of(alloc, tree)
     }
 
     pub fn tree(&self) -> &Procs

@@ -9,8 +9,8 @@ pub mod laws;
 pub mod literal;
 pub mod name;
 pub mod plan;
-mod planning;
-mod slots;
+pub mod planning;
+pub mod slots;
 pub mod tree;
 
 pub use builtin::builtins;
@@ -19,4 +19,5 @@ pub use error::{CheckError, CheckKind};
 pub use literal::Literal;
 pub use name::{MOST_NAME_BYTES, Name, continues_word, starts_word};
 pub use plan::{Plan, Plans, Spot, Step, Steps, Term};
+pub use slots::Slots;
 pub use tree::{Block, Expr, Names, Place, Proc, ProcList, Procs, Stmt, TwoOp};

@@ -1,8 +1,8 @@
 //! The slots of a procedure's variables, as they are given out.
 ghost use Rattle.std.specs.Prelude.{◌≡◌, ◌∷◌, ◌++◌, [], false, true, length, Some, IfOk, IfSome, OnOk, OnErr};
 ghost use Rattle.coco_ast.specs.Meaning.{place_of};
-ghost use Rattle.coco_ast.specs.Planning.{slot_for};
-ghost use Rattle.coco_ast.specs.Plans.{AreSlots, has_slot, with_name};
+ghost use Rattle.coco_ast.specs.Planning.{HasOwnNames, slot_for};
+ghost use Rattle.coco_ast.specs.Plans.{AreSlots, has_slot, with_name, with_names};
 ghost use Rattle.coco_ast.specs.Words.{is_word};
 
 use crate::{Name, Names};
@@ -13,7 +13,7 @@ use std::marker::Model;
 
 /// Names, each at a slot of its own, the slot of each, and the slot that was asked for last. Contracts see the names.
 #[derive(Drop)]
-pub(crate) struct Slots {
+pub struct Slots {
     numbers: BTreeMap<Name, usize>,
     names: Vec<Name>,
     last: usize,
@@ -31,7 +31,20 @@ impl Model for Slots {
 }
 
 impl Slots {
-    pub(crate) fn new(alloc: Global) -> Slots
+    /// The slots of a procedure's parameters, each at its place.
+    pub fn of(alloc: Global, params: &[Name]) -> Result<Slots, NoMemory>
+        requires { HasOwnNames params.now }
+        ensures own { IfOk result (λ s. s ≡ params.now) }
+        ensures named { IfOk result (λ s. s ≡ with_names [] params.now) }
+    {
+        let mut slots = Slots::new(alloc);
+        for name in params {
+            slots.slot(name)?;
+        }
+        Ok(slots)
+    }
+
+    fn new(alloc: Global) -> Slots
         ensures { result ≡ [] }
     {
         Slots {
@@ -42,7 +55,7 @@ impl Slots {
     }
 
     /// The slot of a name, which is added behind the others where it has none yet.
-    pub(crate) fn slot(&mut self, name: &Name) -> Result<usize, NoMemory>
+    pub fn slot(&mut self, name: &Name) -> Result<usize, NoMemory>
         ensures names { OnOk result (self.new ≡ with_name self.old name.now) }
         ensures slot { IfOk result (λ n. n ≡ place_of self.old name.now) }
         ensures err { OnErr result (self.new ≡ self.old) }
@@ -96,7 +109,8 @@ impl Slots {
         }
     }
 
-    pub(crate) fn into_names(self) -> Names
+    /// The name of each slot.
+    pub fn into_names(self) -> Names
         ensures value { result ≡ self }
         ensures slots { AreSlots result }
     {

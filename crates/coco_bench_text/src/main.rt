@@ -82,12 +82,16 @@ fn answer(
     let printed = print(alloc, &procs).map_err(no_memory)?;
     count(rt, &mut times.printed, &began)?;
     let began = Instant::now(rt)?;
-    if let Err(fault) = check(alloc, procs) {
-        return refused(rt, &fault);
-    }
+    // What was accepted is kept until the time has been taken: to give a tree back is no part of its check.
+    let checked = check(alloc, procs);
     count(rt, &mut times.check, &began)?;
-    print!(rt; "{printed}")?;
-    Ok(true)
+    match checked {
+        Ok(_) => {
+            print!(rt; "{printed}")?;
+            Ok(true)
+        }
+        Err(fault) => refused(rt, &fault),
+    }
 }
 
 fn refused(rt: &impl Print, fault: &impl Display) -> io::Result<bool> {

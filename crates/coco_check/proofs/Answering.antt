@@ -1,10 +1,12 @@
 -- What the loop over procedures answers, and what the answers to a tree follow from.
-use Rattle.std.proofs.Common.{◌≡◌, ℕ, suc, ◌+◌, ◌<◌, ◌⊎◌, inl, inr, not, List, [], ◌∷◌, length, map, get_or, drop, Option, None, Some, Err, refl, sym, ap, ◌∙◌, subst, arith, add-one, drop-cons}
+use Rattle.std.proofs.Common.{◌≡◌, ℕ, suc, ◌+◌, ◌<◌, ◌⊎◌, inl, inr, not, List, [], ◌∷◌, ◌++◌, length, map, get_or, drop, Option, None, Some, refl, sym, ap, ◌∙◌, subst, arith, add-one, drop-cons}
 use Rattle.std.specs.List.{All}
 use Rattle.std.proofs.lemmas.List.Elements.{All-cons, All-head, All-tail, All-nil}
 use Rattle.coco_ast.specs.declared.error.CheckError.{CheckError}
 use Rattle.coco_ast.specs.declared.tree.Proc.{Proc}
-use Rattle.coco_ast.specs.Tree.{Procedures}
+use Rattle.coco_ast.specs.Plans.{ArePlansOf}
+use Rattle.coco_ast.specs.Tree.{Procedure, Procedures}
+use Rattle.coco_ast.specs.declared.plan.Plan.{Plan}
 use Rattle.coco_ast.specs.Checks.{HasNoError, IsBehind, IsFirstError, kind_number}
 use Rattle.coco_ast.specs.declared.tree.Procs.{Procs}
 use Rattle.coco_ast.specs.Builtins.{builtins}
@@ -14,7 +16,7 @@ use Rattle.coco_check.specs.declared.fault.BodyFault.TheVariants as body
 use Rattle.coco_check.specs.declared.fault.CheckFault.{CheckFault}
 use Rattle.coco_check.specs.declared.fault.CheckFault.TheVariants.{Refused, NoMemory}
 use Rattle.coco_check.specs.Accepting.{OnRefused}
-use Rattle.coco_check.specs.Search.{Names, Fault, Finds, IsErrorFound, adding, built_in_names, error_before, fault_at, first_error, first_of_procedures, has, procedure_fault, with_name, with_names}
+use Rattle.coco_check.specs.Search.{Names, Fault, IsErrorFound, IsFaultFound, adding, built_in_names, built_in_tables, error_before, fault_at, first_error, first_of_procedures, has, procedure_fault, with_name, with_names}
 use Rattle.coco_check.proofs.FirstErrors.{IsFirstOrNone, first_or_none}
 
 pub all_mapped : {A B : Type 0} (P : B → Type 0) (f : A → B) (xs : List A) → All P (map f xs) → All (λ x. P (f x)) xs
@@ -30,11 +32,15 @@ front_of ts ns item procs i p within is =
     let parts : drop i procs ≡ p ∷ drop (i + 1) procs = rw add-one (drop-cons procs i p within ∙ ap (λ (q : Proc). q ∷ drop (suc i) procs) (sym is)) in
     ap (λ ps. first_of_procedures ts ns item (map procedure_of ps)) parts
 
-pub at_fault : (item : ℕ) (fault : BodyFault) (o : Option Fault) (r : Option CheckError) → Finds (Err fault) o → IsErrorFound (fault_at item fault) (error_before item o r)
+pub at_fault : (item : ℕ) (fault : BodyFault) (o : Option Fault) (r : Option CheckError) → IsFaultFound fault o → IsErrorFound (fault_at item fault) (error_before item o r)
 at_fault item (body.Refused n kind) o r h = ap (λ p. error_before item p r) h
 at_fault item body.NoMemory o r h = tt
 
--- ---- the built-in names
+-- ---- the built-in names and procedures
+
+-- nothing is wrong with the built-in procedures
+pub built_in_fine : (tables : Names) → tables ≡ built_in_tables → first_of_procedures tables [] 0 builtins.procs ≡ None
+built_in_fine tables is = ap (λ (ts : Names). first_of_procedures ts [] 0 builtins.procs) is
 
 names_mapped : (ps : List Proc) → map (λ p. p.name) ps ≡ map (λ q. q.name) (map procedure_of ps)
 names_mapped [] = refl
@@ -42,6 +48,13 @@ names_mapped (p ∷ ps) = ap (λ (l : Names). p.name ∷ l) (names_mapped ps)
 
 pub built_in_set : (first : Procs) → procedures_of first ≡ builtins → with_names [] (map (λ p. p.name) first.procs) ≡ built_in_names
 built_in_set first is = ap (with_names []) (names_mapped first.procs ∙ ap (λ (t : Procedures). map (λ q. q.name) t.procs) is)
+
+-- the plans of some procedures and those of others are the plans of both
+pub plans_append : (ps qs : List Procedure) (plans more : List Plan) → ArePlansOf ps plans → ArePlansOf qs more → ArePlansOf (ps ++ qs) (plans ++ more)
+plans_append [] qs [] more first second = second
+plans_append [] qs (plan ∷ plans) more first second = absurd first
+plans_append (p ∷ ps) qs [] more first second = absurd first
+plans_append (p ∷ ps) qs (plan ∷ plans) more first second = (first.0, plans_append ps qs plans more first.1 second)
 
 -- ---- answers
 

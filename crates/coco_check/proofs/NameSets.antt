@@ -1,11 +1,12 @@
 -- A set of names in order has the names of the list that it was made of.
-use Rattle.std.proofs.Common.{◌≡◌, ℕ, zero, suc, ◌+◌, ◌<◌, if◌then◌else◌, Bool, true, false, not, ◌&&◌, ◌||◌, nat_eq, List, [], ◌∷◌, ◌++◌, take, None, Some, slice_get, Result, Ok, Err, refl, sym, ap, ◌∙◌, arith, append_assoc, append-nil}
+use Rattle.std.proofs.Common.{◌≡◌, ℕ, zero, suc, ◌+◌, ◌<◌, if◌then◌else◌, Bool, true, false, not, ◌&&◌, ◌||◌, nat_eq, List, [], ◌∷◌, ◌++◌, take, None, Some, slice_get, Result, Ok, Err, refl, sym, ap, ◌∙◌, subst, arith, append_assoc, append-nil}
 use Rattle.std.specs.declared.cmp.Ordering.{Ordering}
 use Rattle.std.specs.declared.cmp.Ordering.TheVariants.{Less, Equal, Greater}
 use Rattle.std.specs.Ordering.{nat_cmp, is_eq, match_ordering}
 use Rattle.std.specs.Cmp.Lexicographic.{slice_cmp, pointwise, bytes_decides, texts_ties}
 use Rattle.std.proofs.lemmas.List.Folds.{list_any-append}
 use Rattle.coco_ast.specs.Checks.{is_among, has_unknown}
+use Rattle.coco_ast.specs.Planning.{HasOwnNames}
 use Rattle.coco_check.specs.Search.{Names, has, has_all, with_name, with_names, adding}
 
 abbrev same_text : List ℕ → List ℕ → Bool
@@ -124,3 +125,7 @@ pub adding_adds : (set before xs : Names) (i : ℕ) → Same set before → Adds
 adding_adds set before [] i same = (λ q. same q ∙ ap (λ (l : Names). is_among l q) (sym (append-nil before)), λ j h. let e : None ≡ Some h.0 = h.1 in cc)
 adding_adds set before (x ∷ xs) i same =
     adds_by before xs x set i (has set x) (sym (same x)) (adding_adds (with_name set x) (before ++ x ∷ []) xs (i + 1) (same_with_name set before x same))
+
+-- no name of a list that makes a set stands twice in it
+pub own_names : (xs set : Names) → adding [] 0 xs ≡ Ok set → HasOwnNames xs
+own_names xs set is = λ i twice. (subst (Adds [] xs 0) is (adding_adds [] [] xs 0 same_none)).1 i twice

@@ -2,7 +2,6 @@
 use Rattle.std.proofs.Common.{◌≡◌, ℕ, suc, ◌+◌, ◌<◌, List, [], ◌∷◌, ◌++◌, length, get_or, drop, Option, None, Some, Global, Result, Ok, Err, refl, sym, ap, ◌∙◌, add-one, drop-cons, append-nil}
 use Rattle.coco_ast.proofs.Trees.{statement-if, statement-if_else}
 use Rattle.coco_ast.specs.Checks.{Placed, in_order, and_within}
-use Rattle.coco_ast.specs.Tree.{Statement}
 use Rattle.coco_ast.specs.Views.{statement_of, statements_of}
 use Rattle.coco_ast.specs.declared.tree.Stmt.{Stmt}
 use Rattle.coco_ast.specs.declared.tree.Expr.{Expr}
@@ -12,7 +11,7 @@ use Rattle.coco_check.specs.declared.body.Body.{Body}
 use Rattle.coco_check.specs.declared.fault.BodyFault.{BodyFault}
 use Rattle.coco_check.specs.declared.fault.BodyFault.TheVariants.{Refused, NoMemory}
 use Rattle.coco_check.specs.Search.{Names, Walk, Fault, and_then, step, walk}
-use Rattle.coco_check.specs.Walking.{Follows}
+use Rattle.coco_check.specs.Walking.{Follows, StopsAt, within}
 
 and_then-and_then : (r : Result Walk Fault) (f g : Walk → Result Walk Fault) → and_then (and_then r f) g ≡ and_then r (λ v. and_then (f v) g)
 and_then-and_then (Ok w) f g = refl
@@ -35,10 +34,10 @@ pub walk_stops : (ts : Names) (w : Walk) (f : Fault) (xs ys : List Placed) → w
 walk_stops ts w f xs ys e = walk-append ts w xs ys ∙ ap (λ r. and_then r (λ u. walk ts u ys)) e
 
 -- what follows one walk follows another that ends in the same fault
-pub follows_fault : (r : Result (Unit {0}) BodyFault) (f : BodyFault) (a b : Body) (u w : Result Walk Fault) → r ≡ Err f
-    → ((e : Fault) → u ≡ Err e → w ≡ Err e) → Follows (Err f) a u → Follows r b w
-follows_fault r (Refused n kind) a b u w is same h = rw is (same (n, kind) h)
-follows_fault r NoMemory a b u w is same h = rw is tt
+pub follows_fault : {A : Type 0} (r : Result A BodyFault) (f : BodyFault) (new : Body) (u w : Result Walk Fault) → r ≡ Err f
+    → ((e : Fault) → u ≡ Err e → w ≡ Err e) → StopsAt f u → Follows r new w
+follows_fault r (Refused n kind) new u w is same h = rw is (same (n, kind) h)
+follows_fault r NoMemory new u w is same h = rw is tt
 
 -- the statements from a place of a block on
 pub order_from : (n : ℕ) (block : List Stmt) (i : ℕ) (s : Stmt) → i < length block → s ≡ get_or block i s
@@ -47,20 +46,13 @@ order_from n block i s within is =
     let parts : drop i block ≡ s ∷ drop (i + 1) block = rw add-one (drop-cons block i s within ∙ ap (λ (x : Stmt). x ∷ drop (suc i) block) (sym is)) in
     ap (λ ss. in_order n (statements_of ss)) parts
 
--- a step into a statement with two blocks, and the walk over the first of them
-pub walk_into : (ts : Names) (w v u : Walk) (s : Placed) (xs ys : List Placed) → step ts w s ≡ Ok v → walk ts v xs ≡ Ok u → walk ts w (s ∷ (xs ++ ys)) ≡ walk ts u ys
-walk_into ts w v u s xs ys entered walked = ap (λ r. and_then r (λ a. walk ts a (xs ++ ys))) entered ∙ walk_on ts v u xs ys walked
+-- the first block of an `if` stands first within it
+pub if_within : (n : ℕ) (test : Expr) (then_part : Vec Stmt Global) (else_part : Option (Vec Stmt Global))
+    → (behind : List Placed) × (within n (statement_of (If test then_part else_part)) ≡ in_order n (statements_of then_part.items) ++ behind)
+if_within n test then_part None = ([], rw (statement-if test then_part, append-nil) refl)
+if_within n test then_part (Some else_part) = (in_order n (statements_of else_part.items), rw (statement-if_else test then_part else_part) refl)
 
-pub walk_into_fault : (ts : Names) (w v : Walk) (f : Fault) (s : Placed) (xs ys : List Placed) → step ts w s ≡ Ok v → walk ts v xs ≡ Err f → walk ts w (s ∷ (xs ++ ys)) ≡ Err f
-walk_into_fault ts w v f s xs ys entered walked = ap (λ r. and_then r (λ a. walk ts a (xs ++ ys))) entered ∙ walk_stops ts v f xs ys walked
-
--- the first block of an `if` stands directly behind it
-pub if_order : (n : ℕ) (test : Expr) (then_part : Vec Stmt Global) (else_part : Option (Vec Stmt Global))
-    → (behind : List Placed) × (and_within n (statement_of (If test then_part else_part)) ≡ record { statement = statement_of (If test then_part else_part); around = n } ∷ (in_order n (statements_of then_part.items) ++ behind))
-if_order n test then_part None = ([], rw (statement-if test then_part, append-nil) refl)
-if_order n test then_part (Some else_part) = (in_order n (statements_of else_part.items), rw (statement-if_else test then_part else_part) refl)
-
-pub if_else_order : (n : ℕ) (test : Expr) (then_part else_part : Vec Stmt Global)
-    → and_within n (statement_of (If test then_part (Some else_part)))
-    ≡ record { statement = statement_of (If test then_part (Some else_part)); around = n } ∷ (in_order n (statements_of then_part.items) ++ in_order n (statements_of else_part.items))
-if_else_order n test then_part else_part = rw (statement-if_else test then_part else_part) refl
+pub if_else_within : (n : ℕ) (test : Expr) (then_part behind : Vec Stmt Global) (else_part : Option (Vec Stmt Global)) → else_part ≡ Some behind
+    → within n (statement_of (If test then_part else_part)) ≡ in_order n (statements_of then_part.items) ++ in_order n (statements_of behind.items)
+if_else_within n test then_part behind else_part is =
+    ap (λ (o : Option (Vec Stmt Global)). within n (statement_of (If test then_part o))) is ∙ ap (within n) (statement-if_else test then_part behind)

@@ -1,4 +1,5 @@
 pub mod Accepting
+pub mod Drafting
 pub mod Messages
 pub mod Search
 pub mod Walking

@@ -151,17 +151,20 @@ first_error t = error_behind t (adding built_in_tables 0 t.tables)
 
 -- ---- what a search answered, but for want of memory
 
-abbrev pub Finds : Result (Unit {0}) BodyFault → Option Fault → Type 0
-Finds (Ok u) found = found ≡ None
-Finds (Err (body.Refused n kind)) found = found ≡ Some (n, kind)
-Finds (Err body.NoMemory) found = Unit {0}
+abbrev pub IsFaultFound : BodyFault → Option Fault → Type 0
+IsFaultFound (body.Refused n kind) found = found ≡ Some (n, kind)
+IsFaultFound body.NoMemory found = Unit {0}
+
+abbrev pub Finds : {A : Type 0} → Result A BodyFault → Option Fault → Type 0
+Finds (Ok x) found = found ≡ None
+Finds (Err fault) found = IsFaultFound fault found
 
 abbrev pub IsErrorFound : CheckFault → Option CheckError → Type 0
 IsErrorFound (whole.Refused e) found = found ≡ Some e
 IsErrorFound whole.NoMemory found = Unit {0}
 
-abbrev pub FindsError : Result (Unit {0}) CheckFault → Option CheckError → Type 0
-FindsError (Ok u) found = found ≡ None
+abbrev pub FindsError : {A : Type 0} → Result A CheckFault → Option CheckError → Type 0
+FindsError (Ok x) found = found ≡ None
 FindsError (Err fault) found = IsErrorFound fault found
 
 -- the fault as one of an item

@@ -1,6 +1,8 @@
 -- What the check of a body leaves: how far it went, or the fault at which it stopped.
-use Rattle.std.specs.Prelude.{◌≡◌, ℕ, ◌+◌, List, Result, Ok, Err}
+use Rattle.std.specs.Prelude.{◌≡◌, ℕ, ◌+◌, List, drop, Result, Ok, Err}
 use Rattle.std.specs.BTreeSet.{BTreeSet}
+use Rattle.coco_ast.specs.Checks.{Placed, and_within}
+use Rattle.coco_ast.specs.Tree.{Statement}
 use Rattle.coco_ast.specs.declared.error.CheckKind.TheVariants.{Twice}
 use Rattle.coco_check.specs.declared.fault.CheckFault.{CheckFault}
 use Rattle.coco_check.specs.declared.fault.CheckFault.TheVariants as whole
@@ -12,10 +14,17 @@ use Rattle.coco_check.specs.Search.{Names, Walk, Fault, error_at}
 abbrev pub walk_of : Body → Walk
 walk_of b = record { last = b.last; known = b.known.keys }
 
-abbrev pub Follows : Result (Unit {0}) BodyFault → Body → Result Walk Fault → Type 0
-Follows (Ok u) new w = w ≡ Ok (walk_of new)
-Follows (Err (Refused n kind)) new w = w ≡ Err (n, kind)
-Follows (Err NoMemory) new w = Unit {0}
+-- the statements in the blocks of a statement
+abbrev pub within : ℕ → Statement → List Placed
+within n s = drop 1 (and_within n s)
+
+abbrev pub StopsAt : BodyFault → Result Walk Fault → Type 0
+StopsAt (Refused n kind) w = w ≡ Err (n, kind)
+StopsAt NoMemory w = Unit {0}
+
+abbrev pub Follows : {A : Type 0} → Result A BodyFault → Body → Result Walk Fault → Type 0
+Follows (Ok x) new w = w ≡ Ok (walk_of new)
+Follows (Err fault) new w = StopsAt fault w
 
 -- the set of all tables, or the error of the one at this place
 abbrev pub TablesAre : Result (BTreeSet (List ℕ)) CheckFault → Result Names ℕ → Type 0

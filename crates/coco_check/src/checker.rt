@@ -5,6 +5,7 @@ ghost use Rattle.std.specs.List.{All};
 ghost use Rattle.coco_types.specs.Limits.{most_declared};
 ghost use Rattle.coco_ast.specs.Builtins.{builtins as built_in};
 ghost use Rattle.coco_ast.specs.Checks.{HasNoError, IsFirstError, IsWithinLimits, behind_builtins, statements_in};
+ghost use Rattle.coco_ast.specs.Plans.{ArePlansOf};
 ghost use Rattle.coco_ast.specs.Views.{procedure_of, procedures_of};
 ghost use Rattle.coco_ast.specs.declared.error.CheckError.{CheckError};
 ghost use Rattle.coco_check.specs.Accepting.{HasFewStatements, OnRefused};
@@ -15,7 +16,7 @@ use crate::fault::CheckFault;
 use crate::names::{NameSet, add_all};
 use crate::procedure::check_proc;
 use crate::{CheckError, CheckKind};
-use coco_ast::{Checked, Name, Names, Proc, ProcList, Procs, builtins};
+use coco_ast::{Checked, Name, Names, Plans, Proc, ProcList, Procs, builtins};
 use coco_types::NoMemory;
 use std::alloc::{AllocFailed, Global};
 
@@ -34,16 +35,44 @@ pub fn check(alloc: Global, procs: Procs) -> Result<Checked, CheckFault>
         → IsErrAnd result (λ fault. (fault ≡ CheckFault.Refused e) ⊎ (fault ≡ CheckFault.NoMemory)) }
 {
     let first = builtins(alloc)?;
-    find_error(alloc, &first, &procs)?;
+    let mut plans = built_in_plans(alloc, &first)?;
+    let mut more = find_error(alloc, &first, &procs)?;
+    plans.append(&mut more)?;
     let tree = joined(first, procs)?;
-    Ok(Checked::of(alloc, tree)?)
+    Ok(Checked::of(alloc, tree, plans)?)
 }
 
-fn find_error(alloc: Global, first: &Procs, procs: &Procs) -> Result<(), CheckFault>
+/// The built-in procedures alone.
+pub fn built_in(alloc: Global) -> Result<Checked, NoMemory>
+    ensures { IfOk result (λ c. c ≡ built_in) }
+{
+    let tree = builtins(alloc)?;
+    let plans = built_in_plans(alloc, &tree)?;
+    Checked::of(alloc, tree, plans)
+}
+
+// The plans of the built-in procedures, in which nothing is wrong.
+fn built_in_plans(alloc: Global, first: &Procs) -> Result<Plans, NoMemory>
+    requires { procedures_of first.now ≡ built_in }
+    ensures { IfOk result (λ plans. ArePlansOf built_in.procs plans.items) }
+{
+    let mut tables = NameSet::new(alloc);
+    add_all(&mut tables, first.tables.as_slice())?;
+    let mut names = NameSet::new(alloc);
+    match check_procs(alloc, &tables, &mut names, 0, first.procs.as_slice()) {
+        Ok(plans) => Ok(plans),
+        Err(CheckFault::NoMemory) => Err(NoMemory),
+        Err(CheckFault::Refused(_)) => unreachable!(),
+    }
+}
+
+// The plans of a tree's procedures, or its first error.
+fn find_error(alloc: Global, first: &Procs, procs: &Procs) -> Result<Plans, CheckFault>
     requires first { procedures_of first.now ≡ built_in }
     requires limits { IsWithinLimits (procedures_of procs.now) }
     requires statements { HasFewStatements (procedures_of procs.now) }
-    ensures { FindsError result (first_error (procedures_of procs.now)) }
+    ensures error { FindsError result (first_error (procedures_of procs.now)) }
+    ensures plans { IfOk result (λ plans. ArePlansOf (procedures_of procs.now).procs plans.items) }
 {
     let tables = check_tables(alloc, first.tables.as_slice(), procs.tables.as_slice())?;
     let mut names = names_of(alloc, first.procs.as_slice())?;
@@ -79,28 +108,31 @@ fn names_of(alloc: Global, procs: &[Proc]) -> Result<NameSet, AllocFailed<Name>>
     Ok(names)
 }
 
-// The first error of procedures, the first of which is this item.
+// The plans of procedures, the first of which is this item, or their first error.
 fn check_procs(
     alloc: Global,
     tables: &NameSet,
     names: &mut NameSet,
     first: u32,
     procs: &[Proc],
-) -> Result<(), CheckFault>
+) -> Result<Plans, CheckFault>
     requires few { first + length procs.now < 2 ^ 32 }
     requires statements { All (λ p. length (statements_in (procedure_of p)) < 2 ^ 32) procs.now }
-    ensures { FindsError result (first_of_procedures tables.now.keys names.old.keys first
+    ensures error { FindsError result (first_of_procedures tables.now.keys names.old.keys first
         (map procedure_of procs.now)) }
+    ensures plans { IfOk result (λ plans. ArePlansOf (map procedure_of procs.now) plans.items) }
 {
+    let mut plans = Plans::with_capacity(alloc, procs.len())?;
     let mut item = first;
     for proc in procs {
         let is_new = names.insert(proc.name)?;
-        if let Err(fault) = check_proc(alloc, tables, is_new, proc) {
-            return Err(fault.at(item));
+        match check_proc(alloc, tables, is_new, proc) {
+            Ok(plan) => plans.push_reserved(plan),
+            Err(fault) => return Err(fault.at(item)),
         }
         item += 1;
     }
-    Ok(())
+    Ok(plans)
 }
 
 // The tables and procedures of both, in order.

@@ -5,7 +5,7 @@ ghost use Rattle.coco_check.specs.Search.{fault_at};
 
 use coco_ast::{CheckError, CheckKind};
 use coco_types::NoMemory;
-use std::alloc::AllocFailed;
+use std::alloc::{AllocError, AllocFailed};
 use std::error::Error;
 use std::fmt;
 
@@ -84,6 +84,39 @@ impl<T: Drop> From<AllocFailed<T>> for BodyFault {
     ghost from_gives = { λ _ fault. fault ≡ NoMemory };
 
     fn from(_failed: AllocFailed<T>) -> BodyFault {
+        BodyFault::NoMemory
+    }
+}
+
+impl From<NoMemory> for BodyFault {
+    ghost use Rattle.std.specs.Prelude.{◌≡◌};
+    ghost use Rattle.coco_check.specs.declared.fault.BodyFault.TheVariants.{NoMemory};
+
+    ghost from_gives = { λ _ fault. fault ≡ NoMemory };
+
+    fn from(_error: NoMemory) -> BodyFault {
+        BodyFault::NoMemory
+    }
+}
+
+impl From<AllocError> for CheckFault {
+    ghost use Rattle.std.specs.Prelude.{◌≡◌};
+    ghost use Rattle.coco_check.specs.declared.fault.CheckFault.TheVariants.{NoMemory};
+
+    ghost from_gives = { λ _ fault. fault ≡ NoMemory };
+
+    fn from(_error: AllocError) -> CheckFault {
+        CheckFault::NoMemory
+    }
+}
+
+impl From<AllocError> for BodyFault {
+    ghost use Rattle.std.specs.Prelude.{◌≡◌};
+    ghost use Rattle.coco_check.specs.declared.fault.BodyFault.TheVariants.{NoMemory};
+
+    ghost from_gives = { λ _ fault. fault ≡ NoMemory };
+
+    fn from(_error: AllocError) -> BodyFault {
         BodyFault::NoMemory
     }
 }

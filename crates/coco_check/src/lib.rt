@@ -3,12 +3,13 @@
 
 mod body;
 pub mod checker;
+mod draft;
 pub mod fault;
 mod measure;
 mod names;
 mod procedure;
 mod statement;
 
-pub use checker::check;
+pub use checker::{built_in, check};
 pub use coco_ast::{CheckError, CheckKind};
 pub use fault::CheckFault;

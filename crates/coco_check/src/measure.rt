@@ -1,43 +1,87 @@
-//! How many keys a block may need, and whether each way through it ends.
+//! How many keys a block may need, how deep blocks stand in it, and whether each way through it ends.
 
-ghost use Rattle.std.specs.Prelude.{◌≡◌, min};
+ghost use Rattle.std.specs.Prelude.{◌≡◌, ◌+◌, min, IfOk};
 ghost use Rattle.coco_ast.specs.Checks.{counted_weight, statement_weight, ends, ends_at};
+ghost use Rattle.coco_ast.specs.Plans.{depth, depth_one};
 ghost use Rattle.coco_ast.specs.Views.{statement_of, statements_of};
 
 use coco_ast::Stmt;
+use coco_types::NoMemory;
 
 /// A weight above this counts as this.
 pub const MOST_WEIGHT: u64 = 1_000_000;
 
-#[cycle(weight)]
-fn stmt_weight(stmt: &Stmt) -> u64
-    ensures { result ≡ min (statement_weight (statement_of stmt.now)) MOST_WEIGHT }
+/// How many keys a run of a block may need, at most `MOST_WEIGHT`, and how deep blocks stand in one
+/// another.
+#[derive(Clone, Copy)]
+pub(crate) struct Measure {
+    pub(crate) weight: u64,
+    pub(crate) depth: usize,
+}
+
+#[cycle(measure)]
+fn stmt_measure(stmt: &Stmt) -> Result<Measure, NoMemory>
+    ensures weight { IfOk result (λ m. m.weight ≡ min (statement_weight (statement_of stmt.now)) MOST_WEIGHT) }
+    ensures depth { IfOk result (λ m. m.depth ≡ depth_one (statement_of stmt.now)) }
 {
     match stmt {
-        Stmt::Let { .. } | Stmt::Refuse(_) | Stmt::Reply(_) => 0,
-        Stmt::Get { .. } | Stmt::Put { .. } | Stmt::Delete { .. } => 1,
-        Stmt::If { yes, no: None, .. } => block_weight(yes),
+        Stmt::Let { .. } | Stmt::Refuse(_) | Stmt::Reply(_) => Ok(Measure {
+            weight: 0,
+            depth: 0,
+        }),
+        Stmt::Get { .. } | Stmt::Put { .. } | Stmt::Delete { .. } => Ok(Measure {
+            weight: 1,
+            depth: 0,
+        }),
+        Stmt::If { yes, no: None, .. } => block_measure(yes),
         Stmt::If {
             yes,
             no: Some(no),
             ..
-        } => block_weight(yes).max(block_weight(no)),
+        } => {
+            let one = block_measure(yes)?;
+            let other = block_measure(no)?;
+            Ok(Measure {
+                weight: one.weight.max(other.weight),
+                depth: one.depth.max(other.depth),
+            })
+        }
         Stmt::Repeat { bound, block, .. } => {
-            bound.saturating_mul(block_weight(block)).min(MOST_WEIGHT)
+            let turn = block_measure(block)?;
+            Ok(Measure {
+                weight: bound.saturating_mul(turn.weight).min(MOST_WEIGHT),
+                depth: turn.depth,
+            })
         }
     }
 }
 
-// How many keys a run of the block may need.
-#[cycle(weight)]
-pub(crate) fn block_weight(block: &[Stmt]) -> u64
-    ensures { result ≡ counted_weight (statements_of block.now) }
+// The measure of a block, unless no number of the machine is as great as its depth.
+#[cycle(measure)]
+pub(crate) fn block_measure(block: &[Stmt]) -> Result<Measure, NoMemory>
+    ensures weight { IfOk result (λ m. m.weight ≡ counted_weight (statements_of block.now)) }
+    ensures depth { IfOk result (λ m. m.depth ≡ depth (statements_of block.now)) }
 {
     let mut weight = 0;
+    let mut deep = 0;
     for stmt in block {
-        weight = (weight + stmt_weight(stmt)).min(MOST_WEIGHT);
+        let within = stmt_measure(stmt)?;
+        weight = (weight + within.weight).min(MOST_WEIGHT);
+        deep = deep.max(next(within.depth)?);
     }
-    weight
+    Ok(Measure {
+        weight,
+        depth: deep,
+    })
+}
+
+fn next(count: usize) -> Result<usize, NoMemory>
+    ensures { IfOk result (λ n. n ≡ count + 1) }
+{
+    match count.checked_add(1) {
+        Some(next) => Ok(next),
+        None => Err(NoMemory),
+    }
 }
 
 #[cycle(ends)]

@@ -7,6 +7,7 @@ ghost use Rattle.coco_epoch.specs.Running.{FitAll};
 ghost use Rattle.coco_epoch.specs.Shards.{AreOfPartitions, AreQuietAfter, AreSettled};
 
 use coco_ast::Checked;
+use coco_check::built_in;
 use coco_copy::CopyTable;
 use coco_shard::Shard;
 use coco_types::limits::MOST_ARGUMENTS;
@@ -69,7 +70,7 @@ pub fn work_of(alloc: Global, lines: &[(u64, Line<'_>)]) -> Result<Work, Fail>
     ensures ids { IfOk result (λ work. map (λ r. r.id) work.requests.items ≡ map (λ l. l.0) lines.now) }
     ensures fit { IfOk result (λ work. FitAll work.procs work.requests.items) }
 {
-    let procs = Checked::built_in(alloc)?;
+    let procs = built_in(alloc)?;
     let requests = requests_of(alloc, &procs, lines)?;
     Ok(Work { procs, requests })
 }

@@ -8,6 +8,7 @@ use coco_ast::Checked;
 use coco_audit::{
     NotSerial, dump_of, verify_of, write_dump_done, write_dump_row, write_not_serial, write_serial,
 };
+use coco_check::built_in;
 use coco_kept::{Found, Kept};
 use coco_lines::{LineError, RequestFault, Scratch, request};
 use coco_types::{Cause, Done, KeptReply, Key, MapRows, NoMemory, Reply, Text, Value};
@@ -71,7 +72,7 @@ fn records_and_rows_are_said_by_their_members(rt: HostRuntime) -> Result<(), Fai
     let Some(text) = Text::of("a\"b\\\n") else {
         return Err(Fail::new("too long"));
     };
-    let procs = Checked::built_in(rt.alloc())?;
+    let procs = built_in(rt.alloc())?;
     let mut said = Vec::new(rt.alloc());
     put_lines(&mut said, &procs, Value::Text(text))?;
     let lines =
@@ -151,7 +152,7 @@ fn dump_with(
 
 // The dump of a put and a get that answered 70, and of these lists of rows.
 fn dump(alloc: Global, lists: &[&[Row]]) -> Result<Vec<u8>, RequestFault> {
-    let procs = Checked::built_in(alloc)?;
+    let procs = built_in(alloc)?;
     let rows = lists_of(alloc, lists)?;
     dump_with(alloc, &procs, &reply(Ok(70)), rows.as_slice())
 }
@@ -202,7 +203,7 @@ fn verdict(
     get: Answer,
     first: u64,
 ) -> Result<Vec<u8>, RequestFault> {
-    let procs = Checked::built_in(alloc)?;
+    let procs = built_in(alloc)?;
     let base = rows_of(alloc, base)?;
     verdict_with(alloc, &procs, &base, &reply(put), &reply(get), first)
 }

@@ -2,7 +2,7 @@
 
 ghost use Rattle.std.specs.Prelude.{◌<◌};
 
-use coco_ast::Checked;
+use coco_check::built_in;
 use coco_io::{MemorySource, Source};
 use coco_lines::{
     Body, Line, LineError, LineFault, Reader, RequestFault, Scratch, asked_request, done_text,
@@ -74,7 +74,7 @@ shape {"args":[5],"call":"get","id":1,"snapshot":false,"snapshot":0}
 
 // The request of a line by the built-in procedures.
 fn request_of(alloc: Global, line: &[u8]) -> Result<Request, RequestFault> {
-    let procs = Checked::built_in(alloc)?;
+    let procs = built_in(alloc)?;
     request(alloc, &mut Scratch::new(alloc), &procs, line)
 }
 
@@ -203,7 +203,7 @@ fn a_line_asks_for_its_request(rt: HostRuntime) -> Result<(), Fail> {
 
 #[test]
 fn a_snapshot_call_of_any_procedure_may_be_asked_for(rt: HostRuntime) -> Result<(), Fail> {
-    let procs = Checked::built_in(rt.alloc())?;
+    let procs = built_in(rt.alloc())?;
     let line = br#"{"args":[1,2],"call":"put","id":7,"snapshot":true}"#;
     let asked = asked_request(rt.alloc(), &mut Scratch::new(rt.alloc()), &procs, line);
     assert!(rt; asked.is_ok_and(|request| request.call.snapshot && request.call.proc_no == 1));

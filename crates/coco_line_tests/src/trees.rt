@@ -1,6 +1,7 @@
 //! Names, built-in procedures with their plans, literals and expressions as they are made.
 
 use coco_ast::{Checked, Expr, Literal, Name, Proc, Step, Term, TwoOp, builtins};
+use coco_check::built_in;
 use coco_types::{NoMemory, Text};
 use std::alloc::Global;
 use std::test::Fail;
@@ -55,7 +56,7 @@ fn adds_by_slots(procs: &Checked) -> bool {
 
 #[test]
 fn a_plan_has_a_slot_for_each_variable(rt: HostRuntime) -> Result<(), Fail> {
-    let procs = Checked::built_in(rt.alloc())?;
+    let procs = built_in(rt.alloc())?;
     assert!(rt; adds_by_slots(&procs));
     Ok(())
 }

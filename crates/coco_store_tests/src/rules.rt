@@ -4,6 +4,7 @@ ghost use Rattle.std.specs.Prelude.{◌≡◌, ◌<◌, ◌≤◌};
 
 use coco_ast::Checked;
 use coco_bytes::{put_u8, put_u32, put_u64};
+use coco_check::built_in;
 use coco_entry::{
     BaseHead, EntryFault, Layout, LayoutEntry, read_base_dones, read_base_rows, read_commit,
     read_prepared,
@@ -145,7 +146,7 @@ fn commit_place(
     base_epoch: u64,
     commits: &[(u64, &[Asked])],
 ) -> Result<Option<usize>, EntryFault> {
-    let procs = Checked::built_in(alloc)?;
+    let procs = built_in(alloc)?;
     let layout = entry_of(alloc, (1, 1, 0, base_epoch), Vec::new(alloc), None);
     let mut rules = HistoryRules::new(alloc, &layout);
     judge_commits(alloc, &mut rules, &procs, commits)
@@ -226,7 +227,7 @@ fn node_answer(
     epoch: u64,
     rows: &[Place],
 ) -> Result<Result<bool, usize>, EntryFault> {
-    let procs = Checked::built_in(alloc)?;
+    let procs = built_in(alloc)?;
     let layout = layout_of(alloc, (3, 4, 1, 0), Vec::new(alloc));
     let mut rules = NodeRules::new(&layout, 2, &[1]);
     judge_prepared(alloc, &mut rules, &layout, &procs, (epoch, rows))
@@ -271,7 +272,7 @@ fn judge_epochs(
 // Whether the last of these entries is of a committed epoch, and whether the committed epochs 2 and 5
 // have one.
 fn have_prepared(alloc: Global, epochs: &[u64]) -> Result<(Option<bool>, bool), EntryFault> {
-    let procs = Checked::built_in(alloc)?;
+    let procs = built_in(alloc)?;
     let layout = layout_of(alloc, ONE, Vec::new(alloc));
     let mut rules = NodeRules::new(&layout, 0, &[2, 5]);
     let is_committed = judge_epochs(alloc, &mut rules, &layout, &procs, epochs)?;
@@ -405,7 +406,7 @@ fn is_judged(
     place: Option<usize>,
     whole: bool,
 ) -> Result<bool, EntryFault> {
-    let procs = Checked::built_in(alloc)?;
+    let procs = built_in(alloc)?;
     let (rules, found) = base_behind(alloc, &procs, steps)?;
     Ok(found == place && rules.is_whole() == whole)
 }
@@ -448,7 +449,7 @@ fn a_base_is_its_head_then_dones_then_rows(rt: HostRuntime) -> Result<(), Fail> 
 
 // The place at which a Done with this id is refused behind a whole base.
 fn place_behind_base(alloc: Global, id: u8) -> Result<Option<usize>, EntryFault> {
-    let procs = Checked::built_in(alloc)?;
+    let procs = built_in(alloc)?;
     let (rules, _) = base_behind(alloc, &procs, &[HEAD, DONES, ROWS])?;
     let mut history = rules.into_history();
     judge_commit(alloc, &mut history, &procs, 3, &[(id, 0, false, 1)])

@@ -5,7 +5,7 @@ ghost use Rattle.coco_append.specs.Gaining.{Stands};
 ghost use Rattle.coco_ast.specs.Builtins.{builtins};
 ghost use Rattle.coco_log.specs.LogState.{without_entries};
 
-use coco_ast::Checked;
+use coco_check::built_in;
 use coco_cluster::{Cluster, InHand};
 use coco_host::Host;
 use coco_kept::Kept;
@@ -37,7 +37,7 @@ pub fn new_cluster(
     ensures empty { IfOk result (λ k. (k.procs ≡ builtins) × (k.kept.dones ≡ []) × (k.kept.floor ≡ None)) }
     ensures unspent { IfOk result (λ k. k.spent ≡ false) }
 {
-    let procs = Checked::built_in(alloc)?;
+    let procs = built_in(alloc)?;
     let mut shards = Vec::with_capacity(alloc, 1)?;
     shards.push(Shard::new(alloc))?;
     let mut held = Vec::with_capacity(alloc, 1)?;

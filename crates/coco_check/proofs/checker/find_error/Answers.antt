@@ -10,12 +10,12 @@ pub check_procs-requires-clause-statements : goal.check_procs-requires-clause-st
 check_procs-requires-clause-statements c =
     rw c.as_slice-4.ensures (all_mapped (λ p. length (statements_in p) < 2 ^ 32) procedure_of c.args.procs.now.procs c.requires.statements)
 
-pub returns : goal.returns
-returns c =
+pub returns-clause-error : goal.returns-clause-error
+returns-clause-error c =
     let t = procedures_of c.args.procs.now in
     let tables = c.in_ok-tables.tables.keys in
     let added : adding built_in_tables 0 t.tables ≡ Ok tables = sym (ap (adding built_in_tables 0) c.as_slice-2.ensures) ∙ c.in_ok-tables.ensures in
     let names : c.in_ok-names.names.keys ≡ built_in_names =
     c.in_ok-names.ensures ∙ ap (λ (ps : List Proc). with_names [] (map (λ p. p.name) ps)) c.as_slice-3.ensures ∙ built_in_set c.args.first.now c.requires.first in
-    let found = rw (names, c.len.ensures, c.as_slice-4.ensures) at c.check_procs.ensures in
+    let found = rw (names, c.len.ensures, c.as_slice-4.ensures) at c.check_procs.ensures.error in
     rw added found

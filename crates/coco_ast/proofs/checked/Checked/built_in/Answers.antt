@@ -1,7 +1,0 @@
-use Rattle.std.proofs.Common.{sym, subst}
-use Rattle.coco_ast.specs.Checks.{IsAccepted}
-use Rattle.coco_ast.proofs.Accepted.{builtins_accepted}
-use Rattle.coco_ast.proofs.checked.Checked.built_in.Goals as goal
-
-pub of-requires : goal.of-requires
-of-requires c = subst IsAccepted (sym c.in_ok-tree.ensures) builtins_accepted
