@@ -7,11 +7,12 @@ use Rattle.coco_types.specs.declared.value.Value.{Value}
 use Rattle.coco_types.specs.declared.call.Write.{Write}
 use Rattle.coco_types.proofs.Keys.{is_key, one_key}
 use Rattle.coco_types.proofs.KeyMaps.{same_keyed}
+use Rattle.coco_ast.specs.Keyed.{write_at}
 use Rattle.coco_copy.specs.declared.kept.Kept.{Kept}
 use Rattle.coco_copy.specs.declared.ops.CopyAnswer.{CopyAnswer}
 use Rattle.coco_copy.specs.declared.ops.CopyAnswer.TheVariants.{Applied, Older, OtherEpoch}
 use Rattle.coco_copy.specs.declared.ops.CopyAsk.TheVariants.{Put}
-use Rattle.coco_copy.specs.CopyState.{with_value, begun, promoted_at}
+use Rattle.coco_copy.specs.CopyState.{begun, promoted_at}
 use Rattle.coco_copy.specs.Puts.{HasNothing, answer_in, after_ask, by_time, left_by}
 use Rattle.coco_copy.specs.Kept.{kept_at, part_of, stable_of, pending_of, view_of, version_of, settled, rested}
 use Rattle.coco_copy.proofs.Parts.{IsRising, get_part, part_same, part_put, part_taken}
@@ -53,12 +54,12 @@ module _ (es fs : List (RowKey × Kept)) (rising : IsRising es) (rises : IsRisin
     pending = part_put pending_of es fs k (time, value) rising rises (set_part pending_of es fs k after (Some (time, value)) sets pending) i;
   }
 
-  stable_map : (value : Option Value) → option_and_then stable_of after ≡ value → from_entries {R = key_cmp} (part_of stable_of fs) ≡ with_value (from_entries (part_of stable_of es)) k value
+  stable_map : (value : Option Value) → option_and_then stable_of after ≡ value → from_entries {R = key_cmp} (part_of stable_of fs) ≡ write_at (from_entries (part_of stable_of es)) k value
   stable_map None stable = part_taken stable_of es fs k rising rises (set_part stable_of es fs k after None sets stable)
   stable_map (Some value) stable = part_put stable_of es fs k value rising rises (set_part stable_of es fs k after (Some value) sets stable)
 
   pub loaded_view : (value : Option Value) → option_and_then stable_of after ≡ value → option_and_then pending_of after ≡ option_and_then pending_of (kept_at es k)
-      → (epoch : ℕ) → view_of epoch fs ≡ record (view_of epoch es) { stable = with_value (view_of epoch es).stable k value }
+      → (epoch : ℕ) → view_of epoch fs ≡ record (view_of epoch es) { stable = write_at (view_of epoch es).stable k value }
   loaded_view value stable pending epoch i = record {
     epoch = epoch;
     stable = stable_map value stable i;
@@ -71,12 +72,12 @@ no_pending (Some p) h = cc
 
 -- a row in which nothing stands is taken out
 pub dropped_view : (es fs : List (RowKey × Kept)) (rising : IsRising es) (rises : IsRising fs) (k : RowKey) (value : Option Value) → Sets es fs k None
-    → value ≡ None → is_some (option_and_then pending_of (kept_at es k)) ≡ false → (epoch : ℕ) → view_of epoch fs ≡ record (view_of epoch es) { stable = with_value (view_of epoch es).stable k value }
+    → value ≡ None → is_some (option_and_then pending_of (kept_at es k)) ≡ false → (epoch : ℕ) → view_of epoch fs ≡ record (view_of epoch es) { stable = write_at (view_of epoch es).stable k value }
 dropped_view es fs rising rises k value sets none pends = loaded_view es fs rising rises k None sets value (sym none) (no_pending _ pends)
 
 -- a row is made for a stable value
 pub added_view : {T E : Type 0} (r : Result T E) (es fs : List (RowKey × Kept)) (rising : IsRising es) (rises : IsRising fs) (k : RowKey) (value : Option Value) → kept_at es k ≡ None
-    → OnOk r (Sets es fs k (Some (record { stable = value; pending = None }))) → OnOk r ((epoch : ℕ) → view_of epoch fs ≡ record (view_of epoch es) { stable = with_value (view_of epoch es).stable k value })
+    → OnOk r (Sets es fs k (Some (record { stable = value; pending = None }))) → OnOk r ((epoch : ℕ) → view_of epoch fs ≡ record (view_of epoch es) { stable = write_at (view_of epoch es).stable k value })
 added_view (Ok x) es fs rising rises k value none sets = loaded_view es fs rising rises k _ sets value refl (sym (ap (option_and_then pending_of) none))
 added_view (Err e) es fs rising rises k value none sets = tt
 

@@ -3,8 +3,8 @@
 ghost use Rattle.std.specs.Prelude.{◌≡◌, ◌||◌, ℕ, ◌+◌, ◌^◌, ◌<◌, ◌≤◌, ◌++◌, ◌∷◌, [], if◌then◌else◌, cond, true, false, None, Some, IsSome, is_some, IfOk, IfSome, IfNone, OnOk, OnErr, option_and_then, length, vec_len, vec_capacity};
 ghost use Rattle.std.specs.BTreeMap.{is_at};
 ghost use Rattle.coco_types.specs.RowKey.{RowKey, key_cmp};
+ghost use Rattle.coco_ast.specs.Keyed.{write_at};
 ghost use Rattle.coco_copy.specs.Kept.{IsWhole, entry_of, SetsStable, kept_at, part_of, pending_of, stable_of, view_of};
-ghost use Rattle.coco_copy.specs.CopyState.{with_value};
 ghost use Rattle.coco_copy.specs.Puts.{HasNothing, TakesMemory, answer_in, after_ask, put_at};
 
 use crate::kept::Kept;
@@ -108,7 +108,7 @@ pub fn load(
 ) -> Result<(), NoMemory>
     requires { IsWhole rows.old.entries listed.old.items (vec_capacity listed.old) }
     ensures whole { IsWhole rows.new.entries listed.new.items (vec_capacity listed.new) }
-    ensures state { OnOk result ((epoch : ℕ) → view_of epoch rows.new.entries ≡ record (view_of epoch rows.old.entries) { stable = with_value (view_of epoch rows.old.entries).stable key value.now }) }
+    ensures state { OnOk result ((epoch : ℕ) → view_of epoch rows.new.entries ≡ record (view_of epoch rows.old.entries) { stable = write_at (view_of epoch rows.old.entries).stable key value.now }) }
     ensures err { OnErr result (rows.new.entries ≡ rows.old.entries) }
     ensures missing { OnErr result ((epoch : ℕ) → TakesMemory (view_of epoch rows.old.entries) key value.now) }
 {

@@ -3,7 +3,8 @@
 ghost use Rattle.std.specs.Prelude.{◌≡◌, IfOk, OnOk, OnErr};
 ghost use Rattle.std.specs.FinMap.{get, empty, entries};
 ghost use Rattle.coco_types.specs.RowKey.{RowKey};
-ghost use Rattle.coco_copy.specs.CopyState.{begun, promoted_at, with_value};
+ghost use Rattle.coco_ast.specs.Keyed.{write_at};
+ghost use Rattle.coco_copy.specs.CopyState.{begun, promoted_at};
 ghost use Rattle.coco_copy.specs.declared.ops.CopyAsk.TheVariants.{Put};
 ghost use Rattle.coco_copy.specs.Puts.{HasNothing, TakesMemory, after_ask, answer_in, epoch_of, key_of, value_of};
 
@@ -55,7 +56,7 @@ impl CopyTable {
 
     /// Sets the stable value of a key, or takes it away. Out of memory, nothing has changed.
     pub fn load(&mut self, key: Key, value: Option<Value>) -> Result<(), NoMemory>
-        ensures ok { OnOk result (self.new ≡ record self.old { stable = with_value self.old.stable key value }) }
+        ensures ok { OnOk result (self.new ≡ record self.old { stable = write_at self.old.stable key value }) }
         ensures err { OnErr result (self.new ≡ self.old) }
         ensures missing { OnErr result (TakesMemory self.old key value) }
     {

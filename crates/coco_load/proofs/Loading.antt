@@ -8,7 +8,7 @@ use Rattle.coco_types.proofs.Keys.{is_key, key_swap, one_key}
 use Rattle.coco_types.proofs.KeyMaps.{get_put, get_taken}
 use Rattle.coco_ast.specs.Keyed.{Rows, value_at, write_at}
 use Rattle.coco_ast.proofs.Writing.{value_written}
-use Rattle.coco_copy.specs.CopyState.{CopyState, begun, with_value}
+use Rattle.coco_copy.specs.CopyState.{CopyState, begun}
 use Rattle.coco_shard.specs.RowState.{RowState, ShardState, Holds, IsSettled, loaded, resting, stable_at}
 use Rattle.coco_shard.proofs.Partitions.{loaded_of, none_of}
 use Rattle.coco_load.specs.Tables.{IsCopyOf, IsShardOf}
@@ -62,13 +62,9 @@ no_shard count p = record {
 
 -- ---- copies
 
-written : (m : Rows) (key : RowKey) (value : Option Value) → with_value m key value ≡ write_at m key value
-written m key None = refl
-written m key (Some v) = refl
-
-pub copy_loaded : (count p : ℕ) (m : Rows) (s : CopyState) (key : RowKey) (value : Option Value) → key.row % count ≡ p → IsCopyOf count p m s → IsCopyOf count p (write_at m key value) (record s { stable = with_value s.stable key value })
+pub copy_loaded : (count p : ℕ) (m : Rows) (s : CopyState) (key : RowKey) (value : Option Value) → key.row % count ≡ p → IsCopyOf count p m s → IsCopyOf count p (write_at m key value) (record s { stable = write_at s.stable key value })
 copy_loaded count p m s key value here of = record {
-  holds = ap (λ (c : CopyState). record c { stable = with_value c.stable key value }) of.holds ∙ ap (begun 0) (written m key value);
+  holds = ap (λ (c : CopyState). record c { stable = write_at c.stable key value }) of.holds;
   partition = λ k there. elim (is_key k key) as (λ b. is_key k key ≡ b → IsSome (cond b value (value_at m k)) → k.row % count ≡ p) [
     | true ↦ λ t _. ap (λ (z : RowKey). z.row % count) (one_key k key t) ∙ here
     | false ↦ λ _ old. of.partition k old

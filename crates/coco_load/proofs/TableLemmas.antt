@@ -9,7 +9,7 @@ use Rattle.coco_types.specs.declared.value.Value.{Value}
 use Rattle.coco_types.proofs.KeyMaps.{same_keyed}
 use Rattle.coco_ast.specs.Keyed.{Rows, on_partition, value_at, write_at}
 use Rattle.coco_ast.proofs.KeyedLemmas.{value_on_partition}
-use Rattle.coco_copy.specs.CopyState.{CopyState, begun, with_value}
+use Rattle.coco_copy.specs.CopyState.{CopyState, begun}
 use Rattle.coco_entry.specs.declared.layout.Layout.{Layout}
 use Rattle.coco_shard.specs.RowState.{IsSettled, ShardState, loaded}
 use Rattle.coco_store.specs.Placement.{partition_of}
@@ -128,7 +128,7 @@ module _ (layout : Layout) (key : RowKey) (value : Option Value) (shards : List 
     copy = copy_at layout copies here j
 
     abbrev copy_loaded_then : CopyState
-    copy_loaded_then = record copy { stable = with_value copy.stable key value }
+    copy_loaded_then = record copy { stable = write_at copy.stable key value }
 
     abbrev copies_then : List CopyState
     copies_then = slice_set copies place copy_loaded_then
@@ -194,7 +194,7 @@ module _ (layout : Layout) (key : RowKey) (value : Option Value) (shards : List 
       (subst (λ (n : ℕ). HoldMaps layout (with_row (partition_of layout key) 0 key value maps) (shards_at n) copies) (sym is) (shard_hold layout key value shards copies maps hold)))
 
   abbrev copies_at : ℕ → List CopyState
-  copies_at i = (let copy = get_or copies i (begun 0 empty) in slice_set copies i (record copy { stable = with_value copy.stable key value }))
+  copies_at i = (let copy = get_or copies i (begun 0 empty) in slice_set copies i (record copy { stable = write_at copy.stable key value }))
 
   pub copy_left_tables : (behind p i : ℕ) (now : List CopyState) → 1 ≤ behind → behind ≤ layout.copies → p ≡ partition_of layout key → i ≡ p * layout.copies + behind - 1 → now ≡ copies_at i
       → AreTables layout shards copies → AreTables layout shards now

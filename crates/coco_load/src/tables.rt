@@ -3,7 +3,7 @@
 ghost use Rattle.std.specs.Prelude.{◌≡◌, ℕ, ◌+◌, ◌%◌, ◌<◌, List, length, slice_index_or, slice_set, IfOk, OnOk};
 ghost use Rattle.std.specs.FinMap.{empty};
 ghost use Rattle.coco_ast.specs.Keyed.{Rows, put_over, write_at};
-ghost use Rattle.coco_copy.specs.CopyState.{begun, with_value};
+ghost use Rattle.coco_copy.specs.CopyState.{begun};
 ghost use Rattle.coco_shard.specs.RowState.{IsSettled, loaded};
 ghost use Rattle.coco_store.specs.Placement.{partition_of};
 ghost use Rattle.coco_store.specs.Rules.{Setting};
@@ -135,7 +135,7 @@ fn load_copy(
 ) -> Result<(), NoMemory>
     requires { place < length copies.old }
     ensures { OnOk result (let copy = slice_index_or copies.old place (begun 0 empty) in
-        copies.new ≡ slice_set copies.old place (record copy { stable = with_value copy.stable key value.now })) }
+        copies.new ≡ slice_set copies.old place (record copy { stable = write_at copy.stable key value.now })) }
 {
     copies[place].load(key, *value)
 }
