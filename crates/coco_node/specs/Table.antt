@@ -5,6 +5,7 @@ use Rattle.coco_msg.specs.declared.message.Message.TheVariants.{Ship, Total, Mis
 use Rattle.coco_msg.specs.Bytes.{epoch_of}
 use Rattle.coco_msg.specs.declared.action.Action.{Action}
 use Rattle.coco_msg.specs.declared.action.Action.TheVariants.{Send, Force, Promote, Revert}
+use Rattle.coco_node.specs.declared.machine.TheConstants.{COORDINATOR}
 use Rattle.coco_node.specs.declared.machine.Decision.TheVariants.{Unknown, Committed, Aborted}
 use Rattle.coco_node.specs.Node.{Node, is_unknown, is_committed}
 
@@ -19,10 +20,10 @@ abbrev pub nothing : Node → Turn
 nothing core = ([], core)
 
 abbrev pub votes : Bool → ℕ → Action
-votes vote e = Send 8 (Vote e vote)
+votes vote e = Send COORDINATOR (Vote e vote)
 
 abbrev pub has_finished : ℕ → Action
-has_finished e = Send 8 (Finished e)
+has_finished e = Send COORDINATOR (Finished e)
 
 -- e is the newest durable epoch, and what became of it isn't known
 abbrev pub awaits : ℕ → Node → Bool
@@ -66,13 +67,13 @@ on_message (Vote e vote) core = nothing core
 on_message (Finished e) core = nothing core
 on_message (Query e) core = nothing core
 
--- only the coordinator, at place 8, is heard, and epoch 0 is none
+-- only the coordinator is heard, and epoch 0 is none
 abbrev pub handled : ℕ → Message → Node → Turn
-handled from message core = if from == 8 && nat_lt 0 (epoch_of message) then on_message message core else nothing core
+handled from message core = if from == COORDINATOR && nat_lt 0 (epoch_of message) then on_message message core else nothing core
 
 -- the entry of the epoch that is forcing is durable
 abbrev pub forced : ℕ → Node → Turn
 forced e core = does (votes true e) (record core { durable = e; decision = Unknown; forcing = 0 })
 
 abbrev pub asks : Node → List Action
-asks core = if nat_lt 0 core.durable && is_unknown core.decision then Send 8 (Query core.durable) ∷ [] else []
+asks core = if nat_lt 0 core.durable && is_unknown core.decision then Send COORDINATOR (Query core.durable) ∷ [] else []

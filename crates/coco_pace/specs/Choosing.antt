@@ -1,6 +1,7 @@
 -- Who runs an epoch, one worker or all, by how long the epochs of late took.
 use Rattle.std.specs.Prelude.{ℕ, ◌+◌, ◌*◌, ◌-◌, ◌/◌, ◌^◌, max, min, Bool, false, not, nat_eq, nat_le, if◌then◌else◌, Option, None, Some}
 use Rattle.coco_pace.specs.declared.Pace.{Pace}
+use Rattle.coco_pace.specs.declared.TheConstants.{TIMES}
 
 abbrev pub nothing_known : Pace
 nothing_known = record { alone = None; together = None; since_trial = 0 }
@@ -21,9 +22,9 @@ abbrev pub expected : Option ℕ → ℕ → ℕ
 expected None together = together
 expected (Some alone) together = alone
 
--- whether sixteen times as long has passed as a trial of those who aren't usual is expected to take
+-- whether so many times as long has passed as a trial of those who aren't usual is expected to take
 abbrev pub is_due : Pace → ℕ → ℕ → Bool
-is_due p together requests = nat_le ((if one_is_usual p then together else expected p.alone together) * requests * 16) p.since_trial
+is_due p together requests = nat_le ((if one_is_usual p then together else expected p.alone together) * requests * TIMES) p.since_trial
 
 -- whether one of the two holds and the other doesn't
 abbrev pub either : Bool → Bool → Bool

@@ -9,6 +9,7 @@ use Rattle.coco_net.specs.declared.letter.Posted.{Posted}
 use Rattle.coco_net.specs.Mail.{letters_to}
 use Rattle.coco_copy.specs.CopyState.{CopyState}
 use Rattle.coco_ship.specs.declared.ring.Ring.{Ring}
+use Rattle.coco_ship.specs.declared.ship.TheConstants.{EXCHANGES}
 use Rattle.coco_ship.specs.declared.ship.ShipFault.{ShipFault}
 use Rattle.coco_ship.specs.declared.ship.ShipFault.TheVariants as faults
 use Rattle.coco_ship.specs.Placing.{holder_of, table_of, IsCopy}
@@ -51,11 +52,11 @@ pub record Owes (ring : Ring) (epoch : ℕ) (given : List Posted) (node : ℕ) :
   pub holds : holder_of ring p j ≡ node
   pub lacks : Contains given (all_of ring epoch p j) → ⊥
 
--- Sixteen exchanges, in each of which every copy that owes its All was sent a Total and the count of faults rose; and
+-- So many exchanges, in each of which every copy that owes its All was sent a Total and the count of faults rose; and
 -- the least node that owes an All.
 pub record IsSilent (ring : Ring) (epoch : ℕ) (sent given : List Posted) (faults_old faults_new node : ℕ) : Type 0 where
-  pub faults : faults_old + 16 ≤ faults_new
-  pub exchanges : AreExchanges 16 (AreOwersAsked ring epoch given) sent faults_old faults_new
+  pub faults : faults_old + EXCHANGES ≤ faults_new
+  pub exchanges : AreExchanges EXCHANGES (AreOwersAsked ring epoch given) sent faults_old faults_new
   pub owes : Owes ring epoch given node
   pub least : (p j : ℕ) → IsCopy ring p j → holder_of ring p j < node → Contains given (all_of ring epoch p j)
 

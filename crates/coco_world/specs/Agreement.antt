@@ -3,6 +3,7 @@ use Rattle.std.specs.Prelude.{◌≡◌, ◌⊎◌, ℕ, ◌<◌, ◌≤◌, Lis
 use Rattle.std.specs.List.{list_all}
 use Rattle.coco_msg.specs.declared.message.Message.{Message}
 use Rattle.coco_msg.specs.declared.message.Message.TheVariants.{Ship, Total, Missing, All, Prepare, Vote, Commit, Finished, Abort, Query, Tell}
+use Rattle.coco_node.specs.declared.machine.TheConstants.{COORDINATOR}
 use Rattle.coco_node.specs.declared.machine.Decision.TheVariants.{Committed}
 use Rattle.coco_node.specs.Node.{Node, greatest}
 use Rattle.coco_chief.specs.Chief.{Chief, has}
@@ -61,4 +62,4 @@ pub record Holds (w : World) : Type 0 where
   pub chief : ChiefHolds w.count w.prepared w.commits w.begun w.chief
   pub letters : (l : Letter) → Among w.letters l → LetterHolds w l.from l.message
   pub entries : (e n : ℕ) → has w.commits e ≡ true → n < w.count → has (w.prepared n) e ≡ true
-  pub finishers : (n : ℕ) → slice_index_or w.chief.finished n false ≡ true → Among w.letters (record { from = n; to = 8; message = Finished w.chief.last })
+  pub finishers : (n : ℕ) → slice_index_or w.chief.finished n false ≡ true → Among w.letters (record { from = n; to = COORDINATOR; message = Finished w.chief.last })

@@ -3,6 +3,7 @@ use Rattle.std.specs.Prelude.{◌≡◌, ◌⊎◌, ℕ, ◌<◌, ◌≤◌, Lis
 use Rattle.coco_msg.specs.declared.action.Action.{Action}
 use Rattle.coco_msg.specs.declared.action.Action.TheVariants.{Send, Promote, Revert}
 use Rattle.coco_msg.specs.declared.message.Message.TheVariants.{Finished}
+use Rattle.coco_node.specs.declared.machine.TheConstants.{COORDINATOR}
 use Rattle.coco_chief.specs.Chief.{has}
 use Rattle.coco_chief.specs.Table.{has_finished}
 use Rattle.coco_world.specs.World.{World, Letter, Among, began_anew}
@@ -48,8 +49,8 @@ DurableGrows w = (between : List Event) (n : ℕ) → CanRun w between → n < w
 
 -- where a node is held for finished it has said so, of the last committed epoch
 abbrev pub FinishedHasSaid : World → Type 0
-FinishedHasSaid w = (n : ℕ) → has_finished n w.chief ≡ true → (w.chief.last ≡ 0) ⊎ Among w.letters (record { from = n; to = 8; message = Finished w.chief.last })
+FinishedHasSaid w = (n : ℕ) → has_finished n w.chief ≡ true → (w.chief.last ≡ 0) ⊎ Among w.letters (record { from = n; to = COORDINATOR; message = Finished w.chief.last })
 
 -- and a node says so only where it has
 abbrev pub SaysOnlyFinished : World → Type 0
-SaysOnlyFinished w = (event : Event) (n e : ℕ) → May w event → Answers w event n (Send 8 (Finished e)) → HasFinished ((happens w event).cores n) e × IsCommitted w e
+SaysOnlyFinished w = (event : Event) (n e : ℕ) → May w event → Answers w event n (Send COORDINATOR (Finished e)) → HasFinished ((happens w event).cores n) e × IsCommitted w e

@@ -2,6 +2,7 @@
 use Rattle.std.specs.Prelude.{◌≡◌, ◌≢◌, ℕ, zero, suc, ◌<◌, List, [], ◌∷◌, ◌++◌, Bool, true, false, Option, Some, None, if◌then◌else◌}
 use Rattle.coco_msg.specs.declared.action.Action.{Action}
 use Rattle.coco_msg.specs.declared.message.Message.{Message}
+use Rattle.coco_node.specs.declared.machine.TheConstants.{COORDINATOR}
 use Rattle.coco_node.specs.Node.{Node, restarted}
 use Rattle.coco_node.specs.Table.{handled, forced, asks}
 use Rattle.coco_chief.specs.Chief.{Chief, has}
@@ -31,7 +32,7 @@ pub record IsAbove (w : World) (epoch : ℕ) : Type 0 where
 -- when it may happen
 abbrev pub May : World → Event → Type 0
 May w (NodeTakes n from message) = (n < w.count) × Among w.letters (record { from = from; to = n; message = message })
-May w (ChiefTakes from message) = Among w.letters (record { from = from; to = 8; message = message })
+May w (ChiefTakes from message) = Among w.letters (record { from = from; to = COORDINATOR; message = message })
 May w (NodeForces n) = (n < w.count) × (0 < (w.cores n).forcing)
 May w ChiefForces = w.chief.phase ≡ Forcing
 May w (Begins epoch) = (w.chief.phase ≡ Rest) × (0 < epoch) × IsAbove w epoch
@@ -47,7 +48,7 @@ abbrev pub after_node : World → ℕ → List Action × Node → World
 after_node w n turn = record w { cores = put w.cores n turn.1; letters = sent n turn.0 ++ w.letters }
 
 abbrev pub after_chief : World → List Action × Chief → World
-after_chief w turn = record w { chief = turn.1; letters = sent 8 turn.0 ++ w.letters }
+after_chief w turn = record w { chief = turn.1; letters = sent COORDINATOR turn.0 ++ w.letters }
 
 -- a node's entry is durable
 abbrev pub made_durable : World → ℕ → ℕ → World
