@@ -26,10 +26,10 @@ use Rattle.coco_ast.specs.declared.plan.Term.{Term}
 use Rattle.coco_ast.specs.declared.plan.Term.TheVariants as term
 use Rattle.coco_ast.specs.declared.plan.Plan.{Plan}
 use Rattle.coco_ast.specs.declared.plan.Spot.{Spot}
-use Rattle.coco_ast.specs.declared.plan.Step.{Step}
-use Rattle.coco_ast.specs.declared.plan.Step.TheOpen.{Step-F}
-use Rattle.coco_ast.specs.declared.plan.Step.TheFolds.{fold-roll-Step}
-use Rattle.coco_ast.specs.declared.plan.Step.TheVariants as step
+use Rattle.coco_ast.specs.declared.plan.PlanStep.{PlanStep}
+use Rattle.coco_ast.specs.declared.plan.PlanStep.TheOpen.{PlanStep-F}
+use Rattle.coco_ast.specs.declared.plan.PlanStep.TheFolds.{fold-roll-PlanStep}
+use Rattle.coco_ast.specs.declared.plan.PlanStep.TheVariants as step
 use Rattle.coco_ast.proofs.Trees.{statement-if, statement-if_else, statement-repeat, statements-push}
 use Rattle.coco_ast.proofs.SlotLemmas.{longer_on, with_names-on, with_names-longer, slot_stands, slot_has}
 use Rattle.coco_ast.proofs.TermLemmas.{more_none, more_on}
@@ -91,29 +91,29 @@ reads-two ns new ts us op a b d e whole of adds one other later longer =
 
 module _ (ns : List (List ℕ)) (ts : List Term) where
   step-let : (slot a : ℕ) → statement_in ns ts (step.Let slot a) ≡ tree.Let (name_at ns slot) (expression_at ns ts a)
-  step-let slot a = ap (statement_in ns ts) (sym (step.rolls-Let slot a)) ∙ fold-roll-Step Statement (step_tree ns ts) (Step-F.Let slot a)
+  step-let slot a = ap (statement_in ns ts) (sym (step.rolls-Let slot a)) ∙ fold-roll-PlanStep Statement (step_tree ns ts) (PlanStep-F.Let slot a)
 
   step-get : (slot : ℕ) (p : Spot) → statement_in ns ts (step.Get slot p) ≡ tree.Get (name_at ns slot) (place_in ns ts p)
-  step-get slot p = ap (statement_in ns ts) (sym (step.rolls-Get slot p)) ∙ fold-roll-Step Statement (step_tree ns ts) (Step-F.Get slot p)
+  step-get slot p = ap (statement_in ns ts) (sym (step.rolls-Get slot p)) ∙ fold-roll-PlanStep Statement (step_tree ns ts) (PlanStep-F.Get slot p)
 
   step-put : (p : Spot) (a : ℕ) → statement_in ns ts (step.Put p a) ≡ tree.Put (place_in ns ts p) (expression_at ns ts a)
-  step-put p a = ap (statement_in ns ts) (sym (step.rolls-Put p a)) ∙ fold-roll-Step Statement (step_tree ns ts) (Step-F.Put p a)
+  step-put p a = ap (statement_in ns ts) (sym (step.rolls-Put p a)) ∙ fold-roll-PlanStep Statement (step_tree ns ts) (PlanStep-F.Put p a)
 
   step-delete : (p : Spot) → statement_in ns ts (step.Delete p) ≡ tree.Delete (place_in ns ts p)
-  step-delete p = ap (statement_in ns ts) (sym (step.rolls-Delete p)) ∙ fold-roll-Step Statement (step_tree ns ts) (Step-F.Delete p)
+  step-delete p = ap (statement_in ns ts) (sym (step.rolls-Delete p)) ∙ fold-roll-PlanStep Statement (step_tree ns ts) (PlanStep-F.Delete p)
 
-  step-if : (test : ℕ) (then_part : Vec Step Global) → statement_in ns ts (step.If test then_part None) ≡ tree.If (expression_at ns ts test) (statements_in ns ts then_part.items)
-  step-if test then_part = ap (statement_in ns ts) (sym (step.rolls-If test then_part None)) ∙ fold-roll-Step Statement (step_tree ns ts) (Step-F.If test then_part None)
+  step-if : (test : ℕ) (then_part : Vec PlanStep Global) → statement_in ns ts (step.If test then_part None) ≡ tree.If (expression_at ns ts test) (statements_in ns ts then_part.items)
+  step-if test then_part = ap (statement_in ns ts) (sym (step.rolls-If test then_part None)) ∙ fold-roll-PlanStep Statement (step_tree ns ts) (PlanStep-F.If test then_part None)
 
-  step-if_else : (test : ℕ) (then_part else_part : Vec Step Global)
+  step-if_else : (test : ℕ) (then_part else_part : Vec PlanStep Global)
       → statement_in ns ts (step.If test then_part (Some else_part)) ≡ tree.IfElse (expression_at ns ts test) (statements_in ns ts then_part.items) (statements_in ns ts else_part.items)
-  step-if_else test then_part else_part = ap (statement_in ns ts) (sym (step.rolls-If test then_part (Some else_part))) ∙ fold-roll-Step Statement (step_tree ns ts) (Step-F.If test then_part (Some else_part))
+  step-if_else test then_part else_part = ap (statement_in ns ts) (sym (step.rolls-If test then_part (Some else_part))) ∙ fold-roll-PlanStep Statement (step_tree ns ts) (PlanStep-F.If test then_part (Some else_part))
 
-  step-repeat : (n slot : ℕ) (block : Vec Step Global) → statement_in ns ts (step.Repeat n slot block) ≡ tree.Repeat n (name_at ns slot) (statements_in ns ts block.items)
-  step-repeat n slot block = ap (statement_in ns ts) (sym (step.rolls-Repeat n slot block)) ∙ fold-roll-Step Statement (step_tree ns ts) (Step-F.Repeat n slot block)
+  step-repeat : (n slot : ℕ) (block : Vec PlanStep Global) → statement_in ns ts (step.Repeat n slot block) ≡ tree.Repeat n (name_at ns slot) (statements_in ns ts block.items)
+  step-repeat n slot block = ap (statement_in ns ts) (sym (step.rolls-Repeat n slot block)) ∙ fold-roll-PlanStep Statement (step_tree ns ts) (PlanStep-F.Repeat n slot block)
 
   step-reply : (a : ℕ) → statement_in ns ts (step.Reply a) ≡ tree.Reply (expression_at ns ts a)
-  step-reply a = ap (statement_in ns ts) (sym (step.rolls-Reply a)) ∙ fold-roll-Step Statement (step_tree ns ts) (Step-F.Reply a)
+  step-reply a = ap (statement_in ns ts) (sym (step.rolls-Reply a)) ∙ fold-roll-PlanStep Statement (step_tree ns ts) (PlanStep-F.Reply a)
 
 both : (a b : Bool) → a ≡ true → b ≡ true → a && b ≡ true
 both true b h k = k
@@ -168,7 +168,7 @@ if_else_is : (e : Expr) (body behind : Vec Stmt Global) (other : Option (Vec Stm
     → statement_of (stmt.If e body other) ≡ tree.IfElse (expression_of e) (statements_of body.items) (statements_of behind.items)
 if_else_is e body behind other some = ap (λ (o : Option (Vec Stmt Global)). statement_of (stmt.If e body o)) some ∙ statement-if_else e body behind
 
-pub if_step : (ns new : List (List ℕ)) (ts us : List Term) {xs : List (List ℕ)} (test : ℕ) (steps : Vec Step Global) (e : Expr) (body : Vec Stmt Global) (other : Option (Vec Stmt Global)) → other ≡ None
+pub if_step : (ns new : List (List ℕ)) (ts us : List Term) {xs : List (List ℕ)} (test : ℕ) (steps : Vec PlanStep Global) (e : Expr) (body : Vec Stmt Global) (other : Option (Vec Stmt Global)) → other ≡ None
     → Adds ns new ts us xs → StandsFor ns ts test (expression_of e) → AreStepsOf new us (statements_of body.items) steps.items → IsStepOf new us (statement_of (stmt.If e body other)) (step.If test steps None)
 if_step ns new ts us test steps e body other none adds stands block =
     subst (λ (s : Statement). IsStepOf new us s (step.If test steps None)) (sym (if_is e body other none)) (record {
@@ -179,7 +179,7 @@ if_step ns new ts us test steps e body other none adds stands block =
       has_all = block.has_all;
     })
 
-pub if_else_step : (ns mid new : List (List ℕ)) (ts us vs : List Term) {xs ys : List (List ℕ)} (test : ℕ) (steps others : Vec Step Global) (e : Expr) (body behind : Vec Stmt Global) (other : Option (Vec Stmt Global))
+pub if_else_step : (ns mid new : List (List ℕ)) (ts us vs : List Term) {xs ys : List (List ℕ)} (test : ℕ) (steps others : Vec PlanStep Global) (e : Expr) (body behind : Vec Stmt Global) (other : Option (Vec Stmt Global))
     → other ≡ Some behind → Adds ns mid ts us xs → Adds mid new us vs ys → StandsFor ns ts test (expression_of e)
     → AreStepsOf mid us (statements_of body.items) steps.items → AreStepsOf new vs (statements_of behind.items) others.items → IsStepOf new vs (statement_of (stmt.If e body other)) (step.If test steps (Some others))
 if_else_step ns mid new ts us vs test steps others e body behind other some first second stands one two =
@@ -193,7 +193,7 @@ if_else_step ns mid new ts us vs test steps others e body behind other some firs
       has_all = λ later longer. both _ _ (one.has_all later (longer_still second later longer)) (two.has_all later longer);
     })
 
-pub repeat_step : (ns mid new : List (List ℕ)) (ts us : List Term) {xs : List (List ℕ)} (n slot : ℕ) (x : List ℕ) (steps : Vec Step Global) (body : Vec Stmt Global) (whole : Stmt) → whole ≡ stmt.Repeat n x body
+pub repeat_step : (ns mid new : List (List ℕ)) (ts us : List Term) {xs : List (List ℕ)} (n slot : ℕ) (x : List ℕ) (steps : Vec PlanStep Global) (body : Vec Stmt Global) (whole : Stmt) → whole ≡ stmt.Repeat n x body
     → mid ≡ with_name ns x → slot ≡ slot_of ns x → Adds mid new ts us xs → AreStepsOf new us (statements_of body.items) steps.items → IsStepOf new us (statement_of whole) (step.Repeat n slot steps)
 repeat_step ns mid new ts us n slot x steps body whole of is at adds block =
     let up : (later : List (List ℕ)) → IsLonger new later → IsLonger (with_name ns x) later = λ later longer. subst (λ (l : List (List ℕ)). IsLonger l later) is (longer_still adds later longer) in
@@ -211,11 +211,11 @@ has_slots-more ns [] s all one = both _ _ one refl
 has_slots-more ns (t ∷ ss) s all one = let parts = and_parts (has_slots_in ns t) (has_slots ns (statements_from ss)) all in both _ _ parts.0 (has_slots-more ns ss s parts.1 one)
 
 -- the statements so far, by their list, which grows at its end
-pub record AreStepsBelow (names : List (List ℕ)) (terms : List Term) (block : List Stmt) (steps : List Step) : Type 0 where
+pub record AreStepsBelow (names : List (List ℕ)) (terms : List Term) (block : List Stmt) (steps : List PlanStep) : Type 0 where
   pub stand : (later : List (List ℕ)) (all : List Term) → IsLonger names later → AreMore terms all → map (statement_in later all) steps ≡ map statement_of block
   pub has_all : (later : List (List ℕ)) → IsLonger names later → has_slots later (statements_of block) ≡ true
 
-pub steps_more : (ns new : List (List ℕ)) (ts us : List Term) {xs : List (List ℕ)} (block ss : List Stmt) (s : Stmt) (steps whole : List Step) (a : Step) → ss ≡ block ++ s ∷ [] → whole ≡ steps ++ a ∷ []
+pub steps_more : (ns new : List (List ℕ)) (ts us : List Term) {xs : List (List ℕ)} (block ss : List Stmt) (s : Stmt) (steps whole : List PlanStep) (a : PlanStep) → ss ≡ block ++ s ∷ [] → whole ≡ steps ++ a ∷ []
     → Adds ns new ts us xs → AreStepsBelow ns ts block steps → IsStepOf new us (statement_of s) a → AreStepsBelow new us ss whole
 steps_more ns new ts us block ss s steps whole a front behind adds below one = record {
   stand = λ later all longer more.
@@ -227,7 +227,7 @@ steps_more ns new ts us block ss s steps whole a front behind adds below one = r
       (has_slots-more later (map statement_of block) (statement_of s) (below.has_all later (longer_still adds later longer)) (one.has_all later longer));
 }
 
-pub steps_whole : (ns : List (List ℕ)) (ts : List Term) (block ss : List Stmt) (steps : List Step) → ss ≡ block → AreStepsBelow ns ts ss steps → AreStepsOf ns ts (statements_of block) steps
+pub steps_whole : (ns : List (List ℕ)) (ts : List Term) (block ss : List Stmt) (steps : List PlanStep) → ss ≡ block → AreStepsBelow ns ts ss steps → AreStepsOf ns ts (statements_of block) steps
 steps_whole ns ts block ss steps is below = record {
   stand = λ later all longer more. ap statements_from (below.stand later all longer more) ∙ ap statements_of is;
   has_all = λ later longer. subst (λ (l : List Stmt). has_slots later (statements_of l) ≡ true) is (below.has_all later longer);

@@ -10,7 +10,7 @@ use Rattle.coco_ast.specs.Plans.{AreSlots, has_slot, has_slots, has_slots_in, ex
 use Rattle.coco_ast.specs.Tree.{Expression, RowPlace, Statement, Statements}
 use Rattle.coco_ast.specs.declared.plan.Term.{Term}
 use Rattle.coco_ast.specs.declared.plan.Spot.{Spot}
-use Rattle.coco_ast.specs.declared.plan.Step.{Step}
+use Rattle.coco_ast.specs.declared.plan.PlanStep.{PlanStep}
 
 -- ---- slots
 
@@ -61,10 +61,10 @@ abbrev pub StandsForPlace : List (List ℕ) → List Term → Spot → RowPlace 
 StandsForPlace names terms spot p = (later : List (List ℕ)) (all : List Term) → IsLonger names later → AreMore terms all → place_in later all spot ≡ p
 
 -- the step is that of the statement, and what it sets has a slot
-pub record IsStepOf (names : List (List ℕ)) (terms : List Term) (s : Statement) (step : Step) : Type 0 where
+pub record IsStepOf (names : List (List ℕ)) (terms : List Term) (s : Statement) (step : PlanStep) : Type 0 where
   pub stands : (later : List (List ℕ)) (all : List Term) → IsLonger names later → AreMore terms all → statement_in later all step ≡ s
   pub has_all : (later : List (List ℕ)) → IsLonger names later → has_slots_in later s ≡ true
 
-pub record AreStepsOf (names : List (List ℕ)) (terms : List Term) (body : Statements) (steps : List Step) : Type 0 where
+pub record AreStepsOf (names : List (List ℕ)) (terms : List Term) (body : Statements) (steps : List PlanStep) : Type 0 where
   pub stand : (later : List (List ℕ)) (all : List Term) → IsLonger names later → AreMore terms all → statements_in later all steps ≡ body
   pub has_all : (later : List (List ℕ)) → IsLonger names later → has_slots later body ≡ true

@@ -9,9 +9,9 @@ use Rattle.coco_ast.specs.Views.{sign_of, statements_from}
 use Rattle.coco_ast.specs.declared.plan.Term.{Term}
 use Rattle.coco_ast.specs.declared.plan.Term.TheVariants as term
 use Rattle.coco_ast.specs.declared.plan.Spot.{Spot}
-use Rattle.coco_ast.specs.declared.plan.Step.{Step}
-use Rattle.coco_ast.specs.declared.plan.Step.TheOpen.{Step-F}
-use Rattle.coco_ast.specs.declared.plan.Step.TheFolds.{fold-Step}
+use Rattle.coco_ast.specs.declared.plan.PlanStep.{PlanStep}
+use Rattle.coco_ast.specs.declared.plan.PlanStep.TheOpen.{PlanStep-F}
+use Rattle.coco_ast.specs.declared.plan.PlanStep.TheFolds.{fold-PlanStep}
 use Rattle.coco_ast.specs.declared.plan.Plan.{Plan}
 
 -- ---- trees
@@ -46,21 +46,21 @@ abbrev pub place_in : List (List ℕ) → List Term → Spot → RowPlace
 place_in names terms s = record { table = s.table; row = expression_at names terms s.row }
 
 -- one level, with each statement inside already seen as its tree
-abbrev pub step_tree : List (List ℕ) → List Term → Step-F Statement → Statement
-step_tree names terms (Step-F.Let slot value) = Let (name_at names slot) (expression_at names terms value)
-step_tree names terms (Step-F.Get slot spot) = Get (name_at names slot) (place_in names terms spot)
-step_tree names terms (Step-F.Put spot value) = Put (place_in names terms spot) (expression_at names terms value)
-step_tree names terms (Step-F.Delete spot) = Delete (place_in names terms spot)
-step_tree names terms (Step-F.If test then_part None) = If (expression_at names terms test) (statements_from then_part.items)
-step_tree names terms (Step-F.If test then_part (Some else_part)) = IfElse (expression_at names terms test) (statements_from then_part.items) (statements_from else_part.items)
-step_tree names terms (Step-F.Repeat bound slot block) = Repeat bound (name_at names slot) (statements_from block.items)
-step_tree names terms (Step-F.Refuse n) = Refuse n
-step_tree names terms (Step-F.Reply value) = Reply (expression_at names terms value)
+abbrev pub step_tree : List (List ℕ) → List Term → PlanStep-F Statement → Statement
+step_tree names terms (PlanStep-F.Let slot value) = Let (name_at names slot) (expression_at names terms value)
+step_tree names terms (PlanStep-F.Get slot spot) = Get (name_at names slot) (place_in names terms spot)
+step_tree names terms (PlanStep-F.Put spot value) = Put (place_in names terms spot) (expression_at names terms value)
+step_tree names terms (PlanStep-F.Delete spot) = Delete (place_in names terms spot)
+step_tree names terms (PlanStep-F.If test then_part None) = If (expression_at names terms test) (statements_from then_part.items)
+step_tree names terms (PlanStep-F.If test then_part (Some else_part)) = IfElse (expression_at names terms test) (statements_from then_part.items) (statements_from else_part.items)
+step_tree names terms (PlanStep-F.Repeat bound slot block) = Repeat bound (name_at names slot) (statements_from block.items)
+step_tree names terms (PlanStep-F.Refuse n) = Refuse n
+step_tree names terms (PlanStep-F.Reply value) = Reply (expression_at names terms value)
 
-abbrev pub statement_in : List (List ℕ) → List Term → Step → Statement
-statement_in names terms = fold-Step Statement (step_tree names terms)
+abbrev pub statement_in : List (List ℕ) → List Term → PlanStep → Statement
+statement_in names terms = fold-PlanStep Statement (step_tree names terms)
 
-abbrev pub statements_in : List (List ℕ) → List Term → List Step → Statements
+abbrev pub statements_in : List (List ℕ) → List Term → List PlanStep → Statements
 statements_in names terms steps = statements_from (map (statement_in names terms) steps)
 
 -- ---- what a plan has

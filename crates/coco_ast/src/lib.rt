@@ -18,6 +18,6 @@ pub use checked::Checked;
 pub use error::{CheckError, CheckKind};
 pub use literal::Literal;
 pub use name::{MOST_NAME_BYTES, Name, continues_word, starts_word};
-pub use plan::{Plan, Plans, Spot, Step, Steps, Term};
+pub use plan::{Plan, PlanStep, Plans, Spot, Steps, Term};
 pub use slots::Slots;
 pub use tree::{Block, Expr, Names, Place, Proc, ProcList, Procs, Stmt, TwoOp};

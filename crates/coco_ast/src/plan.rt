@@ -28,7 +28,7 @@ pub struct Spot {
 
 /// A statement, as `Stmt` is. Expressions are named by their places among the terms.
 #[derive(Debug, Drop)]
-pub enum Step {
+pub enum PlanStep {
     Let {
         slot: usize,
         value: usize,
@@ -59,7 +59,7 @@ pub enum Step {
 }
 
 /// Statements, in order.
-pub type Steps = Vec<Step>;
+pub type Steps = Vec<PlanStep>;
 
 /// How a procedure is run: the name of each slot, the parameters first, the terms of all its expressions, its
 /// statements, and how deep blocks stand in one another at most.

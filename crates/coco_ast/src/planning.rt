@@ -7,7 +7,7 @@ ghost use Rattle.coco_ast.specs.Tree.{Let, Get, Put, Delete, Reply};
 ghost use Rattle.coco_ast.specs.Views.{expression_of, place_of};
 
 use crate::slots::Slots;
-use crate::{Expr, Name, Place, Spot, Step, Term};
+use crate::{Expr, Name, Place, PlanStep, Spot, Term};
 use coco_types::NoMemory;
 use std::alloc::Global;
 
@@ -18,13 +18,13 @@ pub fn let_step(
     alloc: Global,
     name: &Name,
     value: &Expr,
-) -> Result<Step, NoMemory>
+) -> Result<PlanStep, NoMemory>
     ensures adds { OnOk result (Adds slots.old slots.new terms.old.items terms.new.items (names_in (Let name.now (expression_of value.now)))) }
     ensures step { IfOk result (λ step. IsStepOf slots.new terms.new.items (Let name.now (expression_of value.now)) step) }
 {
     let value = term_of(slots, terms, alloc, value)?;
     let slot = slots.slot(name)?;
-    Ok(Step::Let { slot, value })
+    Ok(PlanStep::Let { slot, value })
 }
 
 /// The step of a `get`: its place first, and then the slot of its name.
@@ -34,13 +34,13 @@ pub fn get_step(
     alloc: Global,
     name: &Name,
     place: &Place,
-) -> Result<Step, NoMemory>
+) -> Result<PlanStep, NoMemory>
     ensures adds { OnOk result (Adds slots.old slots.new terms.old.items terms.new.items (names_in (Get name.now (place_of place.now)))) }
     ensures step { IfOk result (λ step. IsStepOf slots.new terms.new.items (Get name.now (place_of place.now)) step) }
 {
     let spot = spot_of(slots, terms, alloc, place)?;
     let slot = slots.slot(name)?;
-    Ok(Step::Get { slot, spot })
+    Ok(PlanStep::Get { slot, spot })
 }
 
 /// The step of a `put`: its place first, and then its value.
@@ -50,13 +50,13 @@ pub fn put_step(
     alloc: Global,
     place: &Place,
     value: &Expr,
-) -> Result<Step, NoMemory>
+) -> Result<PlanStep, NoMemory>
     ensures adds { OnOk result (Adds slots.old slots.new terms.old.items terms.new.items (names_in (Put (place_of place.now) (expression_of value.now)))) }
     ensures step { IfOk result (λ step. IsStepOf slots.new terms.new.items (Put (place_of place.now) (expression_of value.now)) step) }
 {
     let spot = spot_of(slots, terms, alloc, place)?;
     let value = term_of(slots, terms, alloc, value)?;
-    Ok(Step::Put { spot, value })
+    Ok(PlanStep::Put { spot, value })
 }
 
 /// The step of a `delete`.
@@ -65,12 +65,12 @@ pub fn delete_step(
     terms: &mut Vec<Term>,
     alloc: Global,
     place: &Place,
-) -> Result<Step, NoMemory>
+) -> Result<PlanStep, NoMemory>
     ensures adds { OnOk result (Adds slots.old slots.new terms.old.items terms.new.items (names_in (Delete (place_of place.now)))) }
     ensures step { IfOk result (λ step. IsStepOf slots.new terms.new.items (Delete (place_of place.now)) step) }
 {
     let spot = spot_of(slots, terms, alloc, place)?;
-    Ok(Step::Delete { spot })
+    Ok(PlanStep::Delete { spot })
 }
 
 /// The step of a `reply`.
@@ -79,12 +79,12 @@ pub fn reply_step(
     terms: &mut Vec<Term>,
     alloc: Global,
     value: &Expr,
-) -> Result<Step, NoMemory>
+) -> Result<PlanStep, NoMemory>
     ensures adds { OnOk result (Adds slots.old slots.new terms.old.items terms.new.items (names_in (Reply (expression_of value.now)))) }
     ensures step { IfOk result (λ step. IsStepOf slots.new terms.new.items (Reply (expression_of value.now)) step) }
 {
     let value = term_of(slots, terms, alloc, value)?;
-    Ok(Step::Reply(value))
+    Ok(PlanStep::Reply(value))
 }
 
 fn spot_of(

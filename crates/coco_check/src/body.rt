@@ -15,7 +15,7 @@ use crate::fault::BodyFault;
 use crate::names::NameSet;
 use crate::statement::kind_of;
 use coco_ast::planning::{delete_step, get_step, let_step, put_step, reply_step, term_of};
-use coco_ast::{Block, Expr, Name, Step, Steps, Stmt};
+use coco_ast::{Block, Expr, Name, PlanStep, Steps, Stmt};
 use coco_types::NoMemory;
 use coco_types::limits::MOST_TURNS;
 
@@ -62,7 +62,7 @@ impl Body {
         tables: &NameSet,
         around: u64,
         stmt: &Stmt,
-    ) -> Result<Step, BodyFault>
+    ) -> Result<PlanStep, BodyFault>
         requires turns { around ≤ MOST_TURNS }
         requires numbers { self.old.last + length (and_within around (statement_of stmt.now)) < 2 ^ 32 }
         ensures walk { Follows result self.new
@@ -79,7 +79,7 @@ impl Body {
                 let slot = draft.slots.slot(name)?;
                 let block = self.check_block(draft, tables, around * bound, block)?;
                 let bound = *bound;
-                Ok(Step::Repeat { bound, slot, block })
+                Ok(PlanStep::Repeat { bound, slot, block })
             }
             _ => Ok(plain_step(draft, stmt)?),
         }
@@ -95,7 +95,7 @@ impl Body {
         test: &Expr,
         yes: &Block,
         no: &Option<Block>,
-    ) -> Result<Step, BodyFault>
+    ) -> Result<PlanStep, BodyFault>
         requires turns { around ≤ MOST_TURNS }
         requires numbers { self.old.last + length (within around (statement_of (If test.now yes.now no.now))) < 2 ^ 32 }
         ensures walk { Follows result self.new
@@ -108,14 +108,14 @@ impl Body {
         let test = term_of(&mut draft.slots, &mut draft.terms, draft.alloc, test)?;
         let yes = self.check_block(draft, tables, around, yes)?;
         match no {
-            None => Ok(Step::If {
+            None => Ok(PlanStep::If {
                 test,
                 yes,
                 no: None,
             }),
             Some(no) => {
                 let no = Some(self.check_block(draft, tables, around, no)?);
-                Ok(Step::If { test, yes, no })
+                Ok(PlanStep::If { test, yes, no })
             }
         }
     }
@@ -141,7 +141,7 @@ impl Body {
 }
 
 // The step of a statement without blocks.
-fn plain_step(draft: &mut Draft, stmt: &Stmt) -> Result<Step, NoMemory>
+fn plain_step(draft: &mut Draft, stmt: &Stmt) -> Result<PlanStep, NoMemory>
     requires { IsPlain (statement_of stmt.now) }
     ensures adds { OnOk result (Extends draft.old draft.new (names_in (statement_of stmt.now))) }
     ensures step { IfOk result (λ step. IsStepOf draft.new.slots draft.new.terms.items (statement_of stmt.now) step) }
@@ -154,7 +154,7 @@ fn plain_step(draft: &mut Draft, stmt: &Stmt) -> Result<Step, NoMemory>
         Stmt::Get { name, place } => get_step(slots, terms, alloc, name, place),
         Stmt::Put { place, value } => put_step(slots, terms, alloc, place, value),
         Stmt::Delete { place } => delete_step(slots, terms, alloc, place),
-        Stmt::Refuse(code) => Ok(Step::Refuse(*code)),
+        Stmt::Refuse(code) => Ok(PlanStep::Refuse(*code)),
         Stmt::Reply(value) => reply_step(slots, terms, alloc, value),
         Stmt::If { .. } | Stmt::Repeat { .. } => unreachable!(),
     }

@@ -10,7 +10,7 @@ use coco_io::MemorySource;
 use coco_migrate::migrate;
 use coco_recover::recover;
 use coco_run::run;
-use coco_serve::Plan;
+use coco_serve::RunBounds;
 use std::alloc::Global;
 use std::sync::Wait;
 use std::test::Fail;
@@ -69,12 +69,12 @@ fn run_lines<R: Threads + Wait + Clock + Sync>(
 {
     let bytes = Vec::from_slice(alloc, lines.as_bytes())?;
     let mut input = MemorySource::new(bytes, Vec::new(alloc));
-    let plan = Plan {
+    let bounds = RunBounds {
         size,
         workers: 1,
         attempts: 1,
     };
-    Ok(run(rt, alloc, host, &mut input, plan, &OpenGate))
+    Ok(run(rt, alloc, host, &mut input, bounds, &OpenGate))
 }
 
 // A store with these bytes in its layouts' file, and without epochs.

@@ -9,7 +9,7 @@ use Rattle.coco_ast.specs.Meaning.{value_of, key_of}
 use Rattle.coco_ast.specs.Tree.{Expression, RowPlace, Statement, Let, Get, Put, Delete, If, IfElse, Repeat, Refuse, Reply, Statements, End, Then}
 use Rattle.coco_ast.specs.Plans.{depth_one, depth}
 use Rattle.coco_ast.specs.declared.plan.Plan.{Plan}
-use Rattle.coco_ast.specs.declared.plan.Step.{Step}
+use Rattle.coco_ast.specs.declared.plan.PlanStep.{PlanStep}
 use Rattle.coco_eval.specs.Moves.{named, kept_of, Ahead, Moves, MovesBlock, MovesGet, MovesOne, MovesTurns, Settles, HasRoom, on_way}
 use Rattle.coco_eval.specs.Planned.{statement_by, statements_by}
 use Rattle.coco_eval.specs.Places.{Kept, Onward, Goes, behind, with, with_given, with_variable, with_write, turns, runs_one, runs, from, goes_on_first, goes_on_one, goes_on_repeat, goes_on, weight_first, weight_one, weight_repeat, weight_on, are_bounded_in, are_bounded}
@@ -23,16 +23,16 @@ use Rattle.coco_eval.proofs.SlotLemmas.{drop_first}
 
 -- ---- the statements of a block
 
-from-statements_by : (plan : Plan) (n : ℕ) (ss : List Step) → from n (statements_by plan ss) ≡ statements_by plan (drop n ss)
+from-statements_by : (plan : Plan) (n : ℕ) (ss : List PlanStep) → from n (statements_by plan ss) ≡ statements_by plan (drop n ss)
 from-statements_by plan zero ss = refl
 from-statements_by plan (suc n) [] = refl
 from-statements_by plan (suc n) (s ∷ ss) = from-statements_by plan n ss
 
-pub first_at : (plan : Plan) (ss : List Step) (n : ℕ) (s : Step) → n < length ss → s ≡ get_or ss n s → from n (statements_by plan ss) ≡ Then (statement_by plan s) (from (n + 1) (statements_by plan ss))
-first_at plan ss n s lt is = from-statements_by plan n ss ∙ ap (statements_by plan) (drop_first ss n s lt) ∙ ap (λ (t : Step). Then (statement_by plan t) (statements_by plan (drop (n + 1) ss))) (sym is)
+pub first_at : (plan : Plan) (ss : List PlanStep) (n : ℕ) (s : PlanStep) → n < length ss → s ≡ get_or ss n s → from n (statements_by plan ss) ≡ Then (statement_by plan s) (from (n + 1) (statements_by plan ss))
+first_at plan ss n s lt is = from-statements_by plan n ss ∙ ap (statements_by plan) (drop_first ss n s lt) ∙ ap (λ (t : PlanStep). Then (statement_by plan t) (statements_by plan (drop (n + 1) ss))) (sym is)
     ∙ ap (Then (statement_by plan s)) (sym (from-statements_by plan (n + 1) ss))
 
-pub from-end : (plan : Plan) (ss : List Step) (n : ℕ) → length ss ≤ n → from n (statements_by plan ss) ≡ End
+pub from-end : (plan : Plan) (ss : List PlanStep) (n : ℕ) → length ss ≤ n → from n (statements_by plan ss) ≡ End
 from-end plan [] zero le = refl
 from-end plan [] (suc n) le = refl
 from-end plan (s ∷ ss) zero le = absurd (omega arith)
@@ -58,7 +58,7 @@ pub record IsAt (n : ℕ) (b : Statements) (s : Statement) : Type 0 where
   pub bounded : are_bounded b ≡ true → are_bounded_in s ≡ true
   pub deep : suc (depth_one s) ≤ depth b
 
-pub is_at : (plan : Plan) (ss : List Step) (n : ℕ) (s : Step) → n < length ss → s ≡ get_or ss n s → IsAt n (statements_by plan ss) (statement_by plan s)
+pub is_at : (plan : Plan) (ss : List PlanStep) (n : ℕ) (s : PlanStep) → n < length ss → s ≡ get_or ss n s → IsAt n (statements_by plan ss) (statement_by plan s)
 is_at plan ss n s lt is =
     let b = statements_by plan ss in let split = first_at plan ss n s lt is in
     record {
@@ -233,7 +233,7 @@ asked ts n b s v w fs old mid new at to st =
     }
 
 -- nothing is left
-pub through : (ts : List (List ℕ)) (plan : Plan) (ss : List Step) (n : ℕ) (p : Rows → Onward) (w : ℕ) (old new : Machine) → length ss ≤ n → IsLed p (λ m. runs m ts (from n (statements_by plan ss)) (kept_of new)) w (key_weight (from n (statements_by plan ss))) old new
+pub through : (ts : List (List ℕ)) (plan : Plan) (ss : List PlanStep) (n : ℕ) (p : Rows → Onward) (w : ℕ) (old new : Machine) → length ss ≤ n → IsLed p (λ m. runs m ts (from n (statements_by plan ss)) (kept_of new)) w (key_weight (from n (statements_by plan ss))) old new
     → new.path.items ≡ [] → MovesBlock stop.Goes ts (statements_by plan ss) p w old new
 through ts plan ss n p w old new out led path = record {
   reaches = ((λ m. led.same m ∙ ap (λ (b : Statements). runs m ts b (kept_of new)) (from-end plan ss n out)), path);
@@ -245,7 +245,7 @@ through ts plan ss n p w old new out led path = record {
   path_room = led.path_room;
 }
 
-pub through_first : (ts : List (List ℕ)) (plan : Plan) (ss : List Step) (f : Frame) (fs : List Frame) (m : Machine) → length ss ≤ f.at → m.path.items ≡ []
+pub through_first : (ts : List (List ℕ)) (plan : Plan) (ss : List PlanStep) (f : Frame) (fs : List Frame) (m : Machine) → length ss ≤ f.at → m.path.items ≡ []
     → MovesBlock stop.Goes ts (statements_by plan ss) (λ rows. goes_on rows ts (f ∷ fs) (statements_by plan ss) (kept_of m)) (weight_on (f ∷ fs) (statements_by plan ss)) m m
 through_first ts plan ss f fs m out path = record {
   reaches = ((λ rows. ap (λ (b : Statements). goes_on_first rows ts f.way (λ inner d. goes_on rows ts fs inner d) b (kept_of m)) (from-end plan ss f.at out)), path);

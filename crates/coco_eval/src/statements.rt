@@ -14,14 +14,20 @@ ghost use Rattle.coco_eval.specs.Places.{Goes, Ends, with, with_variable, with_w
 use crate::keys::{given, key, put, written};
 use crate::machine::{Frame, Given, Machine, Stop, Way};
 use crate::operand::{Operand, lend, number, owned, store};
-use coco_ast::{Name, Plan, Spot, Step};
+use coco_ast::{Name, Plan, PlanStep, Spot};
 use coco_types::{Cause, Key, Reply};
 
 impl Machine {
     /// Runs a block from a place in it on.
     #[cycle(run)]
     #[inline(always)]
-    pub fn block(&mut self, tables: &[Name], plan: &Plan, block: &[Step], path: &[Frame]) -> Stop
+    pub fn block(
+        &mut self,
+        tables: &[Name],
+        plan: &Plan,
+        block: &[PlanStep],
+        path: &[Frame],
+    ) -> Stop
         requires tables { length tables.now < 2 ^ 16 }
         requires bounded { are_bounded (statements_by plan.now block.now) ≡ true }
         requires room { HasRoom plan.now.names (weight_on (reverse path.now) (statements_by plan.now block.now)) (depth (statements_by plan.now block.now)) self.old }
@@ -42,7 +48,7 @@ impl Machine {
         &mut self,
         tables: &[Name],
         plan: &Plan,
-        block: &[Step],
+        block: &[PlanStep],
         frame: Frame,
         inner: &[Frame],
     ) -> Stop
@@ -65,7 +71,7 @@ impl Machine {
 
     // Runs a block from one of its statements on.
     #[cycle(run)]
-    fn behind(&mut self, tables: &[Name], plan: &Plan, block: &[Step], first: usize) -> Stop
+    fn behind(&mut self, tables: &[Name], plan: &Plan, block: &[PlanStep], first: usize) -> Stop
         requires tables { length tables.now < 2 ^ 16 }
         requires bounded { are_bounded (statements_by plan.now block.now) ≡ true }
         requires first { first ≤ length block.now }
@@ -98,18 +104,18 @@ impl Machine {
 
     // Runs a statement from its start.
     #[cycle(run)]
-    fn fresh(&mut self, tables: &[Name], plan: &Plan, statement: &Step) -> Stop
+    fn fresh(&mut self, tables: &[Name], plan: &Plan, statement: &PlanStep) -> Stop
         requires tables { length tables.now < 2 ^ 16 }
         requires bounded { are_bounded_in (statement_by plan.now statement.now) ≡ true }
         requires room { HasRoom plan.now.names (weight_one Way.Fresh (weight_on []) (statement_by plan.now statement.now)) (depth_one (statement_by plan.now statement.now)) self.old }
         ensures { MovesOne result tables.now (statement_by plan.now statement.now) Way.Fresh [] self.old self.new }
     {
         match statement {
-            Step::Let { slot, value } => self.assign(plan, *slot, *value),
-            Step::Get { slot, spot } => self.ask(tables, plan, *slot, spot),
-            Step::Put { spot, value } => self.put(tables, plan, spot, *value),
-            Step::Delete { spot } => self.delete(tables, plan, spot),
-            Step::If {
+            PlanStep::Let { slot, value } => self.assign(plan, *slot, *value),
+            PlanStep::Get { slot, spot } => self.ask(tables, plan, *slot, spot),
+            PlanStep::Put { spot, value } => self.put(tables, plan, spot, *value),
+            PlanStep::Delete { spot } => self.delete(tables, plan, spot),
+            PlanStep::If {
                 test,
                 yes,
                 no: None,
@@ -118,7 +124,7 @@ impl Machine {
                 Ok(false) => Stop::Goes,
                 Err(cause) => self.refuse(cause),
             },
-            Step::If {
+            PlanStep::If {
                 test,
                 yes,
                 no: Some(no),
@@ -127,11 +133,11 @@ impl Machine {
                 Ok(false) => on_way(self.block(tables, plan, no, &[]), Way::Else),
                 Err(cause) => self.refuse(cause),
             },
-            Step::Repeat { bound, slot, block } => {
+            PlanStep::Repeat { bound, slot, block } => {
                 self.repeat(tables, plan, *bound, *slot, block, Way::Fresh, &[])
             }
-            Step::Refuse(number) => self.refuse(Cause::User(*number)),
-            Step::Reply(value) => self.answer(plan, *value),
+            PlanStep::Refuse(number) => self.refuse(Cause::User(*number)),
+            PlanStep::Reply(value) => self.answer(plan, *value),
         }
     }
 
@@ -141,7 +147,7 @@ impl Machine {
         &mut self,
         tables: &[Name],
         plan: &Plan,
-        statement: &Step,
+        statement: &PlanStep,
         way: Way,
         inner: &[Frame],
     ) -> Stop
@@ -151,8 +157,8 @@ impl Machine {
         ensures { MovesOne result tables.now (statement_by plan.now statement.now) way (reverse inner.now) self.old self.new }
     {
         match statement {
-            Step::Get { slot, spot } => self.get(tables, plan, *slot, spot, way),
-            Step::If {
+            PlanStep::Get { slot, spot } => self.get(tables, plan, *slot, spot, way),
+            PlanStep::If {
                 test,
                 yes,
                 no: None,
@@ -161,7 +167,7 @@ impl Machine {
                 Ok(false) => Stop::Goes,
                 Err(cause) => self.refuse(cause),
             },
-            Step::If {
+            PlanStep::If {
                 test,
                 yes,
                 no: Some(no),
@@ -170,14 +176,14 @@ impl Machine {
                 Ok(false) => on_way(self.block(tables, plan, no, inner), Way::Else),
                 Err(cause) => self.refuse(cause),
             },
-            Step::Repeat { bound, slot, block } => {
+            PlanStep::Repeat { bound, slot, block } => {
                 self.repeat(tables, plan, *bound, *slot, block, way, inner)
             }
-            Step::Let { .. }
-            | Step::Put { .. }
-            | Step::Delete { .. }
-            | Step::Refuse(_)
-            | Step::Reply(_) => self.fresh(tables, plan, statement),
+            PlanStep::Let { .. }
+            | PlanStep::Put { .. }
+            | PlanStep::Delete { .. }
+            | PlanStep::Refuse(_)
+            | PlanStep::Reply(_) => self.fresh(tables, plan, statement),
         }
     }
 
@@ -188,7 +194,7 @@ impl Machine {
         plan: &Plan,
         bound: u64,
         slot: usize,
-        block: &[Step],
+        block: &[PlanStep],
         way: Way,
         inner: &[Frame],
     ) -> Stop
@@ -220,7 +226,7 @@ impl Machine {
         first: u64,
         bound: u64,
         slot: usize,
-        block: &[Step],
+        block: &[PlanStep],
     ) -> Stop
         requires tables { length tables.now < 2 ^ 16 }
         requires bounded { are_bounded (statements_by plan.now block.now) ≡ true }

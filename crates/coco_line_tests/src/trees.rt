@@ -1,6 +1,6 @@
 //! Names, built-in procedures with their plans, literals and expressions as they are made.
 
-use coco_ast::{Checked, Expr, Literal, Name, Proc, Step, Term, TwoOp, builtins};
+use coco_ast::{Checked, Expr, Literal, Name, PlanStep, Proc, Term, TwoOp, builtins};
 use coco_check::built_in;
 use coco_types::{NoMemory, Text};
 use std::alloc::Global;
@@ -45,7 +45,7 @@ fn adds_by_slots(procs: &Checked) -> bool {
         return false;
     };
     let names = plan.names.as_slice();
-    let Some(Step::Reply(place)) = plan.steps.last() else {
+    let Some(PlanStep::Reply(place)) = plan.steps.last() else {
         return false;
     };
     names.len() == 3

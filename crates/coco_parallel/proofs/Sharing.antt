@@ -11,13 +11,13 @@ use Rattle.std.proofs.MapsCrossing.{crosses as maps_cross}
 use Rattle.coco_ast.proofs.literal.Literal.TheSendSync.{the_sync as literal_sync}
 use Rattle.coco_ast.proofs.name.Name.TheSendSync.{the_sync as name_sync}
 use Rattle.coco_ast.proofs.plan.Term.TheSendSync.{the_sync as term_sync}
-use Rattle.coco_ast.proofs.plan.Step.TheLaws.TheKnot.{crosses as step_crosses}
+use Rattle.coco_ast.proofs.plan.PlanStep.TheLaws.TheKnot.{crosses as step_crosses}
 use Rattle.coco_ast.proofs.tree.Expr.TheLaws.TheKnot.{crosses as expr_crosses}
 use Rattle.coco_ast.proofs.tree.Stmt.TheLaws.TheKnot.{crosses as stmt_crosses}
 use Rattle.coco_ast.specs.contracts.checked.Checked as checked
 use Rattle.coco_ast.specs.contracts.checked.Checked.TheInside as inside
 use Rattle.coco_ast.specs.contracts.plan.Plan as plan
-use Rattle.coco_ast.specs.contracts.plan.Step as step
+use Rattle.coco_ast.specs.contracts.plan.PlanStep as step
 use Rattle.coco_ast.specs.contracts.tree.Proc as proc
 use Rattle.coco_ast.specs.contracts.tree.Procs as procs
 use Rattle.coco_ast.specs.contracts.tree.Stmt as stmt

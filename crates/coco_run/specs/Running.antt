@@ -10,7 +10,7 @@ use Rattle.coco_log.specs.LogState.{IsOnlyRead}
 use Rattle.coco_serve.specs.Serving.{HasCause, Outside, Serves}
 use Rattle.coco_serve.specs.declared.ending.Served.{Served}
 use Rattle.coco_serve.specs.declared.ending.Served.TheVariants as served
-use Rattle.coco_serve.specs.declared.plan.Plan.{Plan}
+use Rattle.coco_serve.specs.declared.bounds.RunBounds.{RunBounds}
 use Rattle.coco_store.specs.Contents.{Contents, Holds, IsGoodStore}
 use Rattle.coco_run.specs.Opening.{HasOneNode, IsRefusedInRun, IsUnopened}
 
@@ -29,7 +29,7 @@ ending_of_run served.NoMemory = ending.NoMemory
 -- as a good store, each moment shows a good store whose history is that of entry grown by first batches of the bytes that the source gave, its new epochs
 -- numbered from `next` on, with a front of their answers said
 pub record Opens {H : Type 0} (moment : H → ℕ) (observed : H → ℕ → Observation → Type 0) (said : H → Option (List ℕ)) (reads : H → Option Files) (may_leave : H → Files → Type 0)
-    (plan : Plan) (ending : Ending) (before after : Outside) (old new : H) : Type 0 where
+    (bounds : RunBounds) (ending : Ending) (before after : Outside) (old new : H) : Type 0 where
   pub opened : H
   pub opening : IsOnlyRead moment observed said reads may_leave old opened
   pub sound : (files : Files) → reads old ≡ Some files → HasOneNode files
@@ -41,11 +41,11 @@ pub record Opens {H : Type 0} (moment : H → ℕ) (observed : H → ℕ → Obs
   pub ends : ending ≡ ending_of_run served
   pub cause : HasCause next bytes before after served
   pub serves : (files : Files) (c : Contents) → reads old ≡ Some files → IsGoodStore files c
-      → Serves moment observed said reads may_leave c next plan bytes served opened new
+      → Serves moment observed said reads may_leave c next bounds bytes served opened new
 
 -- the store isn't opened, or it is
 abbrev pub RunsOn : {H : Type 0} (moment : H → ℕ) (observed : H → ℕ → Observation → Type 0) (said : H → Option (List ℕ)) (reads : H → Option Files) (may_leave : H → Files → Type 0)
-    → Plan → Ending → Outside → Outside → H → H → Type 0
-RunsOn moment observed said reads may_leave plan ending before after old new =
+    → RunBounds → Ending → Outside → Outside → H → H → Type 0
+RunsOn moment observed said reads may_leave bounds ending before after old new =
     IsUnopened moment observed said reads may_leave IsRefusedInRun ending before after old new
-    ⊎ Opens moment observed said reads may_leave plan ending before after old new
+    ⊎ Opens moment observed said reads may_leave bounds ending before after old new

@@ -9,26 +9,26 @@ use coco_ending::Ending;
 use coco_gate::Gate;
 use coco_host::Host;
 use coco_io::Source;
-use coco_serve::{Plan, Served, answer_lines};
+use coco_serve::{RunBounds, Served, answer_lines};
 use std::alloc::Global;
 use std::sync::Wait;
 use std::thread::Threads;
 use std::time::Clock;
 
-/// Opens the store, and answers request lines on it to the end of the input, as the plan has it.
+/// Opens the store, and answers request lines on it to the end of the input, within these bounds.
 pub fn run<R: Threads + Wait + Clock + Sync, H: Host, S: Source, G: Gate + Sync>(
     rt: &R,
     alloc: Global,
     host: &mut H,
     input: &mut S,
-    plan: Plan,
+    bounds: RunBounds,
     gate: &G,
 ) -> Ending
-    requires some { 0 < plan.size }
-    requires few { plan.size ≤ most_batch_lines }
-    requires workers { 0 < plan.workers }
-    requires attempts { 0 < plan.attempts }
-    ensures { RunsOn H.moment H.observed H.said H.reads H.may_leave plan result
+    requires some { 0 < bounds.size }
+    requires few { bounds.size ≤ most_batch_lines }
+    requires workers { 0 < bounds.workers }
+    requires attempts { 0 < bounds.attempts }
+    ensures { RunsOn H.moment H.observed H.said H.reads H.may_leave bounds result
         (record { source = record { given = S.given input.old; left = S.remaining input.old; at_end = S.at_end input.old }; source_faults = S.faults input.old; say_faults = H.say_faults host.old; disk_faults = H.disk_faults host.old })
         (record { source = record { given = S.given input.new; left = S.remaining input.new; at_end = S.at_end input.new }; source_faults = S.faults input.new; say_faults = H.say_faults host.new; disk_faults = H.disk_faults host.new })
         host.old host.new }
@@ -40,7 +40,7 @@ pub fn run<R: Threads + Wait + Clock + Sync, H: Host, S: Source, G: Gate + Sync>
             host,
             &mut cluster,
             input,
-            plan,
+            bounds,
             gate,
         )),
         Err(ending) => ending,

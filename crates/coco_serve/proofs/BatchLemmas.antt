@@ -36,7 +36,7 @@ use Rattle.coco_serve.specs.Seen.{ShowsBatch}
 use Rattle.coco_serve.specs.Texts.{texts_over}
 use Rattle.coco_serve.specs.declared.fault.BatchFault.{BatchFault}
 use Rattle.coco_serve.specs.declared.fault.BatchFault.TheVariants as fault
-use Rattle.coco_serve.specs.declared.plan.Plan.{Plan}
+use Rattle.coco_serve.specs.declared.bounds.RunBounds.{RunBounds}
 use Rattle.coco_serve.proofs.NumberLemmas.{adds_none}
 
 -- ---- room
@@ -74,14 +74,14 @@ says_part (Err e) piece before now ok err = (err.0, err.2)
 
 -- ---- growth
 
-execution_of : (requests : List Request) (plan : Plan) (epoch : ℕ) (c d : Contents) → Grown requests plan.workers plan.attempts epoch c d
-    → HasExecution (manner_of c.setting plan) (history_of c) requests (history_of d)
-execution_of [] plan epoch c d g = tt
-execution_of (r ∷ rs) plan epoch c d g = (g.e, subst (λ n. ComeOfExecution (beginning_on c (r ∷ rs) plan.workers plan.attempts) n g.e.dones) (sym g.number) g.come, g.history)
+execution_of : (requests : List Request) (bounds : RunBounds) (epoch : ℕ) (c d : Contents) → Grown requests bounds.workers bounds.attempts epoch c d
+    → HasExecution (manner_of c.setting bounds) (history_of c) requests (history_of d)
+execution_of [] bounds epoch c d g = tt
+execution_of (r ∷ rs) bounds epoch c d g = (g.e, subst (λ n. ComeOfExecution (beginning_on c (r ∷ rs) bounds.workers bounds.attempts) n g.e.dones) (sym g.number) g.come, g.history)
 
-grows_by_execution : (requests : List Request) (plan : Plan) (epoch : ℕ) (c d : Contents) → Grown requests plan.workers plan.attempts epoch c d
-    → GrowsByExecution (manner_of c.setting plan) (history_of c) requests (history_of d)
-grows_by_execution requests plan epoch c d g = (g.grows, execution_of requests plan epoch c d g)
+grows_by_execution : (requests : List Request) (bounds : RunBounds) (epoch : ℕ) (c d : Contents) → Grown requests bounds.workers bounds.attempts epoch c d
+    → GrowsByExecution (manner_of c.setting bounds) (history_of c) requests (history_of d)
+grows_by_execution requests bounds epoch c d g = (g.grows, execution_of requests bounds epoch c d g)
 
 adds_one : (requests : List Request) (workers attempts epoch : ℕ) (c d : Contents) → Grown requests workers attempts epoch c d → AddsFrom epoch (history_of c) (history_of d)
 adds_one requests workers attempts epoch c d g = record { added = g.e ∷ []; epochs = ap (λ (h : History). h.epochs) g.history; numbered = ap (λ n. n ∷ []) g.number }
@@ -93,10 +93,10 @@ no_growth requests m h none = subst (λ rs. GrowsByExecution m h rs h) (sym none
 
 module _ {H : Type 0} (moment : H → ℕ) (observed : H → ℕ → Observation → Type 0) (said : H → Option (List ℕ)) (reads : H → Option Files) (may_leave : H → Files → Type 0) where
   -- what a turn made of the store, where it succeeded
-  pub record Committed (c : Contents) (requests : List Request) (plan : Plan) (next : ℕ) (after : ClusterState) (old mid : H) : Type 0 where
+  pub record Committed (c : Contents) (requests : List Request) (bounds : RunBounds) (next : ℕ) (after : ClusterState) (old mid : H) : Type 0 where
     pub d : Contents
     pub setting : d.setting ≡ c.setting
-    pub grows : GrowsByExecution (manner_of c.setting plan) (history_of c) requests (history_of d)
+    pub grows : GrowsByExecution (manner_of c.setting bounds) (history_of c) requests (history_of d)
     pub numbers : AddsFrom next (history_of c) (history_of d)
     pub rests : RestsOn d (reads mid) (may_leave mid)
     pub stands : StandsAt d after
@@ -110,28 +110,28 @@ module _ {H : Type 0} (moment : H → ℕ) (observed : H → ℕ → Observation
       let now = only_now host seen since in
       record { store = inl (record { contents = c; setting = refl; good = rests.left seen.image now.0; history = refl }); said = now.1 })
 
-  pub committed : OnlyNow → (result : Result (Unit {0}) TurnFault) (x : Unit {0}) (requests : List Request) (plan : Plan) (c : Contents) (before after : ClusterState) (old mid : H) → result ≡ Ok x
+  pub committed : OnlyNow → (result : Result (Unit {0}) TurnFault) (x : Unit {0}) (requests : List Request) (bounds : RunBounds) (c : Contents) (before after : ClusterState) (old mid : H) → result ≡ Ok x
       → RestsOn c (reads old) (may_leave old) → StandsAt c before
-      → IsUntouched result requests before after old mid ⊎ Turns moment observed said reads may_leave result requests plan.workers plan.attempts c before after old mid
-      → Committed c requests plan before.next_epoch after old mid
-  committed only_now result x requests plan c before after old mid ok rests stands (inl none) =
+      → IsUntouched result requests before after old mid ⊎ Turns moment observed said reads may_leave result requests bounds.workers bounds.attempts c before after old mid
+      → Committed c requests bounds before.next_epoch after old mid
+  committed only_now result x requests bounds c before after old mid ok rests stands (inl none) =
       let nothing : (requests ≡ []) × (after ≡ before) = subst (λ (r : Result _ _). OnOk r ((requests ≡ []) × (after ≡ before))) ok none.1 in
       record {
         d = c;
         setting = refl;
-        grows = no_growth requests (manner_of c.setting plan) (history_of c) nothing.0;
+        grows = no_growth requests (manner_of c.setting bounds) (history_of c) nothing.0;
         numbers = adds_none before.next_epoch (history_of c);
         rests = subst (λ h. RestsOn c (reads h) (may_leave h)) (sym none.0) rests;
         stands = subst (StandsAt c) (sym nothing.1) stands;
         moments = subst (λ h. SeesOnly moment observed old h (ShowsStore c.setting (history_of c) (history_of c) (said old))) (sym none.0) (unmoved only_now c old rests);
       }
-  committed only_now result x requests plan c before after old mid ok rests stands (inr t) =
+  committed only_now result x requests bounds c before after old mid ok rests stands (inr t) =
       let done : RestsOn t.d (reads mid) (may_leave mid) × StandsAt t.d after = subst (λ (r : Result _ _). OnOk r (RestsOn t.d (reads mid) (may_leave mid) × StandsAt t.d after)) ok t.ok in
       record {
         d = t.d;
         setting = t.grown.setting;
-        grows = grows_by_execution requests plan before.next_epoch c t.d t.grown;
-        numbers = adds_one requests plan.workers plan.attempts before.next_epoch c t.d t.grown;
+        grows = grows_by_execution requests bounds before.next_epoch c t.d t.grown;
+        numbers = adds_one requests bounds.workers bounds.attempts before.next_epoch c t.d t.grown;
         rests = done.0;
         stands = done.1;
         moments = t.moments;
@@ -148,53 +148,53 @@ module _ {H : Type 0} (moment : H → ℕ) (observed : H → ℕ → Observation
   turn_shows s before after bytes texts seen shows =
       ⊎_elim (λ was. inl (was, shows.said)) (λ grown. inr (grown, nothing_said bytes seen.said texts shows.said)) shows.store
 
-  turn_ends : (f : TurnFault) (result : Result (Unit {0}) TurnFault) (batch : Batch) (requests : List Request) (plan : Plan) (c : Contents) (before after : ClusterState) (old new : H) → requests ≡ batch.fresh → said new ≡ said old
-      → (f ≡ turn.EpochsUsedUp → new ≡ old) → Turns moment observed said reads may_leave result requests plan.workers plan.attempts c before after old new
-      → IsRefused (Err (fault_of_turn f)) old new ⊎ WorksOffBatch moment observed said reads may_leave (Err (fault_of_turn f)) batch plan c before.next_epoch after old new
-  turn_ends f result batch requests plan c before after old new same quiet unused t = by f unused
+  turn_ends : (f : TurnFault) (result : Result (Unit {0}) TurnFault) (batch : Batch) (requests : List Request) (bounds : RunBounds) (c : Contents) (before after : ClusterState) (old new : H) → requests ≡ batch.fresh → said new ≡ said old
+      → (f ≡ turn.EpochsUsedUp → new ≡ old) → Turns moment observed said reads may_leave result requests bounds.workers bounds.attempts c before after old new
+      → IsRefused (Err (fault_of_turn f)) old new ⊎ WorksOffBatch moment observed said reads may_leave (Err (fault_of_turn f)) batch bounds c before.next_epoch after old new
+  turn_ends f result batch requests bounds c before after old new same quiet unused t = by f unused
     where
-      grows : GrowsByExecution (manner_of c.setting plan) (history_of c) batch.fresh (history_of t.d)
-      grows = subst (λ rs. GrowsByExecution (manner_of c.setting plan) (history_of c) rs (history_of t.d)) same (grows_by_execution requests plan before.next_epoch c t.d t.grown)
+      grows : GrowsByExecution (manner_of c.setting bounds) (history_of c) batch.fresh (history_of t.d)
+      grows = subst (λ rs. GrowsByExecution (manner_of c.setting bounds) (history_of c) rs (history_of t.d)) same (grows_by_execution requests bounds before.next_epoch c t.d t.grown)
 
       numbers : AddsFrom before.next_epoch (history_of c) (history_of t.d)
-      numbers = adds_one requests plan.workers plan.attempts before.next_epoch c t.d t.grown
+      numbers = adds_one requests bounds.workers bounds.attempts before.next_epoch c t.d t.grown
 
       moments : SeesOnly moment observed old new (ShowsBatch c.setting (history_of c) (history_of t.d) (said old) (batch_texts c t.d batch))
       moments = sees_weaker moment observed old new (ShowsStore c.setting (history_of c) (history_of t.d) (said old)) (ShowsBatch c.setting (history_of c) (history_of t.d) (said old) (batch_texts c t.d batch))
           (turn_shows c.setting (history_of c) (history_of t.d) (said old) (batch_texts c t.d batch)) t.moments
 
-      by : (f : TurnFault) → (f ≡ turn.EpochsUsedUp → new ≡ old) → IsRefused (Err (fault_of_turn f)) old new ⊎ WorksOffBatch moment observed said reads may_leave (Err (fault_of_turn f)) batch plan c before.next_epoch after old new
+      by : (f : TurnFault) → (f ≡ turn.EpochsUsedUp → new ≡ old) → IsRefused (Err (fault_of_turn f)) old new ⊎ WorksOffBatch moment observed said reads may_leave (Err (fault_of_turn f)) batch bounds c before.next_epoch after old new
       by turn.Disk unused = inr (record { d = t.d; setting = t.grown.setting; grows = grows; numbers = numbers; moments = moments; ends = (t.left, quiet) })
       by turn.EpochsUsedUp unused = inl (unused refl)
       by turn.NoMemory unused = inr (record { d = t.d; setting = t.grown.setting; grows = grows; numbers = numbers; moments = moments; ends = inl (t.left, quiet) })
 
-  pub turn_failed : (f : TurnFault) (turned : Result (Unit {0}) TurnFault) (result : Result (Unit {0}) BatchFault) (batch : Batch) (requests : List Request) (plan : Plan) (c : Contents) (before after : ClusterState) (old new : H)
+  pub turn_failed : (f : TurnFault) (turned : Result (Unit {0}) TurnFault) (result : Result (Unit {0}) BatchFault) (batch : Batch) (requests : List Request) (bounds : RunBounds) (c : Contents) (before after : ClusterState) (old new : H)
       → turned ≡ Err f → result ≡ Err (fault_of_turn f) → requests ≡ batch.fresh → said new ≡ said old → (turned ≡ Err turn.EpochsUsedUp → new ≡ old)
-      → IsUntouched turned requests before after old new ⊎ Turns moment observed said reads may_leave turned requests plan.workers plan.attempts c before after old new
-      → IsRefused result old new ⊎ WorksOffBatch moment observed said reads may_leave result batch plan c before.next_epoch after old new
-  turn_failed f turned result batch requests plan c before after old new was is same quiet unused turns =
-      subst (λ r. IsRefused r old new ⊎ WorksOffBatch moment observed said reads may_leave r batch plan c before.next_epoch after old new) (sym is)
-      (⊎_elim (λ none. inl (refused f old new none.0)) (turn_ends f turned batch requests plan c before after old new same quiet (λ used. unused (was ∙ ap Err used))) turns)
+      → IsUntouched turned requests before after old new ⊎ Turns moment observed said reads may_leave turned requests bounds.workers bounds.attempts c before after old new
+      → IsRefused result old new ⊎ WorksOffBatch moment observed said reads may_leave result batch bounds c before.next_epoch after old new
+  turn_failed f turned result batch requests bounds c before after old new was is same quiet unused turns =
+      subst (λ r. IsRefused r old new ⊎ WorksOffBatch moment observed said reads may_leave r batch bounds c before.next_epoch after old new) (sym is)
+      (⊎_elim (λ none. inl (refused f old new none.0)) (turn_ends f turned batch requests bounds c before after old new same quiet (λ used. unused (was ∙ ap Err used))) turns)
 
   -- ---- a turn that committed, and what is said behind it
 
-  module _ (batch : Batch) (requests : List Request) (plan : Plan) (c : Contents) (next : ℕ) (after : ClusterState) (old mid : H) (same : requests ≡ batch.fresh) (quiet : said mid ≡ said old)
-      (done : Committed c requests plan next after old mid) where
+  module _ (batch : Batch) (requests : List Request) (bounds : RunBounds) (c : Contents) (next : ℕ) (after : ClusterState) (old mid : H) (same : requests ≡ batch.fresh) (quiet : said mid ≡ said old)
+      (done : Committed c requests bounds next after old mid) where
     abbrev texts : List ℕ
     texts = batch_texts c done.d batch
 
     abbrev Shows : Observation → Type 0
     Shows = ShowsBatch c.setting (history_of c) (history_of done.d) (said old) texts
 
-    grows_so : GrowsByExecution (manner_of c.setting plan) (history_of c) batch.fresh (history_of done.d)
-    grows_so = subst (λ rs. GrowsByExecution (manner_of c.setting plan) (history_of c) rs (history_of done.d)) same done.grows
+    grows_so : GrowsByExecution (manner_of c.setting bounds) (history_of c) batch.fresh (history_of done.d)
+    grows_so = subst (λ rs. GrowsByExecution (manner_of c.setting bounds) (history_of c) rs (history_of done.d)) same done.grows
 
     shown : SeesOnly moment observed old mid Shows
     shown = sees_weaker moment observed old mid (ShowsStore c.setting (history_of c) (history_of done.d) (said old)) Shows (turn_shows c.setting (history_of c) (history_of done.d) (said old) texts) done.moments
 
     -- out of memory before anything is said
-    pub unsaid : (result : Result (Unit {0}) BatchFault) → result ≡ Err fault.NoMemory → WorksOffBatch moment observed said reads may_leave result batch plan c next after old mid
-    unsaid result is = subst (λ r. WorksOffBatch moment observed said reads may_leave r batch plan c next after old mid) (sym is) (record {
+    pub unsaid : (result : Result (Unit {0}) BatchFault) → result ≡ Err fault.NoMemory → WorksOffBatch moment observed said reads may_leave result batch bounds c next after old mid
+    unsaid result is = subst (λ r. WorksOffBatch moment observed said reads may_leave r batch bounds c next after old mid) (sym is) (record {
       d = done.d;
       setting = done.setting;
       grows = grows_so;
@@ -225,7 +225,7 @@ module _ {H : Type 0} (moment : H → ℕ) (observed : H → ℕ → Observation
       }
 
       answered : (result : Result (Unit {0}) BatchFault) → BatchEnds c done.d after texts (said old) (said new) (reads new) (may_leave new) result
-          → WorksOffBatch moment observed said reads may_leave result batch plan c next after old new
+          → WorksOffBatch moment observed said reads may_leave result batch bounds c next after old new
       answered result ends = record {
         d = done.d;
         setting = done.setting;
@@ -236,16 +236,16 @@ module _ {H : Type 0} (moment : H → ℕ) (observed : H → ℕ → Observation
       }
 
       -- the piece is said whole
-      pub all_said : said new ≡ append_known (said mid) piece → WorksOffBatch moment observed said reads may_leave (Ok tt) batch plan c next after old new
+      pub all_said : said new ≡ append_known (said mid) piece → WorksOffBatch moment observed said reads may_leave (Ok tt) batch bounds c next after old new
       all_said whole = answered (Ok tt) (rests_still, done.stands, whole ∙ ap (λ o. append_known o piece) quiet ∙ ap (append_known (said old)) are)
 
-      by_fault : (f : OutFault) → WorksOffBatch moment observed said reads may_leave (Err (fault_of_saying f)) batch plan c next after old new
+      by_fault : (f : OutFault) → WorksOffBatch moment observed said reads may_leave (Err (fault_of_saying f)) batch bounds c next after old new
       by_fault out.Failed = answered (Err fault.Say) (rests_still, said_part)
       by_fault out.NoMemory = answered (Err fault.NoMemory) (inr (rests_still, said_part))
 
       -- the saying broke off
-      pub partly_said : (f : OutFault) (result : Result (Unit {0}) BatchFault) → result ≡ Err (fault_of_saying f) → WorksOffBatch moment observed said reads may_leave result batch plan c next after old new
-      partly_said f result is = subst (λ r. WorksOffBatch moment observed said reads may_leave r batch plan c next after old new) (sym is) (by_fault f)
+      pub partly_said : (f : OutFault) (result : Result (Unit {0}) BatchFault) → result ≡ Err (fault_of_saying f) → WorksOffBatch moment observed said reads may_leave result batch bounds c next after old new
+      partly_said f result is = subst (λ r. WorksOffBatch moment observed said reads may_leave r batch bounds c next after old new) (sym is) (by_fault f)
 
 -- ---- texts
 

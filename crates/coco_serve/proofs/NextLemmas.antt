@@ -30,6 +30,7 @@ use Rattle.coco_lines.specs.declared.class.Class.{Class}
 use Rattle.coco_lines.proofs.LinesLemmas.{lines_of-nil}
 use Rattle.coco_lines.proofs.ReplyLemmas.{answers_still, are_new}
 use Rattle.coco_store.specs.Contents.{Contents, history_of}
+use Rattle.coco_lines.proofs.ClassLemmas.{classes_length}
 use Rattle.coco_serve.specs.Growth.{AddsFrom, AreFirstBatches, GrowsByExecution, IsGrown, Manner, answers_of, epochs_of, manner_of}
 use Rattle.coco_serve.specs.OneBatch.{BatchEnds, SaysPart, WorksOffBatch, batch_texts}
 use Rattle.coco_serve.specs.Texts.{texts_over}
@@ -39,37 +40,37 @@ use Rattle.coco_serve.specs.declared.ending.Served.{Served}
 use Rattle.coco_serve.specs.declared.ending.Served.TheVariants as ending
 use Rattle.coco_serve.specs.declared.fault.BatchFault.{BatchFault}
 use Rattle.coco_serve.specs.declared.fault.BatchFault.TheVariants as fault
-use Rattle.coco_serve.specs.declared.plan.Plan.{Plan}
+use Rattle.coco_serve.specs.declared.bounds.RunBounds.{RunBounds}
 use Rattle.coco_serve.specs.Endings.{ending_of}
 use Rattle.coco_log.proofs.OnlyRead.{sees_then}
 use Rattle.coco_serve.proofs.NumberLemmas.{adds_more}
 use Rattle.coco_serve.proofs.ReplyLemmas.{keeps_some, no_later_done, texts_are_answers}
-use Rattle.coco_serve.proofs.RunLemmas.{AreServed, SeenNow, added_by, all_served, answers-append, batches_more, classes_at, classes_length, cut_more, epochs_used_up, first_more, joined-more, left_by, map-more, more_served, paired, size_more, turns_more, moved}
+use Rattle.coco_serve.proofs.RunLemmas.{AreServed, SeenNow, added_by, all_served, answers-append, batches_more, classes_at, cut_more, epochs_used_up, first_more, joined-more, left_by, map-more, more_served, paired, size_more, turns_more, moved}
 
 module _ {H : Type 0} (moment : H → ℕ) (observed : H → ℕ → Observation → Type 0) (said : H → Option (List ℕ)) (reads : H → Option Files) (may_leave : H → Files → Type 0) where
   -- a batch that was read is the next one
-  module _ (c : Contents) (next : ℕ) (plan : Plan) (lines : List Line) (k : ClusterState) (first mid : H) (reader reader' : ReaderState) (m n : SourceMoment) (batch : Batch)
-      (a : AreServed moment observed said reads may_leave c next plan lines k first mid) (r : ReadsBatch k.procs (known_of k.kept []) reader reader' m n plan.size batch) (bytes : List ℕ)
+  module _ (c : Contents) (next : ℕ) (bounds : RunBounds) (lines : List Line) (k : ClusterState) (first mid : H) (reader reader' : ReaderState) (m n : SourceMoment) (batch : Batch)
+      (a : AreServed moment observed said reads may_leave c next bounds lines k first mid) (r : ReadsBatch k.procs (known_of k.kept []) reader reader' m n bounds.size batch) (bytes : List ℕ)
       (all : lines_of bytes ≡ (lines ++ r.taking.lines) ++ lines_of reader'.pending) (some : 0 < length batch.answers.items) where
-    read_next : AreFirstBatches plan.size bytes (a.batches ++ r.taking.lines ∷ [])
-    read_next = first_more plan.size bytes lines r.taking.lines (lines_of reader'.pending) a.batches a.lines_are a.whole (omega (arith, r.taking.as_many, some)) (omega (arith, r.taking.as_many, r.few))
+    read_next : AreFirstBatches bounds.size bytes (a.batches ++ r.taking.lines ∷ [])
+    read_next = first_more bounds.size bytes lines r.taking.lines (lines_of reader'.pending) a.batches a.lines_are a.whole (omega (arith, r.taking.as_many, some)) (omega (arith, r.taking.as_many, r.few))
         (λ short. ap lines_of (r.ends (omega (arith, r.taking.as_many, short))).1 ∙ lines_of-nil) all
 
     -- it has a new request, and no number is left for its epoch
-    pub used_up_before : SeenNow moment observed said reads may_leave → epochs_end ≤ k.next_epoch → 0 < length batch.fresh → Serves moment observed said reads may_leave c next plan bytes ending.EpochsUsedUp first mid
+    pub used_up_before : SeenNow moment observed said reads may_leave → epochs_end ≤ k.next_epoch → 0 < length batch.fresh → Serves moment observed said reads may_leave c next bounds bytes ending.EpochsUsedUp first mid
     used_up_before seen_now end some_new =
         let same = ap (length {A = Request}) r.taking.fresh in
-        epochs_used_up moment observed said reads may_leave seen_now c next plan lines k first mid a bytes (r.taking.lines ++ lines_of reader'.pending) (all ∙ append_assoc lines r.taking.lines (lines_of reader'.pending)) end
+        epochs_used_up moment observed said reads may_leave seen_now c next bounds lines k first mid a bytes (r.taking.lines ++ lines_of reader'.pending) (all ∙ append_assoc lines r.taking.lines (lines_of reader'.pending)) end
         r.taking.lines r.taking.classes read_next (classes_at c a.d k r.taking.lines r.taking.classes a.stands a.setting r.taking.are) (omega (arith, same, some_new))
 
-  module _ (c : Contents) (next : ℕ) (plan : Plan) (lines : List Line) (k k' : ClusterState) (first mid host : H) (reader reader' : ReaderState) (m n : SourceMoment) (batch : Batch) (result : Result (Unit {0}) BatchFault)
-      (a : AreServed moment observed said reads may_leave c next plan lines k first mid) (given : reader.given ≡ length lines) (r : ReadsBatch k.procs (known_of k.kept []) reader reader' m n plan.size batch)
-      (x : WorksOffBatch moment observed said reads may_leave result batch plan a.d k.next_epoch k' mid host) where
+  module _ (c : Contents) (next : ℕ) (bounds : RunBounds) (lines : List Line) (k k' : ClusterState) (first mid host : H) (reader reader' : ReaderState) (m n : SourceMoment) (batch : Batch) (result : Result (Unit {0}) BatchFault)
+      (a : AreServed moment observed said reads may_leave c next bounds lines k first mid) (given : reader.given ≡ length lines) (r : ReadsBatch k.procs (known_of k.kept []) reader reader' m n bounds.size batch)
+      (x : WorksOffBatch moment observed said reads may_leave result batch bounds a.d k.next_epoch k' mid host) where
     abbrev tree : Procedures
     tree = c.setting.tree
 
     abbrev manner : Manner
-    manner = manner_of c.setting plan
+    manner = manner_of c.setting bounds
 
     abbrev opening : History
     opening = history_of c
@@ -99,7 +100,7 @@ module _ {H : Type 0} (moment : H → ℕ) (observed : H → ℕ → Observation
     are = classes_at c a.d k more cs a.stands a.setting r.taking.are
 
     grows : GrowsByExecution manner h (new_of cs) g
-    grows = subst (λ rs. GrowsByExecution manner h rs g) r.taking.fresh (subst (λ s. GrowsByExecution (manner_of s plan) h batch.fresh g) a.setting x.grows)
+    grows = subst (λ rs. GrowsByExecution manner h rs g) r.taking.fresh (subst (λ s. GrowsByExecution (manner_of s bounds) h batch.fresh g) a.setting x.grows)
 
     one_batch : GrowsByBatch tree h more cs g
     one_batch = record { are = are; grows = grows.0 }
@@ -142,17 +143,17 @@ module _ {H : Type 0} (moment : H → ℕ) (observed : H → ℕ → Observation
         is ∙ ap (λ o. append_known o (take i texts)) a.says ∙ append_known-append (said first) (answers_of h a.classes) (take i texts)
         ∙ ap (append_known (said first)) (sym (ap (take (length (answers_of h a.classes) + i)) all_answers ∙ take-append-add (answers_of h a.classes) texts i))
 
-    batch_shows : (seen : Observation) → ShowsBatch a.d.setting h g (said mid) texts seen → IsServed c.setting plan opening batches' classes' g (said first) seen
+    batch_shows : (seen : Observation) → ShowsBatch a.d.setting h g (said mid) texts seen → IsServed c.setting bounds opening batches' classes' g (said first) seen
     batch_shows seen shows = ⊎_elim
-        (λ was. more_served c.setting plan opening a.batches a.classes h (said first) as_many more cs g keeps.prefix seen
-        (all_served c.setting plan opening a.batches a.classes h (said first) a.grown seen (moved a.d.setting c.setting h seen.image a.setting was.0) (length (answers_of h a.classes))
+        (λ was. more_served c.setting bounds opening a.batches a.classes h (said first) as_many more cs g keeps.prefix seen
+        (all_served c.setting bounds opening a.batches a.classes h (said first) a.grown seen (moved a.d.setting c.setting h seen.image a.setting was.0) (length (answers_of h a.classes))
         (sym was.1 ∙ a.says ∙ ap (append_known (said first)) (sym (take-length (answers_of h a.classes))))))
-        (λ grew. all_served c.setting plan opening batches' classes' g (said first) grown' seen (moved a.d.setting c.setting g seen.image a.setting grew.0) (length (answers_of h a.classes) + grew.1.0) (front_said (Some seen.said) grew.1.0 grew.1.1)) shows
+        (λ grew. all_served c.setting bounds opening batches' classes' g (said first) grown' seen (moved a.d.setting c.setting g seen.image a.setting grew.0) (length (answers_of h a.classes) + grew.1.0) (front_said (Some seen.said) grew.1.0 grew.1.1)) shows
 
-    moments' : SeesOnly moment observed first host (IsServed c.setting plan opening batches' classes' g (said first))
-    moments' = sees_then moment observed first mid host (IsServed c.setting plan opening batches' classes' g (said first)) (ShowsBatch a.d.setting h g (said mid) texts)
-        (sees_weaker moment observed first mid (IsServed c.setting plan opening a.batches a.classes h (said first)) (IsServed c.setting plan opening batches' classes' g (said first))
-        (more_served c.setting plan opening a.batches a.classes h (said first) as_many more cs g keeps.prefix) a.moments) x.moments batch_shows
+    moments' : SeesOnly moment observed first host (IsServed c.setting bounds opening batches' classes' g (said first))
+    moments' = sees_then moment observed first mid host (IsServed c.setting bounds opening batches' classes' g (said first)) (ShowsBatch a.d.setting h g (said mid) texts)
+        (sees_weaker moment observed first mid (IsServed c.setting bounds opening a.batches a.classes h (said first)) (IsServed c.setting bounds opening batches' classes' g (said first))
+        (more_served c.setting bounds opening a.batches a.classes h (said first) as_many more cs g keeps.prefix) a.moments) x.moments batch_shows
 
     abbrev IsWhole : Type 0
     IsWhole = RestsOn x.d (reads host) (may_leave host) × StandsAt x.d k' × (said host ≡ append_known (said mid) texts)
@@ -161,7 +162,7 @@ module _ {H : Type 0} (moment : H → ℕ) (observed : H → ℕ → Observation
     says_whole done = done.2 ∙ ap (λ o. append_known o texts) a.says ∙ append_known-append (said first) (answers_of h a.classes) texts ∙ ap (append_known (said first)) (sym all_answers)
 
     -- the batch was whole, committed and said
-    pub served_more : IsWhole → plan.size ≤ length batch.answers.items → k'.next_epoch ≡ k.next_epoch + epochs_of batch.fresh → AreServed moment observed said reads may_leave c next plan (lines ++ more) k' first host
+    pub served_more : IsWhole → bounds.size ≤ length batch.answers.items → k'.next_epoch ≡ k.next_epoch + epochs_of batch.fresh → AreServed moment observed said reads may_leave c next bounds (lines ++ more) k' first host
     served_more done full numbers =
         let gained = added_by h (new_of cs) g grows.0 in
         record {
@@ -171,7 +172,7 @@ module _ {H : Type 0} (moment : H → ℕ) (observed : H → ℕ → Observation
           setting = x.setting ∙ a.setting;
           lines_are = ap (λ ls. ls ++ more) a.lines_are ∙ sym (joined-more a.batches more);
           grown = grown';
-          whole = size_more plan.size a.batches more a.whole (omega (arith, r.taking.as_many, r.few, full));
+          whole = size_more bounds.size a.batches more a.whole (omega (arith, r.taking.as_many, r.few, full));
           many = (
               let counted = classes_length tree (known_in h) more cs are in
               omega (arith, counted, a.many, ap (length {A = Class}) (joined-more a.classes cs), length-append (joined a.classes) cs, length-append lines more));
@@ -195,24 +196,24 @@ module _ {H : Type 0} (moment : H → ℕ) (observed : H → ℕ → Observation
       some_lines : 0 < length more
       some_lines = omega (arith, r.taking.as_many, some)
 
-      cut_short : (reader'.ended ≡ true) × (reader'.pending ≡ []) → (lines_of reader'.pending ≡ []) × AreBatches plan.size batches'
-      cut_short end = (ap lines_of end.1 ∙ lines_of-nil, cut_more plan.size a.batches more a.whole some_lines (omega (arith, r.few, r.taking.as_many)))
+      cut_short : (reader'.ended ≡ true) × (reader'.pending ≡ []) → (lines_of reader'.pending ≡ []) × AreBatches bounds.size batches'
+      cut_short end = (ap lines_of end.1 ∙ lines_of-nil, cut_more bounds.size a.batches more a.whole some_lines (omega (arith, r.few, r.taking.as_many)))
 
-      firsts : AreFirstBatches plan.size bytes batches'
-      firsts = read_next c next plan lines k first mid reader reader' m n batch a r bytes all some
+      firsts : AreFirstBatches bounds.size bytes batches'
+      firsts = read_next c next bounds lines k first mid reader reader' m n batch a r bytes all some
 
-      abbrev progress' : Progress manner opening next plan.size bytes
+      abbrev progress' : Progress manner opening next bounds.size bytes
       progress' = record { batches = batches'; classes = classes'; history = g; grown = grown'; numbers = numbers'; first = firsts }
 
-      ends_so : (e : Served) → RunEnds c next plan bytes progress' (said first) (said host) (reads host) (may_leave host) e → Serves moment observed said reads may_leave c next plan bytes e first host
+      ends_so : (e : Served) → RunEnds c next bounds bytes progress' (said first) (said host) (reads host) (may_leave host) e → Serves moment observed said reads may_leave c next bounds bytes e first host
       ends_so e ends = record {
         progress = progress';
         moments = moments';
-        left = left_by moment observed said reads may_leave seen_now first host (IsServed c.setting plan opening batches' classes' g (said first)) moments';
+        left = left_by moment observed said reads may_leave seen_now first host (IsServed c.setting bounds opening batches' classes' g (said first)) moments';
         ends = ends;
       }
 
-      pub finished_short : IsWhole → length batch.answers.items < plan.size → Serves moment observed said reads may_leave c next plan bytes ending.Finished first host
+      pub finished_short : IsWhole → length batch.answers.items < bounds.size → Serves moment observed said reads may_leave c next bounds bytes ending.Finished first host
       finished_short done short =
           let end = cut_short (r.ends short) in
           ends_so ending.Finished (
@@ -251,11 +252,11 @@ module _ {H : Type 0} (moment : H → ℕ) (observed : H → ℕ → Observation
       rests_then : RestsOn x.d (reads host) (may_leave host) → RestsAt c.setting g (reads host) (may_leave host)
       rests_then rests = (x.d, x.setting ∙ a.setting, refl, rests)
 
-      say_ends : RestsOn x.d (reads host) (may_leave host) × SaysPart texts (said mid) (said host) → Serves moment observed said reads may_leave c next plan bytes ending.SayFault first host
+      say_ends : RestsOn x.d (reads host) (may_leave host) × SaysPart texts (said mid) (said host) → Serves moment observed said reads may_leave c next bounds bytes ending.SayFault first host
       say_ends ends = ends_so ending.SayFault (rests_then ends.0, says_part ends.1)
 
       abbrev Leaves : (History → List (List Class) → Type 0) → Type 0
-      Leaves Says = LeavesLast c.setting plan opening batches' classes' g Says (said host) (may_leave host)
+      Leaves Says = LeavesLast c.setting bounds opening batches' classes' g Says (said host) (may_leave host)
 
       -- the batch's turn failed
       leaves_before : (Says : History → List (List Class) → Type 0) → LeavesEither a.d.setting h g (said mid) (may_leave host) → said host ≡ said mid → Says h a.classes → Leaves Says
@@ -281,7 +282,7 @@ module _ {H : Type 0} (moment : H → ℕ) (observed : H → ℕ → Observation
             most = omega arith;
           }
 
-      disk_ends : LeavesEither a.d.setting h g (said mid) (may_leave host) × (said host ≡ said mid) → Serves moment observed said reads may_leave c next plan bytes ending.DiskFault first host
+      disk_ends : LeavesEither a.d.setting h g (said mid) (may_leave host) × (said host ≡ said mid) → Serves moment observed said reads may_leave c next bounds bytes ending.DiskFault first host
       disk_ends ends = ends_so ending.DiskFault (leaves_before (SaysAll (said first) (said host)) ends.0 ends.1 (says_before ends.1))
 
       -- the batch is committed
@@ -300,16 +301,16 @@ module _ {H : Type 0} (moment : H → ℕ) (observed : H → ℕ → Observation
           all_classes = ap (λ i. take i classes') (sym (paired tree opening batches' classes' g grown'.grown)) ∙ take-length classes'
 
       memory_ends : LeavesEither a.d.setting h g (said mid) (may_leave host) × (said host ≡ said mid) ⊎ RestsOn x.d (reads host) (may_leave host) × SaysPart texts (said mid) (said host)
-          → Serves moment observed said reads may_leave c next plan bytes ending.NoMemory first host
+          → Serves moment observed said reads may_leave c next bounds bytes ending.NoMemory first host
       memory_ends ends = ends_so ending.NoMemory (⊎_elim
           (λ before. leaves_before (SaysUpTo (said first) (said host)) before.0 before.1 (says_before_whole before.1))
           (λ after. leaves_after (SaysUpTo (said first) (said host)) after.0 (says_part after.1)) ends)
 
-      batch_fails : (f : BatchFault) → BatchEnds a.d x.d k' texts (said mid) (said host) (reads host) (may_leave host) (Err f) → Serves moment observed said reads may_leave c next plan bytes (ending_of f) first host
+      batch_fails : (f : BatchFault) → BatchEnds a.d x.d k' texts (said mid) (said host) (reads host) (may_leave host) (Err f) → Serves moment observed said reads may_leave c next bounds bytes (ending_of f) first host
       batch_fails fault.Say ends = say_ends ends
       batch_fails fault.Disk ends = disk_ends ends
       batch_fails fault.EpochsUsedUp ends = absurd ends
       batch_fails fault.NoMemory ends = memory_ends ends
 
-      pub answers_failed : (f : BatchFault) → result ≡ Err f → Serves moment observed said reads may_leave c next plan bytes (ending_of f) first host
+      pub answers_failed : (f : BatchFault) → result ≡ Err f → Serves moment observed said reads may_leave c next bounds bytes (ending_of f) first host
       answers_failed f is = batch_fails f (subst (BatchEnds a.d x.d k' texts (said mid) (said host) (reads host) (may_leave host)) is x.ends)

@@ -24,7 +24,7 @@ use Rattle.coco_host.proofs.Sees.{started}
 use Rattle.coco_io.proofs.KnownLemmas.{append_known-nil}
 use Rattle.coco_lines.specs.Answers.{answers_by, answer_by}
 use Rattle.coco_lines.specs.Batches.{AreBatches, Batch as Lines, joined}
-use Rattle.coco_lines.specs.Classes.{AreClasses, Known, and_known, known_in, new_in, new_of}
+use Rattle.coco_lines.specs.Classes.{AreClasses, Known, known_in, new_in, new_of}
 use Rattle.coco_lines.specs.Growing.{GrowsByBatch, GrowsByBatches}
 use Rattle.coco_lines.specs.Lines.{Line, ended_lines_of, lines_of}
 use Rattle.coco_lines.specs.ReaderState.{ReaderState}
@@ -36,7 +36,7 @@ use Rattle.coco_serve.specs.Seen.{IsServed, LeavesEither}
 use Rattle.coco_serve.specs.Serving.{LeavesLast, Progress, RestsAt, RunEnds, SaysAll, SaysUpTo, Serves}
 use Rattle.coco_serve.specs.declared.ending.Served.{Served}
 use Rattle.coco_serve.specs.declared.ending.Served.TheVariants as ending
-use Rattle.coco_serve.specs.declared.plan.Plan.{Plan}
+use Rattle.coco_serve.specs.declared.bounds.RunBounds.{RunBounds}
 use Rattle.coco_serve.proofs.NumberLemmas.{adds_none}
 
 -- ---- lists of batches
@@ -99,11 +99,6 @@ answers-append dones n (x ∷ xs) ys =
     ap (λ t. answer_by dones n x ++ t) (answers-append dones (n + 1) xs ys ∙ ap (λ t. answers_by dones (n + 1) xs ++ t) (shifted dones n (length xs) ys))
     ∙ sym (append_assoc (answer_by dones n x) (answers_by dones (n + 1) xs) (answers_by dones (n + suc (length xs)) ys))
 
-pub classes_length : (procs : Procedures) (k : Known) (lines : List Line) (cs : List Class) → AreClasses procs k lines cs → length cs ≡ length lines
-classes_length procs k [] cs are = ap length are
-classes_length procs k (l ∷ lines) [] are = absurd are
-classes_length procs k (l ∷ lines) (c ∷ cs) are = ap suc (classes_length procs (and_known k (new_in c)) lines cs are.1)
-
 one_line : (c : Class) → length (new_in c) ≤ 1
 one_line (Class.Refused e) = omega arith
 one_line (Class.Same id) = omega arith
@@ -146,10 +141,10 @@ begins_itself h = (refl, refl, ([], sym (append-nil h.epochs)))
 pub moved : (s t : Setting) (h : History) (files : Files) → s ≡ t → IsStoreOf s h files → IsStoreOf t h files
 moved s t h files same store = record { contents = store.contents; setting = store.setting ∙ same; good = store.good; history = store.history }
 
-module _ (in_setting : Setting) (plan : Plan) (opening : History) (batches : List Lines) (classes : List (List Class)) (whole : History) (said : Option (List ℕ)) where
+module _ (in_setting : Setting) (bounds : RunBounds) (opening : History) (batches : List Lines) (classes : List (List Class)) (whole : History) (said : Option (List ℕ)) where
   -- the whole history, and a front of all answers
-  pub all_served : IsGrown (manner_of in_setting plan) opening batches classes whole → (seen : Observation) → IsStoreOf in_setting whole seen.image → (part : ℕ) → Some seen.said ≡ append_known said (take part (answers_of whole classes))
-      → IsServed in_setting plan opening batches classes whole said seen
+  pub all_served : IsGrown (manner_of in_setting bounds) opening batches classes whole → (seen : Observation) → IsStoreOf in_setting whole seen.image → (part : ℕ) → Some seen.said ≡ append_known said (take part (answers_of whole classes))
+      → IsServed in_setting bounds opening batches classes whole said seen
   all_served grown seen store part says =
       let all_batches : batches ≡ take (length batches) batches = sym (take-length batches) in
       let as_many : length classes ≡ length batches = paired in_setting.tree opening batches classes whole grown.grown in
@@ -159,15 +154,15 @@ module _ (in_setting : Setting) (plan : Plan) (opening : History) (batches : Lis
         within = omega arith;
         history = whole;
         store = store;
-        grown = subst (λ bs. IsGrown (manner_of in_setting plan) opening bs (take (length batches) classes) whole) all_batches (subst (λ cs. IsGrown (manner_of in_setting plan) opening batches cs whole) all_classes grown);
+        grown = subst (λ bs. IsGrown (manner_of in_setting bounds) opening bs (take (length batches) classes) whole) all_batches (subst (λ cs. IsGrown (manner_of in_setting bounds) opening batches cs whole) all_classes grown);
         begins = begins_itself whole;
         part = part;
         says = says ∙ ap (λ cs. append_known said (take part (answers_of whole cs))) all_classes;
       }
 
   -- with a batch more
-  pub more_served : length classes ≡ length batches → (b : Lines) (c : List Class) (g : History) → IsPrefixOf whole g → (seen : Observation) → IsServed in_setting plan opening batches classes whole said seen
-      → IsServed in_setting plan opening (batches ++ b ∷ []) (classes ++ c ∷ []) g said seen
+  pub more_served : length classes ≡ length batches → (b : Lines) (c : List Class) (g : History) → IsPrefixOf whole g → (seen : Observation) → IsServed in_setting bounds opening batches classes whole said seen
+      → IsServed in_setting bounds opening (batches ++ b ∷ []) (classes ++ c ∷ []) g said seen
   more_served as_many b c g begins seen s =
       let same_batches : take s.count batches ≡ take s.count (batches ++ b ∷ []) = sym (take-append-le s.count batches (b ∷ []) s.within) in
       let same_classes : take s.count classes ≡ take s.count (classes ++ c ∷ []) = (let w = s.within in sym (take-append-le s.count classes (c ∷ []) (omega (arith, w, as_many)))) in
@@ -176,8 +171,8 @@ module _ (in_setting : Setting) (plan : Plan) (opening : History) (batches : Lis
         within = (let w = s.within in let l = length-append batches (b ∷ []) in omega (arith, w, l));
         history = s.history;
         store = s.store;
-        grown = subst (λ bs. IsGrown (manner_of in_setting plan) opening bs (take s.count (classes ++ c ∷ [])) s.history) same_batches
-            (subst (λ cs. IsGrown (manner_of in_setting plan) opening (take s.count batches) cs s.history) same_classes s.grown);
+        grown = subst (λ bs. IsGrown (manner_of in_setting bounds) opening bs (take s.count (classes ++ c ∷ [])) s.history) same_batches
+            (subst (λ cs. IsGrown (manner_of in_setting bounds) opening (take s.count batches) cs s.history) same_classes s.grown);
         begins = prefix_trans s.history whole g s.begins begins;
         part = s.part;
         says = s.says ∙ ap (λ cs. append_known said (take s.part (answers_of s.history cs))) same_classes;
@@ -197,19 +192,19 @@ pub record AreTaken (next : ℕ) (reader : ReaderState) (before now : SourceMome
 
 module _ {H : Type 0} (moment : H → ℕ) (observed : H → ℕ → Observation → Type 0) (said : H → Option (List ℕ)) (reads : H → Option Files) (may_leave : H → Files → Type 0) where
   -- the lines so far are whole batches, a host rests on the store that they make, and all their answers are said
-  pub record AreServed (c : Contents) (next : ℕ) (plan : Plan) (lines : List Line) (k : ClusterState) (first host : H) : Type 0 where
+  pub record AreServed (c : Contents) (next : ℕ) (bounds : RunBounds) (lines : List Line) (k : ClusterState) (first host : H) : Type 0 where
     pub batches : List Lines
     pub classes : List (List Class)
     pub d : Contents
     pub setting : d.setting ≡ c.setting
     pub lines_are : lines ≡ joined batches
-    pub grown : IsGrown (manner_of c.setting plan) (history_of c) batches classes (history_of d)
-    pub whole : HaveSize plan.size batches
+    pub grown : IsGrown (manner_of c.setting bounds) (history_of c) batches classes (history_of d)
+    pub whole : HaveSize bounds.size batches
     pub many : length (joined classes) ≡ length lines
     pub rests : RestsOn d (reads host) (may_leave host)
     pub stands : StandsAt d k
     pub says : said host ≡ append_known (said first) (answers_of (history_of d) classes)
-    pub moments : SeesOnly moment observed first host (IsServed c.setting plan (history_of c) batches classes (history_of d) (said first))
+    pub moments : SeesOnly moment observed first host (IsServed c.setting bounds (history_of c) batches classes (history_of d) (said first))
     pub numbers : AddsFrom next (history_of c) (history_of d)
     pub reached : k.next_epoch ≡ next + length numbers.added
 
@@ -219,8 +214,8 @@ module _ {H : Type 0} (moment : H → ℕ) (observed : H → ℕ → Observation
   abbrev pub SeenNow : Type 0
   SeenNow = (host : H) (t : ℕ) (seen : Observation) → t ≤ moment host → may_leave host seen.image → said host ≡ Some seen.said → observed host t seen
 
-  pub served_new : OnlyNow → (c : Contents) (next : ℕ) (plan : Plan) (k : ClusterState) (host : H) → k.next_epoch ≡ next → RestsOn c (reads host) (may_leave host) → StandsAt c k → AreServed c next plan [] k host host
-  served_new only_now c next plan k host same rests stands = record {
+  pub served_new : OnlyNow → (c : Contents) (next : ℕ) (bounds : RunBounds) (k : ClusterState) (host : H) → k.next_epoch ≡ next → RestsOn c (reads host) (may_leave host) → StandsAt c k → AreServed c next bounds [] k host host
+  served_new only_now c next bounds k host same rests stands = record {
     batches = [];
     classes = [];
     d = c;
@@ -232,9 +227,9 @@ module _ {H : Type 0} (moment : H → ℕ) (observed : H → ℕ → Observation
     rests = rests;
     stands = stands;
     says = sym (append_known-nil (said host));
-    moments = started moment observed host (IsServed c.setting plan (history_of c) [] [] (history_of c) (said host)) (λ seen since.
+    moments = started moment observed host (IsServed c.setting bounds (history_of c) [] [] (history_of c) (said host)) (λ seen since.
         let now = only_now host seen since in
-        all_served c.setting plan (history_of c) [] [] (history_of c) (said host) (record { grown = (refl, refl); executed = refl }) seen
+        all_served c.setting bounds (history_of c) [] [] (history_of c) (said host) (record { grown = (refl, refl); executed = refl }) seen
         (record { contents = c; setting = refl; good = rests.left seen.image now.0; history = refl }) 0 (sym now.1 ∙ sym (append_known-nil (said host))));
     numbers = adds_none next (history_of c);
     reached = omega (arith, same);
@@ -246,18 +241,18 @@ module _ {H : Type 0} (moment : H → ℕ) (observed : H → ℕ → Observation
 
   -- ---- where a run ends between two batches
 
-  module _ (seen_now : SeenNow) (c : Contents) (next : ℕ) (plan : Plan) (lines : List Line) (k : ClusterState) (first host : H) (a : AreServed c next plan lines k first host) (bytes : List ℕ) (others : List Line)
+  module _ (seen_now : SeenNow) (c : Contents) (next : ℕ) (bounds : RunBounds) (lines : List Line) (k : ClusterState) (first host : H) (a : AreServed c next bounds lines k first host) (bytes : List ℕ) (others : List Line)
       (all : lines_of bytes ≡ lines ++ others) where
     abbrev tree : Procedures
     tree = c.setting.tree
 
     abbrev manner : Manner
-    manner = manner_of c.setting plan
+    manner = manner_of c.setting bounds
 
     abbrev h : History
     h = history_of a.d
 
-    abbrev still : Progress manner (history_of c) next plan.size bytes
+    abbrev still : Progress manner (history_of c) next bounds.size bytes
     still = record {
       batches = a.batches;
       classes = a.classes;
@@ -267,11 +262,11 @@ module _ {H : Type 0} (moment : H → ℕ) (observed : H → ℕ → Observation
       first = record { others = others; lines = all ∙ ap (λ ls. ls ++ others) a.lines_are; cut = inl a.whole };
     }
 
-    ended_so : (e : Served) → RunEnds c next plan bytes still (said first) (said host) (reads host) (may_leave host) e → Serves moment observed said reads may_leave c next plan bytes e first host
+    ended_so : (e : Served) → RunEnds c next bounds bytes still (said first) (said host) (reads host) (may_leave host) e → Serves moment observed said reads may_leave c next bounds bytes e first host
     ended_so e ends = record {
       progress = still;
       moments = a.moments;
-      left = left_by seen_now first host (IsServed c.setting plan (history_of c) a.batches a.classes h (said first)) a.moments;
+      left = left_by seen_now first host (IsServed c.setting bounds (history_of c) a.batches a.classes h (said first)) a.moments;
       ends = ends;
     }
 
@@ -290,7 +285,7 @@ module _ {H : Type 0} (moment : H → ℕ) (observed : H → ℕ → Observation
     all_classes : take (length a.batches) a.classes ≡ a.classes
     all_classes = ap (λ n. take n a.classes) (sym (paired tree (history_of c) a.batches a.classes h a.grown.grown)) ∙ take-length a.classes
 
-    leaves_by : (Says : History → List (List Class) → Type 0) → Says h a.classes → LeavesLast c.setting plan (history_of c) a.batches a.classes h Says (said host) (may_leave host)
+    leaves_by : (Says : History → List (List Class) → Type 0) → Says h a.classes → LeavesLast c.setting bounds (history_of c) a.batches a.classes h Says (said host) (may_leave host)
     leaves_by Says says = record {
       count = length a.batches;
       last = inl refl;
@@ -311,30 +306,30 @@ module _ {H : Type 0} (moment : H → ℕ) (observed : H → ℕ → Observation
           most = omega arith;
         }
 
-    pub memory_ran_out : Serves moment observed said reads may_leave c next plan bytes ending.NoMemory first host
+    pub memory_ran_out : Serves moment observed said reads may_leave c next bounds bytes ending.NoMemory first host
     memory_ran_out = ended_so ending.NoMemory (leaves_by (SaysUpTo (said first) (said host)) says_whole)
 
-    pub disk_failed : Serves moment observed said reads may_leave c next plan bytes ending.DiskFault first host
+    pub disk_failed : Serves moment observed said reads may_leave c next bounds bytes ending.DiskFault first host
     disk_failed = ended_so ending.DiskFault (leaves_by (SaysAll (said first) (said host)) a.says)
 
-    pub epochs_used_up : epochs_end ≤ k.next_epoch → (more : Lines) (cs : List Class) → AreFirstBatches plan.size bytes (a.batches ++ more ∷ []) → AreClasses tree (known_in h) more cs → 0 < length (new_of cs)
-        → Serves moment observed said reads may_leave c next plan bytes ending.EpochsUsedUp first host
+    pub epochs_used_up : epochs_end ≤ k.next_epoch → (more : Lines) (cs : List Class) → AreFirstBatches bounds.size bytes (a.batches ++ more ∷ []) → AreClasses tree (known_in h) more cs → 0 < length (new_of cs)
+        → Serves moment observed said reads may_leave c next bounds bytes ending.EpochsUsedUp first host
     epochs_used_up end more cs so are some = ended_so ending.EpochsUsedUp (
       rests_at,
       a.says,
       record { end = (let n = a.reached in omega (arith, n, end)); batch = more; classes = cs; first = so; are = are; some = some },
     )
 
-    pub read_failed : (rest : List Line) → ended_lines_of bytes ≡ lines ++ rest → length rest < plan.size → Serves moment observed said reads may_leave c next plan bytes ending.ReadFault first host
+    pub read_failed : (rest : List Line) → ended_lines_of bytes ≡ lines ++ rest → length rest < bounds.size → Serves moment observed said reads may_leave c next bounds bytes ending.ReadFault first host
     read_failed rest ended few = ended_so ending.ReadFault (
       record { whole = a.whole; others = rest; lines = ended ∙ ap (λ ls. ls ++ rest) a.lines_are; few = few },
       rests_at,
       a.says,
     )
 
-    pub finished : others ≡ [] → 0 < plan.size → Serves moment observed said reads may_leave c next plan bytes ending.Finished first host
+    pub finished : others ≡ [] → 0 < bounds.size → Serves moment observed said reads may_leave c next bounds bytes ending.Finished first host
     finished none some = ended_so ending.Finished (
-      (all ∙ ap (λ ls. lines ++ ls) none ∙ append-nil lines ∙ a.lines_are, cut_full plan.size a.batches a.whole some),
+      (all ∙ ap (λ ls. lines ++ ls) none ∙ append-nil lines ∙ a.lines_are, cut_full bounds.size a.batches a.whole some),
       rests_at,
       a.says,
     )

@@ -14,7 +14,7 @@ use Rattle.coco_lines.specs.declared.class.Class.{Class}
 use Rattle.coco_order.specs.Execution.{Beginning}
 use Rattle.coco_order.specs.Outcome.{ComeOfExecution}
 use Rattle.coco_store.specs.Rules.{Setting}
-use Rattle.coco_serve.specs.declared.plan.Plan.{Plan}
+use Rattle.coco_serve.specs.declared.bounds.RunBounds.{RunBounds}
 
 -- how epochs are run: on which procedures, over how many partitions, by how many workers, and with how many attempts at each request
 pub record Manner : Type 0 where
@@ -23,8 +23,8 @@ pub record Manner : Type 0 where
   pub workers : ℕ
   pub attempts : ℕ
 
-abbrev pub manner_of : Setting → Plan → Manner
-manner_of s plan = record { procs = s.tree; partitions = s.entry.layout.partitions; workers = plan.workers; attempts = plan.attempts }
+abbrev pub manner_of : Setting → RunBounds → Manner
+manner_of s bounds = record { procs = s.tree; partitions = s.entry.layout.partitions; workers = bounds.workers; attempts = bounds.attempts }
 
 -- what an epoch of these requests begins with behind a history
 abbrev pub beginning_behind : Manner → History → List Request → Beginning

@@ -13,7 +13,7 @@ use Rattle.coco_serve.specs.Seen.{LeavesEither, ShowsBatch}
 use Rattle.coco_serve.specs.Texts.{texts_over}
 use Rattle.coco_serve.specs.declared.fault.BatchFault.{BatchFault}
 use Rattle.coco_serve.specs.declared.fault.BatchFault.TheVariants as fault
-use Rattle.coco_serve.specs.declared.plan.Plan.{Plan}
+use Rattle.coco_serve.specs.declared.bounds.RunBounds.{RunBounds}
 
 -- the answers of a batch that made one store out of another
 abbrev pub batch_texts : Contents → Contents → Batch → List ℕ
@@ -36,10 +36,10 @@ BatchEnds c d after texts before now reads may_leave (Err fault.NoMemory) =
 -- the store has grown by a batch, whose epoch, if it has one, is numbered `next`, and whose answers are said behind it. At each moment there is the store
 -- of before with nothing said, or the grown one with a front of the answers
 pub record WorksOffBatch {H : Type 0} (moment : H → ℕ) (observed : H → ℕ → Observation → Type 0) (said : H → Option (List ℕ)) (reads : H → Option Files) (may_leave : H → Files → Type 0)
-    (result : Result (Unit {0}) BatchFault) (batch : Batch) (plan : Plan) (c : Contents) (next : ℕ) (after : ClusterState) (old new : H) : Type 0 where
+    (result : Result (Unit {0}) BatchFault) (batch : Batch) (bounds : RunBounds) (c : Contents) (next : ℕ) (after : ClusterState) (old new : H) : Type 0 where
   pub d : Contents
   pub setting : d.setting ≡ c.setting
-  pub grows : GrowsByExecution (manner_of c.setting plan) (history_of c) batch.fresh (history_of d)
+  pub grows : GrowsByExecution (manner_of c.setting bounds) (history_of c) batch.fresh (history_of d)
   pub numbers : AddsFrom next (history_of c) (history_of d)
   pub moments : SeesOnly moment observed old new (ShowsBatch c.setting (history_of c) (history_of d) (said old) (batch_texts c d batch))
   pub ends : BatchEnds c d after (batch_texts c d batch) (said old) (said new) (reads new) (may_leave new) result

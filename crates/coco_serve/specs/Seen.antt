@@ -9,16 +9,16 @@ use Rattle.coco_lines.specs.Batches.{Batch}
 use Rattle.coco_lines.specs.declared.class.Class.{Class}
 use Rattle.coco_store.specs.Rules.{Setting}
 use Rattle.coco_serve.specs.Growth.{IsGrown, answers_of, manner_of}
-use Rattle.coco_serve.specs.declared.plan.Plan.{Plan}
+use Rattle.coco_serve.specs.declared.bounds.RunBounds.{RunBounds}
 
 -- seen at a moment: a good store under the same layout, whose history is the opening one grown by some first batches and begins the whole one; and a front of the answers of these
 -- batches' lines, behind what was said before
-pub record IsServed (s : Setting) (plan : Plan) (opening : History) (batches : List Batch) (classes : List (List Class)) (whole : History) (said : Option (List ℕ)) (seen : Observation) : Type 0 where
+pub record IsServed (s : Setting) (bounds : RunBounds) (opening : History) (batches : List Batch) (classes : List (List Class)) (whole : History) (said : Option (List ℕ)) (seen : Observation) : Type 0 where
   pub count : ℕ
   pub within : count ≤ length batches
   pub history : History
   pub store : IsStoreOf s history seen.image
-  pub grown : IsGrown (manner_of s plan) opening (take count batches) (take count classes) history
+  pub grown : IsGrown (manner_of s bounds) opening (take count batches) (take count classes) history
   pub begins : IsPrefixOf history whole
   pub part : ℕ
   pub says : Some seen.said ≡ append_known said (take part (answers_of history (take count classes)))

@@ -18,7 +18,7 @@ use Rattle.coco_store.specs.Rules.{Setting}
 use Rattle.coco_serve.specs.Growth.{AddsFrom, AreFirstBatches, HaveSize, IsGrown, Manner, answers_of, manner_of}
 use Rattle.coco_serve.specs.Seen.{IsServed, LeavesEither}
 use Rattle.coco_serve.specs.declared.ending.Served.{Served}
-use Rattle.coco_serve.specs.declared.plan.Plan.{Plan}
+use Rattle.coco_serve.specs.declared.bounds.RunBounds.{RunBounds}
 use Rattle.coco_serve.specs.declared.ending.Served.TheVariants.{Finished, ReadFault, SayFault, DiskFault, EpochsUsedUp, NoMemory}
 
 -- ---- causes
@@ -79,12 +79,12 @@ abbrev pub RestsAt : Setting → History → Option Files → (Files → Type 0)
 RestsAt s h reads may_leave = (d : Contents) × (d.setting ≡ s) × (history_of d ≡ h) × RestsOn d reads may_leave
 
 -- some first batches are said, all of them or all but one; what a crash may leave is a store of their history or of the whole one
-pub record LeavesLast (s : Setting) (plan : Plan) (opening : History) (batches : List Batch) (classes : List (List Class)) (whole : History) (Says : History → List (List Class) → Type 0)
+pub record LeavesLast (s : Setting) (bounds : RunBounds) (opening : History) (batches : List Batch) (classes : List (List Class)) (whole : History) (Says : History → List (List Class) → Type 0)
     (now : Option (List ℕ)) (may_leave : Files → Type 0) : Type 0 where
   pub count : ℕ
   pub last : (length batches ≡ count) ⊎ (length batches ≡ count + 1)
   pub history : History
-  pub grown : IsGrown (manner_of s plan) opening (take count batches) (take count classes) history
+  pub grown : IsGrown (manner_of s bounds) opening (take count batches) (take count classes) history
   pub says : Says history (take count classes)
   pub left : LeavesEither s history whole now may_leave
 
@@ -101,30 +101,30 @@ pub record AreUsedUp (m : Manner) (opening : History) (next size : ℕ) (bytes :
 
 -- by its ending: an input that was read to its end is committed and answered whole; after a fault of reading so are all whole batches; a fault of saying
 -- leaves all batches committed, the last one said in part; and after a fault of the disk, or out of memory, one batch more may be committed than is said
-abbrev pub RunEnds : (c : Contents) → (next : ℕ) → (plan : Plan) → (bytes : List ℕ) → Progress (manner_of c.setting plan) (history_of c) next plan.size bytes → Option (List ℕ) → Option (List ℕ) → Option Files → (Files → Type 0) → Served → Type 0
-RunEnds c next plan bytes p before now reads may_leave Finished = AreAll plan.size bytes p.batches × RestsAt c.setting p.history reads may_leave × SaysAll before now p.history p.classes
-RunEnds c next plan bytes p before now reads may_leave ReadFault = AreAllWhole plan.size bytes p.batches × RestsAt c.setting p.history reads may_leave × SaysAll before now p.history p.classes
-RunEnds c next plan bytes p before now reads may_leave SayFault = RestsAt c.setting p.history reads may_leave × SaysUpTo before now p.history p.classes
-RunEnds c next plan bytes p before now reads may_leave DiskFault =
-    LeavesLast c.setting plan (history_of c) p.batches p.classes p.history (SaysAll before now) now may_leave
-RunEnds c next plan bytes p before now reads may_leave EpochsUsedUp =
-    RestsAt c.setting p.history reads may_leave × SaysAll before now p.history p.classes × AreUsedUp (manner_of c.setting plan) (history_of c) next plan.size bytes p
-RunEnds c next plan bytes p before now reads may_leave NoMemory =
-    LeavesLast c.setting plan (history_of c) p.batches p.classes p.history (SaysUpTo before now) now may_leave
+abbrev pub RunEnds : (c : Contents) → (next : ℕ) → (bounds : RunBounds) → (bytes : List ℕ) → Progress (manner_of c.setting bounds) (history_of c) next bounds.size bytes → Option (List ℕ) → Option (List ℕ) → Option Files → (Files → Type 0) → Served → Type 0
+RunEnds c next bounds bytes p before now reads may_leave Finished = AreAll bounds.size bytes p.batches × RestsAt c.setting p.history reads may_leave × SaysAll before now p.history p.classes
+RunEnds c next bounds bytes p before now reads may_leave ReadFault = AreAllWhole bounds.size bytes p.batches × RestsAt c.setting p.history reads may_leave × SaysAll before now p.history p.classes
+RunEnds c next bounds bytes p before now reads may_leave SayFault = RestsAt c.setting p.history reads may_leave × SaysUpTo before now p.history p.classes
+RunEnds c next bounds bytes p before now reads may_leave DiskFault =
+    LeavesLast c.setting bounds (history_of c) p.batches p.classes p.history (SaysAll before now) now may_leave
+RunEnds c next bounds bytes p before now reads may_leave EpochsUsedUp =
+    RestsAt c.setting p.history reads may_leave × SaysAll before now p.history p.classes × AreUsedUp (manner_of c.setting bounds) (history_of c) next bounds.size bytes p
+RunEnds c next bounds bytes p before now reads may_leave NoMemory =
+    LeavesLast c.setting bounds (history_of c) p.batches p.classes p.history (SaysUpTo before now) now may_leave
 
 -- of a host that rested on these contents: what was seen in the run and is left behind it, and how it ended. Each history seen begins the whole one, so its
 -- epochs are numbered from `next` on too
 pub record Serves {H : Type 0} (moment : H → ℕ) (observed : H → ℕ → Observation → Type 0) (said : H → Option (List ℕ)) (reads : H → Option Files) (may_leave : H → Files → Type 0)
-    (c : Contents) (next : ℕ) (plan : Plan) (bytes : List ℕ) (ending : Served) (old new : H) : Type 0 where
-  pub progress : Progress (manner_of c.setting plan) (history_of c) next plan.size bytes
-  pub moments : SeesOnly moment observed old new (IsServed c.setting plan (history_of c) progress.batches progress.classes progress.history (said old))
-  pub left : (seen : Observation) → said new ≡ Some seen.said → may_leave new seen.image → IsServed c.setting plan (history_of c) progress.batches progress.classes progress.history (said old) seen
-  pub ends : RunEnds c next plan bytes progress (said old) (said new) (reads new) (may_leave new) ending
+    (c : Contents) (next : ℕ) (bounds : RunBounds) (bytes : List ℕ) (ending : Served) (old new : H) : Type 0 where
+  pub progress : Progress (manner_of c.setting bounds) (history_of c) next bounds.size bytes
+  pub moments : SeesOnly moment observed old new (IsServed c.setting bounds (history_of c) progress.batches progress.classes progress.history (said old))
+  pub left : (seen : Observation) → said new ≡ Some seen.said → may_leave new seen.image → IsServed c.setting bounds (history_of c) progress.batches progress.classes progress.history (said old) seen
+  pub ends : RunEnds c next bounds bytes progress (said old) (said new) (reads new) (may_leave new) ending
 
 -- the bytes that the source gave, why the run ended so, and what it made of each store that the cluster stood at
 pub record Runs {H : Type 0} (moment : H → ℕ) (observed : H → ℕ → Observation → Type 0) (said : H → Option (List ℕ)) (reads : H → Option Files) (may_leave : H → Files → Type 0)
-    (cluster : ClusterState) (plan : Plan) (before after : Outside) (ending : Served) (old new : H) : Type 0 where
+    (cluster : ClusterState) (bounds : RunBounds) (before after : Outside) (ending : Served) (old new : H) : Type 0 where
   pub bytes : List ℕ
   pub gives : Gives before.source after.source bytes
   pub cause : HasCause cluster.next_epoch bytes before after ending
-  pub serves : (c : Contents) → RestsOn c (reads old) (may_leave old) → StandsAt c cluster → Serves moment observed said reads may_leave c cluster.next_epoch plan bytes ending old new
+  pub serves : (c : Contents) → RestsOn c (reads old) (may_leave old) → StandsAt c cluster → Serves moment observed said reads may_leave c cluster.next_epoch bounds bytes ending old new

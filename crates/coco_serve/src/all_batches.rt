@@ -4,9 +4,9 @@ ghost use Rattle.coco_types.specs.Limits.{most_batch_lines, most_kept};
 ghost use Rattle.coco_append.specs.Gaining.{Stands};
 ghost use Rattle.coco_serve.specs.Serving.{Runs};
 
+use crate::bounds::RunBounds;
 use crate::ending::Served;
 use crate::one_batch::turn_and_say;
-use crate::plan::Plan;
 use coco_batches::read_batch;
 use coco_cluster::Cluster;
 use coco_gate::Gate;
@@ -18,7 +18,7 @@ use std::sync::Wait;
 use std::thread::Threads;
 use std::time::Clock;
 
-/// Reads request lines to the end of the input, and works them off as the plan has it. The new requests of a batch are
+/// Reads request lines to the end of the input, and works them off within these bounds. The new requests of a batch are
 /// committed to the files before its answers are said.
 pub fn answer_lines<R: Threads + Wait + Clock + Sync, H: Host, S: Source, G: Gate + Sync>(
     rt: &R,
@@ -26,17 +26,17 @@ pub fn answer_lines<R: Threads + Wait + Clock + Sync, H: Host, S: Source, G: Gat
     host: &mut H,
     cluster: &mut Cluster,
     input: &mut S,
-    plan: Plan,
+    bounds: RunBounds,
     gate: &G,
 ) -> Served
-    requires some { 0 < plan.size }
-    requires few { plan.size ≤ most_batch_lines }
-    requires workers { 0 < plan.workers }
-    requires attempts { 0 < plan.attempts }
+    requires some { 0 < bounds.size }
+    requires few { bounds.size ≤ most_batch_lines }
+    requires workers { 0 < bounds.workers }
+    requires attempts { 0 < bounds.attempts }
     requires unspent { cluster.old.spent ≡ false }
     requires room { length cluster.old.kept.dones ≤ most_kept }
     requires stand { Stands cluster.old.node (H.reads host.old) (H.may_leave host.old) × Stands cluster.old.chief (H.reads host.old) (H.may_leave host.old) }
-    ensures { Runs H.moment H.observed H.said H.reads H.may_leave cluster.old plan
+    ensures { Runs H.moment H.observed H.said H.reads H.may_leave cluster.old bounds
         (record { source = record { given = S.given input.old; left = S.remaining input.old; at_end = S.at_end input.old }; source_faults = S.faults input.old; say_faults = H.say_faults host.old; disk_faults = H.disk_faults host.old })
         (record { source = record { given = S.given input.new; left = S.remaining input.new; at_end = S.at_end input.new }; source_faults = S.faults input.new; say_faults = H.say_faults host.new; disk_faults = H.disk_faults host.new })
         result host.old host.new }
@@ -51,7 +51,7 @@ pub fn answer_lines<R: Threads + Wait + Clock + Sync, H: Host, S: Source, G: Gat
             &mut reader,
             input,
             cluster.kept(),
-            plan.size,
+            bounds.size,
         ) {
             Ok(batch) => batch,
             Err(LineFault::NoMemory) => return Served::NoMemory,
@@ -62,11 +62,11 @@ pub fn answer_lines<R: Threads + Wait + Clock + Sync, H: Host, S: Source, G: Gat
         if count == 0 {
             return Served::Finished;
         }
-        match turn_and_say(rt, alloc, host, cluster, batch, plan, gate) {
+        match turn_and_say(rt, alloc, host, cluster, batch, bounds, gate) {
             Ok(()) => {}
             Err(fault) => return Served::from(fault),
         }
-        if count < plan.size as usize {
+        if count < bounds.size as usize {
             return Served::Finished;
         }
     }

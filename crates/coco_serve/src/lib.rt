@@ -2,14 +2,14 @@
 #![tactic(auto)]
 
 mod all_batches;
+mod bounds;
 mod ending;
 mod fault;
 pub mod laws;
 mod one_batch;
-mod plan;
 mod texts;
 
 pub use all_batches::answer_lines;
+pub use bounds::RunBounds;
 pub use ending::Served;
 pub use fault::BatchFault;
-pub use plan::Plan;

@@ -9,8 +9,8 @@ ghost use Rattle.coco_serve.specs.Faults.{CountsBatch};
 ghost use Rattle.coco_serve.specs.Growth.{epochs_of};
 ghost use Rattle.coco_serve.specs.OneBatch.{IsRefused, WorksOffBatch};
 
+use crate::bounds::RunBounds;
 use crate::fault::BatchFault;
-use crate::plan::Plan;
 use crate::texts::{early_texts, late_texts};
 use coco_batches::Batch;
 use coco_cluster::Cluster;
@@ -21,7 +21,7 @@ use std::sync::Wait;
 use std::thread::Threads;
 use std::time::Clock;
 
-/// Commits the new requests of a batch as the plan has it, and then says its answers. After a fault the cluster is of
+/// Commits the new requests of a batch within these bounds, and then says its answers. After a fault the cluster is of
 /// no further use.
 pub fn turn_and_say<R: Threads + Wait + Clock + Sync, H: Host, G: Gate + Sync>(
     rt: &R,
@@ -29,17 +29,17 @@ pub fn turn_and_say<R: Threads + Wait + Clock + Sync, H: Host, G: Gate + Sync>(
     host: &mut H,
     cluster: &mut Cluster,
     batch: Batch,
-    plan: Plan,
+    bounds: RunBounds,
     gate: &G,
 ) -> Result<(), BatchFault>
     requires unspent { cluster.old.spent ≡ false }
-    requires workers { 0 < plan.workers }
-    requires attempts { 0 < plan.attempts }
+    requires workers { 0 < bounds.workers }
+    requires attempts { 0 < bounds.attempts }
     requires may { MayCommit cluster.old.procs cluster.old.kept batch.fresh }
     requires few { length batch.fresh ≤ most_batch_lines }
     requires stand { Stands cluster.old.node (H.reads host.old) (H.may_leave host.old) × Stands cluster.old.chief (H.reads host.old) (H.may_leave host.old) }
     ensures answers { (c : Contents) → RestsOn c (H.reads host.old) (H.may_leave host.old) → StandsAt c cluster.old
-        → IsRefused result host.old host.new ⊎ WorksOffBatch H.moment H.observed H.said H.reads H.may_leave result batch plan c cluster.old.next_epoch cluster.new host.old host.new }
+        → IsRefused result host.old host.new ⊎ WorksOffBatch H.moment H.observed H.said H.reads H.may_leave result batch bounds c cluster.old.next_epoch cluster.new host.old host.new }
     ensures stand { OnOk result (Stands cluster.new.node (H.reads host.new) (H.may_leave host.new) × Stands cluster.new.chief (H.reads host.new) (H.may_leave host.new)) }
     ensures unspent { OnOk result (cluster.new.spent ≡ false) }
     ensures few { OnOk result (length cluster.new.kept.dones ≤ most_kept) }
@@ -52,7 +52,15 @@ pub fn turn_and_say<R: Threads + Wait + Clock + Sync, H: Host, G: Gate + Sync>(
     let Batch { answers, fresh } = batch;
     let early = early_texts(alloc, cluster.kept(), answers.as_slice())?;
     let requests = fresh.into_requests(alloc)?;
-    cluster.turn(rt, alloc, host, requests, plan.workers, plan.attempts, gate)?;
+    cluster.turn(
+        rt,
+        alloc,
+        host,
+        requests,
+        bounds.workers,
+        bounds.attempts,
+        gate,
+    )?;
     let texts = late_texts(alloc, cluster.kept(), answers.as_slice(), early)?;
     say_all(host, texts.as_slice())?;
     Ok(())

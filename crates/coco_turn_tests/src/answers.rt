@@ -7,7 +7,7 @@ use crate::made::{new_cluster, new_logs};
 use coco_gate::OpenGate;
 use coco_host::{Host, MemoryHost};
 use coco_io::MemorySource;
-use coco_serve::{Plan, Served, answer_lines};
+use coco_serve::{RunBounds, Served, answer_lines};
 use std::alloc::Global;
 use std::sync::Wait;
 use std::test::Fail;
@@ -31,12 +31,12 @@ fn answer<R: Threads + Wait + Clock + Sync, H: Host>(
     let mut cluster = new_cluster(alloc, chief, node, keep)?;
     let bytes = Vec::from_slice(alloc, text.as_bytes())?;
     let mut input = MemorySource::new(bytes, Vec::new(alloc));
-    let plan = Plan {
+    let bounds = RunBounds {
         size,
         workers: 1,
         attempts: 3,
     };
-    Ok(answer_lines(rt, alloc, host, &mut cluster, &mut input, plan, &OpenGate))
+    Ok(answer_lines(rt, alloc, host, &mut cluster, &mut input, bounds, &OpenGate))
 }
 
 const LINES: &str = r#"{"args":[5,70],"call":"put","id":1}

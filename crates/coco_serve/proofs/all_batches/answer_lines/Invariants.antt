@@ -7,7 +7,7 @@ use Rattle.coco_serve.proofs.all_batches.answer_lines.Given as goal
 
 abbrev pub invariant-batches : goal.invariant-batches
 invariant-batches g l = record {
-  running : IsRunning g.H.Host.moment g.H.Host.observed g.H.Host.said g.H.Host.reads g.H.Host.may_leave l.fn.cluster.next_epoch l.plan l.reader
+  running : IsRunning g.H.Host.moment g.H.Host.observed g.H.Host.said g.H.Host.reads g.H.Host.may_leave l.fn.cluster.next_epoch l.bounds l.reader
       (record { given = g.S.Source.given l.fn.input; left = g.S.Source.remaining l.fn.input; at_end = g.S.Source.at_end l.fn.input })
       (record { given = g.S.Source.given l.input; left = g.S.Source.remaining l.input; at_end = g.S.Source.at_end l.input }) l.fn.cluster l.cluster l.fn.host l.host;
   within : l.reader.given ≤ most_input_bytes;

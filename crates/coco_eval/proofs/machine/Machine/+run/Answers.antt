@@ -3,7 +3,7 @@ use Rattle.coco_ast.specs.Checks.{key_weight}
 use Rattle.coco_ast.specs.Tree.{Get, Put, Repeat}
 use Rattle.coco_ast.specs.Plans.{name_at, depth}
 use Rattle.coco_eval.specs.Planned.{expression_by, place_by, statement_by, statements_by}
-use Rattle.coco_ast.specs.declared.plan.Step.{Step, the_lemmas}
+use Rattle.coco_ast.specs.declared.plan.PlanStep.{PlanStep, the_lemmas}
 use Rattle.coco_eval.specs.Moves.{kept_of, MovesBlock, MovesTurns, on_way}
 use Rattle.coco_eval.specs.Places.{goes_on, goes_on_repeat, weight_repeat, turns, runs, from, weight_on}
 use Rattle.coco_eval.specs.declared.machine.Stop.{Stop}
@@ -22,7 +22,7 @@ fresh-returns-in-Repeat t c =
     let is : statement_by c.args.plan.now c.args.statement.now ≡ Repeat c.in-Repeat.bound (name_at c.args.plan.now.names c.in-Repeat.slot) (statements_by c.args.plan.now c.in-Repeat.block.items) = rw c.in-Repeat.is (search (rules, the_lemmas)) in
     let block = c.deref-in-Repeat.result.now in
     repeated c.repeat.result c.args.tables.now (statement_by c.args.plan.now c.args.statement.now) c.in-Repeat.bound (name_at c.args.plan.now.names c.in-Repeat.slot) (statements_by c.args.plan.now block) way.Fresh [] c.args.self.now c.repeat.new.self
-    (is ∙ ap (λ (ss : List Step). Repeat c.in-Repeat.bound (name_at c.args.plan.now.names c.in-Repeat.slot) (statements_by c.args.plan.now ss)) (sym c.deref-in-Repeat.ensures.value)) c.repeat.ensures
+    (is ∙ ap (λ (ss : List PlanStep). Repeat c.in-Repeat.bound (name_at c.args.plan.now.names c.in-Repeat.slot) (statements_by c.args.plan.now ss)) (sym c.deref-in-Repeat.ensures.value)) c.repeat.ensures
 
 pub fresh-returns-in-Get : goal.fresh-returns-in-Get
 fresh-returns-in-Get t c =
@@ -51,7 +51,7 @@ statement-returns-in-Repeat t c =
     let is : statement_by c.args.plan.now c.args.statement.now ≡ Repeat c.in-Repeat.bound (name_at c.args.plan.now.names c.in-Repeat.slot) (statements_by c.args.plan.now c.in-Repeat.block.items) = rw c.in-Repeat.is (search (rules, the_lemmas)) in
     let block = c.deref-in-Repeat.result.now in
     repeated c.repeat.result c.args.tables.now (statement_by c.args.plan.now c.args.statement.now) c.in-Repeat.bound (name_at c.args.plan.now.names c.in-Repeat.slot) (statements_by c.args.plan.now block) c.args.way (reverse c.args.inner.now) c.args.self.now c.repeat.new.self
-    (is ∙ ap (λ (ss : List Step). Repeat c.in-Repeat.bound (name_at c.args.plan.now.names c.in-Repeat.slot) (statements_by c.args.plan.now ss)) (sym c.deref-in-Repeat.ensures.value)) c.repeat.ensures
+    (is ∙ ap (λ (ss : List PlanStep). Repeat c.in-Repeat.bound (name_at c.args.plan.now.names c.in-Repeat.slot) (statements_by c.args.plan.now ss)) (sym c.deref-in-Repeat.ensures.value)) c.repeat.ensures
 
 pub within-returns-then-frame-block : goal.within-returns-then-frame-block
 within-returns-then-frame-block t c = through_first c.args.tables.now c.args.plan.now c.args.block.now c.args.frame (reverse c.args.inner.now) c.args.self.now c.if-frame-block.true c.requires.room.path
