@@ -1,4 +1,4 @@
-//! The host over a folder of the machine, with the standard output as its reply stream.
+//! The host over a folder of the machine, with a writer as its reply stream.
 ghost use Rattle.std.specs.Prelude.{◌≡◌, None, Ok, IfOk, string_bytes};
 ghost use Rattle.coco_io.specs.Counts.{CountsRead};
 ghost use Rattle.std.proofs.Common.{subst};
@@ -7,29 +7,31 @@ ghost use Rattle.coco_host.specs.Moments.{IsUntold};
 use crate::Host;
 use crate::files::Folder;
 use crate::memory::raised;
+use coco_io::stream::SteadyWrite;
 use coco_io::{Sink, WriterSink};
 use coco_types::{Failed, NoMemory, OutFault};
-use std::io::{self, Stdout};
+use std::io;
 
-/// A store's folder, with the standard output as the stream that its replies leave by. File n is `n.coco`
-/// in it. It doesn't tell what it holds, nor what it said.
+/// A store's folder, with a writer as the stream that its replies leave by, the standard output say. File n is
+/// `n.coco` in it. It doesn't tell what its files hold; what was said is what the writer holds, where that tells it.
 #[derive(Drop)]
-pub struct FolderHost {
+pub struct FolderHost<W> {
     folder: Folder,
-    replies: WriterSink<Stdout>,
+    replies: WriterSink<W>,
     disk_faults: u64,
 }
 
-impl FolderHost {
-    /// The host over the folder of this name.
-    pub fn new(rt: HostRuntime, folder: &str) -> Result<FolderHost, NoMemory>
+impl<W: SteadyWrite + Drop> FolderHost<W> {
+    /// The host over the folder of this name, which says its replies to this writer.
+    pub fn new(rt: HostRuntime, folder: &str, replies: W) -> Result<FolderHost<W>, NoMemory>
         ensures folder { IfOk result (λ host. string_bytes host.folder.name ≡ folder.now) }
-        ensures say_faults { IfOk result (λ host. ⟦<FolderHost as Host>⟧.say_faults host ≡ 0) }
-        ensures disk_faults { IfOk result (λ host. ⟦<FolderHost as Host>⟧.disk_faults host ≡ 0) }
+        ensures said { IfOk result (λ host. ⟦<FolderHost<W> as Host>⟧.said host ≡ W.contents replies) }
+        ensures say_faults { IfOk result (λ host. ⟦<FolderHost<W> as Host>⟧.say_faults host ≡ 0) }
+        ensures disk_faults { IfOk result (λ host. ⟦<FolderHost<W> as Host>⟧.disk_faults host ≡ 0) }
     {
         Ok(FolderHost {
             folder: Folder::new(rt, String::from_str(rt.alloc(), folder)?),
-            replies: WriterSink::over(rt.stdout()),
+            replies: WriterSink::over(replies),
             disk_faults: 0,
         })
     }
@@ -50,8 +52,8 @@ impl FolderHost {
     }
 }
 
-impl Host for FolderHost {
-    ghost said = { λ _. None };
+impl<W: SteadyWrite + Drop> Host for FolderHost<W> {
+    ghost said = { λ h. W.contents h.replies.writer };
 
     ghost say_faults = { λ h. h.replies.faults };
 

@@ -1,5 +1,5 @@
 //! What a store stands on: numbered files and the stream that its replies leave by, under one clock; in
-//! memory, and over a folder with the standard output.
+//! memory, and over a folder with any writer.
 #![tactic(auto)]
 
 mod crash;

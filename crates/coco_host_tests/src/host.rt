@@ -5,6 +5,7 @@ use coco_host::{FolderHost, FuseHost, Host, MemoryHost, say_all};
 use coco_types::{Failed, NoMemory, OutFault};
 use std::alloc::Global;
 use std::fs;
+use std::io::Stdout;
 use std::test::Fail;
 
 // Whether a host says the whole piece, and counts no fault.
@@ -82,15 +83,21 @@ fn a_listed_call_on_a_file_fails(rt: HostRuntime) -> Result<(), Fail> {
     Ok(())
 }
 
+type Folder = FolderHost<Stdout>;
+
+fn folder(rt: HostRuntime, name: &str) -> Result<Folder, NoMemory> {
+    FolderHost::new(rt, name, rt.stdout())
+}
+
 #[test]
 fn a_folder_says_to_the_standard_output(rt: HostRuntime) -> Result<(), Fail> {
-    let mut host = FolderHost::new(rt, ".")?;
+    let mut host = folder(rt, ".")?;
     assert!(rt; says(&mut host, b"a line of the standard output\n"));
     Ok(())
 }
 
 // Whether a file is made by two writes, and synced before and after.
-fn is_made(host: &mut FolderHost) -> bool {
+fn is_made(host: &mut Folder) -> bool {
     let is_absent = host.len(1) == Ok(0) && host.sync(1) == Ok(());
     let first = host.write_at(1, 0, b"letters") == Ok(());
     let second = host.write_at(1, 3, b"ting") == Ok(());
@@ -98,7 +105,7 @@ fn is_made(host: &mut FolderHost) -> bool {
 }
 
 // Whether a file reads as it was made, and a write too far behind it is a fault.
-fn is_kept(host: &mut FolderHost) -> bool {
+fn is_kept(host: &mut Folder) -> bool {
     let is_read = reads(host, 1, 1, &mut [0; 10], b"etting");
     let is_refused = host.write_at(1, u64::MAX, b"x") == Err(OutFault::Failed);
     is_read && is_refused && host.disk_faults() == 1
@@ -106,13 +113,13 @@ fn is_kept(host: &mut FolderHost) -> bool {
 
 // Whether a second host can't use the folder.
 fn is_shut_out(rt: HostRuntime) -> Result<bool, NoMemory> {
-    let mut other = FolderHost::new(rt, "a_store")?;
+    let mut other = folder(rt, "a_store")?;
     Ok(other.len(1) == Err(Failed) && other.disk_faults() == 1)
 }
 
 #[test]
 fn a_folder_keeps_files_and_is_one_hosts_alone(rt: HostRuntime) -> Result<(), Fail> {
-    let mut host = FolderHost::new(rt, "a_store")?;
+    let mut host = folder(rt, "a_store")?;
     let is_well = is_made(&mut host) && is_kept(&mut host) && is_shut_out(rt)?;
     fs::remove_dir_all(&rt, "a_store")?;
     assert!(rt; is_well);
@@ -121,17 +128,17 @@ fn a_folder_keeps_files_and_is_one_hosts_alone(rt: HostRuntime) -> Result<(), Fa
 
 // Whether a host that is done then makes the folder and a file.
 fn is_filled(rt: HostRuntime, name: &str) -> Result<bool, NoMemory> {
-    let mut host = FolderHost::new(rt, name)?;
+    let mut host = folder(rt, name)?;
     Ok(host.write_at(0, 0, b"letters") == Ok(()))
 }
 
-fn refuses(host: &mut FolderHost, file: u32) -> bool {
+fn refuses(host: &mut Folder, file: u32) -> bool {
     host.write_at(file, 0, b"late") == Err(OutFault::Failed)
 }
 
 #[test]
 fn a_folder_that_was_made_since_is_left_alone(rt: HostRuntime) -> Result<(), Fail> {
-    let mut late = FolderHost::new(rt, "a_late_store")?;
+    let mut late = folder(rt, "a_late_store")?;
     let was_absent = late.len(0) == Ok(0) && is_filled(rt, "a_late_store")?;
     let is_refused = refuses(&mut late, 0) && refuses(&mut late, 1) && late.disk_faults() == 2;
     fs::remove_dir_all(&rt, "a_late_store")?;
@@ -144,7 +151,7 @@ fn a_folder_in_the_place_of_the_one_that_was_there_is_left_alone(
     rt: HostRuntime,
 ) -> Result<(), Fail> {
     fs::create_dir(&rt, "a_store_again")?;
-    let mut late = FolderHost::new(rt, "a_store_again")?;
+    let mut late = folder(rt, "a_store_again")?;
     let was_empty = late.len(0) == Ok(0);
     fs::remove_dir(&rt, "a_store_again")?;
     let is_there = is_filled(rt, "a_store_again")?;
