@@ -36,19 +36,20 @@ use Rattle.coco_migrate.specs.Keeping.{contents_keeping}
 use Rattle.coco_migrate.specs.Migrating.{ending_of_adding}
 use Rattle.coco_run.specs.Opening.{FailsToOpen, IsRefusedInRun, RefusedIsNotRun}
 use Rattle.coco_run.specs.Running.{Opens, ending_of_run}
+use Rattle.coco_lines.proofs.ClassLemmas.{classes_length}
 use Rattle.coco_serve.specs.Faults.{Counts}
 use Rattle.coco_serve.specs.Growth.{epochs_of}
 use Rattle.coco_serve.specs.Serving.{HasCause, Outside, Serves}
 use Rattle.coco_serve.specs.declared.ending.Served.{Served}
 use Rattle.coco_serve.specs.declared.ending.Served.TheVariants as served
-use Rattle.coco_serve.specs.declared.plan.Plan.{Plan}
-use Rattle.coco_serve.proofs.RunLemmas.{added_by, classes_length, few_new, joined-more}
+use Rattle.coco_serve.specs.declared.bounds.RunBounds.{RunBounds}
+use Rattle.coco_serve.proofs.RunLemmas.{added_by, few_new, joined-more}
 use Rattle.coco_store.specs.Contents.{Contents, history_of}
 use Rattle.coco_store.specs.Refusals.{IsFirstRefusal, RefusedIsNone}
 use Rattle.coco_store.specs.Texts.{IsAcceptedText}
 use Rattle.coco_tell.specs.Telling.{IsVerdict, SaysText}
 use Rattle.coco_words.specs.declared.Command.TheVariants.{Dump, Init, Migrate, Run, Verify}
-use Rattle.coco.specs.Commands.{counts_of, ending_in, plan_of}
+use Rattle.coco.specs.Commands.{counts_of, ending_in, bounds_of}
 use Rattle.coco.specs.Success.{AllAreAnswered, DumpSucceeds, FewLinesHaveNumbers, HaveNumbers, InitSucceeds, DoneOrNoMemory, MigrateSucceeds, NoneRose, ReadsEmpty, RunSucceeds, VerifySucceeds}
 
 -- ---- numbers
@@ -72,7 +73,7 @@ gains_few procs before (b ∷ bs) (cs ∷ classes) after grows =
     omega (arith, gained.2, more, epochs, fresh, lines, rest, length-append b (joined bs))
 
 pub few_lines_have_numbers : FewLinesHaveNumbers
-few_lines_have_numbers c next plan bytes few p used =
+few_lines_have_numbers c next bounds bytes few p used =
     let gained = gains_few c.setting.tree (history_of c) p.batches p.classes p.history p.grown.grown in
     let more = ap length p.numbers.epochs ∙ length-append (history_of c).epochs p.numbers.added in
     let all = ap length used.first.lines ∙ length-append (joined (p.batches ++ used.batch ∷ [])) used.first.others in
@@ -126,17 +127,17 @@ verdict_is_serial c text own serial verdict = absurd verdict
 -- ---- each command
 
 module _ {H : Type 0} (moment : H → ℕ) (observed : H → ℕ → Observation → Type 0) (said : H → Option (List ℕ)) (reads : H → Option Files) (may_leave : H → Files → Type 0) where
-  served_or_memory : (c : Contents) (next : ℕ) (plan : Plan) (bytes : List ℕ) (how : Ending) (before after : Outside) (old opened new : H) (s : Served)
-      → how ≡ ending_of_run s → NoneRose before after → length bytes < most_input_bytes → HaveNumbers c next plan bytes → HasCause next bytes before after s
-      → Serves moment observed said reads may_leave c next plan bytes s opened new
-      → DoneOrNoMemory how (HasCause next bytes before after served.Finished × Serves moment observed said reads may_leave c next plan bytes served.Finished opened new)
-  served_or_memory c next plan bytes how before after old opened new served.Finished ends faultless few numbers cause serves = inl (ends, (cause, serves))
-  served_or_memory c next plan bytes how before after old opened new served.ReadFault ends faultless few numbers cause serves =
+  served_or_memory : (c : Contents) (next : ℕ) (bounds : RunBounds) (bytes : List ℕ) (how : Ending) (before after : Outside) (old opened new : H) (s : Served)
+      → how ≡ ending_of_run s → NoneRose before after → length bytes < most_input_bytes → HaveNumbers c next bounds bytes → HasCause next bytes before after s
+      → Serves moment observed said reads may_leave c next bounds bytes s opened new
+      → DoneOrNoMemory how (HasCause next bytes before after served.Finished × Serves moment observed said reads may_leave c next bounds bytes served.Finished opened new)
+  served_or_memory c next bounds bytes how before after old opened new served.Finished ends faultless few numbers cause serves = inl (ends, (cause, serves))
+  served_or_memory c next bounds bytes how before after old opened new served.ReadFault ends faultless few numbers cause serves =
       absurd (⊎_elim faultless.source (λ full. omega (arith, few, full)) cause)
-  served_or_memory c next plan bytes how before after old opened new served.SayFault ends faultless few numbers cause serves = absurd (faultless.stream cause)
-  served_or_memory c next plan bytes how before after old opened new served.DiskFault ends faultless few numbers cause serves = absurd (faultless.disk cause)
-  served_or_memory c next plan bytes how before after old opened new served.EpochsUsedUp ends faultless few numbers cause serves = absurd (numbers serves.progress serves.ends.2)
-  served_or_memory c next plan bytes how before after old opened new served.NoMemory ends faultless few numbers cause serves = inr ends
+  served_or_memory c next bounds bytes how before after old opened new served.SayFault ends faultless few numbers cause serves = absurd (faultless.stream cause)
+  served_or_memory c next bounds bytes how before after old opened new served.DiskFault ends faultless few numbers cause serves = absurd (faultless.disk cause)
+  served_or_memory c next bounds bytes how before after old opened new served.EpochsUsedUp ends faultless few numbers cause serves = absurd (numbers serves.progress serves.ends.2)
+  served_or_memory c next bounds bytes how before after old opened new served.NoMemory ends faultless few numbers cause serves = inr ends
 
   pub run_succeeds : RefusedIsNotRun → RunSucceeds moment observed said reads may_leave
   run_succeeds refused run how before after old new c bytes faultless store gives may =
@@ -147,15 +148,15 @@ module _ {H : Type 0} (moment : H → ℕ) (observed : H → ℕ → Observation
       one : (file at : ℕ) → ¬ (IsRefusedInRun store.files file at)
       one file at is = refused store.files file at is (record { contents = c; holds = store.good.holds; one = may.one })
 
-      answered : Opens moment observed said reads may_leave (plan_of run) how before after old new → DoneOrNoMemory how (AllAreAnswered moment observed said reads may_leave c (plan_of run) bytes after old new)
+      answered : Opens moment observed said reads may_leave (bounds_of run) how before after old new → DoneOrNoMemory how (AllAreAnswered moment observed said reads may_leave c (bounds_of run) bytes after old new)
       answered opens =
           let next = opens.is_next store.files c store.are store.good.holds in
           let same = one_giving before.source after.source opens.bytes bytes opens.gives gives in
           let cause = subst (λ (b : List ℕ). HasCause opens.next b before after opens.served) same opens.cause in
-          let serves = subst (λ (b : List ℕ). Serves moment observed said reads may_leave c opens.next (plan_of run) b opens.served opens.opened new) same (opens.serves store.files c store.are store.good) in
+          let serves = subst (λ (b : List ℕ). Serves moment observed said reads may_leave c opens.next (bounds_of run) b opens.served opens.opened new) same (opens.serves store.files c store.are store.good) in
           ⊎_elim
           (λ done. inl (done.0, record { opened = opens.opened; opening = opens.opening; next = opens.next; is_next = next; spent = done.1.0; serves = done.1.1 })) inr
-          (served_or_memory c opens.next (plan_of run) bytes how before after old opens.opened new opens.served opens.ends faultless.none_rose may.few (may.numbers opens.next next) cause serves)
+          (served_or_memory c opens.next (bounds_of run) bytes how before after old opens.opened new opens.served opens.ends faultless.none_rose may.few (may.numbers opens.next next) cause serves)
 
   made_or_memory : (layout : Layout) (text : List ℕ) (tree : Procedures) (how : Ending) (before after : Outside) (old new : H) (result : Result (Unit {0}) Ending)
       → how ≡ ending_in result → HasOneAnswer text → IsAcceptedText text tree → ReadsEmpty (reads old) → NoneRose before after

@@ -12,7 +12,7 @@ use Rattle.coco_migrate.specs.Migrating.{Migrates}
 use Rattle.coco_run.specs.Running.{RunsOn}
 use Rattle.coco_serve.specs.Faults.{Counts}
 use Rattle.coco_serve.specs.Serving.{Outside}
-use Rattle.coco_serve.specs.declared.plan.Plan.{Plan}
+use Rattle.coco_serve.specs.declared.bounds.RunBounds.{RunBounds}
 use Rattle.coco_tell.specs.Telling.{Dumps, Verifies}
 use Rattle.coco_words.specs.Commands.{IsCommand, IsOnlyCommand}
 use Rattle.coco_words.specs.declared.Command.{Command}
@@ -25,8 +25,8 @@ ending_in (Ok u) = ending.Finished
 ending_in (Err e) = e
 
 -- as many lines in a batch, as many workers and as many attempts as the words have
-abbrev pub plan_of : RunOptions → Plan
-plan_of run = record { size = run.epoch; workers = run.workers; attempts = run.attempts }
+abbrev pub bounds_of : RunOptions → RunBounds
+bounds_of run = record { size = run.epoch; workers = run.workers; attempts = run.attempts }
 
 -- a command takes nothing of its input
 pub record KeepsInput (before after : Outside) : Type 0 where
@@ -56,7 +56,7 @@ module _ {H : Type 0} (moment : H → ℕ) (observed : H → ℕ → Observation
 
   abbrev pub Does : Command → Ending → Outside → Outside → H → H → Type 0
   Does (Init nodes partitions copies) how before after old new = Inits nodes partitions copies how before after old new
-  Does (Run run) how before after old new = RunsOn moment observed said reads may_leave (plan_of run) how before after old new
+  Does (Run run) how before after old new = RunsOn moment observed said reads may_leave (bounds_of run) how before after old new
   Does Dump how before after old new = KeepsInput before after × Dumps moment observed said reads may_leave how (counts_of before) (counts_of after) old new
   Does Verify how before after old new = KeepsInput before after × Verifies moment observed said reads may_leave how (counts_of before) (counts_of after) old new
   Does (Migrate keep) how before after old new = KeepsInput before after × Migrates moment observed said reads may_leave keep how (counts_of before) (counts_of after) old new

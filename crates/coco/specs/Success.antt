@@ -21,7 +21,7 @@ use Rattle.coco_migrate.specs.Keeping.{contents_keeping}
 use Rattle.coco_serve.specs.Growth.{manner_of}
 use Rattle.coco_serve.specs.Serving.{AreUsedUp, Outside, Progress, Serves}
 use Rattle.coco_serve.specs.declared.ending.Served.TheVariants as served
-use Rattle.coco_serve.specs.declared.plan.Plan.{Plan}
+use Rattle.coco_serve.specs.declared.bounds.RunBounds.{RunBounds}
 use Rattle.coco_store.specs.Contents.{Contents, IsGoodStore, history_of}
 use Rattle.coco_store.specs.Texts.{IsAcceptedText}
 use Rattle.coco_tell.specs.Telling.{dump_in}
@@ -29,7 +29,7 @@ use Rattle.coco_words.specs.Commands.{IsCommand}
 use Rattle.coco_words.specs.declared.Command.{Command}
 use Rattle.coco_words.specs.declared.Command.TheVariants.{Init, Run, Dump, Verify, Migrate}
 use Rattle.coco_words.specs.declared.RunOptions.{RunOptions}
-use Rattle.coco.specs.Commands.{Obeys, plan_of}
+use Rattle.coco.specs.Commands.{Obeys, bounds_of}
 
 -- ---- premises
 
@@ -52,19 +52,19 @@ pub record ReadsEmpty (reads : Option Files) : Type 0 where
   pub empty : files 0 ≡ []
 
 -- behind whichever first batches of these bytes a next one has a new request, there is a number for its epoch
-abbrev pub HaveNumbers : Contents → ℕ → Plan → List ℕ → Type 0
-HaveNumbers c next plan bytes = (p : Progress (manner_of c.setting plan) (history_of c) next plan.size bytes)
-    → ¬ (AreUsedUp (manner_of c.setting plan) (history_of c) next plan.size bytes p)
+abbrev pub HaveNumbers : Contents → ℕ → RunBounds → List ℕ → Type 0
+HaveNumbers c next bounds bytes = (p : Progress (manner_of c.setting bounds) (history_of c) next bounds.size bytes)
+    → ¬ (AreUsedUp (manner_of c.setting bounds) (history_of c) next bounds.size bytes p)
 
 -- so it is where each line could have a number of its own
 abbrev pub FewLinesHaveNumbers : Type 0
-FewLinesHaveNumbers = (c : Contents) (next : ℕ) (plan : Plan) (bytes : List ℕ) → next + length (lines_of bytes) ≤ epochs_end → HaveNumbers c next plan bytes
+FewLinesHaveNumbers = (c : Contents) (next : ℕ) (bounds : RunBounds) (bytes : List ℕ) → next + length (lines_of bytes) ≤ epochs_end → HaveNumbers c next bounds bytes
 
 -- a store of one node may take all lines of these bytes
-pub record MayTake (c : Contents) (plan : Plan) (bytes : List ℕ) : Type 0 where
+pub record MayTake (c : Contents) (bounds : RunBounds) (bytes : List ℕ) : Type 0 where
   pub one : c.setting.entry.layout.nodes ≡ 1
   pub few : length bytes < most_input_bytes
-  pub numbers : (next : ℕ) → IsNextOf c next → HaveNumbers c next plan bytes
+  pub numbers : (next : ℕ) → IsNextOf c next → HaveNumbers c next bounds bytes
 
 -- ---- what is left
 
@@ -81,13 +81,13 @@ module _ {H : Type 0} (moment : H → ℕ) (observed : H → ℕ → Observation
     pub none_rose : NoneRose before after
 
   -- the input was read to its end, and all its lines are committed and answered
-  pub record AllAreAnswered (c : Contents) (plan : Plan) (bytes : List ℕ) (after : Outside) (old new : H) : Type 0 where
+  pub record AllAreAnswered (c : Contents) (bounds : RunBounds) (bytes : List ℕ) (after : Outside) (old new : H) : Type 0 where
     pub opened : H
     pub opening : IsOnlyRead moment observed said reads may_leave old opened
     pub next : ℕ
     pub is_next : IsNextOf c next
     pub spent : IsSpent after.source
-    pub serves : Serves moment observed said reads may_leave c next plan bytes served.Finished opened new
+    pub serves : Serves moment observed said reads may_leave c next bounds bytes served.Finished opened new
 
   -- this text was said
   abbrev pub Says : List ℕ → H → H → Type 0
@@ -98,8 +98,8 @@ module _ {H : Type 0} (moment : H → ℕ) (observed : H → ℕ → Observation
   -- `run` on a good store of one node that may take all lines of the bytes given
   abbrev pub RunSucceeds : Type 0
   RunSucceeds = (run : RunOptions) (how : Ending) (before after : Outside) (old new : H) (c : Contents) (bytes : List ℕ)
-      → IsFaultless (Run run) how before after old new → ReadsAs c (reads old) → Gives before.source after.source bytes → MayTake c (plan_of run) bytes
-      → DoneOrNoMemory how (AllAreAnswered c (plan_of run) bytes after old new)
+      → IsFaultless (Run run) how before after old new → ReadsAs c (reads old) → Gives before.source after.source bytes → MayTake c (bounds_of run) bytes
+      → DoneOrNoMemory how (AllAreAnswered c (bounds_of run) bytes after old new)
 
   -- `init` where no store is, with an accepted text given
   abbrev pub InitSucceeds : Type 0

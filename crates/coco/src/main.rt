@@ -14,43 +14,26 @@ use coco_host::FolderHost;
 use coco_io::{StdSink, StdSource};
 use std::env;
 use std::process::ExitCode;
-use std::sync::Wait;
-use std::thread::Threads;
-use std::time::Clock;
-use top::coco;
+use top::{coco, report};
 
 fn main(rt: HostRuntime) -> ExitCode {
+    let alloc = rt.alloc();
     let mut errs = StdSink::new(rt);
-    let status = match start(rt, &rt, &mut errs) {
-        Ok(status) => status,
-        Err(ending) => {
-            let _ = ending.complain(rt.alloc(), &mut errs);
-            ending.status()
-        }
+    let given: Result<Vec<String>, Ending> = match env::args(&rt) {
+        Ok(arguments) => arguments.collect(alloc).map_err(|_| Ending::NoMemory),
+        Err(error) => Err(ending_without(&error)),
     };
-    ExitCode::from(status)
-}
-
-// The status of the command, or the ending of a call that doesn't come to it. The second runtime is what workers are
-// started with, which the first one is in `main` alone.
-fn start<R: Threads + Wait + Clock + Sync>(
-    rt: HostRuntime,
-    threads: &R,
-    errs: &mut StdSink,
-) -> Result<u8, Ending> {
-    let arguments = env::args(&rt).map_err(|error| ending_without(&error))?;
-    let arguments: Vec<String> = arguments.collect(rt.alloc()).map_err(|_| Ending::NoMemory)?;
+    let arguments = match given {
+        Ok(arguments) => arguments,
+        Err(ending) => return ExitCode::from(report(alloc, &ending, &mut errs)),
+    };
     let folder = folder_of(arguments.as_slice());
-    let mut host = FolderHost::new(rt, folder).map_err(|_| Ending::NoMemory)?;
+    let Ok(mut host) = FolderHost::new(rt, folder, rt.stdout()) else {
+        return ExitCode::from(report(alloc, &Ending::NoMemory, &mut errs));
+    };
     let mut input = StdSource::new(rt);
     let words = words_of(arguments.as_slice());
-    Ok(coco(
-        threads,
-        rt.alloc(),
-        words,
-        &mut host,
-        &mut input,
-        errs,
-        &OpenGate,
+    ExitCode::from(coco(
+        &rt, alloc, words, &mut host, &mut input, &mut errs, &OpenGate,
     ))
 }

@@ -7,7 +7,7 @@ ghost use Rattle.coco_ending.specs.Endings.{line_of, status_of};
 ghost use Rattle.coco_ending.specs.declared.ending.Ending.{Ending as CallEnding};
 ghost use Rattle.coco_words.specs.Commands.{numbers_of, options_of};
 ghost use Rattle.coco_words.specs.Options.{AreInRange};
-ghost use Rattle.coco.specs.Commands.{Does, Inits, Obeys, plan_of};
+ghost use Rattle.coco.specs.Commands.{Does, Inits, Obeys, bounds_of};
 
 use coco_ending::Ending;
 use coco_gate::Gate;
@@ -16,7 +16,7 @@ use coco_init::init;
 use coco_io::{Sink, Source};
 use coco_migrate::migrate;
 use coco_run::run;
-use coco_serve::Plan;
+use coco_serve::RunBounds;
 use coco_tell::{dump, verify};
 use coco_words::{Command, RunOptions, WordsFault, words as command_of};
 use std::alloc::Global;
@@ -46,15 +46,16 @@ pub fn coco<R: Threads + Wait + Clock + Sync, H: Host, I: Source, E: Sink, G: Ga
     ensures untouched { result ≡ 1 → (host.new ≡ host.old) × (input.new ≡ input.old) }
 {
     let ending = obey(rt, alloc, words, host, input, gate);
-    complain(alloc, &ending, errs);
-    ending.status()
+    report(alloc, &ending, errs)
 }
 
-// Writes the line of an ending, or the front of it where that fails.
-fn complain<E: Sink>(alloc: Global, ending: &Ending, errs: &mut E)
-    ensures { (count : ℕ) × (E.contents errs.new ≡ append_known (E.contents errs.old) (take count (line_of ending.now))) }
+/// Writes the line of an ending, or the front of it where that fails, and answers its status.
+pub fn report<E: Sink>(alloc: Global, ending: &Ending, errs: &mut E) -> u8
+    ensures status { result ≡ status_of ending.now }
+    ensures line { (count : ℕ) × (E.contents errs.new ≡ append_known (E.contents errs.old) (take count (line_of ending.now))) }
 {
     let _ = ending.complain(alloc, errs);
+    ending.status()
 }
 
 // The same but for the error stream.
@@ -103,7 +104,7 @@ fn execute<R: Threads + Wait + Clock + Sync, H: Host, I: Source, G: Gate + Sync>
             Ok(()) => Ending::Finished,
             Err(ending) => ending,
         },
-        Command::Run(options) => run(rt, alloc, host, input, plan_of(options), gate),
+        Command::Run(options) => run(rt, alloc, host, input, bounds_of(options), gate),
         Command::Dump => dump(alloc, host),
         Command::Verify => verify(alloc, host),
         Command::Migrate { keep } => migrate(alloc, host, keep),
@@ -111,10 +112,10 @@ fn execute<R: Threads + Wait + Clock + Sync, H: Host, I: Source, G: Gate + Sync>
 }
 
 // How `run` works its lines off, by its options.
-fn plan_of(options: RunOptions) -> Plan
-    ensures { result ≡ plan_of options }
+fn bounds_of(options: RunOptions) -> RunBounds
+    ensures { result ≡ bounds_of options }
 {
-    Plan {
+    RunBounds {
         size: options.epoch,
         workers: options.workers,
         attempts: options.attempts,

@@ -1,6 +1,0 @@
-use Rattle.coco_ending.specs.Endings.{line_of}
-use Rattle.coco.proofs.EndingLemmas.{written}
-use Rattle.coco.proofs.top.complain.Goals as goal
-
-pub returns : goal.returns
-returns g c = written c.complain.result (line_of c.args.ending.now) (g.E.Sink.contents c.args.errs.now) (g.E.Sink.contents c.complain.new.errs) c.complain.ensures.ok c.complain.ensures.err
