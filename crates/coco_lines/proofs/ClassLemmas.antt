@@ -1,5 +1,5 @@
 -- The class of a line depends on what is known before it, and there on which requests are known, not on their order.
-use Rattle.std.proofs.Common.{◌≡◌, refl, sym, ap, subst, ◌∙◌, ℕ, Bool, true, false, nat_eq, nat_le, nat_lt, ◌&&◌, List, [], ◌∷◌, ◌++◌, length, map, Option, None, Some, IsPermutation}
+use Rattle.std.proofs.Common.{◌≡◌, refl, sym, ap, subst, ◌∙◌, ℕ, Bool, true, false, nat_eq, nat_le, nat_lt, ◌&&◌, suc, zero, List, [], ◌∷◌, ◌++◌, length, map, take, Option, None, Some, IsPermutation}
 use Rattle.std.proofs.lemmas.List.Sorted.{list_any-IsPermutation, length_permutation, IsPermutation-append_left}
 use Rattle.coco_types.specs.declared.limits.TheConstants.{MOST_KEPT, MOST_LINE_BYTES}
 use Rattle.coco_types.specs.declared.call.Request.{Request}
@@ -61,6 +61,25 @@ one_list procs k m (line ∷ lines) (c ∷ cs) (d ∷ ds) a is also =
     let later : AreClasses procs (and_known m (new_in c)) lines ds = subst (λ x. AreClasses procs (and_known m (new_in x)) lines ds) (sym same) also.1 in
     let rest = one_list procs (and_known k (new_in c)) (and_known m (new_in c)) lines cs ds (alike_with k m (new_in c) a) is.1 later in
     ap (λ x. x ∷ cs) same ∙ ap (λ l. d ∷ l) rest
+
+pub classes_length : (procs : Procedures) (k : Known) (lines : List Line) (cs : List Class) → AreClasses procs k lines cs → length cs ≡ length lines
+classes_length procs k [] cs are = ap length are
+classes_length procs k (line ∷ lines) [] are = absurd are
+classes_length procs k (line ∷ lines) (c ∷ cs) are = ap suc (classes_length procs (and_known k (new_in c)) lines cs are.1)
+
+-- the first lines have the first classes
+first_classes : (procs : Procedures) (k : Known) (n : ℕ) (lines : List Line) (cs : List Class) → AreClasses procs k lines cs → AreClasses procs k (take n lines) (take n cs)
+first_classes procs k zero lines cs are = refl
+first_classes procs k (suc n) [] cs are = ap (take (suc n)) are
+first_classes procs k (suc n) (line ∷ lines) [] are = absurd are
+first_classes procs k (suc n) (line ∷ lines) (c ∷ cs) are = (are.0, first_classes procs (and_known k (new_in c)) n lines cs are.1)
+
+-- so they have one list of classes, whatever lines come behind
+pub one_front : (procs : Procedures) (k m : Known) (n : ℕ) (lines others : List Line) (cs ds : List Class) → AreAlike k m → take n lines ≡ take n others → AreClasses procs k lines cs
+    → AreClasses procs m others ds → take n cs ≡ take n ds
+one_front procs k m n lines others cs ds a same is also =
+    let first = subst (λ ls. AreClasses procs m ls (take n ds)) (sym same) (first_classes procs m n others ds also) in
+    one_list procs k m (take n lines) (take n cs) (take n ds) a (first_classes procs k n lines cs is) first
 
 -- ---- the class of a line that was read
 

@@ -1,8 +1,10 @@
--- Two histories that grew from one by the same batches know the same requests.
-use Rattle.std.proofs.Common.{◌≡◌, refl, sym, ap, subst, ◌∙◌, append-nil, append_assoc, arith, ℕ, ◌+◌, ◌<◌, ◌≤◌, Bool, true, false, not, ◌||◌, nat_lt, nat_le, max, List, [], ◌∷◌, ◌++◌, length, map, filter, Option, None, Some, IsPermutation}
+-- Two histories that grew from one by the same batches know the same requests, and lines that come first have the same classes, whatever comes behind.
+use Rattle.std.proofs.Common.{◌≡◌, refl, sym, ap, subst, ◌∙◌, append-nil, append_assoc, arith, ℕ, ◌+◌, ◌<◌, ◌≤◌, Bool, true, false, not, ◌||◌, nat_lt, nat_le, max, List, [], ◌∷◌, ◌++◌, length, map, filter, take, drop, Option, None, Some, IsPermutation, ⊎_elim}
 use Rattle.std.specs.List.{AllByRecursion, list_any}
+use Rattle.std.proofs.Math.Seq.{take-append-add}
+use Rattle.std.proofs.lemmas.Bool.{cases_lt}
 use Rattle.std.proofs.lemmas.Bool.Decides.{nat_tests}
-use Rattle.std.proofs.lemmas.List.{length-map}
+use Rattle.std.proofs.lemmas.List.{length-append, length-drop, length-map, take_at, take-append-le, drop_at, drop-append-le}
 use Rattle.std.proofs.lemmas.List.Sorted.{IsPermutation-trans, IsPermutation-sym, IsPermutation-append_right, length_permutation, list_any-IsPermutation}
 use Rattle.coco_types.specs.declared.call.Done.{Done}
 use Rattle.coco_types.specs.declared.call.Request.{Request}
@@ -10,12 +12,12 @@ use Rattle.coco_ast.specs.Growth.{GrowsBy, IsEpochOf}
 use Rattle.coco_ast.specs.History.{History, Epoch, RisesAbove, all_dones, dones_in, epoch_dones, epochs_above, followed_by, greatest_with, ids_of, is_up_to, kept, kept_of, forgotten_of, floor, last_epoch, last_number, request_of}
 use Rattle.coco_ast.specs.Tree.{Procedures}
 use Rattle.coco_ast.proofs.Lists.{all_append}
-use Rattle.coco_lines.specs.Batches.{Batch}
+use Rattle.coco_lines.specs.Batches.{AreBatches, Batch, joined}
 use Rattle.coco_lines.specs.Classes.{known_in, AreClasses, new_of}
 use Rattle.coco_lines.specs.Growing.{GrowsByBatches}
 use Rattle.coco_lines.specs.Lines.{Line}
 use Rattle.coco_lines.specs.declared.class.Class.{Class}
-use Rattle.coco_lines.proofs.ClassLemmas.{AreAlike, one_list}
+use Rattle.coco_lines.proofs.ClassLemmas.{AreAlike, classes_length, one_front, one_list}
 use Rattle.coco_lines.proofs.RankLemmas.{AreEpochs, AreAlike as EpochsAreAlike, alike_length, selected, selected_alike, selected_behind}
 
 -- ---- what a history knows behind so many epochs
@@ -172,7 +174,7 @@ twins procs h low (b ∷ bs) (c ∷ cs) (d ∷ ds) g k g' k' t one two =
     let rest = twins procs h low bs cs ds one.0 two.0 g' k' grown one.2 two.2 in
     (ap (λ x. x ∷ cs) same ∙ ap (λ l. d ∷ l) rest.0, rest.1)
 
-itself : (h : History) → AreTwins h h h
+pub itself : (h : History) → AreTwins h h h
 itself h = record {
   es = [];
   fs = [];
@@ -189,3 +191,66 @@ pub one_list_of_all : (procs : Procedures) (h : History) → IsLow h → (bs : L
 one_list_of_all procs h low bs cs ds g k one two =
     let t = twins procs h low bs cs ds h h g k (itself h) one two in
     (t.0, λ lines next other is also. one_list procs (known_in g) (known_in k) lines next other (twins_known h g k low t.1) is also)
+
+-- ---- lines in front, however many lines come behind them
+
+none_in_front : {X Y : Type 0} (front xs : List X) (cs ds : List Y) → [] ≡ front ++ xs → take (length front) cs ≡ take (length front) ds
+none_in_front [] xs cs ds is = refl
+none_in_front (x ∷ front) xs cs ds is = cc
+
+-- one list in two ways
+in_two_ways : {X : Type 0} (own rest front xs : List X) (n : ℕ) → own ++ rest ≡ front ++ xs → length own ≡ n → n ≤ length front → (own ≡ take n front) × (rest ≡ drop n front ++ xs)
+in_two_ways own rest front xs n is long within =
+    (sym (take_at own rest n long) ∙ ap (take n) is ∙ take-append-le n front xs within, sym (drop_at own rest n long) ∙ ap (drop n) is ∙ drop-append-le n front xs within)
+
+take_both : {X : Type 0} (n m : ℕ) (front xs ys : List X) → n ≡ length front + m → take m xs ≡ take m ys → take n (front ++ xs) ≡ take n (front ++ ys)
+take_both n m front xs ys is same =
+    ap (λ i. take i (front ++ xs)) is ∙ take-append-add front xs m ∙ ap (λ l. front ++ l) same ∙ sym (take-append-add front ys m) ∙ ap (λ i. take i (front ++ ys)) (sym is)
+
+cut_behind : (size : ℕ) (b : Batch) (bs : List Batch) → AreBatches size (b ∷ bs) → AreBatches size bs
+cut_behind size b [] cut = tt
+cut_behind size b (c ∷ bs) cut = cut.1
+
+-- where so many lines fit in a batch, those in front are all in the first one
+all_in_first : (size : ℕ) (b : Batch) (bs : List Batch) (front xs : List Line) → AreBatches size (b ∷ bs) → joined (b ∷ bs) ≡ front ++ xs → length front ≤ size → length front ≤ length b
+all_in_first size b [] front xs cut is fit = omega (arith, ap length (sym (append-nil b) ∙ is), length-append front xs)
+all_in_first size b (c ∷ bs) front xs cut is fit = let whole : length b ≡ size = cut.0 in omega arith
+
+-- where they don't, the first one is whole
+first_whole : (size : ℕ) (b : Batch) (bs : List Batch) (front xs : List Line) → AreBatches size (b ∷ bs) → joined (b ∷ bs) ≡ front ++ xs → size < length front → length b ≡ size
+first_whole size b [] front xs cut is more =
+    let most : length b ≤ size = cut.1 in
+    omega (arith, ap length (sym (append-nil b) ∙ is), length-append front xs)
+first_whole size b (c ∷ bs) front xs cut is more = cut.0
+
+-- they have one list of classes: the whole batches of them are the same batches, and the one that ends them has the same first lines
+module _ (procs : Procedures) (h : History) (low : IsLow h) (size : ℕ) where
+  pub one_front_of_all : (bs es : List Batch) (front xs ys : List Line) (cs ds : List (List Class)) (g k g' k' : History) → AreTwins h g k → AreBatches size bs → AreBatches size es
+      → joined bs ≡ front ++ xs → joined es ≡ front ++ ys → GrowsByBatches procs g bs cs g' → GrowsByBatches procs k es ds k' → take (length front) (joined cs) ≡ take (length front) (joined ds)
+  one_front_of_all [] es front xs ys cs ds g k g' k' t cut recut is also one two = none_in_front front xs (joined cs) (joined ds) is
+  one_front_of_all (b ∷ bs) [] front xs ys cs ds g k g' k' t cut recut is also one two = none_in_front front ys (joined cs) (joined ds) also
+  one_front_of_all (b ∷ bs) (e ∷ es) front xs ys [] ds g k g' k' t cut recut is also one two = absurd one
+  one_front_of_all (b ∷ bs) (e ∷ es) front xs ys (c ∷ cs) [] g k g' k' t cut recut is also one two = absurd two
+  one_front_of_all (b ∷ bs) (e ∷ es) front xs ys (c ∷ cs) (d ∷ ds) g k g' k' t cut recut is also one two =
+      let n = length front in
+      let alike = twins_known h g k low t in
+      let c_long = classes_length procs (known_in g) b c one.1.are in
+      let d_long = classes_length procs (known_in k) e d two.1.are in
+      ⊎_elim
+      (λ more.
+      let b_long = first_whole size b bs front xs cut is more in
+      let e_long = first_whole size e es front ys recut also more in
+      let left = in_two_ways b (joined bs) front xs size is b_long (omega arith) in
+      let right = in_two_ways e (joined es) front ys size also e_long (omega arith) in
+      let same : c ≡ d = one_list procs (known_in g) (known_in k) b c d alike one.1.are (subst (λ ls. AreClasses procs (known_in k) ls d) (right.0 ∙ sym left.0) two.1.are) in
+      let grown = twins_grow h g k (new_of c) one.0 two.0 t one.1.grows (subst (λ x. GrowsBy k (new_of x) two.0) (sym same) two.1.grows) in
+      let rest = one_front_of_all bs es (drop size front) xs ys cs ds one.0 two.0 g' k' grown (cut_behind size b bs cut) (cut_behind size e es recut) left.1 right.1 one.2 two.2 in
+      take_both n (length (drop size front)) c (joined cs) (joined ds) (omega (arith, c_long, b_long, length-drop size front)) rest ∙ ap (λ x. take n (x ++ joined ds)) same)
+      (λ fit.
+      let b_holds = all_in_first size b bs front xs cut is fit in
+      let e_holds = all_in_first size e es front ys recut also fit in
+      let left = in_two_ways front xs b (joined bs) n (sym is) refl b_holds in
+      let right = in_two_ways front ys e (joined es) n (sym also) refl e_holds in
+      take-append-le n c (joined cs) (omega (arith, c_long)) ∙ one_front procs (known_in g) (known_in k) n b e c d alike (sym left.0 ∙ right.0) one.1.are two.1.are
+      ∙ sym (take-append-le n d (joined ds) (omega (arith, d_long))))
+      (cases_lt size n)
