@@ -25,9 +25,9 @@ no_number id first (d ∷ ds) h = by (nat_eq id d.id) h (no_number id (first + 1
     by true e rest = absurd (some_none e)
     by false e rest = rest e
 
-pub no_record : (id first : ℕ) (ds : List Done) → number_of id first ds ≡ None → done_of id ds ≡ None
-no_record id first [] h = refl
-no_record id first (d ∷ ds) h = by (nat_eq id d.id) h (no_record id (first + 1) ds)
+pub no_done : (id first : ℕ) (ds : List Done) → number_of id first ds ≡ None → done_of id ds ≡ None
+no_done id first [] h = refl
+no_done id first (d ∷ ds) h = by (nat_eq id d.id) h (no_done id (first + 1) ds)
   where
     by : (b : Bool) → cond b (Some (first % 2 ^ 64)) (number_of id (first + 1) ds) ≡ None → (number_of id (first + 1) ds ≡ None → done_of id ds ≡ None) → cond b (Some d) (done_of id ds) ≡ None
     by true e rest = absurd (some_none e)
@@ -38,7 +38,7 @@ pub record IsAt (id first n : ℕ) (ds : List Done) : Type 0 where
   pub place : ℕ
   pub within : place < length ds
   pub number : n ≡ (first + place) % 2 ^ 64
-  pub record_is : slice_get ds place ≡ done_of id ds
+  pub done_is : slice_get ds place ≡ done_of id ds
 
 pub number_leads : (id first n : ℕ) (ds : List Done) → number_of id first ds ≡ Some n → IsAt id first n ds
 number_leads id first n [] h = absurd (some_none (sym h))
@@ -47,14 +47,14 @@ number_leads id first n (d ∷ ds) h = by (nat_eq id d.id) refl h (number_leads 
     by : (b : Bool) → nat_eq id d.id ≡ b → cond b (Some (first % 2 ^ 64)) (number_of id (first + 1) ds) ≡ Some n → (number_of id (first + 1) ds ≡ Some n → IsAt id (first + 1) n ds) → IsAt id first n (d ∷ ds)
     by true e g rest =
         let is : first % 2 ^ 64 ≡ n = cc in
-        record { place = 0; within = omega arith; number = omega (arith, is); record_is = ap (λ b. cond b (Some d) (done_of id ds)) (sym e) }
+        record { place = 0; within = omega arith; number = omega (arith, is); done_is = ap (λ b. cond b (Some d) (done_of id ds)) (sym e) }
     by false e g rest =
         let more = rest g in
         record {
           place = suc more.place;
           within = omega (arith, more.within);
           number = more.number ∙ ap (λ m. m % 2 ^ 64) (let same : first + 1 + more.place ≡ first + suc more.place = omega arith in same);
-          record_is = more.record_is ∙ ap (λ b. cond b (Some d) (done_of id ds)) (sym e);
+          done_is = more.done_is ∙ ap (λ b. cond b (Some d) (done_of id ds)) (sym e);
         }
 
 -- the Done at the place that a number says
@@ -62,7 +62,7 @@ pub found : (id first n : ℕ) (ds : List Done) → first < 2 ^ 64 → length ds
 found id first n ds low few h =
     let at = number_leads id first n ds h in
     let back : (n + (2 ^ 64 - first)) % 2 ^ 64 ≡ at.place = omega (arith, at.number, at.within) in
-    ap (slice_get ds) back ∙ at.record_is
+    ap (slice_get ds) back ∙ at.done_is
 
 -- numbers go on from what comes behind the greatest one
 pub number_wraps : (id a b : ℕ) (ds : List Done) → a % 2 ^ 64 ≡ b % 2 ^ 64 → number_of id a ds ≡ number_of id b ds

@@ -43,7 +43,7 @@ fn done_of(
     })
 }
 
-fn put_record(
+fn put_done(
     out: &mut Vec<u8>,
     procs: &Checked,
     line: &str,
@@ -58,17 +58,17 @@ fn put_record(
 
 fn put_lines(out: &mut Vec<u8>, procs: &Checked, text: Value) -> Result<(), RequestFault> {
     let put = r#"{"args":[-1,null],"call":"put","id":3}"#;
-    put_record(out, procs, put, 1, 2, &Reply::Refused(Cause::User(3)))?;
+    put_done(out, procs, put, 1, 2, &Reply::Refused(Cause::User(3)))?;
     let put = r#"{"args":[2,"a\"b\\\n"],"call":"put","id":5}"#;
-    put_record(out, procs, put, 1, 4, &Reply::Ok(Some(text)))?;
+    put_done(out, procs, put, 1, 4, &Reply::Ok(Some(text)))?;
     let get = r#"{"args":[9],"call":"get","id":18446744073709551615,"snapshot":true}"#;
-    put_record(out, procs, get, 3, 0, &Reply::Ok(None))?;
+    put_done(out, procs, get, 3, 0, &Reply::Ok(None))?;
     write_dump_row(out, procs, Key { table: 0, row: 2 }, &text)?;
     Ok(())
 }
 
 #[test]
-fn records_and_rows_are_said_by_their_members(rt: HostRuntime) -> Result<(), Fail> {
+fn dones_and_rows_are_said_by_their_members(rt: HostRuntime) -> Result<(), Fail> {
     let Some(text) = Text::of("a\"b\\\n") else {
         return Err(Fail::new("too long"));
     };
@@ -158,7 +158,7 @@ fn dump(alloc: Global, lists: &[&[Row]]) -> Result<Vec<u8>, RequestFault> {
 }
 
 #[test]
-fn records_are_said_in_order_and_then_rows(rt: HostRuntime) -> Result<(), Fail> {
+fn dones_are_said_in_order_and_then_rows(rt: HostRuntime) -> Result<(), Fail> {
     let lists: [&[Row]; 3] = [&[(1, 4, -6), (0, 7, 7)], &[], &[(0, 5, 70), (1, 1, 990)]];
     let said = dump(rt.alloc(), &lists)?;
     let lines = r#"{"args":[5,70],"call":"put","epoch":1,"id":1,"ok":70,"snapshot":false,"time":1}

@@ -251,7 +251,7 @@ fn put_refused(out: &mut Vec<u8>) -> Result<(), NoMemory> {
 }
 
 #[test]
-fn a_record_is_said_as_compact_json(rt: HostRuntime) -> Result<(), Fail> {
+fn a_done_is_said_as_compact_json(rt: HostRuntime) -> Result<(), Fail> {
     let Some(text) = Text::of("a\"\\\n\u{1}é") else {
         return Err(Fail::new("too long"));
     };

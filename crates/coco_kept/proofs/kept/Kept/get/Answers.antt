@@ -2,7 +2,7 @@ use Rattle.std.proofs.Common.{◌≡◌, ◌+◌, ◌-◌, ◌≤◌, ◌<◌, �
 use Rattle.std.specs.Option.{option_copied}
 use Rattle.coco_ast.specs.History.{done_of}
 use Rattle.coco_kept.specs.Holding.{number_of}
-use Rattle.coco_kept.proofs.Numbers.{no_record, found, item_copied}
+use Rattle.coco_kept.proofs.Numbers.{no_done, found, item_copied}
 use Rattle.coco_kept.proofs.kept.Kept.get.Goals as goal
 
 pub returns-in-Some : goal.returns-in-Some
@@ -16,4 +16,4 @@ returns-in-Some c =
 pub returns-in-None : goal.returns-in-None
 returns-in-None c =
     let none : number_of c.args.id c.self.inside.first c.self.inside.dones.items ≡ None = sym (c.self.invariant.numbers c.args.id) ∙ sym c.get.ensures.value ∙ ap option_copied c.in-None.is in
-    sym (no_record c.args.id c.self.inside.first c.self.inside.dones.items none) ∙ ap (λ k. done_of c.args.id k.dones) c.self.view_is
+    sym (no_done c.args.id c.self.inside.first c.self.inside.dones.items none) ∙ ap (λ k. done_of c.args.id k.dones) c.self.view_is
