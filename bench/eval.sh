@@ -1,16 +1,16 @@
 #!/usr/bin/env bash
 # Nanoseconds of one call on a map in memory, each run so often: a bank transfer, the built-in put, add and get, and a
-# loop of 1,024 turns. Each is the best of so many runs.
+# loop of 1,024 turns. Each is the best of so many runs. PROGRAM is the program, where it is built already.
 set -euo pipefail
 cd "$(dirname "$0")/.."
+. bench/program.bash
 runs=${1:-5}
 times=${2:-100000}
-program=$PWD/crates/coco_bench_eval/out/coco_bench_eval
-[ -x "$program" ] || (cd crates/coco_bench_eval && rt run -- >&2)
+program=${PROGRAM:-$(built eval)}
 work=$(mktemp -d)
 trap 'rm -rf "$work"' EXIT
 
-sed '/^==$/,$d' crates/coco_bench_eval/stdin >"$work/input"
+cat bench/bank.coco bench/turns.coco >"$work/input"
 printf '==\nopen 1 100\nopen 2 0\nput 5 70\nmove 1 2 0\nput 5 70\nadd 5 0\nget 5\nturns 3\n' >>"$work/input"
 
 for _ in $(seq "$runs"); do

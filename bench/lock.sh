@@ -3,13 +3,14 @@
 # on one shard and on four with the rows in their order, and on sixteen with each thread in a random order of its
 # own; and nanoseconds of a step by one thread beside those of a bare shard's read. Each is the best of so many
 # runs with 20 rounds each. A lock begins with room for all of its steps. Memory that a round gives back is kept
-# for the next, so that the cost of new pages isn't measured. PROGRAM is the program, such as lock_plain.rs.
+# for the next, so that the cost of new pages isn't measured. PROGRAM is the program, where it is built already, or
+# another one, such as lock_plain.rs.
 set -eu
 cd "$(dirname "$0")/.."
+. bench/program.bash
 runs=${1:-5}
 steps=${2:-10000}
-program=${PROGRAM:-$PWD/crates/coco_bench_lock/out/coco_bench_lock}
-[ -x "$program" ] || (cd crates/coco_bench_lock && rt run -- >&2)
+program=${PROGRAM:-$(built lock)}
 export MALLOC_ARENA_MAX=1 MALLOC_MMAP_THRESHOLD_=4294967296 MALLOC_TRIM_THRESHOLD_=17179869184
 
 for _ in $(seq "$runs"); do

@@ -1,5 +1,5 @@
 //! The job of `bench/lock.sh` in plain Rust, without proofs, to compare with: threads that read rows behind locks, each read
-//! entered into its lock's journal. Words and output are those of `coco_bench_lock`.
+//! entered into its lock's journal. Words and output are those of the program in `bench/lock`.
 //!
 //! `rustc -O bench/lock_plain.rs -o /tmp/lock_plain && PROGRAM=/tmp/lock_plain bench/lock.sh`
 

@@ -1,16 +1,20 @@
 #!/usr/bin/env bash
 # Nanoseconds of one attempt that nothing disturbs, with its steps at shards in memory: a bank transfer on one shard and
-# on two, and the built-in put, add and get. Each is the best of so many runs of so many attempts.
+# on two, and the built-in put, add and get. Each is the best of so many runs of so many attempts. Before that the two
+# calls of each line of bench/occ/stdin are tried in all 12,870 orders of eight turns each: what they come to has to be
+# that of a serial run, as bench/occ/stdout says. PROGRAM is the program, where it is built already.
 set -euo pipefail
 cd "$(dirname "$0")/.."
+. bench/program.bash
 runs=${1:-5}
 times=${2:-100000}
-program=$PWD/crates/coco_bench_occ/out/coco_bench_occ
-[ -x "$program" ] || (cd crates/coco_bench_occ && rt run -- >&2)
+program=${PROGRAM:-$(built occ)}
 work=$(mktemp -d)
 trap 'rm -rf "$work"' EXIT
 
-sed '/^==$/,$d' crates/coco_bench_occ/stdin >"$work/input"
+"$program" <bench/occ/stdin | diff bench/occ/stdout -
+
+sed '/^==$/,$d' bench/occ/stdin >"$work/input"
 cat >>"$work/input" <<'LINES'
 ==
 move | 1 | open 1 100; open 2 0 | move 1 2 0 | again

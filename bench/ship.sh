@@ -3,14 +3,14 @@
 # one that loses about one letter in eight, repeats as many and turns their order. One thread ships, and waits for nothing,
 # so that on a machine with nothing else running the clock's time is the processor's. Each is the best phase of so many
 # runs of so many phases: the first of a run takes its memory from the system.
-# Words: how many runs, pieces and phases.
+# Words: how many runs, pieces and phases. PROGRAM is the program, where it is built already.
 set -euo pipefail
 cd "$(dirname "$0")/.."
+. bench/program.bash
 runs=${1:-5}
 pieces=${2:-1000}
 phases=${3:-50}
-program=$PWD/crates/coco_bench_ship/out/coco_bench_ship
-[ -x "$program" ] || (cd crates/coco_bench_ship && rt run -- >&2)
+program=${PROGRAM:-$(built ship)}
 
 for _ in $(seq "$runs"); do
     "$program" "$pieces" "$phases" 2>&1 >/dev/null

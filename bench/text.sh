@@ -1,11 +1,12 @@
 #!/usr/bin/env bash
 # Procedure texts of up to 262,144 bytes, of several shapes: milliseconds for their tokens, tree, printed form and check,
-# the best of so many runs, and for all four. Half the bytes of a shape should take half the time.
+# the best of so many runs, and for all four. Half the bytes of a shape should take half the time. PROGRAM is the program,
+# where it is built already.
 set -euo pipefail
 cd "$(dirname "$0")/.."
+. bench/program.bash
 runs=${1:-5}
-program=$PWD/crates/coco_bench_text/out/coco_bench_text
-[ -x "$program" ] || (cd crates/coco_bench_text && rt run -- >&2 || true)
+program=${PROGRAM:-$(built text)}
 work=$(mktemp -d)
 trap 'rm -rf "$work"' EXIT
 

@@ -1,9 +1,9 @@
 #!/usr/bin/env bash
-# Procedure texts through lexer, parser, printer and checker, as the program of bench/text.sh puts them together: each
+# Procedure texts through lexer, parser, printer and checker, as the program of tables puts them together: each
 # text is refused at its place, or printed, and what is printed is printed again as it is.
 set -u
 cd "$(dirname "$0")/.." || exit 2
-program=${1:-$PWD/crates/coco_bench_text/out/coco_bench_text}
+program=${1:-$PWD/crates/coco_tables/out/coco_tables}
 [ -x "$program" ] || { echo "$program isn't built: run rt ci first"; exit 2; }
 work=$(mktemp -d) || exit 2
 trap 'rm -rf "$work"' EXIT
@@ -12,7 +12,7 @@ failed=0
 # refused WANTED TEXT: the text must be refused so.
 refused() {
     local said
-    said=$(printf '%s' "$2" | "$program" 2>"$work/times")
+    said=$(printf '%s' "$2" | "$program")
     if [ "$said" != "$1" ]; then
         printf 'of %.60s\n  wanted %s\n  said   %.200s\n' "$2" "$1" "$said"
         failed=1
@@ -21,8 +21,8 @@ refused() {
 
 # stays NAME: the text in $work/text must be taken, and its printed text must be printed as it is.
 stays() {
-    "$program" <"$work/text" >"$work/printed" 2>"$work/times"
-    if ! "$program" <"$work/printed" 2>"$work/times" | cmp -s - "$work/printed" || [ "$(wc -l <"$work/printed")" -lt "$2" ]; then
+    "$program" <"$work/text" >"$work/printed"
+    if ! "$program" <"$work/printed" | cmp -s - "$work/printed" || [ "$(wc -l <"$work/printed")" -lt "$2" ]; then
         printf '%s: %s\n' "$1" "$(head -c 200 "$work/printed")"
         failed=1
     fi
