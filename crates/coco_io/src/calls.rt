@@ -2,7 +2,7 @@
 ghost use Rattle.std.specs.Prelude.{◌≡◌, [], ◌∷◌, ◌++◌};
 ghost use Rattle.coco_io.specs.Outcomes.{IsOutcome};
 
-use crate::trace::Trace;
+use crate::told::Told;
 use std::io::{self, ErrorKind};
 use std::marker::Model;
 
@@ -20,7 +20,7 @@ pub enum Outcome {
 /// The calls of a stream in order, which contracts alone see.
 #[derive(Drop)]
 pub struct Calls {
-    outcomes: Trace<Outcome>,
+    outcomes: Told<Outcome>,
 }
 
 impl Model for Calls {
@@ -38,7 +38,7 @@ impl Calls {
         ensures { result ≡ [] }
     {
         Calls {
-            outcomes: Trace::new(),
+            outcomes: Told::new(),
         }
     }
 

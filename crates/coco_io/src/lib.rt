@@ -7,7 +7,7 @@ pub mod sink;
 pub mod source;
 pub mod standard;
 pub mod stream;
-pub mod trace;
+pub mod told;
 
 pub use plan::FaultPlan;
 pub use sink::{MemorySink, Sink, write_all};

@@ -9,7 +9,7 @@ ghost use Rattle.coco_io.specs.Outcomes.{Tried};
 use crate::calls::Calls;
 use crate::source::is_at_end;
 use crate::stream::{SteadyRead, SteadyWrite, read_some, write_some};
-use crate::trace::Trace;
+use crate::told::Told;
 use crate::{Sink, Source};
 use coco_types::{Failed, OutFault};
 use std::io::{Stderr, Stdin, Stdout};
@@ -18,7 +18,7 @@ use std::io::{Stderr, Stdin, Stdout};
 #[derive(Drop)]
 pub struct ReaderSource<R> {
     reader: R,
-    given: Trace<u8>,
+    given: Told<u8>,
     calls: Calls,
     at_end: bool,
     faults: u64,
@@ -34,7 +34,7 @@ impl<R> ReaderSource<R> {
     {
         ReaderSource {
             reader,
-            given: Trace::new(),
+            given: Told::new(),
             calls: Calls::new(),
             at_end: false,
             faults: 0,

@@ -9,7 +9,7 @@ ghost use Rattle.coco_net.specs.Rounds.{after_quiet};
 
 use crate::post::{boxes_of, count, take_first};
 use crate::{Letter, Posted};
-use coco_io::trace::Trace;
+use coco_io::told::Told;
 use coco_types::{Bytes, NoMemory};
 use std::alloc::Global;
 use std::collections::VecDeque;
@@ -20,7 +20,7 @@ use std::{mem, slice};
 /// that wait, and those that come next.
 #[derive(Drop)]
 pub struct QuietPost {
-    sent: Trace<Posted>,
+    sent: Told<Posted>,
     sent_count: u64,
     since: u64,
     coming: Vec<VecDeque<Letter>>,
@@ -54,7 +54,7 @@ impl QuietPost {
         ensures { result ≡ no_mail }
     {
         QuietPost {
-            sent: Trace::new(),
+            sent: Told::new(),
             sent_count: 0,
             since: 0,
             coming: Vec::new(alloc),
@@ -151,7 +151,7 @@ fn open(coming: &mut Vec<VecDeque<Letter>>) -> Result<(), NoMemory>
 // Puts a letter into the box of its place, and counts it.
 fn put(
     coming: &mut Vec<VecDeque<Letter>>,
-    sent: &mut Trace<Posted>,
+    sent: &mut Told<Posted>,
     sent_count: &mut u64,
     posted: Posted,
 ) -> Result<(), NoMemory>
@@ -173,7 +173,7 @@ fn put(
 // Puts a letter into the box of its place.
 fn put_in(
     coming: &mut Vec<VecDeque<Letter>>,
-    sent: &mut Trace<Posted>,
+    sent: &mut Told<Posted>,
     posted: Posted,
 ) -> Result<(), NoMemory>
     requires { IsFew (map (λ q. q.items) coming.old.items) }
@@ -191,7 +191,7 @@ fn put_in(
 // Puts a letter behind others. A box has fewer letters than 32 bits can count.
 fn put_behind(
     letters: &mut VecDeque<Letter>,
-    sent: &mut Trace<Posted>,
+    sent: &mut Told<Posted>,
     posted: Posted,
 ) -> Result<(), NoMemory>
     requires { length letters.old.items < 2 ^ 32 }

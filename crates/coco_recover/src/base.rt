@@ -15,7 +15,7 @@ use crate::layouts::LastLayout;
 use crate::refusal::refused;
 use coco_ast::Checked;
 use coco_entry::{BaseHead, EntryFault, read_base_dones, read_base_rows, read_head};
-use coco_io::trace::Trace;
+use coco_io::told::Told;
 use coco_kept::Kept;
 use coco_load::{Tables, keep_dones, kept_dones_follow_the_files, tables_follow_the_files};
 use coco_read::Rules;
@@ -39,7 +39,7 @@ pub struct BaseHistory {
     pub rules: HistoryRules,
     pub kept: Kept,
     /// The entries of the base, which contracts alone see.
-    pub entries: Trace<BasePart>,
+    pub entries: Told<BasePart>,
 }
 
 /// A base: its history, the tables with its rows, and its rows entry by entry.
@@ -57,7 +57,7 @@ pub(crate) struct Gathered {
     pub kept: Kept,
     pub tables: Tables,
     pub rows: Vec<MapRows>,
-    pub entries: Trace<BasePart>,
+    pub entries: Told<BasePart>,
 }
 
 /// The entries of a base file. Contracts see what they stand under, and all of them, but none once one was refused or
@@ -136,7 +136,7 @@ impl Gathered {
             kept: Kept::new(alloc, keep, None),
             tables: Tables::new(alloc, &last.entry.layout)?,
             rows: Vec::new(alloc),
-            entries: Trace::new(),
+            entries: Told::new(),
         })
     }
 

@@ -10,7 +10,7 @@ use crate::base::{BaseHistory, BasePart};
 use crate::layouts::LastLayout;
 use crate::refusal::refused;
 use coco_entry::{Commit, read_commit};
-use coco_io::trace::Trace;
+use coco_io::told::Told;
 use coco_kept::Kept;
 use coco_load::{epochs_begin_with_the_base, keep_dones, kept_dones_follow_the_files, next_epoch};
 use coco_read::Rules;
@@ -28,9 +28,9 @@ pub struct Committed {
     pub epochs: Vec<u64>,
     pub next: u64,
     /// The entries of the base, which contracts alone see.
-    pub base: Trace<BasePart>,
+    pub base: Told<BasePart>,
     /// The commits, which contracts alone see.
-    pub commits: Trace<Commit>,
+    pub commits: Told<Commit>,
 }
 
 /// The entries of the coordinator's file. Contracts see what they stand under, and all of them, but none once one was
@@ -85,7 +85,7 @@ impl<'a> CommitReading<'a> {
                 epochs: Vec::new(alloc),
                 next: last.entry.layout.base_epoch + 1,
                 base: entries,
-                commits: Trace::new(),
+                commits: Told::new(),
             },
             is_spent: false,
         }

@@ -6,7 +6,7 @@ ghost use Rattle.coco_recover.specs.Layouts.{IsLastOf};
 use crate::refusal::refused;
 use coco_ast::Checked;
 use coco_entry::{LayoutEntry, read_layout};
-use coco_io::trace::Trace;
+use coco_io::told::Told;
 use coco_read::Rules;
 use coco_rules::layout_tree;
 use coco_types::NoMemory;
@@ -33,7 +33,7 @@ pub struct LastLayout {
 /// The entries of the layouts' file, of which the last one is remembered. Contracts see all of them.
 #[derive(Drop)]
 pub struct LayoutReading {
-    taken: Trace<LayoutEntry>,
+    taken: Told<LayoutEntry>,
     last: Option<LastLayout>,
     /// Where the next gate stands.
     gate: u64,
@@ -58,7 +58,7 @@ impl LayoutReading {
         ensures { result ≡ [] }
     {
         LayoutReading {
-            taken: Trace::new(),
+            taken: Told::new(),
             last: None,
             gate: FIRST_GATE,
         }

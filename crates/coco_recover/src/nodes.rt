@@ -16,7 +16,7 @@ use crate::commits::Committed;
 use crate::layouts::LastLayout;
 use crate::refusal::refused;
 use coco_entry::{Layout, Prepared, read_prepared};
-use coco_io::trace::Trace;
+use coco_io::told::Told;
 use coco_load::{Tables, next_epoch, tables_follow_the_files};
 use coco_read::Rules;
 use coco_rules::NodeRules;
@@ -31,7 +31,7 @@ pub struct Loaded {
     pub tables: Tables,
     pub next: u64,
     /// The entries of each node so far, which contracts alone see.
-    pub nodes: Trace<Trace<Prepared>>,
+    pub nodes: Told<Told<Prepared>>,
 }
 
 /// The entries of a node's file. Contracts see what they stand under, and all of them, but none once one was refused or
@@ -43,7 +43,7 @@ pub struct NodeReading<'a> {
     node: u8,
     rules: NodeRules<'a>,
     loaded: Loaded,
-    taken: Trace<Prepared>,
+    taken: Told<Prepared>,
     /// Whether an entry was refused, or memory ran out.
     is_spent: bool,
 }
@@ -79,7 +79,7 @@ impl Loaded {
         Loaded {
             tables,
             next: committed.next,
-            nodes: Trace::new(),
+            nodes: Told::new(),
         }
     }
 }
@@ -125,7 +125,7 @@ impl<'a> NodeReading<'a> {
             node,
             rules: NodeRules::new(&last.entry.layout, node, committed.epochs.as_slice()),
             loaded,
-            taken: Trace::new(),
+            taken: Told::new(),
             is_spent: false,
         }
     }

@@ -22,7 +22,7 @@ use crate::files::{read_base, read_commits, read_layouts, read_node};
 use crate::{Based, Committed, LastLayout, Loaded};
 use coco_entry::{Layout, LayoutEntry};
 use coco_host::Host;
-use coco_io::trace::Trace;
+use coco_io::told::Told;
 use coco_load::{Tables, tables_follow_the_files};
 use coco_log::Log;
 use coco_read::OpenFault;
@@ -174,7 +174,7 @@ fn passed(loaded: Loaded) -> Loaded
         next,
         mut nodes,
     } = loaded;
-    nodes.add(slice::from_ref(&Trace::new()));
+    nodes.add(slice::from_ref(&Told::new()));
     Loaded {
         tables,
         next,

@@ -26,11 +26,11 @@ use denote.Triple.Entry.{alive}
 use denote.Triple.Spec.{Meets, triple_of}
 use denote.Triple.Table.{entered}
 use denote.Triple.Walked.{says, walk_of, ends_at, walk_Meets}
-use Rattle.coco_io.specs.contracts.trace.Trace as Trace
-use Rattle.coco_io.specs.contracts.trace.Trace.new.Key.{name as #it}
-use Rattle.coco_io.specs.contracts.trace.Trace.new as it
-use Rattle.coco_io.proofs.trace.Trace.new.Statement as stated
-use Rattle.coco_io.proofs.trace.Trace.new.Code as code
+use Rattle.coco_io.specs.contracts.told.Told as Told
+use Rattle.coco_io.specs.contracts.told.Told.new.Key.{name as #it}
+use Rattle.coco_io.specs.contracts.told.Told.new as it
+use Rattle.coco_io.proofs.told.Told.new.Statement as stated
+use Rattle.coco_io.proofs.told.Told.new.Code as code
 
 abbrev v : Val
 v = vstruct (vcons (vstruct vnil) vnil)
@@ -46,7 +46,7 @@ module _ (T : RattleType) where
   ended = it.ended T
 
   abbrev row : RattleType
-  row = Trace.the_row (param 0 T)
+  row = Told.the_row (param 0 T)
 
   abbrev r : row.Denot
   r = record { marker = record {}; items = [] }

@@ -31,11 +31,11 @@ use denote.Triple.Entry.{on_entry}
 use denote.Triple.Spec.{Meets, triple_of}
 use denote.Triple.Table.{entered}
 use denote.Triple.Walked.{says, Stays, stay_ref, stay_none_slice, walk_of, AllGo, Goes-ref, Goes-none_slice, Walks, ends_at, walked, walk_Meets}
-use Rattle.coco_io.specs.contracts.trace.Trace as Trace
-use Rattle.coco_io.specs.contracts.trace.Trace.add.Key.{name as #it}
-use Rattle.coco_io.specs.contracts.trace.Trace.add as it
-use Rattle.coco_io.proofs.trace.Trace.add.Statement as stated
-use Rattle.coco_io.proofs.trace.Trace.add.Code as code
+use Rattle.coco_io.specs.contracts.told.Told as Told
+use Rattle.coco_io.specs.contracts.told.Told.add.Key.{name as #it}
+use Rattle.coco_io.specs.contracts.told.Told.add as it
+use Rattle.coco_io.proofs.told.Told.add.Statement as stated
+use Rattle.coco_io.proofs.told.Told.add.Code as code
 
 module _ (T : RattleType) where
   abbrev args : Args
@@ -48,7 +48,7 @@ module _ (T : RattleType) where
   ended = it.ended T
 
   abbrev row : RattleType
-  row = Trace.the_row (param 0 T)
+  row = Told.the_row (param 0 T)
 
   abbrev Arg : Type 0
   Arg = MutBor row.Denot × (Bor (List (param 0 T).Denot) × Unit {0})

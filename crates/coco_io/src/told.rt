@@ -6,21 +6,21 @@ use std::marker::{Model, PhantomData};
 
 /// A list that contracts see as `items`. It takes no memory, and its methods do nothing when they run.
 #[derive(Drop)]
-pub struct Trace<T> {
+pub struct Told<T> {
     marker: PhantomData<T>,
     pub ghost items: { List T },
 }
 
-impl<T> Model for Trace<T> {
+impl<T> Model for Told<T> {
     ghost also_owns = { λ _. ftrue };
 }
 
-impl<T> Trace<T> {
+impl<T> Told<T> {
     /// The empty list.
-    pub fn new() -> Trace<T>
+    pub fn new() -> Told<T>
         ensures { result.items ≡ [] }
     {
-        Trace {
+        Told {
             marker: PhantomData,
         }
     }
@@ -32,6 +32,6 @@ impl<T> Trace<T> {
 }
 
 // It has no bytes.
-unsafe impl<T> Send for Trace<T> {}
+unsafe impl<T> Send for Told<T> {}
 
-unsafe impl<T> Sync for Trace<T> {}
+unsafe impl<T> Sync for Told<T> {}

@@ -1,7 +1,7 @@
 use denote.RattleType.{RattleType}
 use denote.Param.Send.{IsSync, part_keyless}
-use Rattle.coco_io.specs.contracts.trace.Trace.{the_row}
-use Rattle.coco_io.proofs.trace.Trace.TheSendSync.Send.{send}
+use Rattle.coco_io.specs.contracts.told.Told.{the_row}
+use Rattle.coco_io.proofs.told.Told.TheSendSync.Send.{send}
 
 pub sync : (T : RattleType) → IsSync (the_row T)
 sync T = record { shared = λ d b o κ q. part_keyless (the_row T) (send T) q d b o }
