@@ -12,6 +12,11 @@ use std::marker::Model;
 /// How many bytes a name may have.
 pub const MOST_NAME_BYTES: usize = 32;
 
+/// The limit in numbers.
+pub fn limits()
+    ensures { MOST_NAME_BYTES ≡ 32 }
+{}
+
 /// A name: an ASCII letter or `_`, and then letters, digits and `_`, at most 32 bytes in all, held
 /// in place. Contracts see its bytes.
 #[derive(Clone, Copy)]

@@ -10,6 +10,11 @@ use std::time::Duration;
 /// So many times its own time has to pass before a trial.
 const TIMES: u128 = 16;
 
+/// How many times, in numbers.
+pub fn limits()
+    ensures { TIMES ≡ 16 }
+{}
+
 /// How long a request took of late, in nanoseconds: in the epochs of one worker alone, and in those of all workers that
 /// may be started.
 #[derive(Clone, Copy, Debug, PartialEq, Eq)]

@@ -1,5 +1,7 @@
 //! The kinds of a store's logs: each log has its own behind the letters in front of it.
 
+ghost use Rattle.std.specs.Prelude.{◌≡◌};
+
 /// The log of layouts.
 pub const LAYOUTS: u8 = 0;
 
@@ -11,3 +13,11 @@ pub const PREPARED: u8 = 2;
 
 /// The log that is a base file.
 pub const BASE: u8 = 3;
+
+/// The kinds in numbers.
+pub fn kinds()
+    ensures layouts { LAYOUTS ≡ 0 }
+    ensures commits { COMMITS ≡ 1 }
+    ensures prepared { PREPARED ≡ 2 }
+    ensures base { BASE ≡ 3 }
+{}

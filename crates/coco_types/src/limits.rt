@@ -1,5 +1,7 @@
 //! The limits that several crates share, each named once.
 
+ghost use Rattle.std.specs.Prelude.{◌≡◌, ◌^◌};
+
 /// How many requests a store without a keep number keeps.
 pub const MOST_KEPT: u64 = 1_048_576;
 
@@ -59,3 +61,27 @@ pub const MOST_WORKERS: u8 = 16;
 
 /// How often an epoch may try a request.
 pub const MOST_ATTEMPTS: u8 = 8;
+
+/// The limits in numbers.
+pub fn limits()
+    ensures kept { MOST_KEPT ≡ 1048576 }
+    ensures keep { MOST_KEEP ≡ 1000 }
+    ensures arguments { MOST_ARGUMENTS ≡ 16 }
+    ensures text_bytes { MOST_TEXT_BYTES ≡ 256 }
+    ensures keys { MOST_KEYS ≡ 64 }
+    ensures bound { MOST_BOUND ≡ 64 }
+    ensures turns { MOST_TURNS ≡ 4096 }
+    ensures declared { MOST_DECLARED ≡ 60000 }
+    ensures batch_lines { MOST_BATCH_LINES ≡ 1024 }
+    ensures line_bytes { MOST_LINE_BYTES ≡ 65536 }
+    ensures procedure_bytes { MOST_PROCEDURE_BYTES ≡ 262144 }
+    ensures time { MOST_TIME ≡ 2 ^ 62 }
+    ensures epochs { EPOCHS_END ≡ 2 ^ 40 }
+    ensures input_bytes { MOST_INPUT_BYTES ≡ 2 ^ 62 }
+    ensures files { FILES_END ≡ 2 ^ 62 }
+    ensures nodes { MOST_NODES ≡ 8 }
+    ensures partitions { MOST_PARTITIONS ≡ 64 }
+    ensures copies { MOST_COPIES ≡ 7 }
+    ensures workers { MOST_WORKERS ≡ 16 }
+    ensures attempts { MOST_ATTEMPTS ≡ 8 }
+{}
