@@ -10,7 +10,6 @@ ghost use Rattle.coco_parallel.specs.Epochs.{beginning_with};
 ghost use Rattle.coco_prepared.specs.LastWrites.{AreLastWrites};
 ghost use Rattle.coco_cluster.specs.Turning.{HaveWorked, MayWork, RanOn};
 
-use coco_alone::{AloneRoom, run_alone};
 use coco_ast::Checked;
 use coco_entry::Row;
 use coco_epoch::{promote_all, revert_all};
@@ -45,12 +44,10 @@ struct Worked {
     pieces: Pieces,
 }
 
-/// What goes from epoch to epoch: the room of one worker's run, those of several workers' locks and transcripts, and how
-/// long one and several took.
+/// What goes from epoch to epoch: the room of the workers' locks and transcripts, and how long one and all of them took.
 #[derive(Drop)]
 pub struct EpochRoom {
-    alone: AloneRoom,
-    locks: Rooms,
+    rooms: Rooms,
     pace: Pace,
 }
 
@@ -58,8 +55,7 @@ impl EpochRoom {
     /// Nothing has run, and there is no room. It takes no memory.
     pub fn new(alloc: Global) -> EpochRoom {
         EpochRoom {
-            alone: AloneRoom::new(alloc),
-            locks: Rooms::new(alloc),
+            rooms: Rooms::new(alloc),
             pace: Pace::new(),
         }
     }
@@ -153,7 +149,7 @@ fn work<R: Threads + Wait + Clock + Sync, G: Gate + Sync>(
     room: &mut EpochRoom,
     shards: &mut Vec<Shard>,
     procs: &Checked,
-    requests: Vec<Request>,
+    mut requests: Vec<Request>,
     config: EpochConfig,
     gate: &G,
 ) -> Result<Worked, NoMemory>
@@ -173,7 +169,16 @@ fn work<R: Threads + Wait + Clock + Sync, G: Gate + Sync>(
     } else {
         None
     };
-    let worked = work_as_started(rt, alloc, room, shards, procs, requests, started, gate)?;
+    let worked = work_as_started(
+        rt,
+        alloc,
+        &mut room.rooms,
+        shards,
+        procs,
+        requests.as_mut_slice(),
+        started,
+        gate,
+    )?;
     room.keep_time(rt, began, workers, count);
     Ok(worked)
 }
@@ -185,52 +190,9 @@ fn busy_workers(workers: u8, requests: u32) -> u8
     u32::from(workers).min(requests).max(1) as u8
 }
 
-// What workers came to who are all started. One goes alone, without the locks that several need. Out of memory, the
-// shards are as they were handed in.
+// What workers came to who are all started, one on this thread. Their locks begin with these rooms, and leave theirs
+// there. Out of memory, the shards are as they were handed in.
 fn work_as_started<R: Threads + Wait + Sync, G: Gate + Sync>(
-    rt: &R,
-    alloc: Global,
-    room: &mut EpochRoom,
-    shards: &mut Vec<Shard>,
-    procs: &Checked,
-    mut requests: Vec<Request>,
-    config: EpochConfig,
-    gate: &G,
-) -> Result<Worked, NoMemory>
-    requires { MayWork procs.now requests.items config shards.old.items }
-    ensures worked { IfOk result (λ w. HaveWorked procs.now requests.items config shards.old.items shards.new.items w.dones w.pieces) }
-    ensures count { length shards.new.items ≡ length shards.old.items }
-    ensures err { OnErr result (shards.new.items ≡ shards.old.items) }
-{
-    if config.workers > 1 {
-        return work_side_by_side(
-            rt,
-            alloc,
-            &mut room.locks,
-            shards,
-            procs,
-            requests.as_mut_slice(),
-            config,
-            gate,
-        );
-    }
-    let ran = run_alone(
-        alloc,
-        &mut room.alone,
-        shards.as_mut_slice(),
-        procs,
-        requests,
-        config.epoch,
-    )?;
-    Ok(Worked {
-        dones: ran.dones,
-        pieces: ran.pieces,
-    })
-}
-
-// What several workers came to, side by side. Their locks begin with these rooms, and leave theirs there. Out of
-// memory, the shards are as they were handed in.
-fn work_side_by_side<R: Threads + Wait + Sync, G: Gate + Sync>(
     rt: &R,
     alloc: Global,
     rooms: &mut Rooms,

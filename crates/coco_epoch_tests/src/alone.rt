@@ -1,16 +1,18 @@
-//! Epochs of two calls of built-in procedures, on two shards without rows.
-
-ghost use Rattle.std.specs.Prelude.{◌<◌, ◌≤◌, length};
-ghost use Rattle.coco_epoch.specs.Shards.{AreOfPartitions, AreSettled};
+//! Epochs of two calls of built-in procedures, run by one worker alone on two shards without rows.
 
 use crate::made::{GET, Line, PUT, Work, answers, are_pieces, two_shards, work_of};
-use coco_alone::{AloneRoom, Ran, run_alone};
 use coco_epoch::promote_all;
+use coco_gate::OpenGate;
+use coco_net::QuietNet;
+use coco_parallel::epoch::{EpochDone, run_epoch};
+use coco_parallel::rooms::Rooms;
 use coco_shard::Shard;
-use coco_types::limits::MOST_PARTITIONS;
-use coco_types::{Done, Key, Value};
+use coco_types::{Done, Key, NoMemory, Value};
+use coco_worker::EpochConfig;
 use std::alloc::Global;
+use std::sync::Wait;
 use std::test::Fail;
+use std::thread::Threads;
 
 const FIVE: Key = Key { table: 0, row: 5 };
 
@@ -62,17 +64,39 @@ const CASES: [Case<'static>; 4] = [
     },
 ];
 
+const ALONE: EpochConfig = EpochConfig {
+    epoch: 1,
+    workers: 1,
+    attempts: 3,
+    nodes: 1,
+    copies: 0,
+};
+
 // What the two calls of a case come to.
-fn ran(alloc: Global, case: &Case<'_>, shards: &mut [Shard]) -> Result<Ran, Fail>
-    requires some { 0 < length shards.old }
-    requires most { length shards.old ≤ MOST_PARTITIONS }
-    requires partitions { AreOfPartitions shards.old }
-    requires settled { AreSettled shards.old }
-{
-    let Work { procs, requests } = work_of(alloc, &[(1, case.first), (2, case.second)])?;
-    let mut room = AloneRoom::new(alloc);
-    let ran = run_alone(alloc, &mut room, shards, &procs, requests, 1)?;
-    Ok(ran)
+fn ran<R: Threads + Wait + Sync>(
+    rt: &R,
+    alloc: Global,
+    case: &Case<'_>,
+) -> Result<EpochDone, Fail> {
+    let Work {
+        procs,
+        mut requests,
+    } = work_of(alloc, &[(1, case.first), (2, case.second)])?;
+    match run_epoch(
+        rt,
+        alloc,
+        two_shards(alloc)?,
+        Vec::new(alloc),
+        &procs,
+        requests.as_mut_slice(),
+        ALONE,
+        &OpenGate,
+        &QuietNet::new(alloc),
+        &mut Rooms::new(alloc),
+    ) {
+        Ok(done) => Ok(done),
+        Err(_) => Err(NoMemory.into()),
+    }
 }
 
 fn is_told(done: &Done, told: Told) -> bool {
@@ -95,20 +119,23 @@ fn has_seventy(shards: &mut [Shard]) -> bool {
     }
 }
 
-fn comes_to(alloc: Global, case: &Case<'_>) -> Result<bool, Fail> {
-    let mut shards = two_shards(alloc)?;
-    let ran = ran(alloc, case, shards.as_mut_slice())?;
+fn comes_to<R: Threads + Wait + Sync>(
+    rt: &R,
+    alloc: Global,
+    case: &Case<'_>,
+) -> Result<bool, Fail> {
+    let mut done = ran(rt, alloc, case)?;
     Ok(
-        are_told(ran.dones.as_slice(), case.told)
-            && are_pieces(ran.pieces.as_slice(), case.pieces)
-            && has_seventy(shards.as_mut_slice()),
+        are_told(done.dones.as_slice(), case.told)
+            && are_pieces(done.pieces.as_slice(), case.pieces)
+            && has_seventy(done.shards.as_mut_slice()),
     )
 }
 
 #[test]
 fn times_are_above_what_stands_in_front(rt: HostRuntime) -> Result<(), Fail> {
     for case in &CASES {
-        let is_well = comes_to(rt.alloc(), case)?;
+        let is_well = comes_to(&rt, rt.alloc(), case)?;
         assert!(rt; is_well, "{}", case.name);
     }
     Ok(())

@@ -1,4 +1,4 @@
-//! Tests of epochs: run alone, by one worker, side by side, their tails, the order of Dones and what an epoch writes.
+//! Tests of epochs: by one worker alone, side by side, one worker's attempts, their tails, the order of Dones and what an epoch writes.
 //! There is nothing else here.
 
 #[cfg(test)]

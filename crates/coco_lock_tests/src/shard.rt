@@ -116,48 +116,6 @@ fn tail_steps_act_at_their_times(rt: HostRuntime) -> Result<(), Fail> {
     Ok(())
 }
 
-// Whether row 5 has this value, written at one time and valid until another.
-fn has_version(shard: &Shard, wts: u64, rts: u64, value: &Option<Value>) -> bool {
-    match shard.version(FIVE) {
-        Some(version) => {
-            version.wts == wts && version.rts == rts && version.value == value.as_ref()
-        }
-        None => false,
-    }
-}
-
-fn shows_what_is_put(shard: &mut Shard, time: u64, n: Option<i64>) -> bool {
-    let value = n.map(Value::Int);
-    shard.put_lent(FIVE, time, &value).is_ok() && has_version(shard, time, time, &value)
-}
-
-// Whether row 5 has the version of each step on it.
-fn shows_each_step(shard: &mut Shard) -> bool {
-    for (time, n) in [(3, Some(7)), (4, Some(8)), (6, None), (7, Some(9))] {
-        if !shows_what_is_put(shard, time, n) {
-            return false;
-        }
-    }
-    true
-}
-
-// Whether a row 5 that is reverted is as one without a value, which is made valid until 9.
-fn shows_an_extension(shard: &mut Shard) -> bool {
-    shard.revert();
-    shard.extend(FIVE, 9).is_ok() && has_version(shard, 0, 9, &None)
-}
-
-#[test]
-fn a_version_shows_what_the_lent_steps_leave(rt: HostRuntime) -> Result<(), Fail> {
-    let mut shard = Shard::new(rt.alloc());
-    let is_missing = shard.version(FIVE).is_none();
-    let (worker, number) = (0, 1);
-    let time = shard.mark(FIVE, AttemptId { worker, number })?;
-    let is_marked = is_missing && time == 0;
-    assert!(rt; is_marked && shows_each_step(&mut shard) && shows_an_extension(&mut shard));
-    Ok(())
-}
-
 fn install(value: Option<Value>) -> Op {
     Op::Install {
         key: FIVE,

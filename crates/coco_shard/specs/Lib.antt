@@ -4,4 +4,3 @@ pub mod Law
 pub mod Packed
 pub mod RowState
 pub mod Table
-pub mod Version

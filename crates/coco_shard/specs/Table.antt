@@ -47,9 +47,6 @@ extended time row = record row { rts = max row.rts time }
 abbrev pub installed : ℕ → Option Value → RowState → RowState
 installed time value row = record { newest = value; wts = time; rts = time; mark = None; stable = row.stable }
 
-abbrev pub marked_by : AttemptId → RowState → RowState
-marked_by by row = record row { mark = Some by }
-
 -- the row that an answer leaves, which is made where there was none; none where no row is touched
 abbrev pub left_by : Answer → AttemptId → Op → RowState → Option RowState
 left_by (Got wts rts value) by op row = Some row

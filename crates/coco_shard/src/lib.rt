@@ -10,9 +10,7 @@ pub mod shard;
 mod table;
 mod tail;
 mod values;
-pub mod version;
 
 pub use ops::{Answer, Ask, Op};
 pub use packed::{PackedAnswer, PackedAsk, PackedOp};
 pub use shard::Shard;
-pub use version::Version;

@@ -1,21 +1,18 @@
 //! The shard: rows under their keys, as a machine and for the steps that need no lock.
 
-ghost use Rattle.std.specs.Prelude.{◌≡◌, ◌≤◌, None, Some, true, IfOk, IsSome, MatchOption, OnOk, OnErr};
+ghost use Rattle.std.specs.Prelude.{◌≡◌, ◌≤◌, None, true, IfOk, IsSome, OnOk, OnErr};
 ghost use Rattle.std.specs.FinMap.{get, insert, empty};
 ghost use Rattle.coco_shard.specs.RowState.{loaded, row_at, newest_at, stable_at, value_at, Holds, IsSettled, IsGreatestTime, ListsRows};
-ghost use Rattle.coco_shard.specs.Table.{after_ask, answer_in, installed, extended, key_of, may_make_row, unless_marked};
-ghost use Rattle.coco_shard.specs.Version.{IsVersionOf};
-ghost use Rattle.coco_shard.specs.declared.ops.Answer.{Answer as Answered};
+ghost use Rattle.coco_shard.specs.Table.{after_ask, answer_in, installed, extended, key_of, may_make_row};
 
 use crate::kept::{Kept, read};
 use crate::ops::{Answer, Ask, Op};
 use crate::settle::settle;
 use crate::table::{act_on_missing, act_on_rows, drop_loaded, load_row, stable_of};
-use crate::tail::{extend_row, mark_row, put_row, read_row};
+use crate::tail::{put_row, read_row};
 use crate::values::{greatest, values};
-use crate::version::{Version, version_at};
 use coco_packs::AnswersInPlace;
-use coco_types::{AttemptId, Key, Machine, MapRows, NoMemory, Value};
+use coco_types::{Key, Machine, MapRows, NoMemory, Value};
 use std::alloc::Global;
 use std::collections::BTreeMap;
 use std::marker::Model;
@@ -124,16 +121,7 @@ impl Shard {
         ensures err { OnErr result (self.new ≡ self.old) }
         ensures missing { OnErr result (get self.old key ≡ None) }
     {
-        self.put_lent(key, time, &value)
-    }
-
-    /// The same, where the value stays where it is, at any time and on any row: its mark is taken away.
-    pub fn put_lent(&mut self, key: Key, time: u64, value: &Option<Value>) -> Result<(), NoMemory>
-        ensures ok { OnOk result (self.new ≡ insert self.old key (installed time value.now (row_at self.old key))) }
-        ensures err { OnErr result (self.new ≡ self.old) }
-        ensures missing { OnErr result (get self.old key ≡ None) }
-    {
-        put_row(&mut self.rows, &mut self.touched, key, time, value)
+        put_row(&mut self.rows, &mut self.touched, key, time, &value)
     }
 
     /// The newest value, which is valid until the time from then on. Out of memory, nothing has changed.
@@ -146,37 +134,6 @@ impl Shard {
         ensures missing { OnErr result (get self.old key ≡ None) }
     {
         read_row(&mut self.rows, &mut self.touched, key, time)
-    }
-
-    /// The newest version of a key's row, lent, where the key has one.
-    pub fn version(&self, key: Key) -> Option<Version<'_>>
-        ensures { MatchOption result
-            (get self.now key ≡ None)
-            (λ version. (get self.now key ≡ Some (row_at self.now key)) × IsVersionOf (row_at self.now key) version) }
-    {
-        version_at(&self.rows, key)
-    }
-
-    /// Puts the attempt's mark on a row that no other attempt has locked, and answers the row's read time. Makes the
-    /// row where it is missing. Out of memory, nothing has changed.
-    pub fn mark(&mut self, key: Key, by: AttemptId) -> Result<u64, NoMemory>
-        requires free { (answer : Answered) → unless_marked (row_at self.old key).mark by answer ≡ answer }
-        ensures time { IfOk result (λ rts. rts ≡ (row_at self.old key).rts) }
-        ensures ok { OnOk result (self.new ≡ insert self.old key (record (row_at self.old key) { mark = Some by })) }
-        ensures err { OnErr result (self.new ≡ self.old) }
-        ensures missing { OnErr result (get self.old key ≡ None) }
-    {
-        mark_row(&mut self.rows, &mut self.touched, key, by)
-    }
-
-    /// Makes the newest value valid until the time, and the row where it is missing. Out of memory, nothing has changed.
-    pub fn extend(&mut self, key: Key, time: u64) -> Result<(), NoMemory>
-        requires { (row_at self.old key).mark ≡ None }
-        ensures ok { OnOk result (self.new ≡ insert self.old key (extended time (row_at self.old key))) }
-        ensures err { OnErr result (self.new ≡ self.old) }
-        ensures missing { OnErr result (get self.old key ≡ None) }
-    {
-        extend_row(&mut self.rows, &mut self.touched, key, time)
     }
 }
 

@@ -2,13 +2,13 @@
 
 ghost use Rattle.std.specs.Prelude.{◌≡◌, None, IfOk, vec_capacity};
 ghost use Rattle.coco_shard.specs.Kept.{Changes, IsWhole, kept_at, view_of};
-ghost use Rattle.coco_shard.specs.RowState.{newest_at, row_at};
-ghost use Rattle.coco_shard.specs.Table.{extended, installed, marked_by};
+ghost use Rattle.coco_shard.specs.RowState.{newest_at};
+ghost use Rattle.coco_shard.specs.Table.{extended, installed};
 
 use crate::kept::{Kept, put, raise_read_time};
 use crate::table::{add_row, list_key};
 use coco_rows::Row;
-use coco_types::{AttemptId, Key, NoMemory, Value};
+use coco_types::{Key, NoMemory, Value};
 use std::collections::BTreeMap;
 
 // Installs a value at the time, and makes the row where it is missing.
@@ -71,25 +71,6 @@ pub fn read_row(
     Ok(*kept.row.newest())
 }
 
-// Makes the newest version valid until the time, and makes the row where it is missing.
-pub fn extend_row(
-    rows: &mut BTreeMap<Key, Kept>,
-    touched: &mut Vec<Key>,
-    key: Key,
-    time: u64,
-) -> Result<(), NoMemory>
-    requires { IsWhole rows.old.entries touched.old.items (vec_capacity touched.old) }
-    ensures whole { IsWhole rows.new.entries touched.new.items (vec_capacity touched.new) }
-    ensures changes { Changes rows.old.entries rows.new.entries key (extended time) result }
-{
-    let Some(kept) = rows.get_mut(&key) else {
-        return extend_missing(rows, touched, key, time);
-    };
-    raise_read_time(&mut kept.row, time);
-    list_key(touched, key, kept.touch());
-    Ok(())
-}
-
 // The same where the key has no row.
 #[inline(never)]
 fn extend_missing(
@@ -105,44 +86,5 @@ fn extend_missing(
 {
     let mut row = Row::at_rest(None);
     raise_read_time(&mut row, time);
-    add_row(rows, touched, key, Kept { row, touched: true })
-}
-
-// Puts a mark on a row, and answers the row's read time. Makes the row where it is missing.
-pub fn mark_row(
-    rows: &mut BTreeMap<Key, Kept>,
-    touched: &mut Vec<Key>,
-    key: Key,
-    by: AttemptId,
-) -> Result<u64, NoMemory>
-    requires { IsWhole rows.old.entries touched.old.items (vec_capacity touched.old) }
-    ensures whole { IsWhole rows.new.entries touched.new.items (vec_capacity touched.new) }
-    ensures changes { Changes rows.old.entries rows.new.entries key (marked_by by) result }
-    ensures time { IfOk result (λ rts. rts ≡ (row_at (view_of rows.old.entries) key).rts) }
-{
-    let Some(kept) = rows.get_mut(&key) else {
-        mark_missing(rows, touched, key, by)?;
-        return Ok(0);
-    };
-    kept.row.mark = Some(by);
-    list_key(touched, key, kept.touch());
-    Ok(kept.row.rts)
-}
-
-// Makes the row of a key that has none, with a mark.
-#[inline(never)]
-fn mark_missing(
-    rows: &mut BTreeMap<Key, Kept>,
-    touched: &mut Vec<Key>,
-    key: Key,
-    by: AttemptId,
-) -> Result<(), NoMemory>
-    requires whole { IsWhole rows.old.entries touched.old.items (vec_capacity touched.old) }
-    requires missing { kept_at rows.old.entries key ≡ None }
-    ensures whole { IsWhole rows.new.entries touched.new.items (vec_capacity touched.new) }
-    ensures changes { Changes rows.old.entries rows.new.entries key (marked_by by) result }
-{
-    let mut row = Row::at_rest(None);
-    row.mark = Some(by);
     add_row(rows, touched, key, Kept { row, touched: true })
 }

@@ -1,4 +1,4 @@
-use Rattle.std.proofs.Common.{◌≡◌, ℕ, ◌<◌, ◌≤◌, List, max, min, arith}
+use Rattle.std.proofs.Common.{◌≡◌, ℕ, ◌<◌, ◌≤◌, List, max, min, arith, subst}
 use Rattle.coco_types.specs.declared.call.Done.{Done}
 use Rattle.coco_types.specs.declared.call.Piece.{Piece}
 use Rattle.coco_types.specs.declared.call.Request.{Request}
@@ -31,4 +31,8 @@ returns-clause-worked g c m holds =
     let config = c.args.config in
     let n = c.workers-workers.result in
     let le : n ≤ config.workers = no_more config.workers c.len-count.result c.busy_workers-busy.result n c.requires.workers c.busy_workers-busy.ensures c.workers-workers.ensures.most in
-    widened c.workers_may_be_idle.ensures c.args.procs.now m c.args.requests.items c.args.shards.now.items c.work_as_started.new.shards.items config n le c.in_ok-worked.worked.dones c.in_ok-worked.worked.pieces (c.in_ok-worked.ensures.worked m holds)
+    let shards = c.args.shards.now.items in
+    let w = c.in_ok-worked.worked in
+    let started = subst (λ (rs : List Request). HasWorked (beginning_with c.args.procs.now m rs shards (record config { workers = n })) config.epoch c.work_as_started.new.shards.items w.dones w.pieces)
+    c.as_mut_slice.ensures.value (c.in_ok-worked.ensures.worked m holds) in
+    widened c.workers_may_be_idle.ensures c.args.procs.now m c.args.requests.items shards c.work_as_started.new.shards.items config n le w.dones w.pieces started

@@ -2,7 +2,7 @@ use Rattle.std.proofs.Common.{◌≡◌, None, OnErr, subst}
 use Rattle.std.specs.FinMap.{get}
 use Rattle.coco_shard.specs.RowState.{ShardState}
 use Rattle.coco_shard.proofs.Entries.{missing_on_err}
-use Rattle.coco_shard.proofs.shard.Shard.put_lent.Goals as goal
+use Rattle.coco_shard.proofs.shard.Shard.put_at.Goals as goal
 
 pub returns-clause-missing : goal.returns-clause-missing
 returns-clause-missing c =
