@@ -69,6 +69,12 @@ fi
 : >"$work/wanted"
 run examples/builtin/requests.jsonl run
 expect 'no store' 7 'coco: not a store: file 0 at byte 0'
+printf 'proc f() { refuse 1 }' >"$work/text"
+run "$work/text" init
+expect 'a wrong byte' 9 'coco: procedures refused: unexpected at byte 20'
+printf 'proc f() { let x = 1; }' >"$work/text"
+run "$work/text" init
+expect 'no reply' 9 'coco: procedures refused: no reply at item 1 statement 0'
 new
 run /dev/null init
 expect 'a store that is there' 10 'coco: already there: file 0 has 39 bytes'
@@ -88,6 +94,12 @@ run examples/builtin/requests.jsonl
 expect 'no command' 1 'coco: bad command line'
 run examples/builtin/requests.jsonl run --epoch 1025
 expect 'an epoch of 1,025 lines' 1 'coco: bad command line'
+run examples/builtin/requests.jsonl run --
+expect 'no word behind two hyphens' 1 'coco: bad command line'
+run /dev/null dump --epoch 1
+expect 'an epoch for a dump' 1 'coco: bad command line'
+run /dev/null init --nodes 2
+expect 'a store of two nodes' 1 'coco: bad command line'
 run examples/builtin/requests.jsonl run $'\xff'
 expect 'a word that is no text' 1 'coco: bad command line'
 run "$work" run

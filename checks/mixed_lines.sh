@@ -150,7 +150,7 @@ batch() {
     done
 }
 
-for seed in 1 2 3; do
+for seed in ${SEED:-1 2 3}; do
     for size in 1 5 100 500; do
         RANDOM=$((seed * 1000 + size))
         rows=() call_of=() text_of=() texts=() classes=() ids=() calls=() epoch=0 number=0

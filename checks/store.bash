@@ -11,6 +11,13 @@ work=$(mktemp -d) || exit 2
 trap 'rm -rf "$work"' EXIT
 failed=0
 
+# draws: the check's random numbers come of one seed, which it says: that of the variable SEED, or a new one.
+draws() {
+    seed=${SEED:-$(od -An -tu2 -N 2 /dev/urandom | tr -d ' ')}
+    RANDOM=$seed
+    echo "seed $seed"
+}
+
 # wrong TEXT: something isn't as wanted.
 wrong() {
     echo "$1"

@@ -3,6 +3,7 @@
 # stands, each request has its one answer, and the store is that of a run that nothing disturbed.
 # Words: the program, and how many kills; without a number there are 300, which takes one or two minutes.
 . "$(dirname "$0")/store.bash"
+draws
 
 size=10
 lines=150

@@ -3,6 +3,7 @@
 # the workers interleave, the history is serial, what was answered stands, and no money and no piece is lost or made. And
 # money that goes round in whole runs, each line with its answer.
 . "$(dirname "$0")/store.bash"
+draws
 
 count=10000
 

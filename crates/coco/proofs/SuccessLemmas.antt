@@ -32,22 +32,18 @@ use Rattle.coco_log.specs.Faults.{CountsFault}
 use Rattle.coco_log.specs.declared.fault.LogFault.{LogFault}
 use Rattle.coco_log.specs.declared.fault.LogFault.TheVariants as fault
 use Rattle.coco_make.specs.NewStore.{new_layout}
-use Rattle.coco_migrate.specs.Keeping.{contents_keeping}
-use Rattle.coco_migrate.specs.Migrating.{ending_of_adding}
-use Rattle.coco_run.specs.Opening.{FailsToOpen, IsRefusedInRun, RefusedIsNotRun}
-use Rattle.coco_run.specs.Running.{Opens, ending_of_run}
+use Rattle.coco_commands.specs.Keeping.{contents_keeping}
+use Rattle.coco_commands.specs.Migrating.{ending_of_adding}
+use Rattle.coco_commands.specs.Opening.{FailsToOpen, IsRefusedInRun, RefusedIsNotRun}
+use Rattle.coco_commands.specs.Running.{Opens, ending_of_run}
 use Rattle.coco_lines.proofs.ClassLemmas.{classes_length}
-use Rattle.coco_serve.specs.Faults.{Counts}
-use Rattle.coco_serve.specs.Growth.{epochs_of}
-use Rattle.coco_serve.specs.Serving.{HasCause, Outside, Serves}
-use Rattle.coco_serve.specs.declared.ending.Served.{Served}
-use Rattle.coco_serve.specs.declared.ending.Served.TheVariants as served
-use Rattle.coco_serve.specs.declared.bounds.RunBounds.{RunBounds}
-use Rattle.coco_serve.proofs.RunLemmas.{added_by, few_new, joined-more}
+use Rattle.coco_commands.specs.Served as served
+use Rattle.coco_commands.proofs.ServingLemmas.{added_by, few_new, joined-more}
 use Rattle.coco_store.specs.Contents.{Contents, history_of}
 use Rattle.coco_store.specs.Refusals.{IsFirstRefusal, RefusedIsNone}
 use Rattle.coco_store.specs.Texts.{IsAcceptedText}
-use Rattle.coco_tell.specs.Telling.{IsVerdict, SaysText}
+use Rattle.coco_commands.specs.Telling.{IsVerdict, SaysText}
+use Rattle.coco_commands.specs.Serving.{Counts, epochs_of, HasCause, Outside, RunBounds, Served, Serves}
 use Rattle.coco_words.specs.declared.Command.TheVariants.{Dump, Init, Migrate, Run, Verify}
 use Rattle.coco.specs.Commands.{counts_of, ending_in, bounds_of}
 use Rattle.coco.specs.Success.{AllAreAnswered, DumpSucceeds, FewLinesHaveNumbers, HaveNumbers, InitSucceeds, DoneOrNoMemory, MigrateSucceeds, NoneRose, ReadsEmpty, RunSucceeds, VerifySucceeds}

@@ -8,12 +8,10 @@ use Rattle.coco_init.specs.Counts.{CountsDisk, CountsReads}
 use Rattle.coco_init.specs.Initiating.{Initiates}
 use Rattle.coco_lines.specs.Reads.{Gives}
 use Rattle.coco_make.specs.NewStore.{new_layout}
-use Rattle.coco_migrate.specs.Migrating.{Migrates}
-use Rattle.coco_run.specs.Running.{RunsOn}
-use Rattle.coco_serve.specs.Faults.{Counts}
-use Rattle.coco_serve.specs.Serving.{Outside}
-use Rattle.coco_serve.specs.declared.bounds.RunBounds.{RunBounds}
-use Rattle.coco_tell.specs.Telling.{Dumps, Verifies}
+use Rattle.coco_commands.specs.Migrating.{Migrates}
+use Rattle.coco_commands.specs.Running.{RunsOn}
+use Rattle.coco_commands.specs.Telling.{Dumps, Verifies}
+use Rattle.coco_commands.specs.Serving.{Counts, Outside, RunBounds}
 use Rattle.coco_words.specs.Commands.{IsCommand, IsOnlyCommand}
 use Rattle.coco_words.specs.declared.Command.{Command}
 use Rattle.coco_words.specs.declared.Command.TheVariants.{Init, Run, Dump, Verify, Migrate}

@@ -17,14 +17,12 @@ use Rattle.coco_lines.specs.Reads.{Gives, IsSpent}
 use Rattle.coco_load.specs.Epochs.{IsNextOf}
 use Rattle.coco_log.specs.LogState.{IsOnlyRead}
 use Rattle.coco_make.specs.NewStore.{new_layout}
-use Rattle.coco_migrate.specs.Keeping.{contents_keeping}
-use Rattle.coco_serve.specs.Growth.{manner_of}
-use Rattle.coco_serve.specs.Serving.{AreUsedUp, Outside, Progress, Serves}
-use Rattle.coco_serve.specs.declared.ending.Served.TheVariants as served
-use Rattle.coco_serve.specs.declared.bounds.RunBounds.{RunBounds}
+use Rattle.coco_commands.specs.Keeping.{contents_keeping}
+use Rattle.coco_commands.specs.Served as served
 use Rattle.coco_store.specs.Contents.{Contents, IsGoodStore, history_of}
 use Rattle.coco_store.specs.Texts.{IsAcceptedText}
-use Rattle.coco_tell.specs.Telling.{dump_in}
+use Rattle.coco_commands.specs.Telling.{dump_in}
+use Rattle.coco_commands.specs.Serving.{AreUsedUp, manner_of, Outside, Progress, RunBounds, Serves}
 use Rattle.coco_words.specs.Commands.{IsCommand}
 use Rattle.coco_words.specs.declared.Command.{Command}
 use Rattle.coco_words.specs.declared.Command.TheVariants.{Init, Run, Dump, Verify, Migrate}

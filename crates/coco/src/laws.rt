@@ -2,9 +2,9 @@
 
 ghost use Rattle.coco.specs.Success.{DumpSucceeds, FewLinesHaveNumbers, InitSucceeds, MigrateSucceeds, RunSucceeds, VerifySucceeds};
 
+use coco_commands::a_refused_store_is_not_run;
 use coco_host::Host;
 use coco_init::one_answer;
-use coco_run::a_refused_store_is_not_run;
 use coco_store::a_refused_store_is_none;
 
 /// Where no count of faults rose, a command ends with status 0, or with 6 for want of memory: `run` on a good store of

@@ -3,8 +3,6 @@
 
 pub mod arguments;
 pub mod laws;
-#[cfg(test)]
-mod tests;
 pub mod top;
 
 use arguments::{ending_without, folder_of, words_of};

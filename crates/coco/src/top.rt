@@ -9,15 +9,12 @@ ghost use Rattle.coco_words.specs.Commands.{numbers_of, options_of};
 ghost use Rattle.coco_words.specs.Options.{AreInRange};
 ghost use Rattle.coco.specs.Commands.{Does, Inits, Obeys, bounds_of};
 
+use coco_commands::{RunBounds, dump, migrate, run, verify};
 use coco_ending::Ending;
 use coco_gate::Gate;
 use coco_host::Host;
 use coco_init::init;
 use coco_io::{Sink, Source};
-use coco_migrate::migrate;
-use coco_run::run;
-use coco_serve::RunBounds;
-use coco_tell::{dump, verify};
 use coco_words::{Command, RunOptions, WordsFault, words as command_of};
 use std::alloc::Global;
 use std::sync::Wait;

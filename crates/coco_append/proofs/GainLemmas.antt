@@ -11,12 +11,13 @@ use Rattle.coco_host.proofs.Sees.{started}
 use Rattle.coco_log.specs.declared.fault.LogFault.{LogFault}
 use Rattle.coco_log.specs.Grammar.{IsLog}
 use Rattle.coco_log.specs.LogState.{LogState, ChangesOne, IsAppended, IsAtRest, IsBeforeOrAfter, IsMade, IsOpened, SameBut, with_entry}
+use Rattle.coco_log.proofs.OnlyRead.{sees_weaker}
 use Rattle.coco_log.proofs.Rests.{rests_on}
-use Rattle.coco_store.specs.Contents.{Contents, IsGoodStore, chief_of, file_of}
+use Rattle.coco_store.specs.Contents.{Contents, chief_of, file_of}
 use Rattle.coco_store.specs.Entries.{commits_kind, prepared_kind}
-use Rattle.coco_store.specs.Laws.{KeepsLog, MayCommit, MayPrepare, with_commit, with_prepared}
+use Rattle.coco_store.specs.Laws.{IsAppend, KeepsLog, MayCommit, MayPrepare, WithOne, with_commit, with_prepared}
 use Rattle.coco_store.proofs.Growing.{after_commit, after_prepared, while_committed, while_prepared}
-use Rattle.coco_append.specs.Gaining.{Gains, Grows, IsChiefLog, IsNodeLog, RestsOn, ShowsEither, Stands}
+use Rattle.coco_append.specs.Gaining.{GainsAs, Grows, GrowsAs, IsChiefLog, IsNodeLog, RestsAs, ShowsAs, Stands}
 
 -- ---- answers
 
@@ -89,28 +90,19 @@ stands_grown r old new body (Some fs) after left leaves become stands ok =
 
 -- ---- moments
 
-module _ {H : Type 0} (moment : H → ℕ) (observed : H → ℕ → Observation → Type 0) where
-  pub sees_weaker : (old new : H) (P Q : Observation → Type 0) → ((seen : Observation) → P seen → Q seen) → SeesOnly moment observed old new P → SeesOnly moment observed old new Q
-  sees_weaker old new P Q f sees = record {
-    later = sees.later;
-    each = λ seen since. f seen (sees.each seen since);
-    before = λ t seen le since. ⊎_elim (λ was. inl was) (λ new_one. inr (f seen new_one)) (sees.before t seen le since);
-    keeps = sees.keeps;
-  }
-
-module _ {T H : Type 0} (moment : H → ℕ) (observed : H → ℕ → Observation → Type 0) (said : H → Option (List ℕ)) (reads : H → Option Files) (may_leave : H → Files → Type 0)
-    (result : Result T LogFault) (c d : Contents) where
+module _ {T E H : Type 0} (moment : H → ℕ) (observed : H → ℕ → Observation → Type 0) (said : H → Option (List ℕ)) (reads : H → Option Files) (may_leave : H → Files → Type 0)
+    (result : Result T E) (Was Now : Files → Type 0) where
   -- a call that changed nothing
   pub nothing_gained : ((host : H) (seen : Observation) → observed host (moment host) seen → may_leave host seen.image × (said host ≡ Some seen.said))
-      → (host : H) (fault : LogFault) → result ≡ Err fault → RestsOn c (reads host) (may_leave host) → Gains moment observed said reads may_leave result c d host host
+      → (host : H) (fault : E) → result ≡ Err fault → RestsAs Was (reads host) (may_leave host) → GainsAs moment observed said reads may_leave result Was Now host host
   nothing_gained only_now host fault is rests = record {
-    ok = subst (λ (r : Result T LogFault). OnOk r (RestsOn d (reads host) (may_leave host))) (sym is) tt;
-    moments = started moment observed host (ShowsEither c d (said host)) (λ seen since. let now = only_now host seen since in record { store = inl (rests.left seen.image now.0); said = now.1 });
+    ok = subst (λ (r : Result T E). OnOk r (RestsAs Now (reads host) (may_leave host))) (sym is) tt;
+    moments = started moment observed host (ShowsAs Was Now (said host)) (λ seen since. let now = only_now host seen since in record { store = inl (rests.left seen.image now.0); said = now.1 });
     left = λ bytes spoke image leaves. inl (rests.left image leaves);
   }
 
-  module _ (old new : H) (log grown : LogState) (body : List ℕ) (rests : RestsOn c (reads old) (may_leave old)) (stands : Stands log (reads old) (may_leave old))
-      (grows : Grows c d log.file log.kind body) where
+  module _ (old new : H) (log grown : LogState) (body : List ℕ) (rests : RestsAs Was (reads old) (may_leave old)) (stands : Stands log (reads old) (may_leave old))
+      (grows : GrowsAs Was Now log.file log.kind body) where
     opened : IsOpened log rests.files (may_leave old)
     opened = told (reads old) rests.files (λ fs. IsOpened log fs (may_leave old)) rests.are stands
 
@@ -118,24 +110,24 @@ module _ {T H : Type 0} (moment : H → ℕ) (observed : H → ℕ → Observati
     was_log before left = subst (λ (l : List ℕ). IsLog log.kind opened.bodies l) (sym (opened.rest.durable before left)) opened.rest.holds.is_log
 
     -- what is seen within the append
-    meanwhile : (seen : Observation) → ChangesOne log.file (IsBeforeOrAfter log.kind opened.bodies body) (may_leave old) (said old) seen → ShowsEither c d (said old) seen
+    meanwhile : (seen : Observation) → ChangesOne log.file (IsBeforeOrAfter log.kind opened.bodies body) (may_leave old) (said old) seen → ShowsAs Was Now (said old) seen
     meanwhile seen changes = record {
       store = grows.meanwhile changes.before seen.image (rests.left changes.before changes.was_left) (record {
         bodies = opened.bodies;
         was = was_log changes.before changes.was_left;
         is = changes.such;
-        others = λ n named other. same_file (changes.before n) (seen.image n) (changes.others n other);
+        others = λ n any other. same_file (changes.before n) (seen.image n) (changes.others n other);
       });
       said = changes.said;
     }
 
     -- files that gained the entry
-    grown_files : (before after : Files) → IsGoodStore before c → IsLog log.kind opened.bodies (before log.file) → IsLog log.kind (opened.bodies ++ body ∷ []) (after log.file)
-        → SameBut log.file before after → IsGoodStore after d
+    grown_files : (before after : Files) → Was before → IsLog log.kind opened.bodies (before log.file) → IsLog log.kind (opened.bodies ++ body ∷ []) (after log.file)
+        → SameBut log.file before after → Now after
     grown_files before after good was is same =
-        grows.grown before after good (record { bodies = opened.bodies; was = was; is = is; others = λ n named other. same_file (before n) (after n) (same n other) })
+        grows.grown before after good (record { bodies = opened.bodies; was = was; is = is; others = λ n any other. same_file (before n) (after n) (same n other) })
 
-    rests_grown : IsAppended log (with_entry log body) opened.bodies body rests.files (reads new) (may_leave new) → Follows (SameBut log.file) (may_leave old) (may_leave new) → RestsOn d (reads new) (may_leave new)
+    rests_grown : IsAppended log (with_entry log body) opened.bodies body rests.files (reads new) (may_leave new) → Follows (SameBut log.file) (may_leave old) (may_leave new) → RestsAs Now (reads new) (may_leave new)
     rests_grown is follows = record {
       files = is.files;
       are = is.are;
@@ -150,10 +142,10 @@ module _ {T H : Type 0} (moment : H → ℕ) (observed : H → ℕ → Observati
         → SeesOnly moment observed old new (ChangesOne log.file (IsBeforeOrAfter log.kind bodies body) (may_leave old) (said old)))
         → OnOk result ((files : Files) (bodies : List (List ℕ)) → reads old ≡ Some files → IsAtRest log bodies files (may_leave old) → IsAppended log grown bodies body files (reads new) (may_leave new))
         → OnOk result (grown ≡ with_entry log body) → Follows (SameBut log.file) (may_leave old) (may_leave new) → said new ≡ said old
-        → Gains moment observed said reads may_leave result c d old new
+        → GainsAs moment observed said reads may_leave result Was Now old new
     gained seen_now moments ok is follows same =
-        let sees : SeesOnly moment observed old new (ShowsEither c d (said old)) =
-        sees_weaker moment observed old new (ChangesOne log.file (IsBeforeOrAfter log.kind opened.bodies body) (may_leave old) (said old)) (ShowsEither c d (said old)) meanwhile
+        let sees : SeesOnly moment observed old new (ShowsAs Was Now (said old)) =
+        sees_weaker moment observed old new (ChangesOne log.file (IsBeforeOrAfter log.kind opened.bodies body) (may_leave old) (said old)) (ShowsAs Was Now (said old)) meanwhile
         (moments rests.files opened.bodies rests.are opened.rest) in
         record {
           ok = on_both result _ _ _ (λ goes grew. rests_grown
@@ -166,14 +158,19 @@ module _ {T H : Type 0} (moment : H → ℕ) (observed : H → ℕ → Observati
 
 -- ---- which entries a store may gain
 
+-- where all other files keep their logs, those that a layout names do
+pub named_keep : (Becomes : ℕ → List (List ℕ) → List ℕ → List ℕ → Type 0) (Kept : ℕ → Type 0) (file kind : ℕ) (body : List ℕ) (old new : Files)
+    → IsAppend Becomes (λ n. Unit {0}) file kind body old new → IsAppend Becomes Kept file kind body old new
+named_keep Becomes Kept file kind body old new a = record { bodies = a.bodies; was = a.was; is = a.is; others = λ n kept other. a.others n tt other }
+
 pub prepared_grows : (c : Contents) (n : ℕ) (entry : Prepared) (log : LogState) (body : List ℕ) → IsNodeLog c n log → MayPrepare c n entry → body ≡ prepared_bytes entry
     → Grows c (with_prepared n entry c) log.file log.kind body
 prepared_grows c n entry log body of may is =
     subst (λ (f : ℕ). Grows c (with_prepared n entry c) f log.kind body) (sym of.file)
     (subst (λ (k : ℕ). Grows c (with_prepared n entry c) (file_of c.setting n) k body) (sym of.kind)
     (subst (λ (b : List ℕ). Grows c (with_prepared n entry c) (file_of c.setting n) prepared_kind b) (sym is) (record {
-      meanwhile = λ old new good gains. while_prepared old new c n entry good may gains;
-      grown = λ old new good gains. (after_prepared old new c n entry good may gains).0;
+      meanwhile = λ old new good gains. while_prepared old new c n entry good may (named_keep IsBeforeOrAfter _ (file_of c.setting n) prepared_kind (prepared_bytes entry) old new gains);
+      grown = λ old new good gains. (after_prepared old new c n entry good may (named_keep WithOne _ (file_of c.setting n) prepared_kind (prepared_bytes entry) old new gains)).0;
     })))
 
 pub commit_grows : (c : Contents) (commit : Commit) (log : LogState) (body : List ℕ) → IsChiefLog c log → MayCommit c commit → body ≡ commit_bytes commit
@@ -182,6 +179,6 @@ commit_grows c commit log body of may is =
     subst (λ (f : ℕ). Grows c (with_commit commit c) f log.kind body) (sym of.file)
     (subst (λ (k : ℕ). Grows c (with_commit commit c) (chief_of c.setting) k body) (sym of.kind)
     (subst (λ (b : List ℕ). Grows c (with_commit commit c) (chief_of c.setting) commits_kind b) (sym is) (record {
-      meanwhile = λ old new good gains. while_committed old new c commit good may gains;
-      grown = λ old new good gains. (after_commit old new c commit good may gains).0;
+      meanwhile = λ old new good gains. while_committed old new c commit good may (named_keep IsBeforeOrAfter _ (chief_of c.setting) commits_kind (commit_bytes commit) old new gains);
+      grown = λ old new good gains. (after_commit old new c commit good may (named_keep WithOne _ (chief_of c.setting) commits_kind (commit_bytes commit) old new gains)).0;
     })))

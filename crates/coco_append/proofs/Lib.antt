@@ -1,1 +1,3 @@
 pub mod GainLemmas
+pub mod PastLemmas
+pub mod SwitchLemmas

@@ -2,20 +2,33 @@
 use Rattle.std.specs.Prelude.{◌≡◌, ◌⊎◌, ℕ, List, Option, Some, Result, OnOk, IfSome}
 use Rattle.coco_host.specs.Files.{Files}
 use Rattle.coco_host.specs.Moments.{Observation, SeesOnly}
-use Rattle.coco_log.specs.declared.fault.LogFault.{LogFault}
 use Rattle.coco_log.specs.LogState.{LogState, IsOpened}
 use Rattle.coco_store.specs.Contents.{Contents, IsGoodStore, chief_of, file_of}
 use Rattle.coco_store.specs.Entries.{commits_kind, prepared_kind}
-use Rattle.coco_store.specs.Laws.{GainsOne, MayGainOne}
+use Rattle.coco_store.specs.Laws.{GainsEntry, KeepAllLogs, MayGainEntry}
+
+-- ---- which files
+
+-- those of a good store with these contents
+abbrev pub HasStore : Contents → Files → Type 0
+HasStore c files = IsGoodStore files c
+
+-- those that keep the logs of some that a crash might have left
+abbrev pub HasLogsOf : (Files → Type 0) → Files → Type 0
+HasLogsOf may_leave files = (before : Files) × may_leave before × KeepAllLogs before files
 
 -- ---- before
 
--- a host rests on contents: its files read as a good store with them, and so does all that a crash may leave
-pub record RestsOn (c : Contents) (reads : Option Files) (may_leave : Files → Type 0) : Type 0 where
+-- a host rests on such files: they read so, and so does all that a crash may leave
+pub record RestsAs (Such : Files → Type 0) (reads : Option Files) (may_leave : Files → Type 0) : Type 0 where
   pub files : Files
   pub are : reads ≡ Some files
-  pub good : IsGoodStore files c
-  pub left : (image : Files) → may_leave image → IsGoodStore image c
+  pub good : Such files
+  pub left : (image : Files) → may_leave image → Such image
+
+-- on contents, where they are those of a good store with them
+abbrev pub RestsOn : Contents → Option Files → (Files → Type 0) → Type 0
+RestsOn c = RestsAs (HasStore c)
 
 -- a log stands in its file: it has the entries that the file reads as, where the host tells that, and a crash leaves the file so
 abbrev pub Stands : LogState → Option Files → (Files → Type 0) → Type 0
@@ -33,27 +46,34 @@ pub record IsChiefLog (c : Contents) (log : LogState) : Type 0 where
 
 -- ---- meanwhile
 
--- one contents or the other
-abbrev pub IsEither : Contents → Contents → Files → Type 0
-IsEither before after files = IsGoodStore files before ⊎ IsGoodStore files after
-
--- seen at a moment: a good store with the contents of before or those of after, and no more said
-pub record ShowsEither (before after : Contents) (bytes : Option (List ℕ)) (seen : Observation) : Type 0 where
-  pub store : IsEither before after seen.image
+-- seen at a moment: such files or such ones, and no more said
+pub record ShowsAs (Was Now : Files → Type 0) (bytes : Option (List ℕ)) (seen : Observation) : Type 0 where
+  pub store : Was seen.image ⊎ Now seen.image
   pub said : bytes ≡ Some seen.said
 
--- a good store with the contents of before becomes one with those of after by an entry more in a file, and is one or the other while that is appended
-pub record Grows (before after : Contents) (file kind : ℕ) (body : List ℕ) : Type 0 where
-  pub meanwhile : (old new : Files) → IsGoodStore old before → MayGainOne before.setting.entry file kind body old new → IsEither before after new
-  pub grown : (old new : Files) → IsGoodStore old before → GainsOne before.setting.entry file kind body old new → IsGoodStore new after
+-- a good store with the contents of before or those of after
+abbrev pub ShowsEither : Contents → Contents → Option (List ℕ) → Observation → Type 0
+ShowsEither before after = ShowsAs (HasStore before) (HasStore after)
+
+-- such files become such ones by an entry more in one, and are the one or the other while that is appended
+pub record GrowsAs (Was Now : Files → Type 0) (file kind : ℕ) (body : List ℕ) : Type 0 where
+  pub meanwhile : (old new : Files) → Was old → MayGainEntry file kind body old new → Was new ⊎ Now new
+  pub grown : (old new : Files) → Was old → GainsEntry file kind body old new → Now new
+
+abbrev pub Grows : Contents → Contents → ℕ → ℕ → List ℕ → Type 0
+Grows before after = GrowsAs (HasStore before) (HasStore after)
 
 -- ---- after
 
--- a host that rested on the contents of before rests on those of after, where the call succeeded. At each moment of it, and behind it whatever
--- it answered, all that a crash may leave has the one or the other
-pub record Gains {T H : Type 0} (moment : H → ℕ) (observed : H → ℕ → Observation → Type 0) (said : H → Option (List ℕ)) (reads : H → Option Files) (may_leave : H → Files → Type 0)
-    (result : Result T LogFault) (before after : Contents) (old new : H) : Type 0 where
-  pub ok : OnOk result (RestsOn after (reads new) (may_leave new))
-  pub moments : SeesOnly moment observed old new (ShowsEither before after (said old))
+-- a host that rested on such files rests on such ones, where the call succeeded. At each moment of it, and behind it whatever it answered,
+-- all that a crash may leave is the one or the other
+pub record GainsAs {T E H : Type 0} (moment : H → ℕ) (observed : H → ℕ → Observation → Type 0) (said : H → Option (List ℕ)) (reads : H → Option Files) (may_leave : H → Files → Type 0)
+    (result : Result T E) (Was Now : Files → Type 0) (old new : H) : Type 0 where
+  pub ok : OnOk result (RestsAs Now (reads new) (may_leave new))
+  pub moments : SeesOnly moment observed old new (ShowsAs Was Now (said old))
   -- where the host tells what it said
-  pub left : (bytes : List ℕ) → said old ≡ Some bytes → (image : Files) → may_leave new image → IsEither before after image
+  pub left : (bytes : List ℕ) → said old ≡ Some bytes → (image : Files) → may_leave new image → Was image ⊎ Now image
+
+-- one that rested on the contents of before rests on those of after
+abbrev pub Gains : {T E H : Type 0} → (H → ℕ) → (H → ℕ → Observation → Type 0) → (H → Option (List ℕ)) → (H → Option Files) → (H → Files → Type 0) → Result T E → Contents → Contents → H → H → Type 0
+Gains moment observed said reads may_leave result before after = GainsAs moment observed said reads may_leave result (HasStore before) (HasStore after)

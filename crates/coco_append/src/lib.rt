@@ -1,6 +1,8 @@
-//! The two appends that a store is given while it runs.
+//! The appends that a store is given: a node's prepared entry, a commit entry, and a layout.
 #![tactic(auto)]
 
 mod adding;
+mod layouts;
 
 pub use adding::{add_commit, add_prepared};
+pub use layouts::add_layout;

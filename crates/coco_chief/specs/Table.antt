@@ -98,3 +98,6 @@ reminds core = if core.last == 0 then [] else to_unfinished core.nodes core.fini
 
 abbrev pub has_finished : ℕ → Chief → Bool
 has_finished node core = core.last == 0 || slice_index_or core.finished node false
+
+abbrev pub has_voted : ℕ → Chief → Bool
+has_voted node core = slice_index_or core.voted node false

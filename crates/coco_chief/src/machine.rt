@@ -12,7 +12,7 @@ use coco_types::NoMemory;
 use std::alloc::Global;
 
 /// Where the epoch that was begun last stands.
-#[derive(Clone, Copy, Debug, PartialEq, Eq)]
+#[derive(Clone, Copy, PartialEq, Eq)]
 pub enum Phase {
     /// It is decided, or there is none.
     Rest,
@@ -21,7 +21,7 @@ pub enum Phase {
 }
 
 /// The coordinator's core. An epoch of 0 is none.
-#[derive(Debug, Drop)]
+#[derive(Drop)]
 pub struct ChiefCore {
     nodes: u8,
     committed: Vec<Range>,
@@ -40,7 +40,7 @@ pub struct ChiefCore {
 impl ChiefCore {
     ghost use Rattle.coco_chief.specs.declared.machine.Phase.TheVariants.{Voting, Forcing, Rest as Still};
     ghost use Rattle.coco_chief.specs.Shown.{chief_of};
-    ghost use Rattle.coco_chief.specs.Table.{restarted, begun, aborted, forced, on_vote, on_finished, on_query, counts, on_message, handled, reminds, has_finished};
+    ghost use Rattle.coco_chief.specs.Table.{restarted, begun, aborted, forced, on_vote, on_finished, on_query, counts, on_message, handled, reminds, has_finished, has_voted};
 
     /// The core for so many nodes, with these epochs in its durable entries.
     pub fn restart(alloc: Global, nodes: u8, committed: Vec<u64>) -> Result<ChiefCore, NoMemory>
@@ -210,6 +210,13 @@ impl ChiefCore {
         ensures { result ≡ has_finished node (chief_of self.now) }
     {
         self.last == 0 || is_up(&self.finished, node)
+    }
+
+    /// Whether a node's yes to the epoch that was begun last was counted.
+    pub fn has_voted(&self, node: u8) -> bool
+        ensures { result ≡ has_voted node (chief_of self.now) }
+    {
+        is_up(&self.voted, node)
     }
 
     /// The epoch that was begun last, 0 where there is none.

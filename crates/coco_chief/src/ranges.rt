@@ -9,7 +9,7 @@ use coco_types::NoMemory;
 use std::alloc::Global;
 
 /// Epochs that follow one another.
-#[derive(Clone, Copy, Debug, PartialEq, Eq)]
+#[derive(Clone, Copy)]
 pub struct Range {
     pub first: u64,
     pub last: u64,

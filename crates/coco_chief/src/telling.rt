@@ -11,7 +11,7 @@ use coco_types::NoMemory;
 use std::alloc::Global;
 
 /// What the coordinator tells all nodes of an epoch.
-#[derive(Clone, Copy, Debug, PartialEq, Eq)]
+#[derive(Clone, Copy)]
 pub enum Word {
     Prepare,
     Commit,

@@ -7,9 +7,8 @@ use Rattle.coco_host.specs.Moments.{Observation}
 use Rattle.coco_entry.specs.declared.prepared.Row.{Row}
 use Rattle.coco_log.specs.declared.fault.LogFault.{LogFault}
 use Rattle.coco_log.specs.LogState.{LogState, with_entry}
-use Rattle.coco_log.proofs.OnlyRead.{sees_then}
+use Rattle.coco_log.proofs.OnlyRead.{sees_then, sees_weaker}
 use Rattle.coco_append.specs.Gaining.{Gains, ShowsEither}
-use Rattle.coco_append.proofs.GainLemmas.{sees_weaker}
 use Rattle.coco_store.specs.Contents.{Contents}
 use Rattle.coco_cluster.specs.Storing.{ShowsOneOf, Stores, with_epoch, with_rows}
 

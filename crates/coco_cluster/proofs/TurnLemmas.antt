@@ -17,7 +17,6 @@ use Rattle.coco_ast.specs.Keyed.{Rows}
 use Rattle.coco_ast.proofs.KeptLemmas.{follows}
 use Rattle.coco_ast.proofs.Lists.{all_append, all_map, all_weaker}
 use Rattle.coco_append.specs.Gaining.{RestsOn}
-use Rattle.coco_append.proofs.GainLemmas.{sees_weaker}
 use Rattle.coco_commits.specs.EpochEntries.{AreRun, HasRunReady, IsNextIn, MayPrepareRun, MayRun, pieces_in}
 use Rattle.coco_bytes.specs.Lists.{FitInTurn}
 use Rattle.coco_entry.specs.Commits.{IsCommit}
@@ -47,6 +46,7 @@ use Rattle.coco_cluster.specs.declared.fault.TurnFault.{TurnFault}
 use Rattle.coco_cluster.proofs.KeepLemmas.{as_many, floor_now, keeps_on, kept_now, may_follow, same_kept}
 use Rattle.coco_cluster.proofs.MapLemmas.{given_back}
 use Rattle.coco_cluster.proofs.StoreLemmas.{at_ok, no_ok}
+use Rattle.coco_log.proofs.OnlyRead.{sees_weaker}
 
 -- the history of contents with a commit entry more
 history_grows : (c : Contents) (commit : Commit) → history_of (with_commit commit c) ≡ followed_by (history_of c) (epoch_of commit)

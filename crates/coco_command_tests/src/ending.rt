@@ -14,12 +14,14 @@ const LEX: LexError = LexError {
     kind: LexKind::WideNumber,
 };
 
-const PARSE: ParseError = ParseError {
+/// Of `proc f() { refuse 1 }`.
+pub const PARSE: ParseError = ParseError {
     at: 20,
     kind: ParseKind::Unexpected,
 };
 
-const CHECK: CheckError = CheckError {
+/// Of `proc f() { let x = 1; }`.
+pub const CHECK: CheckError = CheckError {
     item: 1,
     statement: 0,
     kind: CheckKind::NoReply,

@@ -1,9 +1,18 @@
-//! Tests of the endings of a call, and of the commands `init` and `migrate` on hosts in memory. There is nothing else here.
+//! Tests of turns of the cluster, of the endings of a call, and of the commands on hosts in memory. There is nothing else
+//! here.
 #![tactic(auto)]
 
+#[cfg(test)]
+mod calls;
 #[cfg(test)]
 mod ending;
 #[cfg(test)]
 mod init;
 #[cfg(test)]
+mod made;
+#[cfg(test)]
 mod migrate;
+#[cfg(test)]
+mod tells;
+#[cfg(test)]
+mod turns;

@@ -3,14 +3,11 @@
 ghost use Rattle.std.specs.Prelude.{◌<◌, ◌≤◌};
 ghost use Rattle.coco_types.specs.Limits.{most_batch_lines, most_keep};
 
+use coco_commands::{RunBounds, migrate, recover, run};
 use coco_ending::Ending;
 use coco_gate::OpenGate;
 use coco_host::{FuseHost, Host, MemoryHost};
 use coco_io::MemorySource;
-use coco_migrate::migrate;
-use coco_recover::recover;
-use coco_run::run;
-use coco_serve::RunBounds;
 use std::alloc::Global;
 use std::sync::Wait;
 use std::test::Fail;

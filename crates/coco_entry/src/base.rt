@@ -21,6 +21,11 @@ use std::alloc::Global;
 /// The most items of one entry of a base file.
 pub const MOST_ITEMS: u32 = 1_024;
 
+/// How many, in numbers.
+pub fn limits()
+    ensures { MOST_ITEMS ≡ 1024 }
+{}
+
 /// What a base file begins with: its epoch, the floor of the forgotten ids, and how many Dones and rows follow.
 #[derive(Clone, Copy, Debug, PartialEq, Eq)]
 pub struct BaseHead {

@@ -1,5 +1,9 @@
 //! Epochs of two calls of built-in procedures, run by one worker alone on two shards without rows.
 
+ghost use Rattle.std.specs.Prelude.{◌≤◌, length, map, nat_eq, IfOk};
+ghost use Rattle.std.specs.List.{IsDistinct};
+ghost use Rattle.coco_epoch.specs.Running.{FitAll};
+
 use crate::made::{GET, Line, PUT, Work, answers, are_pieces, two_shards, work_of};
 use coco_epoch::promote_all;
 use coco_gate::OpenGate;
@@ -7,6 +11,7 @@ use coco_net::QuietNet;
 use coco_parallel::epoch::{EpochDone, run_epoch};
 use coco_parallel::rooms::Rooms;
 use coco_shard::Shard;
+use coco_types::limits::MOST_BATCH_LINES;
 use coco_types::{Done, Key, NoMemory, Value};
 use coco_worker::EpochConfig;
 use std::alloc::Global;
@@ -72,23 +77,31 @@ const ALONE: EpochConfig = EpochConfig {
     copies: 0,
 };
 
-// What the two calls of a case come to.
+// The two calls of a case, of ids 1 and 2.
+fn two_calls(alloc: Global, case: &Case<'_>) -> Result<Work, Fail>
+    ensures few { IfOk result (λ work. length work.requests.items ≤ MOST_BATCH_LINES) }
+    ensures distinct { IfOk result (λ work. IsDistinct nat_eq (map (λ r. r.id) work.requests.items)) }
+    ensures fit { IfOk result (λ work. FitAll work.procs work.requests.items) }
+{
+    work_of(alloc, &[(1, case.first), (2, case.second)])
+}
+
+// What they come to.
 fn ran<R: Threads + Wait + Sync>(
     rt: &R,
     alloc: Global,
     case: &Case<'_>,
 ) -> Result<EpochDone, Fail> {
-    let Work {
-        procs,
-        mut requests,
-    } = work_of(alloc, &[(1, case.first), (2, case.second)])?;
+    let mut work = two_calls(alloc, case)?;
+    let shards = two_shards(alloc)?;
+    let requests = work.requests.as_mut_slice();
     match run_epoch(
         rt,
         alloc,
-        two_shards(alloc)?,
+        shards,
         Vec::new(alloc),
-        &procs,
-        requests.as_mut_slice(),
+        &work.procs,
+        requests,
         ALONE,
         &OpenGate,
         &QuietNet::new(alloc),

@@ -1,5 +1,6 @@
 mod Crashing
 mod Cutting
+mod Entering
 mod Events
 mod Keeping
 mod Places

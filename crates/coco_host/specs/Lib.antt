@@ -1,4 +1,5 @@
 pub mod Crash
+pub mod FileCalls
 pub mod Files
 pub mod HostState
 pub mod Moments

@@ -1,19 +1,17 @@
 //! The files of a folder of the machine.
-ghost use Rattle.std.specs.Prelude.{◌≡◌, ◌+◌, ◌<◌, ◌≤◌, length, IfOk, OnOk};
+ghost use Rattle.std.specs.Prelude.{◌≡◌, ◌+◌, ◌<◌, ◌≤◌, [], length, string_bytes, IfOk, OnOk};
+ghost use Rattle.coco_types.specs.Limits.{files_end};
+ghost use Rattle.coco_host.specs.FileCalls.{Finds, IsReadBy, IsSyncedBy, Makes, Notes};
+ghost use Rattle.coco_host.specs.declared.opened.FileCall.TheVariants.{Entered};
 
+use crate::opened::{FileCall, Opened, place_of, sync_all};
+use coco_io::told::Told;
 use coco_types::limits::FILES_END;
 use std::fs::{self, File, Metadata, OpenFile, OpenOptions};
 use std::io::{self, ErrorKind};
+use std::marker::Model;
 use std::os::fd::AsRawFd;
 use std::os::unix::fs::{FileExt, MetadataExt};
-
-// An open file, and whether its entry in the folder is known to be durable.
-#[derive(Drop)]
-struct Opened {
-    number: u32,
-    file: File,
-    is_entered: bool,
-}
 
 /// A folder of the machine and its open files. The folder is locked from the first use of a file on, or
 /// from the moment that it is made. A folder that another program makes in between, or in its place, is
@@ -25,12 +23,24 @@ pub struct Folder {
     held: Option<File>,
     was_absent: bool,
     files: Vec<Opened>,
+    calls: Told<FileCall>,
+}
+
+impl Model for Folder {
+    ghost use Rattle.std.specs.Prelude.{string_bytes};
+    ghost use Rattle.coco_host.specs.FileCalls.{FolderState, HaveEntered};
+
+    ghost Value = { FolderState };
+
+    ghost view = { λ f. record { name = string_bytes f.name; files = f.files.items; calls = f.calls.items } };
+
+    ghost invariant = { λ f. HaveEntered f.calls.items f.files.items };
 }
 
 impl Folder {
     /// The folder of this name. Nothing is opened yet.
     pub fn new(rt: HostRuntime, name: String) -> Folder
-        ensures { result.name ≡ name }
+        ensures { result ≡ record { name = string_bytes name; files = []; calls = [] } }
     {
         Folder {
             rt,
@@ -38,24 +48,26 @@ impl Folder {
             held: None,
             was_absent: false,
             files: Vec::new(rt.alloc()),
+            calls: Told::new(),
         }
     }
 
     /// The length of a file, 0 where it isn't there.
     pub fn len(&mut self, number: u32) -> io::Result<u64> {
         match self.find(number)? {
-            Some(place) if place < self.files.len() => Ok(self.files[place].file.metadata()?.len()),
-            _ => Ok(0),
+            Some(place) => Ok(self.files[place].file.metadata()?.len()),
+            None => Ok(0),
         }
     }
 
     /// Reads as many bytes as fit and are there.
     pub fn read_at(&mut self, number: u32, at: u64, into: &mut [u8]) -> io::Result<usize>
-        ensures { IfOk result (λ k. k ≤ length into.old) }
+        ensures count { IfOk result (λ k. k ≤ length into.old) }
+        ensures end { IfOk result (λ k. at < files_end → IsReadBy number at (length into.old) k self.old.calls self.new.calls) }
     {
         match self.find(number)? {
-            Some(place) if place < self.files.len() && at < FILES_END => {
-                read_all(&self.files[place].file, at, into)
+            Some(place) if at < FILES_END => {
+                self.files[place].read_all(&mut self.calls, at, into)
             }
             _ => Ok(0),
         }
@@ -72,36 +84,33 @@ impl Folder {
             Some(place) => place,
             None => self.make(number)?,
         };
-        match self.files.get(place) {
-            Some(opened) => opened.file.write_all_at(from, at),
-            None => Err(ErrorKind::NotFound.into()),
-        }
+        self.files[place].file.write_all_at(from, at)
     }
 
     /// Syncs a file, and before the first time the folder's entry for it and the folder's own.
-    pub fn sync(&mut self, number: u32) -> io::Result<()> {
+    pub fn sync(&mut self, number: u32) -> io::Result<()>
+        ensures { OnOk result (IsSyncedBy number self.old.calls self.new.calls) }
+    {
         let Some(place) = self.find(number)? else {
             return Ok(());
         };
-        let Some(opened) = self.files.get(place) else {
-            return Ok(());
-        };
-        sync_all(&opened.file)?;
-        if !opened.is_entered {
-            self.enter()?;
-            if place < self.files.len() {
-                self.files[place].is_entered = true;
-            }
+        self.files[place].sync(&mut self.calls)?;
+        if !self.files[place].is_entered {
+            self.enter(number)?;
+            self.files[place].is_entered = true;
         }
         Ok(())
     }
 
     // The place of a file among those that are open, none where it isn't there.
-    fn find(&mut self, number: u32) -> io::Result<Option<usize>> {
-        if let Some(place) = self.files.iter().position(|opened| opened.number == number) {
+    fn find(&mut self, number: u32) -> io::Result<Option<usize>>
+        ensures { Finds number result self.old self.new }
+    {
+        if let Some(place) = place_of(&self.files, number) {
             return Ok(Some(place));
         }
         if !self.hold()? {
+            self.calls.add(&[FileCall::Absent(number)]);
             return Ok(None);
         }
         let path = format!(in self.rt.alloc(); "{}/{number}.coco", self.name.as_str())?;
@@ -111,13 +120,18 @@ impl Folder {
             .open(&self.rt, path.as_str())
         {
             Ok(file) => Ok(Some(self.keep(number, file)?)),
-            Err(error) if error.kind() == ErrorKind::NotFound => Ok(None),
+            Err(error) if error.kind() == ErrorKind::NotFound => {
+                self.calls.add(&[FileCall::Absent(number)]);
+                Ok(None)
+            }
             Err(error) => Err(error),
         }
     }
 
     // Makes a file, and the folder where it isn't there.
-    fn make(&mut self, number: u32) -> io::Result<usize> {
+    fn make(&mut self, number: u32) -> io::Result<usize>
+        ensures { Makes number result self.old self.new }
+    {
         if !self.hold()? {
             fs::create_dir(&self.rt, self.name.as_str())?;
             let folder = File::open(&self.rt, self.name.as_str())?;
@@ -134,7 +148,9 @@ impl Folder {
     }
 
     // Locks the folder, and says whether it is there.
-    fn hold(&mut self) -> io::Result<bool> {
+    fn hold(&mut self) -> io::Result<bool>
+        ensures { self.new ≡ self.old }
+    {
         if self.held.is_some() {
             return Ok(true);
         }
@@ -154,7 +170,9 @@ impl Folder {
     }
 
     // Locks the folder for as long as this value lives.
-    fn lock(&mut self, folder: File) -> io::Result<()> {
+    fn lock(&mut self, folder: File) -> io::Result<()>
+        ensures { self.new ≡ self.old }
+    {
         let folder = above_streams(folder)?;
         folder.try_lock()?;
         self.held = Some(folder);
@@ -162,7 +180,9 @@ impl Folder {
     }
 
     // Keeps an open file, and answers its place.
-    fn keep(&mut self, number: u32, file: File) -> io::Result<usize> {
+    fn keep(&mut self, number: u32, file: File) -> io::Result<usize>
+        ensures { Makes number result self.old self.new }
+    {
         self.expect_same()?;
         let place = self.files.len();
         self.files.push(Opened {
@@ -182,13 +202,18 @@ impl Folder {
         }
     }
 
-    // Makes the entries of the folder durable, and its own in the folder above.
-    fn enter(&mut self) -> io::Result<()> {
+    // Makes the entries of the folder durable, and its own in the folder above, for this file's sake.
+    fn enter(&mut self, number: u32) -> io::Result<()>
+        ensures files { self.new.files ≡ self.old.files }
+        ensures noted { Notes (Entered number) result self.old.calls self.new.calls }
+    {
         if let Some(folder) = &self.held {
             sync_all(folder)?;
         }
         let above = format!(in self.rt.alloc(); "{}/..", self.name.as_str())?;
-        sync_all(&File::open(&self.rt, above.as_str())?)
+        sync_all(&File::open(&self.rt, above.as_str())?)?;
+        self.calls.add(&[FileCall::Entered(number)]);
+        Ok(())
     }
 }
 
@@ -203,34 +228,4 @@ fn above_streams(file: File) -> io::Result<File> {
     } else {
         Ok(file)
     }
-}
-
-// Syncs a file. A call that a signal cut short is made again.
-fn sync_all(file: &File) -> io::Result<()> {
-    for _ in 0..u64::MAX {
-        match file.sync_all() {
-            Err(error) if error.kind() == ErrorKind::Interrupted => {}
-            answer => return answer,
-        }
-    }
-    Err(ErrorKind::Interrupted.into())
-}
-
-// Reads from a place on until the buffer is full or the file ends. Short reads go on.
-fn read_all(file: &File, at: u64, into: &mut [u8]) -> io::Result<usize>
-    ensures { IfOk result (λ k. k ≤ length into.old) }
-{
-    let mut done = 0;
-    'reading: for _ in 0..u64::MAX {
-        if done >= into.len() {
-            break 'reading;
-        }
-        match file.read_at(&mut into[done..], at.wrapping_add(done as u64)) {
-            Ok(0) => break 'reading,
-            Ok(count) => done += count,
-            Err(error) if error.kind() == ErrorKind::Interrupted => {}
-            Err(error) => return Err(error),
-        }
-    }
-    Ok(done)
 }

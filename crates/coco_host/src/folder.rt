@@ -1,8 +1,10 @@
 //! The host over a folder of the machine, with a writer as its reply stream.
-ghost use Rattle.std.specs.Prelude.{◌≡◌, None, Ok, IfOk, string_bytes};
+ghost use Rattle.std.specs.Prelude.{◌≡◌, ◌<◌, ◌≤◌, length, None, Ok, IfOk, OnOk};
 ghost use Rattle.coco_io.specs.Counts.{CountsRead};
 ghost use Rattle.std.proofs.Common.{subst};
+ghost use Rattle.coco_host.specs.FileCalls.{IsReadBy, IsSyncedBy};
 ghost use Rattle.coco_host.specs.Moments.{IsUntold};
+ghost use Rattle.coco_types.specs.Limits.{files_end};
 
 use crate::Host;
 use crate::files::Folder;
@@ -24,7 +26,7 @@ pub struct FolderHost<W> {
 impl<W: SteadyWrite + Drop> FolderHost<W> {
     /// The host over the folder of this name, which says its replies to this writer.
     pub fn new(rt: HostRuntime, folder: &str, replies: W) -> Result<FolderHost<W>, NoMemory>
-        ensures folder { IfOk result (λ host. string_bytes host.folder.name ≡ folder.now) }
+        ensures folder { IfOk result (λ host. host.folder.name ≡ folder.now) }
         ensures said { IfOk result (λ host. ⟦<FolderHost<W> as Host>⟧.said host ≡ W.contents replies) }
         ensures say_faults { IfOk result (λ host. ⟦<FolderHost<W> as Host>⟧.say_faults host ≡ 0) }
         ensures disk_faults { IfOk result (λ host. ⟦<FolderHost<W> as Host>⟧.disk_faults host ≡ 0) }
@@ -73,12 +75,19 @@ impl<W: SteadyWrite + Drop> Host for FolderHost<W> {
 
     ghost reads_left = { λ _ _ is. subst IsUntold is tt };
 
+    ghost tells_both = { λ _ _ is. absurd (subst IsUntold is tt) };
+
     fn len(&mut self, file: u32) -> Result<u64, Failed> {
         let answer = self.folder.len(file);
         self.counted(answer)
     }
 
-    fn read_at(&mut self, file: u32, at: u64, into: &mut [u8]) -> Result<usize, Failed> {
+    fn read_at(&mut self, file: u32, at: u64, into: &mut [u8]) -> Result<usize, Failed>
+        ensures count { IfOk result (λ k. k ≤ length into.old) }
+        ensures counts { CountsRead result self.old.disk_faults self.new.disk_faults }
+        ensures rest { self.new ≡ record self.old { folder = self.new.folder; disk_faults = self.new.disk_faults } }
+        ensures end { IfOk result (λ k. at < files_end → IsReadBy file at (length into.old) k self.old.folder.calls self.new.folder.calls) }
+    {
         let answer = self.folder.read_at(file, at, into);
         self.counted(answer)
     }
@@ -91,7 +100,11 @@ impl<W: SteadyWrite + Drop> Host for FolderHost<W> {
         }
     }
 
-    fn sync(&mut self, file: u32) -> Result<(), Failed> {
+    fn sync(&mut self, file: u32) -> Result<(), Failed>
+        ensures counts { CountsRead result self.old.disk_faults self.new.disk_faults }
+        ensures rest { self.new ≡ record self.old { folder = self.new.folder; disk_faults = self.new.disk_faults } }
+        ensures synced { OnOk result (IsSyncedBy file self.old.folder.calls self.new.folder.calls) }
+    {
         let answer = self.folder.sync(file);
         self.counted(answer)
     }

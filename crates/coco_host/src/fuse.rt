@@ -1,5 +1,5 @@
 //! A host in memory that stops after so many writes and syncs.
-ghost use Rattle.std.specs.Prelude.{◌≡◌, Some, length};
+ghost use Rattle.std.specs.Prelude.{◌≡◌, refl, Some, length};
 ghost use Rattle.coco_host.specs.Record.{said_of, files_of, MayLeave, SeenSince, seen_now, only_now, reads_left};
 
 use crate::{Host, MemoryHost};
@@ -49,6 +49,8 @@ impl Host for FuseHost {
     ghost only_now = { λ h seen since. only_now h.inner.events seen since };
 
     ghost reads_left = { λ h files are. reads_left h.inner.events files are };
+
+    ghost tells_both = { λ _ _ _. refl };
 
     fn len(&mut self, file: u32) -> Result<u64, Failed> {
         if self.passes == 0 {

@@ -1,5 +1,5 @@
 //! What a store stands on, as a trait, and the saying of a whole piece.
-ghost use Rattle.std.specs.Prelude.{◌≡◌, ℕ, ◌+◌, ◌-◌, ◌*◌, ◌<◌, ◌≤◌, min, List, Option, Some, length, take, drop, IfOk, IfSome, OnOk, OnErr, IsErrOf};
+ghost use Rattle.std.specs.Prelude.{◌≡◌, ℕ, ◌+◌, ◌-◌, ◌*◌, ◌<◌, ◌≤◌, min, List, Option, Some, is_some, true, length, take, drop, IfOk, IfSome, OnOk, OnErr, IsErrOf};
 ghost use Rattle.std.specs.Io.KnownBytes.{append_known};
 ghost use Rattle.coco_types.specs.Limits.{files_end};
 ghost use Rattle.coco_io.specs.Counts.{CountsRead, CountsWrite};
@@ -107,6 +107,9 @@ pub trait Host {
 
     /// A crash may leave the files as they read.
     ghost reads_left: { (host : Self) (files : Files) → reads host ≡ Some files → may_leave host files };
+
+    /// A host that tells its files tells what it said, too. So what is seen of it is there to be judged.
+    ghost tells_both: { (host : Self) (files : Files) → reads host ≡ Some files → is_some (said host) ≡ true };
 }
 
 /// Says the whole piece. After an error the front of it was said, maybe nothing. At each moment of it a crash may

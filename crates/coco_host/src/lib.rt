@@ -9,6 +9,7 @@ pub mod fuse;
 mod held;
 pub mod host;
 pub mod memory;
+mod opened;
 mod recorded;
 
 pub use folder::FolderHost;

@@ -1,5 +1,5 @@
 //! A host in memory.
-ghost use Rattle.std.specs.Prelude.{◌≡◌, ◌⊎◌, ℕ, ◌+◌, ◌-◌, ◌<◌, ◌≤◌, min, Some, Option, [], ◌++◌, length, take, drop, MatchBool, IfOk, IfSome, OnOk, OnErr};
+ghost use Rattle.std.specs.Prelude.{◌≡◌, refl, ◌⊎◌, ℕ, ◌+◌, ◌-◌, ◌<◌, ◌≤◌, min, Some, Option, [], ◌++◌, length, take, drop, MatchBool, IfOk, IfSome, OnOk, OnErr};
 ghost use Rattle.coco_io.specs.Counts.{Rose, CountsWrite};
 ghost use Rattle.coco_host.specs.Files.{Files, NoMore};
 ghost use Rattle.coco_host.specs.Moments.{Observation, IsNew, Elapses};
@@ -151,6 +151,8 @@ impl Host for MemoryHost {
     ghost only_now = { λ h seen since. only_now h.events seen since };
 
     ghost reads_left = { λ h files are. reads_left h.events files are };
+
+    ghost tells_both = { λ _ _ _. refl };
 
     fn len(&mut self, file: u32) -> Result<u64, Failed> {
         if self.disk_call_fails() {

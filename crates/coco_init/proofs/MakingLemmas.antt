@@ -10,7 +10,8 @@ use Rattle.coco_lines.specs.Reads.{IsSpent, SourceMoment}
 use Rattle.coco_log.proofs.OnlyRead.{read_then}
 use Rattle.coco_store.specs.Texts.{IsAcceptedText}
 use Rattle.coco_append.specs.Gaining.{RestsOn}
-use Rattle.coco_make.specs.Making.{ChangesOnly, LeavesEmpty, LeavesOnlyLogs, ShowsNewOnly}
+use Rattle.coco_log.specs.Changes.{ChangesOnly}
+use Rattle.coco_make.specs.Making.{LeavesEmpty, LeavesOnlyLogs, ShowsNewOnly}
 use Rattle.coco_make.specs.NewStore.{new_contents}
 use Rattle.coco_ending.specs.declared.ending.Ending.{Ending}
 use Rattle.coco_ending.specs.declared.ending.Ending.TheVariants as ending

@@ -10,6 +10,11 @@ use std::io::{self, ErrorKind, Read, Write};
 /// How often a call that a signal cut short is made in all.
 const TRIES: u32 = 64;
 
+/// How often, in numbers.
+pub fn limits()
+    ensures { TRIES ≡ 64 }
+{}
+
 /// A reader that tells the bytes it has left at every moment, or at none.
 pub trait SteadyRead: Read {
     ghost steady: { (a b : Self) → is_some (Self.remaining a) ≡ is_some (Self.remaining b) };

@@ -1,4 +1,6 @@
 pub mod Appends
+pub mod Changing
+pub mod Drafting
 pub mod OneLog
 pub mod OnlyRead
 mod Others

@@ -1,5 +1,5 @@
 -- A host that is only read and synced, from call to call.
-use Rattle.std.proofs.Common.{◌≡◌, inr, ⊎_elim, ℕ, List, Option, Some, refl, sym, ◌∙◌, arith}
+use Rattle.std.proofs.Common.{◌≡◌, inl, inr, ⊎_elim, ℕ, List, Option, Some, refl, sym, ◌∙◌, arith}
 use Rattle.coco_host.specs.Files.{Files, NoMore}
 use Rattle.coco_host.specs.Moments.{Observation, IsNew, Elapses, SeesOnly}
 use Rattle.coco_host.proofs.Sees.{started, goes_on, said_still}
@@ -13,6 +13,15 @@ module _ {H : Type 0} (moment : H → ℕ) (observed : H → ℕ → Observation
     each = λ seen since. ⊎_elim (one.each seen) (here seen) (two.before (moment first) seen one.later since);
     before = λ t seen le since. ⊎_elim (one.before t seen le) (λ new_one. inr (here seen new_one)) (two.before t seen (omega (arith, le, one.later)) since);
     keeps = λ t seen le since. two.keeps t seen (omega (arith, le, one.later)) (one.keeps t seen le since);
+  }
+
+  -- what is seen so is seen so in fewer words
+  pub sees_weaker : (old new : H) (P Q : Observation → Type 0) → ((seen : Observation) → P seen → Q seen) → SeesOnly moment observed old new P → SeesOnly moment observed old new Q
+  sees_weaker old new P Q f sees = record {
+    later = sees.later;
+    each = λ seen since. f seen (sees.each seen since);
+    before = λ t seen le since. ⊎_elim (λ was. inl was) (λ new_one. inr (f seen new_one)) (sees.before t seen le since);
+    keeps = sees.keeps;
   }
 
 module _ {H : Type 0} (moment : H → ℕ) (observed : H → ℕ → Observation → Type 0) (said : H → Option (List ℕ)) (reads : H → Option Files) (may_leave : H → Files → Type 0)

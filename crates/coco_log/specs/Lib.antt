@@ -1,3 +1,5 @@
+pub mod Changes
+pub mod Drafts
 pub mod Faults
 pub mod Gates
 pub mod Grammar

@@ -93,6 +93,13 @@ pub fn next_gate<H: Host>(
     }
 }
 
+/// The header of a log of this kind.
+pub fn header_of(kind: u8) -> [u8; 8]
+    ensures { result ≡ header kind }
+{
+    [b'C', b'O', b'C', b'O', b'L', b'O', b'G', kind]
+}
+
 /// Refuses a file that doesn't begin as a log of this kind.
 pub fn read_header<H: Host>(host: &mut H, window: &mut Window, kind: u8) -> Result<(), LogFault>
     ensures file { window.new.file ≡ window.old.file }

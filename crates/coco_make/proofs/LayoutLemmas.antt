@@ -7,12 +7,12 @@ use Rattle.coco_log.specs.Grammar.{entry, front, header, IsLog}
 use Rattle.coco_log.specs.LogState.{ChangesOne, IsAppended, IsBeforeOrAfter, IsMade, LogState, SameBut, with_entry, without_entries}
 use Rattle.coco_log.specs.Making.{MakesLog, made_count}
 use Rattle.coco_log.proofs.OneLog.{one_log}
-use Rattle.coco_log.proofs.OnlyRead.{sees_then}
-use Rattle.coco_append.proofs.GainLemmas.{sees_weaker}
+use Rattle.coco_log.proofs.OnlyRead.{sees_then, sees_weaker}
 use Rattle.coco_store.specs.Entries.{layouts_kind}
-use Rattle.coco_make.specs.Making.{ChangesNamed, ChangesOnly, LeavesEmpty}
+use Rattle.coco_log.specs.Changes.{ChangesNamed, ChangesOnly}
+use Rattle.coco_make.specs.Making.{LeavesEmpty}
 use Rattle.coco_make.specs.Steps.{HasLayout, MayHave}
-use Rattle.coco_make.proofs.StepLemmas.{become_wider, besides_one, changes_on}
+use Rattle.coco_log.proofs.Changing.{become_wider, besides_one, changes_on}
 
 -- ---- what the file may be
 

@@ -1,78 +1,69 @@
 -- What the steps of a making come to.
 use Rattle.std.proofs.Common.{◌≡◌, ◌≢◌, ◌⊎◌, inl, inr, ℕ, zero, suc, ◌+◌, ◌<◌, ◌≤◌, ◌==◌, ◌||◌, Bool, true, false, List, [], ◌∷◌, ◌++◌, length, drop, Option, Some, refl, sym, ap, subst, ◌∙◌, arith, append_assoc, length-append}
 use Rattle.std.specs.Prelude.{slice_index}
-use Rattle.std.specs.List.{range_with_len}
 use Rattle.std.proofs.lemmas.Bool.Decides.{nat_tests}
 use Rattle.std.proofs.lemmas.List.{append-nil, drop_all}
-use Rattle.std.proofs.lemmas.List.FromFn.{get_or-range_with_len, length-range_with_len}
 use Rattle.coco_host.specs.Files.{Files, Follows, put}
 use Rattle.coco_host.specs.Moments.{Observation, SeesOnly}
 use Rattle.coco_host.specs.Record.{known}
 use Rattle.coco_ast.specs.Tree.{Procedures}
 use Rattle.coco_entry.specs.declared.layout.Layout.{Layout}
-use Rattle.coco_entry.specs.Layouts.{is_named, layout_bytes}
+use Rattle.coco_entry.specs.Layouts.{HasFields, is_named, layout_bytes}
 use Rattle.coco_log.specs.Grammar.{entry, header, IsLog}
 use Rattle.coco_log.specs.LogState.{ChangesOne}
-use Rattle.coco_log.proofs.OnlyRead.{sees_then}
+use Rattle.coco_log.proofs.OnlyRead.{sees_then, sees_weaker}
 use Rattle.coco_append.specs.Gaining.{RestsOn}
-use Rattle.coco_append.proofs.GainLemmas.{sees_weaker}
 use Rattle.coco_store.specs.Contents.{IsGoodStore}
 use Rattle.coco_store.specs.Entries.{commits_kind, layouts_kind, prepared_kind}
 use Rattle.coco_store.specs.Rules.{IsWithinLimits}
 use Rattle.coco_store.specs.Texts.{IsAcceptedText}
-use Rattle.coco_make.specs.Making.{ChangesNamed, ChangesOnly, IsNewOnceOpen, LeavesEmpty, LeavesOnlyLogs, SameBesides, ShowsNewOnly}
+use Rattle.coco_store.proofs.Naming.{NamesApart, names_apart, unnamed_new}
+use Rattle.coco_log.specs.Changes.{ChangesNamed, ChangesOnly, SameBesides}
+use Rattle.coco_make.specs.Making.{IsNewOnceOpen, LeavesEmpty, LeavesOnlyLogs, ShowsNewOnly}
 use Rattle.coco_make.specs.NewStore.{AreEmptyLogs, AreOnlyNewLogs, IsNewLayout, entry_of, log_bytes, new_contents}
 use Rattle.coco_make.specs.Steps.{HasLayout, HaveEmptyLogs, HaveLogs, MayHave, with_log}
 use Rattle.coco_make.proofs.LayoutLemmas.{no_entry}
-use Rattle.coco_make.proofs.StepLemmas.{changes_wider}
+use Rattle.coco_log.proofs.Changing.{changes_wider}
 use Rattle.coco_make.proofs.StoreLemmas.{new_logs_are_a_store}
 
--- ---- the files of a new layout
+-- ---- the files of a layout
 
 other_file : (file n : ℕ) → file ≢ n → is_named (file ∷ []) n ≡ false
 other_file file n other = let off : (file == n) ≡ false = grind (arith, nat_tests) in ap (λ (b : Bool). b || false) off
-
-unnamed_below : (at n f : ℕ) → f < at → is_named (range_with_len at n) f ≡ false
-unnamed_below at zero f less = refl
-unnamed_below at (suc n) f less =
-    let off : (at == f) ≡ false = grind (arith, nat_tests) in
-    ap (λ (b : Bool). b || is_named (range_with_len (at + 1) n) f) off ∙ unnamed_below (at + 1) n f (omega (arith, less))
 
 neither : (a b : Bool) → a || b ≡ false → (a ≡ false) × (b ≡ false)
 neither true b e = let no : true ≡ false = e in cc
 neither false b e = (refl, e)
 
-module _ (layout : Layout) (is : IsNewLayout layout) where
-  chief_is : layout.chief_file ≡ 1
-  chief_is = ap (λ (l : Layout). l.chief_file) is
+chief_named : (chief : ℕ) → is_named (0 ∷ chief ∷ []) chief ≡ true
+chief_named chief = let on : (chief == chief) ≡ true = grind (arith, nat_tests) in either (0 == chief) _ (ap (λ (b : Bool). b || false) on)
+  where
+    either : (a b : Bool) → b ≡ true → a || b ≡ true
+    either true b e = refl
+    either false b e = e
 
-  files_are : layout.node_files ≡ range_with_len 2 layout.nodes
-  files_are = ap (λ (l : Layout). l.node_files) is
-
-  file_count : length layout.node_files ≡ layout.nodes
-  file_count = ap length files_are ∙ length-range_with_len 2 layout.nodes
-
-  node_is : (n : ℕ) → n < layout.nodes → slice_index layout.node_files n ≡ 2 + n
-  node_is n less = ap (λ (l : List ℕ). slice_index l n) files_are ∙ get_or-range_with_len 2 layout.nodes n 0 less
+module _ (layout : Layout) (fields : HasFields layout) where
+  distinct : NamesApart (entry_of layout)
+  distinct = names_apart (entry_of layout) (record { fields = fields; later = tt })
 
   -- the coordinator's file is no node's
   chief_apart : is_named layout.node_files layout.chief_file ≡ false
-  chief_apart = ap (λ (l : List ℕ). is_named l layout.chief_file) files_are ∙ unnamed_below 2 layout.nodes layout.chief_file (omega (arith, chief_is))
+  chief_apart = unnamed_new (0 ∷ layout.chief_file ∷ []) layout.node_files layout.chief_file fields.files (chief_named layout.chief_file)
 
   node_apart : (n : ℕ) → n < layout.nodes → is_named (layout.chief_file ∷ []) (slice_index layout.node_files n) ≡ false
-  node_apart n less = other_file layout.chief_file (slice_index layout.node_files n) (λ e. omega (arith, e, chief_is, node_is n less))
+  node_apart n less = other_file layout.chief_file (slice_index layout.node_files n) (distinct.node-chief n less)
 
   -- file 0 is neither's
   pub own_apart : is_named (layout.chief_file ∷ layout.node_files) 0 ≡ false
   own_apart =
-      let off : (layout.chief_file == 0) ≡ false = (let one = chief_is in grind (arith, nat_tests)) in
-      ap (λ (b : Bool). b || is_named layout.node_files 0) off ∙ ap (λ (l : List ℕ). is_named l 0) files_are ∙ unnamed_below 2 layout.nodes 0 (omega arith)
+      let off : (layout.chief_file == 0) ≡ false = (let other = distinct.chief-own in grind (arith, nat_tests)) in
+      ap (λ (b : Bool). b || is_named layout.node_files 0) off ∙ unnamed_new (0 ∷ layout.chief_file ∷ []) layout.node_files 0 fields.files refl
 
   chief_own : is_named (0 ∷ []) layout.chief_file ≡ false
-  chief_own = other_file 0 layout.chief_file (λ e. omega (arith, e, chief_is))
+  chief_own = other_file 0 layout.chief_file distinct.chief-own
 
   node_own : (n : ℕ) → n < layout.nodes → is_named (0 ∷ []) (slice_index layout.node_files n) ≡ false
-  node_own n less = other_file 0 (slice_index layout.node_files n) (λ e. omega (arith, e, node_is n less))
+  node_own n less = other_file 0 (slice_index layout.node_files n) (distinct.node-own n less)
 
   -- ---- the logs without entries
 
@@ -88,7 +79,7 @@ module _ (layout : Layout) (is : IsNewLayout layout) where
     files = chief.files;
     are = chief.are;
     commits = chief.bytes 0 (omega arith) ∙ ap (λ (l : List ℕ). with_log commits_kind l) (nodes.others layout.chief_file chief_apart);
-    prepared = λ n less. chief.others (slice_index layout.node_files n) (node_apart n less) ∙ nodes.bytes n (omega (arith, less, file_count));
+    prepared = λ n less. chief.others (slice_index layout.node_files n) (node_apart n less) ∙ nodes.bytes n (omega (arith, less, fields.count));
     others = λ n out.
         let two = neither (layout.chief_file == n) (is_named layout.node_files n) out in
         chief.others n (ap (λ (b : Bool). b || false) two.0) ∙ nodes.others n two.1;
@@ -96,7 +87,7 @@ module _ (layout : Layout) (is : IsNewLayout layout) where
       commits = chief.left image leave 0 (omega arith);
       prepared = λ n less.
           let from = crash image leave in
-          subst (λ (l : List ℕ). IsLog prepared_kind [] l) (sym (from.2 (slice_index layout.node_files n) (node_apart n less))) (nodes.left from.0 from.1 n (omega (arith, less, file_count)));
+          subst (λ (l : List ℕ). IsLog prepared_kind [] l) (sym (from.2 (slice_index layout.node_files n) (node_apart n less))) (nodes.left from.0 from.1 n (omega (arith, less, fields.count)));
     };
   }
 
@@ -131,7 +122,7 @@ module _ (layout : Layout) (is : IsNewLayout layout) where
 
   -- ---- the store
 
-  module _ (limits : IsWithinLimits (entry_of layout)) (tree : Procedures) (text : IsAcceptedText layout.text tree) (body : List ℕ) (is_body : body ≡ layout_bytes (entry_of layout)) where
+  module _ (is : IsNewLayout layout) (limits : IsWithinLimits (entry_of layout)) (tree : Procedures) (text : IsAcceptedText layout.text tree) (body : List ℕ) (is_body : body ≡ layout_bytes (entry_of layout)) where
     good_files : (before after : Files) → AreEmptyLogs layout before → SameBesides (0 ∷ []) before after → IsLog layouts_kind (body ∷ []) (after 0) → IsGoodStore after (new_contents layout tree)
     good_files before after empty same log =
         (new_logs_are_a_store layout tree after is limits text (record {

@@ -52,6 +52,9 @@ has_fields layout is limits tree text =
     subst HasFields (sym is)
     (fields_of_new layout.nodes layout.partitions layout.copies layout.text (omega (arith, limits.nodes.1)) (omega (arith, limits.partitions.1)) (omega (arith, limits.nodes.1, limits.copies)) (omega (arith, text.short)))
 
+pub fields_of : (layout : Layout) → IsNewLayout layout → IsGoodLayout (entry_of layout) → HasFields layout
+fields_of layout is good = has_fields layout is good.limits good.tree good.accepted
+
 pub is_layout : (layout : Layout) → IsNewLayout layout → IsWithinLimits (entry_of layout) → (tree : Procedures) → IsAcceptedText layout.text tree → IsLayout (entry_of layout)
 is_layout layout is limits tree text = record { fields = has_fields layout is limits tree text; later = tt }
 

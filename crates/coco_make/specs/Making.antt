@@ -1,36 +1,13 @@
 -- What is seen of a host while a store is made in its files.
-use Rattle.std.specs.Prelude.{◌≡◌, ℕ, false, List, [], ◌∷◌, Option, Some}
-use Rattle.coco_host.specs.Files.{Files, Become, Follows}
+use Rattle.std.specs.Prelude.{◌≡◌, ℕ, List, [], ◌∷◌, Option, Some}
+use Rattle.coco_host.specs.Files.{Files}
 use Rattle.coco_host.specs.Moments.{Observation, SeesOnly}
 use Rattle.coco_ast.specs.Tree.{Procedures}
 use Rattle.coco_entry.specs.declared.layout.Layout.{Layout}
-use Rattle.coco_entry.specs.Layouts.{is_named}
 use Rattle.coco_log.specs.Grammar.{IsLog}
 use Rattle.coco_store.specs.Contents.{IsGoodStore}
 use Rattle.coco_store.specs.Entries.{layouts_kind}
 use Rattle.coco_make.specs.NewStore.{new_contents, AreOnlyNewLogs}
-
--- ---- other files
-
-abbrev pub SameBesides : List ℕ → Files → Files → Type 0
-SameBesides named old new = (n : ℕ) → is_named named n ≡ false → new n ≡ old n
-
--- seen at a moment: of what a crash might have left before, no file changed but those named, and no more is said
-pub record ChangesNamed (named : List ℕ) (may_leave : Files → Type 0) (bytes : Option (List ℕ)) (seen : Observation) : Type 0 where
-  pub before : Files
-  pub was_left : may_leave before
-  pub others : SameBesides named before seen.image
-  pub said : bytes ≡ Some seen.said
-
--- no file changes but those named, in what is read, in what a crash may leave and, where the files are told, at each moment; and nothing is said
-pub record ChangesOnly {H : Type 0} (moment : H → ℕ) (observed : H → ℕ → Observation → Type 0) (said : H → Option (List ℕ)) (reads : H → Option Files) (may_leave : H → Files → Type 0)
-    (named : List ℕ) (old new : H) : Type 0 where
-  pub moments : (files : Files) → reads old ≡ Some files → SeesOnly moment observed old new (ChangesNamed named (may_leave old) (said old))
-  pub files : Become (SameBesides named) (reads old) (reads new)
-  pub crash : Follows (SameBesides named) (may_leave old) (may_leave new)
-  pub quiet : said new ≡ said old
-
--- ---- the store
 
 -- a crash leaves no byte in this file
 abbrev pub LeavesEmpty : ℕ → (Files → Type 0) → Type 0

@@ -4,7 +4,7 @@ use Rattle.coco_host.specs.Files.{Files, put}
 use Rattle.coco_entry.specs.declared.layout.Layout.{Layout}
 use Rattle.coco_log.specs.Grammar.{entry, IsLog}
 use Rattle.coco_store.specs.Entries.{commits_kind, layouts_kind, prepared_kind}
-use Rattle.coco_make.specs.Making.{SameBesides}
+use Rattle.coco_log.specs.Changes.{SameBesides}
 use Rattle.coco_make.specs.NewStore.{AreEmptyLogs, log_bytes}
 
 -- a file's bytes with a log without entries over its first ones

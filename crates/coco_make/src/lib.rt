@@ -2,9 +2,11 @@
 #![tactic(auto)]
 
 mod fault;
+mod free;
 mod laws;
 mod make;
 
 pub use fault::MakeFault;
+pub use free::free_files;
 pub use laws::new_logs_are_a_store;
-pub use make::{make_store, new_layout};
+pub use make::{make_empty_logs, make_store, new_layout};

@@ -4,7 +4,7 @@ ghost use Rattle.std.specs.Prelude.{◌≡◌, ℕ, ◌≤◌, Some, [], ◌∷�
 ghost use Rattle.coco_host.specs.Files.{Files};
 ghost use Rattle.coco_host.specs.Moments.{SeesOnly};
 ghost use Rattle.coco_ast.specs.Tree.{Procedures};
-ghost use Rattle.coco_entry.specs.Layouts.{layout_bytes, named_by};
+ghost use Rattle.coco_entry.specs.Layouts.{HasFields, layout_bytes, named_by};
 ghost use Rattle.coco_log.specs.Faults.{CountsFault};
 ghost use Rattle.coco_log.specs.Grammar.{most_entry_bytes};
 ghost use Rattle.coco_log.specs.LogState.{ChangesOne};
@@ -12,7 +12,8 @@ ghost use Rattle.coco_store.specs.Contents.{IsGoodLayout};
 ghost use Rattle.coco_store.specs.Texts.{IsAcceptedText};
 ghost use Rattle.coco_append.specs.Gaining.{RestsOn};
 ghost use Rattle.coco_make.specs.Faults.{CountsMake};
-ghost use Rattle.coco_make.specs.Making.{ChangesOnly, LeavesEmpty, LeavesOnlyLogs, ShowsNewOnly};
+ghost use Rattle.coco_log.specs.Changes.{ChangesOnly};
+ghost use Rattle.coco_make.specs.Making.{LeavesEmpty, LeavesOnlyLogs, ShowsNewOnly};
 ghost use Rattle.coco_make.specs.NewStore.{entry_of, IsNewLayout, new_contents, new_layout};
 ghost use Rattle.coco_make.specs.Steps.{HasLayout, HaveEmptyLogs, HaveLogs, MayHave};
 
@@ -89,9 +90,14 @@ fn make_files<H: Host>(
     make_layouts(alloc, host, body)
 }
 
-// Makes the logs of the nodes, and then that of the coordinator.
-fn make_empty_logs<H: Host>(alloc: Global, host: &mut H, layout: &Layout) -> Result<(), LogFault>
-    requires { IsNewLayout layout.now }
+/// Makes the logs of a layout's nodes, and then that of its coordinator, without entries. Old bytes may stand behind
+/// them.
+pub fn make_empty_logs<H: Host>(
+    alloc: Global,
+    host: &mut H,
+    layout: &Layout,
+) -> Result<(), LogFault>
+    requires { HasFields layout.now }
     ensures ok { OnOk result ((before : Files) → H.reads host.old ≡ Some before → HaveEmptyLogs layout.now before (H.reads host.new) (H.may_leave host.new)) }
     ensures changes { ChangesOnly H.moment H.observed H.said H.reads H.may_leave (layout.now.chief_file ∷ layout.now.node_files) host.old host.new }
     ensures counts { CountsFault result (H.disk_faults host.old) (H.disk_faults host.new) }

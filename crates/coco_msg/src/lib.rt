@@ -3,6 +3,7 @@
 
 pub mod action;
 pub mod fault;
+pub mod laws;
 mod lists;
 pub mod message;
 mod reading;
@@ -10,6 +11,7 @@ mod writing;
 
 pub use action::{Action, add, one, two};
 pub use fault::MessageFault;
+pub use laws::bytes_tell_messages_apart;
 pub use message::{Message, Places};
 pub use reading::{read_message, read_message_in};
 pub use writing::{message_bytes, ship_bytes};

@@ -151,13 +151,13 @@ wrapped_sum m s a b c d =
     regrouped s a b c d = omega arith
 
 -- a seeded round, by what was chosen
-pub seeded_is : (s t : MailState) (g h : Lcg) (may loses : Bool) (numbers : List ℕ) (turns : List Bool)
-    → t ≡ given_more s (picked s.sent numbers) turns loses → h ≡ g → may ≡ nat_lt s.faults (2 ^ 64 - 1)
-    → picked s.sent numbers ≡ by_words may (words (length (fresh s)) h) (fresh s)
+pub seeded_is : (s t : MailState) (g h : Lcg) (may loses : Bool) (these : List Posted) (turns : List Bool)
+    → t ≡ given_more s these turns loses → h ≡ g → may ≡ nat_lt s.faults (2 ^ 64 - 1)
+    → these ≡ by_words may (words (length (fresh s)) h) (fresh s)
     → loses ≡ (may && list_any loses_by (words (length (fresh s)) h))
     → turns ≡ map (λ w. w % 2 == 1) (place_words (after_words (length (fresh s)) h)) → t ≡ after_seeded g s
 unfolding after_seeded
-seeded_is s t g h may loses numbers turns is same by given lost turned =
+seeded_is s t g h may loses these turns is same by given lost turned =
     is ∙ ap (λ ps. given_more s ps turns loses) given ∙ ap (λ ts. given_more s (by_words may (words (length (fresh s)) h) (fresh s)) ts loses) turned
     ∙ ap (λ b. given_more s (by_words may (words (length (fresh s)) h) (fresh s)) (map (λ w. w % 2 == 1) (place_words (after_words (length (fresh s)) h))) b) lost
     ∙ ap (λ may. given_more s (by_words may (words (length (fresh s)) h) (fresh s)) (map (λ w. w % 2 == 1) (place_words (after_words (length (fresh s)) h))) (may && list_any loses_by (words (length (fresh s)) h))) by

@@ -3,13 +3,14 @@ use Rattle.std.proofs.Common.{◌≡◌, ℕ, zero, suc, ◌+◌, ◌^◌, ◌<�
 use Rattle.std.proofs.Math.ListN.{set}
 use Rattle.std.specs.List.{All, AllByRecursion, cons_option, slice_get}
 use Rattle.std.specs.Option.{MatchOption, option_to_list}
-use Rattle.std.proofs.lemmas.List.{drop_more, length-reverse, get_or-map, get_or-set_same, get_or-set_other, get_or_push, length_push, map-set, nil_from_length, take_more}
+use Rattle.std.proofs.Math.Seq.{drop-append_seam}
+use Rattle.std.proofs.lemmas.List.{append-nil, drop_more, length-reverse, get_or-map, get_or-set_same, get_or-set_other, get_or_push, length_push, map-set, nil_from_length, take_more}
 use Rattle.std.proofs.lemmas.List.Elements.{All-from_recursion, All-set, recursion_from_All}
 use Rattle.std.proofs.lemmas.Bool.{cases_lt}
 use Rattle.std.proofs.lemmas.Option.{slice_get-get_or}
 use Rattle.coco_net.specs.declared.letter.Letter.{Letter}
 use Rattle.coco_net.specs.declared.letter.Posted.{Posted}
-use Rattle.coco_net.specs.Mail.{MailState, below, boxed, IsFew, letters_to, picked, turned}
+use Rattle.coco_net.specs.Mail.{MailState, below, boxed, given_more, IsFew, letters_to, picked, turned}
 
 -- ---- picked letters
 
@@ -20,19 +21,6 @@ cons_more (Some x) xs ys = refl
 pub picked-append : (sent : List Posted) (ns ms : List ℕ) → picked sent (ns ++ ms) ≡ picked sent ns ++ picked sent ms
 picked-append sent [] ms = refl
 picked-append sent (n ∷ ns) ms = ap (cons_option (slice_get sent n)) (picked-append sent ns ms) ∙ cons_more (slice_get sent n) (picked sent ns) (picked sent ms)
-
-get_more : {X : Type 0} (xs ys : List X) (n : ℕ) → n < length xs → slice_get (xs ++ ys) n ≡ slice_get xs n
-get_more [] ys n h = absurd (omega arith)
-get_more (x ∷ xs) ys zero h = refl
-get_more (x ∷ xs) ys (suc n) h = get_more xs ys n (omega arith)
-
-grown : (sent more : List Posted) (ns : List ℕ) → AllByRecursion (λ n. n < length sent) ns → picked (sent ++ more) ns ≡ picked sent ns
-grown sent more [] all = refl
-grown sent more (n ∷ ns) all = ap (λ o. cons_option o (picked (sent ++ more) ns)) (get_more sent more n all.0) ∙ ap (cons_option (slice_get sent n)) (grown sent more ns all.1)
-
--- what was picked stays so as more is sent
-pub picked_grown : (sent more : List Posted) (ns : List ℕ) → All (λ n. n < length sent) ns → picked (sent ++ more) ns ≡ picked sent ns
-picked_grown sent more ns all = grown sent more ns (recursion_from_All (λ n. n < length sent) ns all)
 
 pub picked_one : (sent : List Posted) (n : ℕ) (d : Posted) → n < length sent → picked sent (n ∷ []) ≡ get_or sent n d ∷ []
 picked_one sent n d h = ap (λ o. cons_option o []) (slice_get-get_or sent n d h)
@@ -114,10 +102,6 @@ pub taken : {X : Type 0} (r : Option X) (old new : List X) → old ≡ option_to
 taken (Some x) old new is none = is
 taken None old new is none = let nil : old ≡ [] = nil_from_length old (none refl) in (nil, sym is ∙ nil)
 
-pub sent_more : (old new old_given new_given : List Posted) (since : ℕ) (waiting : List (List Letter)) (seed : Option ℕ) (faults : ℕ) (more : List Posted) → new ≡ old ++ more → new_given ≡ old_given
-    → ◌≡◌ {A = MailState} (record { sent = new; given = new_given; since = since; waiting = waiting; seed = seed; faults = faults }) (record { sent = old ++ more; given = old_given; since = since; waiting = waiting; seed = seed; faults = faults })
-sent_more old new old_given new_given since waiting seed faults more sent given i = record { sent = sent i; given = given i; since = since; waiting = waiting; seed = seed; faults = faults }
-
 pub any_posted : Posted
 any_posted = record { to = 0; letter = record { from = 0; bytes = [] } }
 
@@ -161,3 +145,23 @@ pub few_more : {B : Type 0} (f : B → List Letter) (old new : List B) (b : B) (
 few_more f old new b turns ls is here h few =
     let len : length (f b) ≡ length ls = ap length here ∙ length-turned turns ls in
     all_pushed (λ l. length l < 2 ^ 32) (map f old) (map f new) (f b) (ap (map f) is ∙ map-push f old b) few (omega (arith, len, h))
+
+-- one letter given more
+pub given_next : (sent : List Posted) (chosen : List ℕ) (i : ℕ) (p : Posted) (first old new : List Posted) → i < length chosen → get_or chosen i 0 < length sent → p ≡ get_or sent (get_or chosen i 0) p
+    → old ≡ first ++ picked sent (take i chosen) → new ≡ old ++ p ∷ [] → new ≡ first ++ picked sent (take (i + 1) chosen)
+given_next sent chosen i p first old new h within is before now =
+    now ∙ ap (λ ps. ps ++ p ∷ []) before ∙ append_assoc first (picked sent (take i chosen)) (p ∷ [])
+    ∙ ap (λ q. first ++ (picked sent (take i chosen) ++ q ∷ [])) is
+    ∙ ap (λ ps. first ++ (picked sent (take i chosen) ++ ps)) (sym (picked_one sent (get_or chosen i 0) p within))
+    ∙ ap (λ ps. first ++ ps) (sym (picked-append sent (take i chosen) (get_or chosen i 0 ∷ [])))
+    ∙ ap (λ ns. first ++ picked sent ns) (sym (take_more chosen i 0 h))
+
+-- behind a round all letters were sent before it
+pub given_apart : (before fresh given before_new fresh_new given_new : List Posted) (boxes waiting : List (List Letter)) (chosen : List ℕ) (turns : List Bool) (seed : Option ℕ) (faults faults_new : ℕ) (loses : Bool)
+    → before_new ≡ before ++ fresh → fresh_new ≡ [] → given_new ≡ given ++ picked fresh chosen → boxes ≡ boxed turns (picked fresh chosen) → faults_new ≡ cond loses (faults + 1) faults
+    → ◌≡◌ {A = MailState} (record { sent = before_new ++ fresh_new; given = given_new; since = length before_new; waiting = boxes; seed = seed; faults = faults_new })
+    (given_more (record { sent = before ++ fresh; given = given; since = length before; waiting = waiting; seed = seed; faults = faults }) (picked (drop (length before) (before ++ fresh)) chosen) turns loses)
+given_apart before fresh given before_new fresh_new given_new boxes waiting chosen turns seed faults faults_new loses is none more wait count =
+    let apart : drop (length before) (before ++ fresh) ≡ fresh = drop-append_seam before fresh in
+    same_state _ _ (ap (λ ps. ps ++ fresh_new) is ∙ ap (λ ps. (before ++ fresh) ++ ps) none ∙ append-nil (before ++ fresh))
+    (more ∙ ap (λ ps. given ++ picked ps chosen) (sym apart)) (ap length is) (wait ∙ ap (λ ps. boxed turns (picked ps chosen)) (sym apart)) refl count

@@ -76,8 +76,7 @@ given_more s these turns loses = record s {
 abbrev pub IsFew : List (List Letter) → Type 0
 IsFew ls = All (λ l. length l < 2 ^ 32) ls
 
--- The letters given are among those sent, and so are those counted at the last round.
-pub record IsKept (sent : List Posted) (given : List ℕ) (since : ℕ) (waiting : List (List Letter)) : Type 0 where
-  pub within : All (λ n. n < length sent) given
+-- The letters counted at the last round are among those sent.
+pub record IsKept (sent : List Posted) (since : ℕ) (waiting : List (List Letter)) : Type 0 where
   pub passed : since ≤ length sent
   pub few : IsFew waiting

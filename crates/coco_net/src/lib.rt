@@ -2,6 +2,7 @@
 #![tactic(auto)]
 
 pub mod flood;
+mod fresh_post;
 pub mod letter;
 pub mod net;
 mod post;

@@ -1,23 +1,25 @@
-//! What a net keeps that may give letters again: those sent, the numbers of those given, and the boxes of places.
+//! What a net keeps that looks back at its letters: those sent, and the boxes of places.
 
 ghost use Rattle.std.specs.Prelude.{◌≡◌, ◌+◌, ◌-◌, ◌^◌, ◌<◌, ◌≤◌, ◌≢◌, ◌==◌, ◌||◌, ℕ, All, List, Option, Some, [], ◌∷◌, ◌++◌, drop, length, map, replicate, true, false, MatchOption, IfOk, OnOk, OnErr, if◌then◌else◌};
 ghost use Rattle.std.specs.List.{slice_index_or};
 ghost use Rattle.coco_net.specs.Mail.{below, boxed, fresh, given_more, letters_to, IsFew, no_mail, picked, turned, waiting_at};
 
 use crate::{Letter, Posted};
+use coco_io::told::Told;
 use coco_types::{Bytes, NoMemory};
 use std::alloc::Global;
 use std::collections::VecDeque;
 use std::marker::Model;
+use std::slice;
 
 /// How many places there are.
 pub const PLACES: usize = 9;
 
-/// Letters sent, given and waiting. Contracts see the letters themselves.
+/// Letters sent, given and waiting. Of those given it keeps those that wait, and contracts see all.
 #[derive(Drop)]
 pub struct Post {
     sent: Vec<Posted>,
-    given: Vec<usize>,
+    given: Told<Posted>,
     since: usize,
     boxes: Vec<VecDeque<Letter>>,
     seed: Option<u64>,
@@ -26,7 +28,7 @@ pub struct Post {
 
 impl Model for Post {
     ghost use Rattle.std.specs.Prelude.{map};
-    ghost use Rattle.coco_net.specs.Mail.{MailState, mail_code, picked, IsKept};
+    ghost use Rattle.coco_net.specs.Mail.{MailState, mail_code, IsKept};
 
     ghost Value = { MailState };
 
@@ -34,14 +36,14 @@ impl Model for Post {
 
     ghost view = { λ a. record {
       sent = a.sent.items;
-      given = picked a.sent.items a.given.items;
+      given = a.given.items;
       since = a.since;
       waiting = map (λ q. q.items) a.boxes.items;
       seed = a.seed;
       faults = a.faults;
     } };
 
-    ghost invariant = { λ a. IsKept a.sent.items a.given.items a.since (map (λ q. q.items) a.boxes.items) };
+    ghost invariant = { λ a. IsKept a.sent.items a.since (map (λ q. q.items) a.boxes.items) };
 }
 
 impl Post {
@@ -50,7 +52,7 @@ impl Post {
     {
         Post {
             sent: Vec::new(alloc),
-            given: Vec::new(alloc),
+            given: Told::new(),
             since: 0,
             boxes: Vec::new(alloc),
             seed: None,
@@ -71,7 +73,7 @@ impl Post {
 
     /// The allocator that it grows on.
     pub fn allocator(&self) -> Global {
-        *self.given.allocator()
+        *self.sent.allocator()
     }
 
     /// The letters sent.
@@ -139,13 +141,23 @@ impl Post {
     {
         let alloc = self.allocator();
         let boxes = boxes_of(alloc, self.sent.as_slice(), chosen, turns)?;
-        self.given.extend_from_slice(chosen)?;
+        note_given(&mut self.given, self.sent.as_slice(), chosen);
         self.boxes = boxes;
         self.since = self.sent.len();
         if loses {
             self.faults += 1;
         }
         Ok(())
+    }
+}
+
+// Notes that the letters with these numbers are given.
+pub fn note_given(given: &mut Told<Posted>, sent: &[Posted], chosen: &[usize])
+    requires { All (λ n. n < length sent.now) chosen.now }
+    ensures { given.new.items ≡ given.old.items ++ picked sent.now chosen.now }
+{
+    for n in chosen {
+        given.add(slice::from_ref(&sent[*n]));
     }
 }
 

@@ -1,6 +1,6 @@
 //! A net that loses, repeats and reorders as it is told.
 
-ghost use Rattle.std.specs.Prelude.{◌≡◌, ◌+◌, ◌≤◌, ◌⊎◌, ℕ, List, [], ◌<◌, ◌-◌, ◌^◌, ◌||◌, ◌++◌, true, All as Each, drop, take, replicate, IfOk, if◌then◌else◌, length, OnOk, OnErr};
+ghost use Rattle.std.specs.Prelude.{◌≢◌, ◌∷◌, Some, MatchOption, ◌≡◌, ◌+◌, ◌≤◌, ◌⊎◌, ℕ, List, [], ◌<◌, ◌-◌, ◌^◌, ◌||◌, ◌++◌, true, All as Each, drop, take, replicate, IfOk, if◌then◌else◌, length, OnOk, OnErr};
 ghost use Rattle.coco_net.specs.Giving.{GivesMore};
 ghost use Rattle.coco_net.specs.Mail.{fresh, no_mail, picked, waiting_at};
 ghost use Rattle.std.specs.List.{list_any};
@@ -148,7 +148,16 @@ impl Net for ScriptNet {
 
     ghost carries = { λ s epoch worker place to. script_carries s.lose to };
 
-    fn send(&mut self, from: u8, to: u8, bytes: Vec<u8>) -> Result<(), NoMemory> {
+    fn send(&mut self, from: u8, to: u8, bytes: Vec<u8>) -> Result<(), NoMemory>
+        ensures ok { OnOk result (self.new.post.sent ≡ self.old.post.sent ++ record { to = to; letter = record { from = from; bytes = bytes.items } } ∷ []) }
+        ensures fresh { OnOk result (fresh self.new.post ≡ fresh self.old.post ++ record { to = to; letter = record { from = from; bytes = bytes.items } } ∷ []) }
+        ensures err { OnErr result ((self.new.post.sent ≡ self.old.post.sent) × (fresh self.new.post ≡ fresh self.old.post)) }
+        ensures given { self.new.post.given ≡ self.old.post.given }
+        ensures waiting { (p : ℕ) → waiting_at self.new.post p ≡ waiting_at self.old.post p }
+        ensures faults { self.new.post.faults ≡ self.old.post.faults }
+        ensures seed { self.new.post.seed ≡ self.old.post.seed }
+        ensures rules { (self.new.lose ≡ self.old.lose) × (self.new.reverse ≡ self.old.reverse) × (self.new.times ≡ self.old.times) }
+    {
         self.post.send(from, to, bytes)
     }
 
@@ -171,7 +180,16 @@ impl Net for ScriptNet {
         self.post.waiting(to)
     }
 
-    fn next(&mut self, to: u8) -> Option<Letter> {
+    fn next(&mut self, to: u8) -> Option<Letter>
+        ensures first { MatchOption result ((waiting_at self.old.post to ≡ []) × (waiting_at self.new.post to ≡ [])) (λ letter. waiting_at self.old.post to ≡ letter ∷ waiting_at self.new.post to) }
+        ensures others { (p : ℕ) → p ≢ to → waiting_at self.new.post p ≡ waiting_at self.old.post p }
+        ensures sent { self.new.post.sent ≡ self.old.post.sent }
+        ensures given { self.new.post.given ≡ self.old.post.given }
+        ensures fresh { fresh self.new.post ≡ fresh self.old.post }
+        ensures faults { self.new.post.faults ≡ self.old.post.faults }
+        ensures seed { self.new.post.seed ≡ self.old.post.seed }
+        ensures rules { (self.new.lose ≡ self.old.lose) × (self.new.reverse ≡ self.old.reverse) × (self.new.times ≡ self.old.times) }
+    {
         self.post.next(to)
     }
 
@@ -183,7 +201,15 @@ impl Net for ScriptNet {
         }
     }
 
-    fn disturb(&mut self, seed: u64) {
+    fn disturb(&mut self, seed: u64)
+        ensures seed { self.new.post.seed ≡ Some seed }
+        ensures sent { self.new.post.sent ≡ self.old.post.sent }
+        ensures given { self.new.post.given ≡ self.old.post.given }
+        ensures fresh { fresh self.new.post ≡ fresh self.old.post }
+        ensures faults { self.new.post.faults ≡ self.old.post.faults }
+        ensures waiting { (p : ℕ) → waiting_at self.new.post p ≡ waiting_at self.old.post p }
+        ensures rules { (self.new.lose ≡ self.old.lose) × (self.new.reverse ≡ self.old.reverse) × (self.new.times ≡ self.old.times) }
+    {
         self.post.disturb(seed);
     }
 

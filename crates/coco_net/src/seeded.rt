@@ -1,6 +1,6 @@
 //! A net that disturbs by a generator of random words.
 
-ghost use Rattle.std.specs.Prelude.{◌≡◌, ◌+◌, ◌≤◌, ◌⊎◌, ℕ, None, List, [], ◌<◌, ◌-◌, ◌^◌, ◌%◌, ◌==◌, ◌&&◌, ◌++◌, nat_lt, map, Bool, Some, All as Each, drop, option_map, IfOk, if◌then◌else◌, length, OnOk, OnErr};
+ghost use Rattle.std.specs.Prelude.{◌≢◌, ◌∷◌, MatchOption, ◌≡◌, ◌+◌, ◌≤◌, ◌⊎◌, ℕ, None, List, [], ◌<◌, ◌-◌, ◌^◌, ◌%◌, ◌==◌, ◌&&◌, ◌++◌, nat_lt, map, Bool, Some, All as Each, IfOk, if◌then◌else◌, length, OnOk, OnErr};
 ghost use Rattle.coco_net.specs.Giving.{GivesMore};
 ghost use Rattle.coco_net.specs.Mail.{MailState, fresh, no_mail, picked, waiting_at};
 ghost use Rattle.std.specs.List.{list_any};
@@ -9,7 +9,8 @@ ghost use Rattle.rand_pcg.specs.Pcg.{pcg32_of_seed};
 ghost use Rattle.rand_core.specs.Pcg32Seed.{pcg32_seed};
 ghost use Rattle.coco_net.specs.Rounds.{after_places, after_quiet, after_seeded, after_words, by_words, loses_by, next_generator, place_words, seed_carries, times_by, words};
 
-use crate::post::{PLACES, Post, either, numbers_from, push_times};
+use crate::fresh_post::FreshPost;
+use crate::post::{PLACES, either, numbers_from, push_times};
 use crate::{Letter, Net, Posted};
 use coco_types::NoMemory;
 use rand_core::SeedableRng;
@@ -22,7 +23,7 @@ use std::alloc::Global;
 /// where the count is at its end nothing is lost.
 #[derive(Drop)]
 pub struct SeededNet {
-    post: Post,
+    post: FreshPost,
     words: Option<Lcg64Xsh32>,
 }
 
@@ -32,7 +33,7 @@ impl SeededNet {
         ensures quiet { result.words ≡ None }
     {
         SeededNet {
-            post: Post::new(alloc),
+            post: FreshPost::new(alloc),
             words: None,
         }
     }
@@ -59,20 +60,18 @@ fn is_lost(may_lose: bool, word: u32) -> bool
 // The numbers of the letters that are given, and whether one is lost, by a word for each.
 fn chosen(
     alloc: Global,
-    sent: &[Posted],
-    since: usize,
+    letters: &[Posted],
     may_lose: bool,
     generator: &mut Lcg64Xsh32,
 ) -> Result<(Vec<usize>, bool), NoMemory>
-    requires { since ≤ length sent.now }
-    ensures within { IfOk result (λ r. Each (λ n. n < length sent.now) r.0.items) }
-    ensures given { IfOk result (λ r. picked sent.now r.0.items ≡ by_words may_lose (words (length (drop since sent.now)) generator.old) (drop since sent.now)) }
-    ensures loses { IfOk result (λ r. r.1 ≡ (may_lose && list_any loses_by (words (length (drop since sent.now)) generator.old))) }
-    ensures words { OnOk result (generator.new ≡ after_words (length (drop since sent.now)) generator.old) }
+    ensures within { IfOk result (λ r. Each (λ n. n < length letters.now) r.0.items) }
+    ensures given { IfOk result (λ r. picked letters.now r.0.items ≡ by_words may_lose (words (length letters.now) generator.old) letters.now) }
+    ensures loses { IfOk result (λ r. r.1 ≡ (may_lose && list_any loses_by (words (length letters.now) generator.old))) }
+    ensures words { OnOk result (generator.new ≡ after_words (length letters.now) generator.old) }
 {
     let mut numbers = Vec::new(alloc);
     let mut loses = false;
-    for n in since..sent.len() {
+    for n in 0..letters.len() {
         let word = generator.next_word();
         push_times(&mut numbers, n, times_by(may_lose, word))?;
         loses = either(loses, is_lost(may_lose, word));
@@ -93,11 +92,11 @@ fn turns(alloc: Global, generator: &mut Lcg64Xsh32) -> Result<Vec<bool>, NoMemor
 }
 
 // A round in which every letter sent since the last one is given once.
-fn quiet_round(alloc: Global, post: &mut Post) -> Result<(), NoMemory>
+fn quiet_round(alloc: Global, post: &mut FreshPost) -> Result<(), NoMemory>
     ensures ok { OnOk result (post.new ≡ after_quiet post.old) }
     ensures err { OnErr result (post.new ≡ post.old) }
 {
-    let numbers = numbers_from(alloc, post.sent(), post.since())?;
+    let numbers = numbers_from(alloc, post.fresh(), 0)?;
     post.give(numbers.as_slice(), &[], false)
 }
 
@@ -111,7 +110,7 @@ fn may_lose(faults: u64) -> bool
 // A disturbed round, and the generator after it.
 fn seeded_round(
     alloc: Global,
-    post: &mut Post,
+    post: &mut FreshPost,
     generator: &Lcg64Xsh32,
 ) -> Result<Lcg64Xsh32, NoMemory>
     ensures ok { OnOk result (post.new ≡ after_seeded generator.now post.old) }
@@ -120,7 +119,7 @@ fn seeded_round(
 {
     let mut generator = generator.clone()?;
     let may_lose = may_lose(post.faults());
-    let (numbers, loses) = chosen(alloc, post.sent(), post.since(), may_lose, &mut generator)?;
+    let (numbers, loses) = chosen(alloc, post.fresh(), may_lose, &mut generator)?;
     let turns = turns(alloc, &mut generator)?;
     post.give(numbers.as_slice(), turns.as_slice(), loses)?;
     Ok(generator)
@@ -153,7 +152,16 @@ impl Net for SeededNet {
 
     ghost carries = { λ s epoch worker place to. seed_carries s.post.seed epoch worker place to };
 
-    fn send(&mut self, from: u8, to: u8, bytes: Vec<u8>) -> Result<(), NoMemory> {
+    fn send(&mut self, from: u8, to: u8, bytes: Vec<u8>) -> Result<(), NoMemory>
+        ensures ok { OnOk result (self.new.post.sent ≡ self.old.post.sent ++ record { to = to; letter = record { from = from; bytes = bytes.items } } ∷ []) }
+        ensures fresh { OnOk result (fresh self.new.post ≡ fresh self.old.post ++ record { to = to; letter = record { from = from; bytes = bytes.items } } ∷ []) }
+        ensures err { OnErr result ((self.new.post.sent ≡ self.old.post.sent) × (fresh self.new.post ≡ fresh self.old.post)) }
+        ensures given { self.new.post.given ≡ self.old.post.given }
+        ensures waiting { (p : ℕ) → waiting_at self.new.post p ≡ waiting_at self.old.post p }
+        ensures faults { self.new.post.faults ≡ self.old.post.faults }
+        ensures seed { self.new.post.seed ≡ self.old.post.seed }
+        ensures words { self.new.words ≡ self.old.words }
+    {
         self.post.send(from, to, bytes)
     }
 
@@ -184,7 +192,16 @@ impl Net for SeededNet {
         self.post.waiting(to)
     }
 
-    fn next(&mut self, to: u8) -> Option<Letter> {
+    fn next(&mut self, to: u8) -> Option<Letter>
+        ensures first { MatchOption result ((waiting_at self.old.post to ≡ []) × (waiting_at self.new.post to ≡ [])) (λ letter. waiting_at self.old.post to ≡ letter ∷ waiting_at self.new.post to) }
+        ensures others { (p : ℕ) → p ≢ to → waiting_at self.new.post p ≡ waiting_at self.old.post p }
+        ensures sent { self.new.post.sent ≡ self.old.post.sent }
+        ensures given { self.new.post.given ≡ self.old.post.given }
+        ensures fresh { fresh self.new.post ≡ fresh self.old.post }
+        ensures faults { self.new.post.faults ≡ self.old.post.faults }
+        ensures seed { self.new.post.seed ≡ self.old.post.seed }
+        ensures words { self.new.words ≡ self.old.words }
+    {
         self.post.next(to)
     }
 

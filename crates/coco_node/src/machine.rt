@@ -12,8 +12,13 @@ use std::marker::Model;
 /// The coordinator's place.
 pub const COORDINATOR: u8 = 8;
 
+/// Its place in numbers.
+pub fn places()
+    ensures { COORDINATOR ≡ 8 }
+{}
+
 /// What a node knows of the epoch of its newest durable entry.
-#[derive(Clone, Copy, Debug, PartialEq, Eq)]
+#[derive(Clone, Copy, PartialEq, Eq)]
 pub enum Decision {
     Unknown,
     Committed,
@@ -21,7 +26,7 @@ pub enum Decision {
 }
 
 /// The core of a node. An epoch of 0 is none.
-#[derive(Debug, Drop)]
+#[derive(Drop)]
 pub struct NodeCore {
     node: u8,
     durable: u64,

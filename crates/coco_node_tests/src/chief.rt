@@ -101,25 +101,24 @@ fn a_no_aborts_the_epoch(rt: HostRuntime) -> Result<(), Fail> {
     Ok(())
 }
 
-// Whether the core tells of each of these epochs whether it was committed.
-fn tells_each(alloc: Global, core: &mut ChiefCore) -> Result<bool, NoMemory> {
-    for (epoch, committed) in [
-        (1, true),
-        (3, true),
-        (4, false),
-        (5, true),
-        (8, false),
-        (10, true),
-        (11, false),
-    ] {
-        let told = format!(in alloc;
-            "[Send {{ to: 0, message: Tell {{ epoch: {epoch}, committed: {committed} }} }}]"
-        )?;
-        if !answers(alloc, core, 0, &Message::Query { epoch }, &told)? {
-            return Ok(false);
-        }
+// Whether a core of two nodes aborts epoch 1 of its own accord.
+fn gives_up(alloc: Global, core: &mut ChiefCore) -> Result<bool, NoMemory>
+    requires { chief_of core.old ≡ restarted 2 [] }
+{
+    core.begin(1)?;
+    if !core.is_open() {
+        return Ok(false);
     }
-    Ok(true)
+    let actions = core.abort()?;
+    Ok(are_shown(alloc, actions, ABORTS)? && !core.is_open() && core.last() == 0)
+}
+
+#[test]
+fn an_open_epoch_may_be_given_up(rt: HostRuntime) -> Result<(), Fail> {
+    let alloc = rt.alloc();
+    let mut core = ChiefCore::restart(alloc, 2, Vec::new(alloc))?;
+    assert!(rt; gives_up(alloc, &mut core)?);
+    Ok(())
 }
 
 // Whether node 0 is reminded of epoch 10 until it has finished that.
@@ -139,14 +138,11 @@ fn is_finished(alloc: Global, core: &mut ChiefCore) -> Result<bool, NoMemory> {
 }
 
 #[test]
-fn a_restarted_core_knows_its_committed_epochs(rt: HostRuntime) -> Result<(), Fail> {
+fn a_restarted_core_reminds_of_its_last_committed_epoch(rt: HostRuntime) -> Result<(), Fail> {
     let alloc = rt.alloc();
-    for epochs in [[1, 2, 3, 5, 9, 10], [10, 3, 9, 1, 5, 2]] {
-        let epochs = Vec::from_array(alloc, epochs)?;
-        let core = &mut ChiefCore::restart(alloc, 1, epochs)?;
-        let is_told = tells_each(alloc, core)?;
-        assert!(rt; is_told && reminds(alloc, core)? && is_finished(alloc, core)?);
-    }
+    let epochs = vec![in alloc; 10, 3, 9]?;
+    let core = &mut ChiefCore::restart(alloc, 1, epochs)?;
+    assert!(rt; reminds(alloc, core)? && is_finished(alloc, core)?);
     Ok(())
 }
 

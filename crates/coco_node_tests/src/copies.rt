@@ -80,23 +80,6 @@ fn a_promote_makes_what_pends_stable(rt: HostRuntime) -> Result<(), Fail> {
     Ok(())
 }
 
-// Whether a revert leaves the loaded row alone, which a load takes away.
-fn reverts(table: &mut CopyTable) -> Result<bool, NoMemory> {
-    table.revert();
-    let is_at_rest = table.pending(SIX).is_none();
-    let is_reverted = has_rows(table, &[(FIVE, Value::Int(1))])?;
-    table.load(FIVE, None)?;
-    Ok(is_at_rest && is_reverted && has_rows(table, &[])?)
-}
-
-#[test]
-fn a_revert_forgets_what_pends(rt: HostRuntime) -> Result<(), Fail> {
-    let mut table = CopyTable::new(rt.alloc());
-    let is_written = is_written(&mut table)?;
-    assert!(rt; is_written && reverts(&mut table)?);
-    Ok(())
-}
-
 // Whether the copy so answers a put whose write is packed.
 fn puts_packed(
     table: &mut CopyTable,
@@ -131,23 +114,6 @@ fn a_packed_write_is_put(rt: HostRuntime) -> Result<(), Fail> {
     let mut table = CopyTable::new(rt.alloc());
     let is_written = is_written(&mut table)?;
     assert!(rt; is_written && takes_packed(&mut table, rt.alloc(), fifty()?)?);
-    Ok(())
-}
-
-// Whether a value is loaded over a row, and put over another.
-fn takes(table: &mut CopyTable, value: Option<Value>) -> Result<bool, NoMemory> {
-    table.load(FIVE, value)?;
-    let is_loaded = table.stable(FIVE) == value;
-    let answer = table.apply(put(3, 6, SIX, value))?;
-    table.promote();
-    Ok(is_loaded && answer == CopyAnswer::Applied && table.stable(SIX) == value)
-}
-
-#[test]
-fn a_text_is_put_and_loaded_over_a_row(rt: HostRuntime) -> Result<(), Fail> {
-    let mut table = CopyTable::new(rt.alloc());
-    let is_written = is_written(&mut table)?;
-    assert!(rt; is_written && takes(&mut table, fifty()?)?);
     Ok(())
 }
 

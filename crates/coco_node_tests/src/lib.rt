@@ -1,4 +1,5 @@
-//! Tests of copies, of messages, of the cores of nodes and coordinator, and of worlds of them. There is nothing else here.
+//! Tests of copies, messages, the cores of nodes and coordinator, and of nets and what goes over them.
+//! There is nothing else here.
 #![tactic(auto)]
 
 #[cfg(test)]
@@ -8,6 +9,10 @@ mod copies;
 #[cfg(test)]
 mod messages;
 #[cfg(test)]
+mod net;
+#[cfg(test)]
 mod node;
 #[cfg(test)]
-mod world;
+mod power;
+#[cfg(test)]
+mod ship;

@@ -1,4 +1,4 @@
-//! Messages as bytes, and the fields at which other bytes are refused.
+//! Messages as bytes.
 
 ghost use Rattle.std.specs.Prelude.{◌≡◌, [], ◌∷◌, IfOk};
 ghost use Rattle.coco_msg.specs.Bytes.{HasBytes};
@@ -8,9 +8,9 @@ use coco_types::{Key, NoMemory, PackedWrite, Sequence, Value, Write};
 use std::alloc::Global;
 use std::test::Fail;
 
-const SHIP: [u8; 46] = [
+const SHIP: [u8; 45] = [
     1, 0, 0, 0, 0, 0, 0, 0, 1, 2, 0, 0, 0, 3, 0, 0, 0, 0, 0, 0, 0, 4, 0, 0, 0, 1, 0, 0, 0, 0, 0, 0,
-    0, 0, 0, 5, 1, 0, 0, 0, 0, 0, 0, 0, 70, 0,
+    0, 0, 0, 5, 1, 0, 0, 0, 0, 0, 0, 0, 70,
 ];
 
 const TOTAL: [u8; 18] = [2, 0, 0, 0, 0, 0, 0, 0, 1, 0, 0, 0, 0, 1, 0, 0, 0, 0];
@@ -65,7 +65,7 @@ fn ship_has_bytes(alloc: Global) -> Result<bool, NoMemory> {
         time: 4,
         writes,
     };
-    has_bytes(alloc, &ship, &SHIP[..45])
+    has_bytes(alloc, &ship, &SHIP)
 }
 
 // Whether this is the Ship of those bytes.
@@ -85,38 +85,9 @@ fn is_ship(message: &Message) -> bool {
 #[test]
 fn a_ship_is_read_as_it_was_written(rt: HostRuntime) -> Result<(), Fail> {
     let is_written = ship_has_bytes(rt.alloc())?;
-    let message = read_message(rt.alloc(), &SHIP[..45])?;
+    let message = read_message(rt.alloc(), &SHIP)?;
     assert!(rt; is_written && is_ship(&message));
     Ok(())
-}
-
-fn is_bad_at(alloc: Global, bytes: &[u8], place: usize) -> bool {
-    match read_message(alloc, bytes) {
-        Err(MessageFault::Bad { at }) => at == place,
-        Err(MessageFault::NoMemory) | Ok(_) => false,
-    }
-}
-
-#[test]
-fn other_bytes_are_bad_at_the_first_field_that_can_not_stand(rt: HostRuntime) {
-    let falling = [
-        2, 0, 0, 0, 0, 0, 0, 0, 1, 0, 0, 0, 0, 2, 0, 0, 0, 7, 0, 0, 0, 7,
-    ];
-    let cases: [(&[u8], usize); 10] = [
-        (&[], 0),
-        (&[0], 0),
-        (&[12, 0], 0),
-        (&[5, 0, 0], 1),
-        (&[5, 0, 0, 0, 0, 0, 0, 0, 1, 9], 9),
-        (&[6, 0, 0, 0, 0, 0, 0, 0, 1], 9),
-        (&[11, 0, 0, 0, 0, 0, 0, 0, 1, 2], 9),
-        (&TOTAL[..16], 14),
-        (&falling, 18),
-        (&SHIP, 45),
-    ];
-    for (bytes, at) in cases {
-        assert!(rt; is_bad_at(rt.alloc(), bytes, at), "at {at}");
-    }
 }
 
 #[test]

@@ -118,31 +118,3 @@ fn a_restarted_node_asks_and_does_what_it_is_told(rt: HostRuntime) -> Result<(),
     assert!(rt; is_reverted && is_promoted);
     Ok(())
 }
-
-// Whether a core whose rows of epoch 3 are lost says no to it alone, and lets an epoch that it forces go.
-fn says_no_to_lost_rows(alloc: Global, core: &mut NodeCore) -> Result<bool, NoMemory> {
-    answers(
-        alloc,
-        core,
-        &[
-            (
-                &Message::Prepare { epoch: 3 },
-                "to 8 Vote { epoch: 3, yes: false } ",
-            ),
-            (&Message::Prepare { epoch: 2 }, ""),
-            (&Message::Prepare { epoch: 0 }, ""),
-            (&Message::Prepare { epoch: 4 }, "force 4 "),
-            (&Message::Abort { epoch: 4 }, ""),
-            (&Message::Finished { epoch: 1 }, ""),
-        ],
-    )
-}
-
-#[test]
-fn only_the_coordinator_is_heard_and_lost_rows_are_no_yes(rt: HostRuntime) -> Result<(), Fail> {
-    let alloc = rt.alloc();
-    let mut core = restarted(alloc, Some(3))?;
-    let is_deaf = core.handle(alloc, 0, &COMMIT)?.is_empty();
-    assert!(rt; is_deaf && says_no_to_lost_rows(alloc, &mut core)? && core.forcing() == 0);
-    Ok(())
-}

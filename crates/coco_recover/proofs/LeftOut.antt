@@ -4,10 +4,11 @@ use Rattle.std.specs.Prelude.{IfSome, MatchOption}
 use Rattle.std.specs.List.{AllByRecursion}
 use Rattle.std.proofs.lemmas.Bool.{cases_lt}
 use Rattle.std.proofs.Math.Nat.{eq-or-lt_of_le}
-use Rattle.coco_ast.proofs.Lists.{all_append}
+use Rattle.coco_ast.proofs.Lists.{all_append, all_right}
 use Rattle.coco_entry.specs.declared.commit.Commit.{Commit}
 use Rattle.coco_entry.specs.declared.layout.LayoutEntry.{LayoutEntry}
 use Rattle.coco_entry.specs.declared.prepared.Prepared.{Prepared}
+use Rattle.coco_entry.specs.Layouts.{IsLayout}
 use Rattle.coco_host.specs.Files.{Files, NoMore}
 use Rattle.coco_append.specs.Gaining.{Stands}
 use Rattle.coco_log.specs.LogState.{IsFresh, IsOpened, LogState}
@@ -17,6 +18,8 @@ use Rattle.coco_store.specs.Contents.{Contents, HoldsBase, HoldsCommits, HoldsHi
 use Rattle.coco_store.specs.Entries.{AreBase, BaseEntry, base_kind, commits_kind, layouts_kind, prepared_kind}
 use Rattle.coco_store.specs.Refusals.{BaseBreaks, CommitBreaks, IsFirst, IsFirstRefusal, IsNodeRefused, LayoutBreaks, PreparedBreaks, in_base, in_commits, in_layouts}
 use Rattle.coco_store.specs.Rules.{EachBehind, IsBase, IsNextBase, IsNextCommit, IsNextPrepared, Setting, commit_epochs}
+use Rattle.coco_store.proofs.Keeping.{base_kept, commits_kept, layouts_kept, node_kept}
+use Rattle.coco_store.proofs.Naming.{NamesApart, names_apart}
 use Rattle.coco_store.proofs.OneStore.{behind, one_base_file, one_chief_file, one_layouts}
 use Rattle.coco_store.proofs.Refusing.{one_refusal}
 use Rattle.coco_recover.specs.Bases.{base_rules}
@@ -25,7 +28,7 @@ use Rattle.coco_recover.specs.Layouts.{layout_rules, setting_of}
 use Rattle.coco_recover.specs.Nodes.{IsLoaded, node_rules, nodes_of}
 use Rattle.coco_recover.specs.Readings.{base_reads, commit_reads, layout_reads, prepared_reads}
 use Rattle.coco_recover.specs.Steps.{HoldsEntries, HoldsLast, IsLeft, IsRead}
-use Rattle.coco_recover.specs.Without.{AreOthersHeld, AreOthersRead, ArePartsOf, GoodStoresAreButForANode, HasParts, HoldsBut, IsGoodBut, IsHistoryRefusal, IsLogBut, OneRefusalButForANode, RefusedButForANodeIsNone, RestsBut, StoresAreButForANode, base_refused, before_nodes, commits_refused, in_other, layouts_refused}
+use Rattle.coco_recover.specs.Without.{AreOthersHeld, AreOthersRead, ArePartsOf, BehindGatesButForANode, GoodStoresAreButForANode, HasParts, HoldsBut, IsGoodBut, IsHistoryRefusal, IsLogBut, OneRefusalButForANode, RefusedButForANodeIsNone, RestsBut, StoresAreButForANode, base_refused, before_nodes, commits_refused, in_other, layouts_refused}
 use Rattle.coco_recover.specs.declared.commits.Committed.{Committed}
 use Rattle.coco_recover.specs.declared.layouts.LastLayout.{LastLayout}
 use Rattle.coco_recover.specs.declared.nodes.Loaded.{Loaded}
@@ -147,6 +150,25 @@ good_stores_but node files c = (
     rows = λ n p less. good.rows n p less (λ same. omega (arith, none, less, same));
   },
 )
+
+pub behind_gates_but : BehindGatesButForANode
+behind_gates_but node old new c keep good =
+    let s : Setting = c.setting in
+    let was = good.holds.history in
+    let apart : NamesApart s.entry = names_apart s.entry (all_right IsLayout c.earlier (s.entry ∷ []) was.layouts.are.are).0 in
+    record {
+      holds = record {
+        history = record {
+          layouts = layouts_kept c.earlier s (old 0) (new 0) (keep 0 apart.own) was.layouts;
+          base = base_kept old new s c.base s.entry.base_file (λ b e. keep b (apart.base b e)) was.base;
+          commits = commits_kept s c.base c.commits (old (chief_of s)) (new (chief_of s)) (keep (chief_of s) apart.chief) was.commits;
+        };
+        nodes = λ n less other. node_kept s c.commits n (c.prepared n) (old (file_of s n)) (new (file_of s n)) (keep (file_of s n) (apart.node n less)) (good.holds.nodes n less other);
+      };
+      ordered = good.ordered;
+      serial = good.serial;
+      rows = good.rows;
+    }
 
 -- ---- one place is refused first
 

@@ -3,7 +3,7 @@ use Rattle.std.specs.Prelude.{◌≡◌, ◌≢◌, ℕ, ◌<◌, ◌≤◌, Lis
 use Rattle.std.specs.List.{AllByRecursion}
 use Rattle.coco_types.specs.Limits.{epochs_end}
 use Rattle.coco_host.specs.Files.{Files}
-use Rattle.coco_append.specs.Gaining.{Stands}
+use Rattle.coco_append.specs.Gaining.{RestsAs, Stands}
 use Rattle.coco_ast.specs.History.{IsOrdered, IsSerial, RisesAbove}
 use Rattle.coco_ast.specs.Tree.{Procedures}
 use Rattle.coco_entry.specs.declared.layout.LayoutEntry.{LayoutEntry}
@@ -12,6 +12,7 @@ use Rattle.coco_entry.specs.Layouts.{IsLayout}
 use Rattle.coco_log.specs.LogState.{IsFresh, IsOpened, LogState}
 use Rattle.coco_store.specs.Contents.{Contents, HoldsBase, HoldsHistory, HoldsLayouts, HoldsNode, IsGoodStore, Holds, chief_of, file_of, history_of, map_in, on, rows_of}
 use Rattle.coco_store.specs.Entries.{BaseEntry, commits_kind, layouts_kind, prepared_kind}
+use Rattle.coco_store.specs.Laws.{KeepLogs}
 use Rattle.coco_store.specs.Placement.{IsHeldBy}
 use Rattle.coco_store.specs.Refusals.{AreCommitsRefused, AreLayoutsRefused, IsBaseRefused, IsFirst, IsNodeRefused}
 use Rattle.coco_store.specs.Rules.{IsWithinLimits, Setting, commit_epochs}
@@ -46,6 +47,10 @@ StoresAreButForANode = (node : ℕ) (files : Files) (c : Contents) → (Holds fi
 -- and so are good ones
 abbrev pub GoodStoresAreButForANode : Type 0
 GoodStoresAreButForANode = (node : ℕ) (files : Files) (c : Contents) → (IsGoodStore files c → IsGoodBut node files c) × (c.setting.entry.layout.nodes ≤ node → IsGoodBut node files c → IsGoodStore files c)
+
+-- behind the last gates, and in files that the layout doesn't name, anything may stand
+abbrev pub BehindGatesButForANode : Type 0
+BehindGatesButForANode = (node : ℕ) (old new : Files) (c : Contents) → KeepLogs c.setting.entry old new → IsGoodBut node old c → IsGoodBut node new c
 
 -- ---- refusals
 
@@ -116,11 +121,8 @@ pub record PartsStand (parts : Parts) (reads : Option Files) (may_leave : Files 
   pub nodes : (n : ℕ) → n < length parts.nodes.items → IfSome (log_in parts.nodes.items n) (λ log. Stands log reads may_leave)
 
 -- a host rests on contents but for this node's file: its files read as a store that is good but for it, and so does all that a crash may leave
-pub record RestsBut (node : ℕ) (c : Contents) (reads : Option Files) (may_leave : Files → Type 0) : Type 0 where
-  pub files : Files
-  pub are : reads ≡ Some files
-  pub good : IsGoodBut node files c
-  pub left : (image : Files) → may_leave image → IsGoodBut node image c
+abbrev pub RestsBut : ℕ → Contents → Option Files → (Files → Type 0) → Type 0
+RestsBut node c = RestsAs (λ files. IsGoodBut node files c)
 
 -- ---- on the way
 

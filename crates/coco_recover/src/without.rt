@@ -16,7 +16,7 @@ ghost use Rattle.coco_recover.specs.Commits.{AreCommitted};
 ghost use Rattle.coco_recover.specs.Layouts.{IsGoodLast, setting_of};
 ghost use Rattle.coco_recover.specs.Nodes.{HoldsNodes, IsLoaded, IsNode, node_basis_of, nodes_of};
 ghost use Rattle.coco_recover.specs.Steps.{HoldsCommitted, HoldsEntries, HoldsLast, HoldsParts, IsRead};
-ghost use Rattle.coco_recover.specs.Without.{AreOthersHeld, ArePartsOf, AreSoundParts, GoodStoresAreButForANode, HoldsBut, IsFirstRefusalBut, IsGoodBut, IsLogBut, log_in, OneRefusalButForANode, PartsStand, RefusedButForANodeIsNone, RestsBut, StoresAreButForANode};
+ghost use Rattle.coco_recover.specs.Without.{AreOthersHeld, ArePartsOf, AreSoundParts, BehindGatesButForANode, GoodStoresAreButForANode, HoldsBut, IsFirstRefusalBut, IsGoodBut, IsLogBut, log_in, OneRefusalButForANode, PartsStand, RefusedButForANodeIsNone, RestsBut, StoresAreButForANode};
 
 use crate::files::{read_base, read_commits, read_layouts, read_node};
 use crate::{Based, Committed, LastLayout, Loaded};
@@ -44,10 +44,12 @@ pub struct Parts {
     pub nodes: Vec<Option<Log>>,
 }
 
-/// A store is one but for any node, and one but for a node that it doesn't have is one.
+/// A store is one but for any node, and one but for a node that it doesn't have is one. Of one that is good but for a
+/// node, too, what stands behind the last gates has no meaning.
 pub fn a_store_is_one_but_for_a_node()
     ensures any { StoresAreButForANode }
     ensures good { GoodStoresAreButForANode }
+    ensures gates { BehindGatesButForANode }
 {}
 
 /// Files that are refused, with a node's file left out, hold no store but for it, and one place in them is refused

@@ -11,6 +11,3 @@ pub mod view;
 pub use note::{HoldsNote, Note};
 pub use seen::Seen;
 pub use stores::Stores;
-
-#[cfg(test)]
-mod tests;

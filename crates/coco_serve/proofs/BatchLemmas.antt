@@ -10,7 +10,6 @@ use Rattle.coco_types.specs.declared.call.Request.{Request}
 use Rattle.coco_types.specs.declared.error.OutFault.{OutFault}
 use Rattle.coco_types.specs.declared.error.OutFault.TheVariants as out
 use Rattle.coco_append.specs.Gaining.{RestsOn}
-use Rattle.coco_append.proofs.GainLemmas.{sees_weaker}
 use Rattle.coco_ast.specs.History.{History, all_dones, kept}
 use Rattle.coco_ast.proofs.KeptLemmas.{keeps_all}
 use Rattle.coco_batches.specs.declared.answer.LineAnswer.{LineAnswer}
@@ -19,7 +18,7 @@ use Rattle.coco_cluster.specs.Standing.{ClusterState, StandsAt}
 use Rattle.coco_cluster.specs.Turning.{Grown, HasRoom, IsUntouched, ShowsStore, Turns, beginning_on}
 use Rattle.coco_cluster.specs.declared.fault.TurnFault.{TurnFault}
 use Rattle.coco_cluster.specs.declared.fault.TurnFault.TheVariants as turn
-use Rattle.coco_log.proofs.OnlyRead.{sees_then}
+use Rattle.coco_log.proofs.OnlyRead.{sees_then, sees_weaker}
 use Rattle.coco_commits.specs.EpochEntries.{HasRoomFor}
 use Rattle.coco_host.specs.Files.{Files, NoMore}
 use Rattle.coco_host.specs.Moments.{IsNew, IsSaidBetween, Observation, SeesOnly}

@@ -6,7 +6,6 @@ use Rattle.std.specs.Io.KnownBytes.{append_known}
 use Rattle.coco_types.specs.Limits.{epochs_end}
 use Rattle.coco_types.specs.declared.call.Request.{Request}
 use Rattle.coco_append.specs.Gaining.{RestsOn}
-use Rattle.coco_append.proofs.GainLemmas.{sees_weaker}
 use Rattle.coco_ast.specs.Growth.{GrowsInTurn}
 use Rattle.coco_ast.specs.GrowthLaws.{Keeps}
 use Rattle.coco_ast.specs.History.{Epoch, History, all_dones, kept}
@@ -42,7 +41,7 @@ use Rattle.coco_serve.specs.declared.fault.BatchFault.{BatchFault}
 use Rattle.coco_serve.specs.declared.fault.BatchFault.TheVariants as fault
 use Rattle.coco_serve.specs.declared.bounds.RunBounds.{RunBounds}
 use Rattle.coco_serve.specs.Endings.{ending_of}
-use Rattle.coco_log.proofs.OnlyRead.{sees_then}
+use Rattle.coco_log.proofs.OnlyRead.{sees_then, sees_weaker}
 use Rattle.coco_serve.proofs.NumberLemmas.{adds_more}
 use Rattle.coco_serve.proofs.ReplyLemmas.{keeps_some, no_later_done, texts_are_answers}
 use Rattle.coco_serve.proofs.RunLemmas.{AreServed, SeenNow, added_by, all_served, answers-append, batches_more, classes_at, cut_more, epochs_used_up, first_more, joined-more, left_by, map-more, more_served, paired, size_more, turns_more, moved}

@@ -28,6 +28,11 @@ use std::collections::VecDeque;
 /// How often primaries ask before they give up.
 const EXCHANGES: u8 = 16;
 
+/// How often, in numbers.
+pub fn limits()
+    ensures { EXCHANGES ≡ 16 }
+{}
+
 /// Why the copies of an epoch's pieces aren't known to be whole.
 #[derive(Clone, Copy, Debug, PartialEq, Eq)]
 pub enum ShipFault {

@@ -6,3 +6,4 @@ pub mod Logs
 pub mod Naming
 pub mod OneStore
 pub mod Refusing
+pub mod Switching

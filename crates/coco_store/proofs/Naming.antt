@@ -1,12 +1,14 @@
 -- The files that a layout names are all different.
-use Rattle.std.proofs.Common.{◌≡◌, ◌≢◌, ℕ, zero, suc, ◌<◌, Bool, true, false, ◌||◌, List, [], ◌∷◌, ◌++◌, length, Option, Some, None, refl, sym, subst, ◌∙◌, arith, ⊎_elim}
+use Rattle.std.proofs.Common.{◌≡◌, ◌≢◌, ℕ, zero, suc, ◌<◌, Bool, true, false, ◌||◌, List, [], ◌∷◌, ◌++◌, length, Option, Some, None, refl, sym, ap, subst, ◌∙◌, arith, ⊎_elim}
 use Rattle.std.specs.Prelude.{slice_index, ◌==◌}
 use Rattle.std.specs.Option.{option_to_list}
 use Rattle.std.proofs.lemmas.Bool.{cases_lt, eq-eqb}
+use Rattle.std.proofs.lemmas.Bool.Decides.{nat_tests}
 use Rattle.std.proofs.lemmas.List.Folds.{list_any-append}
 use Rattle.std.proofs.Math.Nat.{eq-or-lt_of_le}
 use Rattle.coco_entry.specs.declared.layout.LayoutEntry.{LayoutEntry}
 use Rattle.coco_entry.specs.Layouts.{AreNew, HasLater, IsLayout, is_named, named_by}
+use Rattle.coco_log.proofs.Changing.{apart}
 use Rattle.coco_store.specs.Entries.{files_of}
 
 or_left : (a b : Bool) → a ≡ true → a || b ≡ true
@@ -21,7 +23,7 @@ neither_left : (a b : Bool) → a || b ≡ false → a ≡ false
 neither_left true b e = e
 neither_left false b e = refl
 
-named_left : (xs ys : List ℕ) (f : ℕ) → is_named xs f ≡ true → is_named (xs ++ ys) f ≡ true
+pub named_left : (xs ys : List ℕ) (f : ℕ) → is_named xs f ≡ true → is_named (xs ++ ys) f ≡ true
 named_left xs ys f h = list_any-append (λ n. n == f) xs ys ∙ or_left (is_named xs f) (is_named ys f) h
 
 named_right : (xs ys : List ℕ) (f : ℕ) → is_named ys f ≡ true → is_named (xs ++ ys) f ≡ true
@@ -38,9 +40,12 @@ named_at [] n less = absurd (omega (arith, less))
 named_at (x ∷ xs) zero less = named_one xs x
 named_at (x ∷ xs) (suc n) less = or_right _ _ (named_at xs n (omega (arith, less)))
 
--- what is named isn't what isn't
-pub apart : (xs : List ℕ) (f g : ℕ) → is_named xs f ≡ true → is_named xs g ≡ false → f ≢ g
-apart xs f g is lacks e = let h : true ≡ false = sym (subst (λ (k : ℕ). is_named xs k ≡ true) e is) ∙ lacks in cc
+-- what was named is none of the new ones
+pub unnamed_new : (named files : List ℕ) (f : ℕ) → AreNew named files → is_named named f ≡ true → is_named files f ≡ false
+unnamed_new named [] f new is = refl
+unnamed_new named (g ∷ files) f new is =
+    let off : (g == f) ≡ false = (let other = apart named f g is new.0.1 in grind (arith, nat_tests)) in
+    ap (λ (b : Bool). b || is_named files f) off ∙ unnamed_new (named ++ g ∷ []) files f new.1 (named_left named (g ∷ []) f is)
 
 new_at : (named files : List ℕ) (n : ℕ) → AreNew named files → n < length files → is_named named (slice_index files n) ≡ false
 new_at named [] n new less = absurd (omega (arith, less))
@@ -64,6 +69,7 @@ pub record NamesApart (entry : LayoutEntry) : Type 0 where
   pub node-own : (n : ℕ) → n < entry.layout.nodes → 0 ≢ slice_index entry.layout.node_files n
   pub node-chief : (n : ℕ) → n < entry.layout.nodes → entry.layout.chief_file ≢ slice_index entry.layout.node_files n
   pub node-node : (m n : ℕ) → m < entry.layout.nodes → n < entry.layout.nodes → m ≢ n → slice_index entry.layout.node_files m ≢ slice_index entry.layout.node_files n
+  pub base-own : (b : ℕ) → entry.base_file ≡ Some b → 0 ≢ b
   pub base-chief : (b : ℕ) → entry.base_file ≡ Some b → entry.layout.chief_file ≢ b
   pub base-node : (b n : ℕ) → entry.base_file ≡ Some b → n < entry.layout.nodes → slice_index entry.layout.node_files n ≢ b
 
@@ -90,6 +96,7 @@ names_apart entry is =
       node-own = λ n less. apart (0 ∷ chief ∷ []) 0 (slice_index files n) refl (new_at (0 ∷ chief ∷ []) files n is.fields.files (within n less));
       node-chief = λ n less. apart (0 ∷ chief ∷ []) chief (slice_index files n) (or_right _ _ (named_one [] chief)) (new_at (0 ∷ chief ∷ []) files n is.fields.files (within n less));
       node-node = λ m n one two other. by_order files is.fields.files m n (within m one) (within n two) other;
+      base-own = λ b e. apart all 0 b refl (new_base all entry.keep entry.base_file b is.later e);
       base-chief = λ b e. apart all chief b of_chief (new_base all entry.keep entry.base_file b is.later e);
       base-node = λ b n e less. apart all (slice_index files n) b (here n less) (new_base all entry.keep entry.base_file b is.later e);
     }

@@ -98,9 +98,12 @@ map_in c = map_of c.setting.tree (history_of c)
 -- ---- good stores
 
 -- every node has the history's rows in each partition that it holds
+abbrev pub HaveRows : Contents → Type 0
+HaveRows c = (n p : ℕ) → n < c.setting.entry.layout.nodes → p < c.setting.entry.layout.partitions → IsHeldBy c.setting.entry.layout p n
+    → rows_of c n p ≡ on c.setting p (map_in c)
+
 pub record IsGoodStore (files : Files) (c : Contents) : Type 0 where
   pub holds : Holds files c
   pub ordered : IsOrdered (history_of c)
   pub serial : IsSerial c.setting.tree (history_of c)
-  pub rows : (n p : ℕ) → n < c.setting.entry.layout.nodes → p < c.setting.entry.layout.partitions → IsHeldBy c.setting.entry.layout p n
-      → rows_of c n p ≡ on c.setting p (map_in c)
+  pub rows : HaveRows c

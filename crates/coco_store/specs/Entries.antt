@@ -32,6 +32,10 @@ IsBaseEntry (Head head) = IsHead head
 IsBaseEntry (Dones dones) = AreBaseDones dones
 IsBaseEntry (Values rows) = AreBaseRows rows
 
+-- the file of the layouts
+abbrev pub layouts_file : ℕ
+layouts_file = 0
+
 -- a file is the log of these entries, and of no others
 pub record IsLogOf {E : Type 0} (kind : ℕ) (bytes_of : E → List ℕ) (Is : E → Type 0) (entries : List E) (file : List ℕ) : Type 0 where
   pub log : IsLog kind (map bytes_of entries) file

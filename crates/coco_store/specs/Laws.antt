@@ -27,20 +27,34 @@ KeepsLog old new = (kind : ℕ) (bodies : List (List ℕ)) → IsLog kind bodies
 abbrev pub KeepLogs : LayoutEntry → Files → Files → Type 0
 KeepLogs entry old new = (n : ℕ) → is_named (files_of entry) n ≡ true → KeepsLog (old n) (new n)
 
--- the log in one of the files, of these entries, becomes such a one; the others that a layout names keep theirs
-pub record IsAppend (Becomes : ℕ → List (List ℕ) → List ℕ → List ℕ → Type 0) (entry : LayoutEntry) (file kind : ℕ) (body : List ℕ) (old new : Files) : Type 0 where
+-- all files do
+abbrev pub KeepAllLogs : Files → Files → Type 0
+KeepAllLogs old new = (n : ℕ) → KeepsLog (old n) (new n)
+
+-- the log in one of the files, of these entries, becomes such a one; of the others these keep theirs
+pub record IsAppend (Becomes : ℕ → List (List ℕ) → List ℕ → List ℕ → Type 0) (Kept : ℕ → Type 0) (file kind : ℕ) (body : List ℕ) (old new : Files) : Type 0 where
   pub bodies : List (List ℕ)
   pub was : IsLog kind bodies (old file)
   pub is : Becomes kind bodies body (new file)
-  pub others : (n : ℕ) → is_named (files_of entry) n ≡ true → n ≢ file → KeepsLog (old n) (new n)
+  pub others : (n : ℕ) → Kept n → n ≢ file → KeepsLog (old n) (new n)
 
--- it gains an entry
+abbrev pub WithOne : ℕ → List (List ℕ) → List ℕ → List ℕ → Type 0
+WithOne kind bodies body file = IsLog kind (bodies ++ body ∷ []) file
+
+-- it gains an entry, and the others that a layout names keep their logs
 abbrev pub GainsOne : LayoutEntry → ℕ → ℕ → List ℕ → Files → Files → Type 0
-GainsOne = IsAppend (λ kind bodies body file. IsLog kind (bodies ++ body ∷ []) file)
+GainsOne entry = IsAppend WithOne (λ n. is_named (files_of entry) n ≡ true)
 
 -- a crash within an append leaves the entries from before, or these and the new one
 abbrev pub MayGainOne : LayoutEntry → ℕ → ℕ → List ℕ → Files → Files → Type 0
-MayGainOne = IsAppend IsBeforeOrAfter
+MayGainOne entry = IsAppend IsBeforeOrAfter (λ n. is_named (files_of entry) n ≡ true)
+
+-- the same where all the others keep theirs
+abbrev pub GainsEntry : ℕ → ℕ → List ℕ → Files → Files → Type 0
+GainsEntry = IsAppend WithOne (λ n. Unit {0})
+
+abbrev pub MayGainEntry : ℕ → ℕ → List ℕ → Files → Files → Type 0
+MayGainEntry = IsAppend IsBeforeOrAfter (λ n. Unit {0})
 
 -- ---- one entry more
 

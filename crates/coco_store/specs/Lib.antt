@@ -5,4 +5,5 @@ pub mod Placement
 pub mod Refusals
 pub mod Rules
 pub mod StoreExamples
+pub mod Switching
 pub mod Texts

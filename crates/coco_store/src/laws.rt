@@ -5,6 +5,7 @@ ghost use Rattle.coco_log.specs.Grammar.{IsLog};
 ghost use Rattle.coco_store.specs.Laws.{AfterCommit, AfterPrepared, BehindGates, KeepsLog, OneContents, WhileCommitted, WhilePrepared};
 ghost use Rattle.coco_store.specs.Refusals.{OneRefusal, RefusedIsNone};
 ghost use Rattle.coco_store.specs.StoreExamples.{StoreExamples};
+ghost use Rattle.coco_store.specs.Switching.{AfterSwitch, WhereAllowed, WhileSwitch};
 
 /// What small stores hold, byte by byte.
 pub fn store_examples()
@@ -34,6 +35,19 @@ pub fn a_prepared_entry_keeps_the_store()
 pub fn a_commit_entry_adds_its_epoch()
     ensures after { AfterCommit }
     ensures meanwhile { WhileCommitted }
+{}
+
+/// A layout more makes files a good store with other contents, where all else of these stands in the files already.
+/// At each moment of its append the layouts are those of before, or this store is there.
+pub fn a_layout_switches_the_store()
+    ensures after { AfterSwitch }
+    ensures meanwhile { WhileSwitch }
+{}
+
+/// Entries that keep the rules under one layout keep them under another of the same sizes and base epoch that has
+/// no less room.
+pub fn entries_stand_under_another_layout()
+    ensures { WhereAllowed }
 {}
 
 /// Files that are refused hold no store, and one place in them is refused first.

@@ -5,6 +5,7 @@ pub mod kinds;
 pub mod laws;
 
 pub use laws::{
-    a_commit_entry_adds_its_epoch, a_prepared_entry_keeps_the_store, a_refused_store_is_none,
-    a_store_is_its_logs, files_hold_one_store, store_examples,
+    a_commit_entry_adds_its_epoch, a_layout_switches_the_store, a_prepared_entry_keeps_the_store,
+    a_refused_store_is_none, a_store_is_its_logs, entries_stand_under_another_layout,
+    files_hold_one_store, store_examples,
 };

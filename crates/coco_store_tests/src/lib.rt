@@ -1,9 +1,11 @@
-//! Tests of a store's bytes: entries, logs, rules, appends, and new stores. There is nothing else here.
+//! Tests of a store's bytes: entries, logs, new stores, stores that are opened, and what is had of one in memory. There is
+//! nothing else here.
+#![tactic(auto)]
 
 #[cfg(test)]
-mod appends;
-#[cfg(test)]
 mod entries;
+#[cfg(test)]
+mod loads;
 #[cfg(test)]
 mod logs;
 #[cfg(test)]
@@ -11,4 +13,4 @@ mod made;
 #[cfg(test)]
 mod makes;
 #[cfg(test)]
-mod rules;
+mod recovery;

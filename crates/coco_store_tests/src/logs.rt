@@ -1,6 +1,6 @@
-//! A log's bytes as they are written and read, and its four calls of the host.
+//! A log's bytes as they are written and read.
 
-use crate::made::{failing_host, has_bytes, host_with};
+use crate::made::{has_bytes, host_with};
 use coco_host::MemoryHost;
 use coco_log::{Entries, Log, LogFault};
 use std::alloc::Global;
@@ -29,21 +29,6 @@ fn entries_stand_behind_open_gates(rt: HostRuntime) -> Result<(), Fail> {
     Ok(())
 }
 
-// Whether this call of the host, which fails, leaves a log spent.
-fn is_spent_by(alloc: Global, call: u64) -> Result<bool, LogFault> {
-    let mut host = failing_host(alloc, call)?;
-    let mut log = Log::make(alloc, &mut host, 0, 0)?;
-    Ok(log.append(&mut host, b"ab").is_err() && log.spent())
-}
-
-#[test]
-fn a_fault_leaves_the_log_spent(rt: HostRuntime) -> Result<(), Fail> {
-    for call in 2..6 {
-        assert!(rt; is_spent_by(rt.alloc(), call)?, "call {call}");
-    }
-    Ok(())
-}
-
 // Whether there is a next entry, with this body at this place.
 fn is_next(
     host: &mut MemoryHost,
@@ -69,7 +54,7 @@ fn are_read(alloc: Global, host: &mut MemoryHost) -> Result<bool, LogFault> {
 
 #[test]
 fn entries_are_read_in_order(rt: HostRuntime) -> Result<(), Fail> {
-    let mut host = host_with(rt.alloc(), 2, &TWO_ENTRIES)?;
+    let mut host = host_with(rt.alloc(), &[(2, &TWO_ENTRIES)])?;
     assert!(rt; are_read(rt.alloc(), &mut host)?);
     Ok(())
 }
@@ -107,31 +92,7 @@ fn goes_on(alloc: Global, host: &mut MemoryHost) -> Result<bool, LogFault> {
 #[test]
 fn a_log_is_opened_whatever_stands_behind_its_last_gate(rt: HostRuntime) -> Result<(), Fail> {
     let bytes = b"COCOLOG\x01\x01\x00\x00\x00\x02ab\x02\x01\x00\x09";
-    let mut host = host_with(rt.alloc(), 0, bytes)?;
+    let mut host = host_with(rt.alloc(), &[(0, bytes)])?;
     assert!(rt; goes_on(rt.alloc(), &mut host)?);
-    Ok(())
-}
-
-fn is_refused_at(alloc: Global, bytes: &[u8], place: u64) -> Result<bool, LogFault> {
-    let mut host = host_with(alloc, 0, bytes)?;
-    let opened = Log::reopen(alloc, &mut host, 0, 1);
-    Ok(matches!(opened, Err(LogFault::NotALog { at }) if at == place))
-}
-
-#[test]
-fn what_is_no_log_is_refused_at_its_place(rt: HostRuntime) -> Result<(), Fail> {
-    let cases: [(&[u8], u64); 8] = [
-        (b"", 0),
-        (b"COCOG", 4),
-        (b"COCOLOG", 7),
-        (b"COCOLOG\x02\x00", 7),
-        (b"COCOLOG\x01", 8),
-        (b"COCOLOG\x01\x01\x00\x00\x00", 8),
-        (b"COCOLOG\x01\x01\x00\x00\x00\x02ab", 8),
-        (b"COCOLOG\x01\x01\x00\x00\x00\x00\x01\x04\x00\x00\x01", 13),
-    ];
-    for (bytes, place) in &cases {
-        assert!(rt; is_refused_at(rt.alloc(), bytes, *place)?, "{place}");
-    }
     Ok(())
 }

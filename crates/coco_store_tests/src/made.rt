@@ -1,10 +1,36 @@
-//! What several tests of a store's bytes stand on: a call that was committed, hosts, and what their files have.
+//! What several tests of a store's bytes stand on: a call that was committed, the worked store of one node, hosts, and
+//! what their files have.
 
 ghost use Rattle.std.specs.Prelude.{◌≡◌, IfOk};
 
 use coco_host::{Host, MemoryHost};
 use coco_types::{Args, Call, Done, KeptReply, NoMemory, OutFault, Packed};
 use std::alloc::Global;
+
+/// One node, one partition, no copies, and an empty text.
+pub const LAYOUTS: [u8; 39] = [
+    b'C', b'O', b'C', b'O', b'L', b'O', b'G', 0, 1, 0, 0, 0, 25, 1, 1, 1, 1, 0, 0, 0, 0, 1, 0, 0,
+    0, 2, 0, 0, 0, 0, 0, 0, 0, 0, 0, 0, 0, 0, 0,
+];
+
+/// put(5, 70) as id 1 in epoch 1.
+pub const COMMITS: [u8; 75] = [
+    b'C', b'O', b'C', b'O', b'L', b'O', b'G', 1, 1, 0, 0, 0, 61, 2, 0, 0, 0, 0, 0, 0, 0, 1, 0, 0,
+    0, 1, 0, 0, 0, 0, 0, 0, 0, 1, 0, 1, 0, 2, 1, 0, 0, 0, 0, 0, 0, 0, 5, 1, 0, 0, 0, 0, 0, 0, 0,
+    70, 0, 0, 0, 0, 0, 0, 0, 1, 0, 1, 0, 0, 0, 0, 0, 0, 0, 70, 0,
+];
+
+/// Its row.
+pub const PREPARED: [u8; 54] = [
+    b'C', b'O', b'C', b'O', b'L', b'O', b'G', 2, 1, 0, 0, 0, 40, 3, 0, 0, 0, 0, 0, 0, 0, 1, 0, 0,
+    0, 1, 0, 0, 0, 0, 0, 0, 0, 0, 0, 5, 0, 0, 0, 0, 0, 0, 0, 1, 1, 0, 0, 0, 0, 0, 0, 0, 70, 0,
+];
+
+/// A commit log without entries.
+pub const NO_COMMITS: [u8; 9] = *b"COCOLOG\x01\x00";
+
+/// A node's log without entries.
+pub const NONE_PREPARED: [u8; 9] = *b"COCOLOG\x02\x00";
 
 /// `put(5, 70)` as id 1, committed in epoch 1 at time 1.
 pub fn put_of_seventy(alloc: Global) -> Result<Done, NoMemory>
@@ -26,15 +52,12 @@ pub fn put_of_seventy(alloc: Global) -> Result<Done, NoMemory>
     })
 }
 
-/// A host without files, of which the call with this number fails.
-pub fn failing_host(alloc: Global, call: u64) -> Result<MemoryHost, NoMemory> {
-    Ok(MemoryHost::new(alloc, vec![in alloc; call]?))
-}
-
-/// A host with these bytes in this file.
-pub fn host_with(alloc: Global, file: u32, bytes: &[u8]) -> Result<MemoryHost, OutFault> {
+/// A host that has these files.
+pub fn host_with(alloc: Global, files: &[(u32, &[u8])]) -> Result<MemoryHost, OutFault> {
     let mut host = MemoryHost::new(alloc, Vec::new(alloc));
-    host.write_at(file, 0, bytes)?;
+    for (file, bytes) in files {
+        host.write_at(*file, 0, bytes)?;
+    }
     Ok(host)
 }
 

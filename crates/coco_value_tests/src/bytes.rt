@@ -1,4 +1,6 @@
-//! Fields and values as bytes, and the place of what can't be read.
+//! Fields and values as bytes.
+
+ghost use Rattle.std.specs.Prelude.{◌≤◌, length};
 
 use coco_bytes::{
     FieldFault, get_bytes16, get_flag, get_i64, get_key, get_u8, get_u16, get_u32, get_u64,
@@ -8,131 +10,119 @@ use coco_bytes::{
 use coco_types::{Key, NoMemory, Text, Value};
 use std::test::Fail;
 
-const FIELDS: [u8; 31] = [
+// A field of each kind. Counted bytes are two.
+#[derive(Clone, Copy)]
+enum Field {
+    Byte(u8),
+    Two(u16),
+    Four(u32),
+    Eight(u64),
+    Signed(i64),
+    Counted(&'static [u8; 2]),
+    Flag(bool),
+    Key(Key),
+    Value(Option<Value>),
+}
+
+fn put(out: &mut Vec<u8>, field: &Field) -> Result<(), NoMemory> {
+    match field {
+        Field::Byte(n) => put_u8(out, *n),
+        Field::Two(n) => put_u16(out, *n),
+        Field::Four(n) => put_u32(out, *n),
+        Field::Eight(n) => put_u64(out, *n),
+        Field::Signed(n) => put_i64(out, *n),
+        Field::Counted(bytes) => put_bytes16(out, *bytes),
+        Field::Flag(flag) => put_flag(out, *flag),
+        Field::Key(key) => put_key(out, *key),
+        Field::Value(value) => put_value(out, value),
+    }
+}
+
+// The place behind what was read, where that is wanted.
+fn place_of<T: PartialEq + Copy>(
+    read: Result<(T, usize), FieldFault>,
+    wanted: &T,
+) -> Option<usize> {
+    let (found, end) = read.ok()?;
+    if found == *wanted { Some(end) } else { None }
+}
+
+fn place_of_counted(from: &[u8], at: usize, wanted: &[u8; 2]) -> Option<usize>
+    requires { at ≤ length from.now }
+{
+    match get_bytes16(from, at, 2) {
+        Ok((start, end)) if &from[start..end] == wanted.as_slice() => Some(end),
+        _ => None,
+    }
+}
+
+// The place behind a field, where it is read at a place.
+fn behind(from: &[u8], at: usize, field: &Field) -> Option<usize>
+    requires { at ≤ length from.now }
+{
+    match field {
+        Field::Byte(n) => place_of(get_u8(from, at), n),
+        Field::Two(n) => place_of(get_u16(from, at), n),
+        Field::Four(n) => place_of(get_u32(from, at), n),
+        Field::Eight(n) => place_of(get_u64(from, at), n),
+        Field::Signed(n) => place_of(get_i64(from, at), n),
+        Field::Counted(bytes) => place_of_counted(from, at, *bytes),
+        Field::Flag(flag) => place_of(get_flag(from, at), flag),
+        Field::Key(key) => place_of(get_key(from, at), key),
+        Field::Value(value) => place_of(get_value(from, at), value),
+    }
+}
+
+fn are_read(from: &[u8], fields: &[Field]) -> bool {
+    let mut at = 0;
+    for field in fields {
+        if at > from.len() {
+            return false;
+        }
+        match behind(from, at, field) {
+            Some(end) => at = end,
+            None => return false,
+        }
+    }
+    at == from.len()
+}
+
+const BYTES: [u8; 54] = [
     7, 1, 2, 0, 0, 1, 0, 0, 0, 0, 0, 0, 0, 0, 70, 255, 255, 255, 255, 255, 255, 255, 254, 0, 2,
-    104, 105, 0, 3, 1, 2,
+    104, 105, 1, 0, 0, 1, 0, 0, 0, 0, 0, 0, 0, 5, 0, 1, 255, 255, 255, 255, 255, 255, 255, 255, 2,
+    0, 2, 104, 105,
 ];
-
-const FLAGS: [u8; 3] = [1, 0, 2];
-
-const VALUES: [u8; 25] = [
-    0, 1, 0, 0, 0, 0, 0, 0, 0, 5, 0, 1, 255, 255, 255, 255, 255, 255, 255, 255, 2, 0, 2, 104, 105,
-];
-
-fn put_numbers(out: &mut Vec<u8>) -> Result<(), NoMemory> {
-    put_u8(out, 7)?;
-    put_u16(out, 258)?;
-    put_u32(out, 256)?;
-    put_u64(out, 70)
-}
-
-fn put_signed_and_counted(out: &mut Vec<u8>) -> Result<(), NoMemory> {
-    put_i64(out, -2)?;
-    put_bytes16(out, b"hi")
-}
-
-fn are_numbers_read() -> bool {
-    get_u8(&FIELDS, 0) == Ok((7, 1))
-        && get_u16(&FIELDS, 1) == Ok((258, 3))
-        && get_u32(&FIELDS, 3) == Ok((256, 7))
-        && get_u64(&FIELDS, 7) == Ok((70, 15))
-}
-
-fn are_signed_and_counted_read() -> bool {
-    get_i64(&FIELDS, 15) == Ok((-2, 23)) && get_bytes16(&FIELDS, 23, 2) == Ok((25, 27))
-}
 
 #[test]
 fn fields_have_their_highest_byte_first(rt: HostRuntime) -> Result<(), Fail> {
+    let text = Text::of("hi").ok_or("too long")?;
+    let fields = [
+        Field::Byte(7),
+        Field::Two(258),
+        Field::Four(256),
+        Field::Eight(70),
+        Field::Signed(-2),
+        Field::Counted(b"hi"),
+        Field::Flag(true),
+        Field::Flag(false),
+        Field::Key(Key { table: 1, row: 5 }),
+        Field::Value(None),
+        Field::Value(Some(Value::Int(-1))),
+        Field::Value(Some(Value::Text(text))),
+    ];
     let mut out = Vec::new(rt.alloc());
-    put_numbers(&mut out)?;
-    put_signed_and_counted(&mut out)?;
-    assert!(rt; out.as_slice() == &FIELDS[..27]);
-    assert!(rt; are_numbers_read() && are_signed_and_counted_read());
+    for field in &fields {
+        put(&mut out, field)?;
+    }
+    assert!(rt; out.as_slice() == BYTES.as_slice() && are_read(&BYTES, &fields));
     Ok(())
-}
-
-#[test]
-fn a_flag_is_1_where_it_is_so_else_0(rt: HostRuntime) -> Result<(), Fail> {
-    let mut out = Vec::new(rt.alloc());
-    put_flag(&mut out, true)?;
-    put_flag(&mut out, false)?;
-    assert!(rt; out.as_slice() == &FLAGS[..2]);
-    assert!(rt; get_flag(&FLAGS, 0) == Ok((true, 1)) && get_flag(&FLAGS, 1) == Ok((false, 2)));
-    assert!(rt; get_flag(&FLAGS, 2) == Err(bad(2)) && get_flag(&FLAGS, 3) == Err(short(3)));
-    Ok(())
-}
-
-fn short(at: usize) -> FieldFault {
-    FieldFault::Short { at }
-}
-
-fn bad(at: usize) -> FieldFault {
-    FieldFault::Bad { at }
-}
-
-fn are_numbers_short() -> bool {
-    get_u8(&FIELDS, 31) == Err(short(31))
-        && get_u16(&FIELDS, 30) == Err(short(30))
-        && get_u32(&FIELDS, 28) == Err(short(28))
-        && get_u64(&FIELDS, 24) == Err(short(24))
-        && get_i64(&FIELDS, 31) == Err(short(31))
-}
-
-fn are_counted_short_or_bad() -> bool {
-    get_bytes16(&FIELDS, 30, 9) == Err(short(30))
-        && get_bytes16(&FIELDS, 27, 3) == Err(short(27))
-        && get_bytes16(&FIELDS, 27, 2) == Err(bad(27))
-}
-
-#[test]
-fn a_field_that_can_not_be_read_has_its_place(rt: HostRuntime) {
-    assert!(rt; are_numbers_short() && are_counted_short_or_bad());
 }
 
 #[test]
 fn faults_are_readable(rt: HostRuntime) -> Result<(), Fail> {
-    let said = format!(in rt.alloc(); "{}; {}", short(3), bad(4))?;
+    let (short, bad) = (FieldFault::Short { at: 3 }, FieldFault::Bad { at: 4 });
+    let said = format!(in rt.alloc(); "{short}; {bad}")?;
     let expected = "the bytes end within the field at 3; no such field can stand at 4";
     assert_eq!(rt; said.as_str(), expected);
     Ok(())
-}
-
-fn put_values(out: &mut Vec<u8>, text: Text) -> Result<(), NoMemory> {
-    put_value(out, &None)?;
-    put_value(out, &Some(Value::Int(-1)))?;
-    put_value(out, &Some(Value::Text(text)))
-}
-
-fn are_values_read(text: Text) -> bool {
-    get_value(&VALUES, 10) == Ok((None, 11))
-        && get_value(&VALUES, 11) == Ok((Some(Value::Int(-1)), 20))
-        && get_value(&VALUES, 20) == Ok((Some(Value::Text(text)), 25))
-}
-
-#[test]
-fn a_value_has_its_kind_in_front(rt: HostRuntime) -> Result<(), Fail> {
-    let Some(text) = Text::of("hi") else {
-        return Err(Fail::new("too long"));
-    };
-    let key = Key { table: 1, row: 5 };
-    let mut out = Vec::new(rt.alloc());
-    put_key(&mut out, key)?;
-    put_values(&mut out, text)?;
-    assert!(rt; out.as_slice() == VALUES.as_slice());
-    assert!(rt; get_key(&VALUES, 0) == Ok((key, 10)) && are_values_read(text));
-    Ok(())
-}
-
-fn are_values_bad() -> bool {
-    get_value(&[9, 3], 1) == Err(bad(1))
-        && get_value(&[9, 1, 0], 1) == Err(short(2))
-        && get_value(&[2, 1, 1], 0) == Err(bad(1))
-        && get_value(&[2, 0, 1, 255], 0) == Err(bad(1))
-}
-
-#[test]
-fn a_value_that_can_not_stand_is_bad_at_its_field(rt: HostRuntime) {
-    let is_bad = get_key(&[0, 0, 128, 0, 0, 0, 0, 0, 0, 0], 0) == Err(bad(2));
-    assert!(rt; is_bad && are_values_bad());
 }

@@ -1,23 +1,10 @@
 //! Dones that come, are found and go, by tables.
 
-ghost use Rattle.std.specs.Prelude.{◌<◌};
-
+use crate::made::call;
 use coco_kept::{Found, Kept};
-use coco_types::{Args, Call, Done, KeptReply, NoMemory, Reply, Value};
+use coco_types::{Done, KeptReply, NoMemory, Reply};
 use std::alloc::Global;
 use std::test::Fail;
-
-fn call(alloc: Global, row: Option<i64>) -> Result<Call, NoMemory> {
-    let mut args = Args::new(alloc);
-    if let Some(row) = row {
-        args.push(Some(Value::Int(row)))?;
-    }
-    Ok(Call {
-        proc_no: 0,
-        snapshot: false,
-        args,
-    })
-}
 
 fn find(alloc: Global, kept: &Kept, id: u64, row: Option<i64>) -> Result<Found, NoMemory> {
     Ok(kept.find(id, &call(alloc, row)?))
@@ -64,37 +51,6 @@ fn keep_all(
 
 fn id_at(kept: &Kept, place: u64) -> Option<u64> {
     kept.nth(place).map(|done| done.id)
-}
-
-fn epoch_of(kept: &Kept, id: u64) -> Option<u64> {
-    kept.get(id).map(|done| done.epoch)
-}
-
-// Whether the ids 7, 3 and 5 are held, in this order, the last in the fourth epoch.
-fn are_found(kept: &Kept) -> bool {
-    let ids = [
-        id_at(kept, 0),
-        id_at(kept, 1),
-        id_at(kept, 2),
-        id_at(kept, 3),
-    ];
-    let epochs = [epoch_of(kept, 3), epoch_of(kept, 4), epoch_of(kept, 5)];
-    ids == [Some(7), Some(3), Some(5), None] && epochs == [Some(1), None, Some(4)]
-}
-
-fn greatest_id(kept: &Kept) -> Option<u64> {
-    kept.iter().map(|done| done.id).max()
-}
-
-#[test]
-fn dones_are_found_by_id_and_by_place(rt: HostRuntime) -> Result<(), Fail> {
-    let mut kept = Kept::new(rt.alloc(), None, None);
-    let was_empty = kept.is_empty();
-    let are_new = keep_all(rt.alloc(), &mut kept, &[(7, 1), (3, 1), (5, 4)], Some(5))?;
-    assert!(rt; was_empty && are_new && are_found(&kept));
-    assert!(rt; (kept.len(), kept.newest_epoch(), kept.floor()) == (3, 4, None));
-    assert!(rt; greatest_id(&kept) == Some(7));
-    Ok(())
 }
 
 #[test]
@@ -154,34 +110,6 @@ fn the_last_epochs_are_kept(rt: HostRuntime) -> Result<(), Fail> {
             "{number}"
         );
     }
-    Ok(())
-}
-
-// Keeps an id, and says whether it is known then, the next one is new and, from 2 on, the second one before it is old.
-fn keeps_between_old_and_new(alloc: Global, kept: &mut Kept, id: u64) -> Result<bool, NoMemory>
-    requires { id < 1000 }
-{
-    let was_new = keep(alloc, kept, id, id / 2, Some(5))?;
-    let call = call(alloc, Some(5))?;
-    let is_old = kept.find(id.saturating_sub(2), &call) == Found::Old;
-    Ok(
-        was_new
-            && kept.find(id, &call) == Found::Same
-            && kept.find(id + 1, &call) == Found::New
-            && is_old == (id >= 2),
-    )
-}
-
-#[test]
-fn a_forgotten_id_is_old_and_a_known_one_isnt(rt: HostRuntime) -> Result<(), Fail> {
-    let mut kept = Kept::new(rt.alloc(), Some(1), None);
-    for id in 1..1_000u64 {
-        assert!(rt;
-            keeps_between_old_and_new(rt.alloc(), &mut kept, id)?,
-            "{id}"
-        );
-    }
-    assert!(rt; kept.floor() == Some(997));
     Ok(())
 }
 

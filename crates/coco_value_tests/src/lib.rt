@@ -1,11 +1,26 @@
-//! Tests of the base types, of rows, of fields of bytes, and of kept Dones. There is nothing else here.
+//! Tests of values, rows, bytes, kept Dones, streams and hosts, and of words, trees, lines and reports. There is nothing
+//! else here.
 #![tactic(auto)]
 
 #[cfg(test)]
+mod audit;
+#[cfg(test)]
 mod bytes;
+#[cfg(test)]
+mod host;
+#[cfg(test)]
+mod io;
 #[cfg(test)]
 mod kept;
 #[cfg(test)]
+mod lines;
+#[cfg(test)]
+mod made;
+#[cfg(test)]
 mod rows;
 #[cfg(test)]
+mod trees;
+#[cfg(test)]
 mod types;
+#[cfg(test)]
+mod words;

@@ -1,8 +1,8 @@
-//! Texts, arguments, calls, Dones and keys on their happy paths.
+//! Texts, arguments, Dones and packed writes on their happy paths, and the texts of errors.
 
+use crate::made::done;
 use coco_types::{
-    Args, Call, Cause, Done, Failed, KeptReply, Key, NoMemory, OutFault, Packed, PackedWrite,
-    Reply, Sequence, Text, Value, Write,
+    Args, Failed, Key, NoMemory, OutFault, Packed, PackedWrite, Reply, Text, Value, Write,
 };
 use std::alloc::Global;
 use std::test::Fail;
@@ -59,37 +59,6 @@ fn sixteen_arguments_stand_in_order(rt: HostRuntime) -> Result<(), Fail> {
     Ok(())
 }
 
-fn call(alloc: Global, proc_no: u16, argument: i64, snapshot: bool) -> Result<Call, NoMemory> {
-    let mut args = Args::with_room(alloc, 1)?;
-    args.push(Some(Value::Int(argument)))?;
-    Ok(Call {
-        proc_no,
-        args,
-        snapshot,
-    })
-}
-
-#[test]
-fn a_copied_call_is_equal_and_a_changed_one_is_not(rt: HostRuntime) -> Result<(), Fail> {
-    let original = call(rt.alloc(), 1, 5, true)?;
-    for (proc_no, argument, snapshot) in [(1, 5, true), (2, 5, true), (1, 6, true), (1, 5, false)] {
-        let is_equal = (proc_no, argument, snapshot) == (1, 5, true);
-        let other = call(rt.alloc(), proc_no, argument, snapshot)?.try_clone()?;
-        assert!(rt; (other == original) == is_equal);
-    }
-    Ok(())
-}
-
-fn done(alloc: Global, id: u64, epoch: u64, time: u64, reply: &Reply) -> Result<Done, NoMemory> {
-    Ok(Done {
-        id,
-        call: call(alloc, 1, 5, false)?,
-        epoch,
-        time,
-        reply: KeptReply::of(alloc, reply)?,
-    })
-}
-
 #[test]
 fn a_copied_done_is_equal_and_a_changed_one_is_not(rt: HostRuntime) -> Result<(), Fail> {
     let stored = Reply::Ok(Some(Value::Int(70)));
@@ -104,27 +73,6 @@ fn a_copied_done_is_equal_and_a_changed_one_is_not(rt: HostRuntime) -> Result<()
     for (id, epoch, time, reply, is_equal) in cases {
         let other = done(rt.alloc(), id, epoch, time, &reply)?.try_clone()?;
         assert!(rt; (other == original) == is_equal);
-    }
-    Ok(())
-}
-
-#[test]
-fn a_kept_reply_is_the_reply(rt: HostRuntime) -> Result<(), Fail> {
-    let text = Text::of("seven").ok_or("too long")?;
-    let replies = [
-        Reply::Ok(None),
-        Reply::Ok(Some(Value::Int(i64::MIN))),
-        Reply::Ok(Some(Value::Text(text))),
-        Reply::Refused(Cause::User(7)),
-        Reply::Refused(Cause::Kind),
-    ];
-    for (i, reply) in replies.iter().enumerate() {
-        let copy = KeptReply::of(rt.alloc(), reply)?.try_clone()?;
-        assert!(rt; copy.get() == *reply);
-        for (j, other) in replies.iter().enumerate() {
-            let other = KeptReply::of(rt.alloc(), other)?;
-            assert!(rt; (other == copy) == (i == j));
-        }
     }
     Ok(())
 }
@@ -158,40 +106,6 @@ fn a_packed_write_is_the_write(rt: HostRuntime) -> Result<(), Fail> {
     }
     assert!(rt; Packed::none().get().is_none());
     Ok(())
-}
-
-#[test]
-fn a_sequence_is_a_list(rt: HostRuntime) -> Result<(), Fail> {
-    let mut bytes = Sequence::new(rt.alloc());
-    let was_empty = bytes.is_empty();
-    bytes.push(5u8)?;
-    bytes.push(7)?;
-    let is_list = bytes.len() == 2 && bytes.as_slice() == [5, 7].as_slice();
-    assert!(rt; was_empty && !bytes.is_empty() && is_list);
-    let items = bytes.into_vec();
-    let is_list = items.as_slice() == [5, 7].as_slice();
-    assert!(rt; is_list && Sequence::from_vec(items).as_slice() == [5, 7].as_slice());
-    Ok(())
-}
-
-#[test]
-fn keys_rise_by_table_and_then_by_row(rt: HostRuntime) {
-    let rising = [
-        Key { table: 0, row: 0 },
-        Key { table: 0, row: 9 },
-        Key {
-            table: 0,
-            row: 9223372036854775807,
-        },
-        Key { table: 1, row: 0 },
-        Key { table: 2, row: 1 },
-    ];
-    for (i, first) in rising.iter().enumerate() {
-        for (j, second) in rising.iter().enumerate() {
-            let is_well = first.compare(second) == i.cmp(&j) && (first < second) == (i < j);
-            assert!(rt; is_well, "{first:?} {second:?}");
-        }
-    }
 }
 
 #[test]

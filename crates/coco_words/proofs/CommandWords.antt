@@ -1,8 +1,8 @@
 -- What `clap` makes of the words behind a command's name.
 use Rattle.std.proofs.Common.{◌≡◌, ℕ, Bool, true, false, ◌||◌, List, [], ◌∷◌, map, fold, Option, Some, None, is_some, codes, refl, sym, ap, subst, ◌∙◌, true≢false}
 use Rattle.std.specs.List.{list_any, AllByRecursion}
+use Rattle.std.specs.Prelude.{if◌then◌else◌}
 use Rattle.std.specs.Str.{bytes_eq}
-use Rattle.std.proofs.lemmas.Slice.Eq.{bytes_eq-Decides}
 use Rattle.clap.specs.Lexer.{long_of}
 use Rattle.clap.specs.Words.{App, Text, fault_of, is_simple, is_simple_and_free, matches_of}
 use Rattle.clap.specs.Simple.{entered}
@@ -13,7 +13,7 @@ use Rattle.clap.proofs.OnLiterals.{clap_on_literals}
 use Rattle.clap.proofs.WalkLemmas.{first_value-rows}
 use Rattle.clap.specs.Words.{first_of, first_value, found_of, rows_of}
 use Rattle.clap.specs.declared.parser.matches.ArgMatches.{ArgMatches}
-use Rattle.coco_words.specs.Commands.{IsCommand, IsOnlyCommand, kind_of, name_of, numbers_of, options_for, options_of}
+use Rattle.coco_words.specs.Commands.{Agree, IsCommand, IsOnlyCommand, kind_of, name_of, numbers_of, options_for}
 use Rattle.coco_words.specs.Matches.{HasValuesOf, app_for}
 use Rattle.coco_words.specs.Options.{AreNumbersOf, GivesNumbers, GivesOptions, names_in, value_of}
 use Rattle.coco_words.specs.declared.Command.{Command}
@@ -149,7 +149,7 @@ readable k = contained Spells (names_for k) (spells k)
 -- ---- what is taken
 
 -- `clap` takes words that give options with numbers
-words-taken : (k : Kind) (words : List Text) (numbers : List ℕ) → (gives : GivesNumbers (options_for k) words numbers)
+words-taken : (k : Kind) (words : List Text) (numbers : List (Option ℕ)) → (gives : GivesNumbers (options_for k) words numbers)
     → (fault_of (app_for (names_for k)) words ≡ []) × (matches_of (app_for (names_for k)) words ≡ rows gives.0) × (list_any (λ word. bytes_eq word dash) words ≡ false)
 words-taken k words numbers gives =
     let ns = names_for k in
@@ -162,17 +162,17 @@ words-taken k words numbers gives =
     )
 
 -- words with a `--` alone give none
-pub dashes-refused : (k : Kind) (words : List Text) → list_any (λ word. bytes_eq word dash) words ≡ true → (numbers : List ℕ) → GivesNumbers (options_for k) words numbers → ⊥
+pub dashes-refused : (k : Kind) (words : List Text) → list_any (λ word. bytes_eq word dash) words ≡ true → (numbers : List (Option ℕ)) → GivesNumbers (options_for k) words numbers → ⊥
 dashes-refused k words some numbers gives = true≢false (sym some ∙ (words-taken k words numbers gives).2)
 
-pub fault-refused : (k : Kind) (words : List Text) (numbers : List ℕ) → GivesNumbers (options_for k) words numbers → fault_of (app_for (names_for k)) words ≡ []
+pub fault-refused : (k : Kind) (words : List Text) (numbers : List (Option ℕ)) → GivesNumbers (options_for k) words numbers → fault_of (app_for (names_for k)) words ≡ []
 fault-refused k words numbers gives = (words-taken k words numbers gives).0
 
 values-found : (k : Kind) (m : ArgMatches) (words : List Text) (options : List (Text × Text)) → rows_of (found_of m) ≡ matches_of (app_for (names_for k)) words
     → matches_of (app_for (names_for k)) words ≡ rows options → HasValuesOf m options
 values-found k m words options found taken n = first_value-rows (found_of m) n ∙ ap (first_of n) (found ∙ taken) ∙ first_of-rows n options
 
-pub words-only : (k : Kind) (m : ArgMatches) (words : List Text) → rows_of (found_of m) ≡ matches_of (app_for (names_for k)) words → (numbers : List ℕ) (gives : GivesNumbers (options_for k) words numbers)
+pub words-only : (k : Kind) (m : ArgMatches) (words : List Text) → rows_of (found_of m) ≡ matches_of (app_for (names_for k)) words → (numbers : List (Option ℕ)) (gives : GivesNumbers (options_for k) words numbers)
     → HasValuesOf m gives.0
 words-only k m words found numbers gives = values-found k m words gives.0 found (words-taken k words numbers gives).1
 
@@ -190,12 +190,12 @@ module _ {W : Type 0} (text : W → Text) where
 -- ---- commands
 
 -- the command of a kind with these numbers
-made : Kind → List ℕ → Command
-made kind.Init (n ∷ p ∷ c ∷ []) = Init n p c
-made kind.Run (e ∷ w ∷ a ∷ []) = Run (record { epoch = e; workers = w; attempts = a })
+made : Kind → List (Option ℕ) → Command
+made kind.Init (Some n ∷ Some p ∷ Some c ∷ []) = Init n p c
+made kind.Run (Some e ∷ Some w ∷ Some a ∷ []) = Run (record { epoch = e; workers = w; attempts = a })
 made kind.Dump ns = Dump
 made kind.Verify ns = Verify
-made kind.Migrate (n ∷ []) = Migrate n
+made kind.Migrate (Some n ∷ []) = Migrate n
 made k ns = Dump
 
 made-is : (command : Command) → made (kind_of command) (numbers_of command) ≡ command
@@ -209,39 +209,30 @@ made-is (Migrate keep) = refl
 same_command : (c d : Command) → kind_of c ≡ kind_of d → numbers_of c ≡ numbers_of d → c ≡ d
 same_command c d k n = sym (made-is c) ∙ (λ i. made (k i) (n i)) ∙ made-is d
 
-differ : (a b : Text) → bytes_eq a b ≡ false → a ≡ b → ⊥
-differ a b apart e = true≢false (sym ((bytes_eq-Decides a b).1 e) ∙ apart)
+-- the kind that a name has
+kind_at : Text → Option Kind
+kind_at name =
+    if bytes_eq name (codes "init") then Some kind.Init
+    else if bytes_eq name (codes "run") then Some kind.Run
+    else if bytes_eq name (codes "dump") then Some kind.Dump
+    else if bytes_eq name (codes "verify") then Some kind.Verify
+    else if bytes_eq name (codes "migrate") then Some kind.Migrate
+    else None
+
+kind-at : (k : Kind) → kind_at (name_of k) ≡ Some k
+unfolding kind_at
+kind-at kind.Init = refl
+kind-at kind.Run = refl
+kind-at kind.Dump = refl
+kind-at kind.Verify = refl
+kind-at kind.Migrate = refl
 
 same_kind : (j k : Kind) → name_of j ≡ name_of k → j ≡ k
-same_kind kind.Init kind.Init e = refl
-same_kind kind.Init kind.Run e = absurd (differ _ _ refl e)
-same_kind kind.Init kind.Dump e = absurd (differ _ _ refl e)
-same_kind kind.Init kind.Verify e = absurd (differ _ _ refl e)
-same_kind kind.Init kind.Migrate e = absurd (differ _ _ refl e)
-same_kind kind.Run kind.Init e = absurd (differ _ _ refl e)
-same_kind kind.Run kind.Run e = refl
-same_kind kind.Run kind.Dump e = absurd (differ _ _ refl e)
-same_kind kind.Run kind.Verify e = absurd (differ _ _ refl e)
-same_kind kind.Run kind.Migrate e = absurd (differ _ _ refl e)
-same_kind kind.Dump kind.Init e = absurd (differ _ _ refl e)
-same_kind kind.Dump kind.Run e = absurd (differ _ _ refl e)
-same_kind kind.Dump kind.Dump e = refl
-same_kind kind.Dump kind.Verify e = absurd (differ _ _ refl e)
-same_kind kind.Dump kind.Migrate e = absurd (differ _ _ refl e)
-same_kind kind.Verify kind.Init e = absurd (differ _ _ refl e)
-same_kind kind.Verify kind.Run e = absurd (differ _ _ refl e)
-same_kind kind.Verify kind.Dump e = absurd (differ _ _ refl e)
-same_kind kind.Verify kind.Verify e = refl
-same_kind kind.Verify kind.Migrate e = absurd (differ _ _ refl e)
-same_kind kind.Migrate kind.Init e = absurd (differ _ _ refl e)
-same_kind kind.Migrate kind.Run e = absurd (differ _ _ refl e)
-same_kind kind.Migrate kind.Dump e = absurd (differ _ _ refl e)
-same_kind kind.Migrate kind.Verify e = absurd (differ _ _ refl e)
-same_kind kind.Migrate kind.Migrate e = refl
+same_kind j k e = let same : Some j ≡ Some k = sym (kind-at j) ∙ ap kind_at e ∙ kind-at k in cc
 
 -- a command that these words are is of this kind, and the words behind its name give its numbers
 gives_at : (words others : List Text) (k : Kind) → words ≡ name_of k ∷ others → (command : Command) → IsCommand words command
-    → (kind_of command ≡ k) × GivesNumbers (options_for k) others (numbers_of command)
+    → (kind_of command ≡ k) × GivesNumbers (options_for k) others (numbers_of command) × Agree k (numbers_of command)
 gives_at words others k words_are command is =
     let both : name_of (kind_of command) ∷ is.0 ≡ name_of k ∷ others = sym is.1 ∙ words_are in
     let first : name_of (kind_of command) ≡ name_of k = cc in
@@ -250,30 +241,32 @@ gives_at words others k words_are command is =
       same,
       subst (λ (ws : List Text). GivesNumbers (options_for k) ws (numbers_of command)) rest
           (subst (λ (j : Kind). GivesNumbers (options_for j) is.0 (numbers_of command)) same is.2),
+      subst (λ (j : Kind). Agree j (numbers_of command)) same is.3,
     )
 
-pub no_command : (words others : List Text) (k : Kind) → words ≡ name_of k ∷ others → ((numbers : List ℕ) → GivesNumbers (options_for k) others numbers → ⊥)
+pub no_command : (words others : List Text) (k : Kind) → words ≡ name_of k ∷ others → ((numbers : List (Option ℕ)) → GivesNumbers (options_for k) others numbers → Agree k numbers → ⊥)
     → (command : Command) → IsCommand words command → ⊥
-no_command words others k words_are none command is = none (numbers_of command) (gives_at words others k words_are command is).1
+no_command words others k words_are none command is = let g = gives_at words others k words_are command is in none (numbers_of command) g.1 g.2
 
 values-are : (m : ArgMatches) (options : List (Text × Text)) → HasValuesOf m options → first_value (found_of m) ≡ (λ (name : Text). value_of name options)
 values-are m options has = λ i name. has name i
 
 -- numbers that the words give are those that are found
-numbers_found : (words : List Text) (k : Kind) (m : ArgMatches) → ((numbers : List ℕ) (gives : GivesNumbers (options_for k) words numbers) → HasValuesOf m gives.0)
-    → (numbers : List ℕ) → GivesNumbers (options_for k) words numbers → AreNumbersOf (first_value (found_of m)) (options_for k) numbers
+numbers_found : (words : List Text) (k : Kind) (m : ArgMatches) → ((numbers : List (Option ℕ)) (gives : GivesNumbers (options_for k) words numbers) → HasValuesOf m gives.0)
+    → (numbers : List (Option ℕ)) → GivesNumbers (options_for k) words numbers → AreNumbersOf (first_value (found_of m)) (options_for k) numbers
 numbers_found words k m only numbers gives =
     subst (λ (values : Text → Option Text). AreNumbersOf values (options_for k) numbers) (sym (values-are m gives.0 (only numbers gives))) gives.2
 
-pub none_found : (words : List Text) (k : Kind) (m : ArgMatches) → ((numbers : List ℕ) (gives : GivesNumbers (options_for k) words numbers) → HasValuesOf m gives.0)
-    → ((numbers : List ℕ) → AreNumbersOf (first_value (found_of m)) (options_for k) numbers → ⊥) → (numbers : List ℕ) → GivesNumbers (options_for k) words numbers → ⊥
-none_found words k m only none numbers gives = none numbers (numbers_found words k m only numbers gives)
+pub none_found : (words : List Text) (k : Kind) (m : ArgMatches) → ((numbers : List (Option ℕ)) (gives : GivesNumbers (options_for k) words numbers) → HasValuesOf m gives.0)
+    → ((numbers : List (Option ℕ)) → AreNumbersOf (first_value (found_of m)) (options_for k) numbers → Agree k numbers → ⊥)
+    → (numbers : List (Option ℕ)) → GivesNumbers (options_for k) words numbers → Agree k numbers → ⊥
+none_found words k m only none numbers gives agree = none numbers (numbers_found words k m only numbers gives) agree
 
 pub only_command : (words others : List Text) (k : Kind) → words ≡ name_of k ∷ others → (m : ArgMatches)
     → (options : List (Text × Text)) × GivesOptions (names_for k) others options × HasValuesOf m options
-    → ((numbers : List ℕ) (gives : GivesNumbers (options_for k) others numbers) → HasValuesOf m gives.0)
-    → (command : Command) → kind_of command ≡ k → AreNumbersOf (first_value (found_of m)) (options_for k) (numbers_of command) → IsOnlyCommand words command
-only_command words others k words_are m read only command of_kind numbers =
+    → ((numbers : List (Option ℕ)) (gives : GivesNumbers (options_for k) others numbers) → HasValuesOf m gives.0)
+    → (command : Command) → kind_of command ≡ k → AreNumbersOf (first_value (found_of m)) (options_for k) (numbers_of command) → Agree k (numbers_of command) → IsOnlyCommand words command
+only_command words others k words_are m read only command of_kind numbers agree =
     let given : GivesNumbers (options_for k) others (numbers_of command) =
     (read.0, read.1, subst (λ (values : Text → Option Text). AreNumbersOf values (options_for k) (numbers_of command)) (values-are m read.0 read.2) numbers) in
     record {
@@ -281,6 +274,7 @@ only_command words others k words_are m read only command of_kind numbers =
         others,
         words_are ∙ ap (λ (j : Kind). name_of j ∷ others) (sym of_kind),
         subst (λ (j : Kind). GivesNumbers (options_for j) others (numbers_of command)) (sym of_kind) given,
+        subst (λ (j : Kind). Agree j (numbers_of command)) (sym of_kind) agree,
       );
       only = λ other is.
           let g = gives_at words others k words_are other is in

@@ -9,7 +9,7 @@ use Rattle.std.specs.Map.{keys_of}
 use Rattle.std.specs.Str.{bytes_eq}
 use Rattle.clap.specs.Lexer.{long_of_rest, short_of_rest, strip_byte}
 use Rattle.clap.specs.Words.{Text}
-use Rattle.coco_words.specs.Options.{AreNumbersOf, Gives, GivesNumbers, GivesOptions, IsNumberOf, NumberOption, WritesNumber, names_in, value_of}
+use Rattle.coco_words.specs.Options.{AreNumbersOf, Gives, GivesNumbers, IsNumberOf, Left, Missing, NumberOption, Taken, WritesNumber, names_in, value_of}
 use Rattle.coco_words.proofs.ClapOptions.{new-seam}
 use Rattle.coco_words.proofs.ClapReads.{HavePlainValues, IsPlain}
 
@@ -24,17 +24,40 @@ contained P ns all n h = by ns all h.0 h.1 h.2
 
 -- ---- one list of numbers
 
-only_number : (o : NumberOption) (value : Option Text) (m n : ℕ) → IsNumberOf o value m → IsNumberOf o value n → m ≡ n
-only_number o None m n p q = let same : Some m ≡ Some n = sym p ∙ q in cc
-only_number o (Some text) m n p q = sym p.value ∙ q.value
+only_number : (o : NumberOption) (value : Option Text) (m n : Option ℕ) → IsNumberOf o value m → IsNumberOf o value n → m ≡ n
+only_number o None None None p q = refl
+only_number o None None (Some n) p q = let same : Left ≡ Taken n = sym p ∙ q in cc
+only_number o None (Some m) None p q = let same : Taken m ≡ Left = sym p ∙ q in cc
+only_number o None (Some m) (Some n) p q = let same : Taken m ≡ Taken n = sym p ∙ q in cc
+only_number o (Some text) None n p q = absurd p
+only_number o (Some text) (Some m) None p q = absurd q
+only_number o (Some text) (Some m) (Some n) p q = ap Some (sym p.value ∙ q.value)
 
-pub only_numbers : (values : Text → Option Text) (os : List NumberOption) (ms ns : List ℕ) → AreNumbersOf values os ms → AreNumbersOf values os ns → ms ≡ ns
+pub only_numbers : (values : Text → Option Text) (os : List NumberOption) (ms ns : List (Option ℕ)) → AreNumbersOf values os ms → AreNumbersOf values os ns → ms ≡ ns
 only_numbers values [] [] [] p q = refl
 only_numbers values [] [] (n ∷ ns) p q = absurd q
 only_numbers values [] (m ∷ ms) ns p q = absurd p
 only_numbers values (o ∷ os) [] ns p q = absurd p
 only_numbers values (o ∷ os) (m ∷ ms) [] p q = absurd q
 only_numbers values (o ∷ os) (m ∷ ms) (n ∷ ns) p q = λ i. only_number o (values o.name) m n p.0 q.0 i ∷ only_numbers values os ms ns p.1 q.1 i
+
+-- ---- no number
+
+-- what is no number of an option that may be left out is none of one that has a default or has to be given
+pub no_number : (name : Text) (missing : Missing) (least most : ℕ) (value : Option Text)
+    → ((n : Option ℕ) → IsNumberOf (record { name = name; missing = Left; least = least; most = most }) value n → ⊥)
+    → (n : Option ℕ) → IsNumberOf (record { name = name; missing = missing; least = least; most = most }) value n → ⊥
+no_number name missing least most None none n is = none None refl
+no_number name missing least most (Some text) none None is = is
+no_number name missing least most (Some text) none (Some number) is = none (Some number) is
+
+-- where one of the options has no number, there are none of all
+pub no_numbers : (values : Text → Option Text) (before : List NumberOption) (o : NumberOption) (behind : List NumberOption) (numbers : List (Option ℕ))
+    → ((n : Option ℕ) → IsNumberOf o (values o.name) n → ⊥) → AreNumbersOf values (before ++ o ∷ behind) numbers → ⊥
+no_numbers values [] o behind [] none are = are
+no_numbers values [] o behind (n ∷ ns) none are = none n are.0
+no_numbers values (b ∷ before) o behind [] none are = are
+no_numbers values (b ∷ before) o behind (n ∷ ns) none are = no_numbers values before o behind ns none are.1
 
 -- ---- values that are numbers are plain
 
@@ -44,12 +67,16 @@ pub record IsWritten (text : Text) : Type 0 where
   pub number : ℕ
   pub writes : WritesNumber least most text number
 
-all_written : (values : Text → Option Text) (os : List NumberOption) (ns : List ℕ) → AreNumbersOf values os ns
+written : (o : NumberOption) (n : Option ℕ) (v : Text) → IsNumberOf o (Some v) n → IsWritten v
+written o None v is = absurd is
+written o (Some n) v is = record { least = o.least; most = o.most; number = n; writes = is }
+
+all_written : (values : Text → Option Text) (os : List NumberOption) (ns : List (Option ℕ)) → AreNumbersOf values os ns
     → AllByRecursion (λ (n : Text). (v : Text) → values n ≡ Some v → IsWritten v) (names_in os)
 all_written values [] ns are = tt
 all_written values (o ∷ os) [] are = absurd are
 all_written values (o ∷ os) (n ∷ ns) are = (
-  λ v e. record { least = o.least; most = o.most; number = n; writes = subst (λ (x : Option Text). IsNumberOf o x n) e are.0 },
+  λ v e. written o n v (subst (λ (x : Option Text). IsNumberOf o x n) e are.0),
   all_written values os ns are.1,
 )
 
@@ -91,7 +118,7 @@ module _ (own : Text) (names : List Text) where
       )
 
 -- options with numbers have plain values
-pub plain-options : (own : Text) (os : List NumberOption) (words : List Text) (numbers : List ℕ) → (gives : GivesNumbers os words numbers) → HavePlainValues own (names_in os) gives.0
+pub plain-options : (own : Text) (os : List NumberOption) (words : List Text) (numbers : List (Option ℕ)) → (gives : GivesNumbers os words numbers) → HavePlainValues own (names_in os) gives.0
 plain-options own os words numbers gives =
     each_plain own (names_in os) [] gives.0 words gives.1.given gives.1.once
     (λ n v known e. plain-number own (names_in os) v

@@ -1,7 +1,7 @@
 -- The commands of the program.
-use Rattle.std.specs.Prelude.{◌≡◌, ℕ, List, [], ◌∷◌, None, Some, codes}
+use Rattle.std.specs.Prelude.{◌≡◌, ⊤, ◌<◌, ℕ, List, [], ◌∷◌, Option, Some, codes}
 use Rattle.coco_types.specs.Limits.{most_attempts, most_batch_lines, most_keep, most_partitions, most_workers}
-use Rattle.coco_words.specs.Options.{Text, NumberOption, GivesNumbers}
+use Rattle.coco_words.specs.Options.{Text, NumberOption, GivesNumbers, Refused, Taken}
 use Rattle.coco_words.specs.declared.Command.{Command}
 use Rattle.coco_words.specs.declared.Command.TheVariants.{Init, Run, Dump, Verify, Migrate}
 use Rattle.coco_words.specs.declared.Kind.{Kind}
@@ -24,11 +24,11 @@ name_of kind.Migrate = codes "migrate"
 
 -- an option that needn't be given
 abbrev pub optional : Text → ℕ → ℕ → ℕ → NumberOption
-optional name default least most = record { name = name; default = Some default; least = least; most = most }
+optional name default least most = record { name = name; missing = Taken default; least = least; most = most }
 
 -- an option that has to be given
 abbrev pub wanted : Text → ℕ → ℕ → NumberOption
-wanted name least most = record { name = name; default = None; least = least; most = most }
+wanted name least most = record { name = name; missing = Refused; least = least; most = most }
 
 -- the options of a command. A store has one node and no copies until there can be several
 abbrev pub options_for : Kind → List NumberOption
@@ -42,16 +42,22 @@ abbrev pub options_of : Command → List NumberOption
 options_of command = options_for (kind_of command)
 
 -- the numbers of its options
-abbrev pub numbers_of : Command → List ℕ
-numbers_of (Init nodes partitions copies) = nodes ∷ partitions ∷ copies ∷ []
-numbers_of (Run run) = run.epoch ∷ run.workers ∷ run.attempts ∷ []
+abbrev pub numbers_of : Command → List (Option ℕ)
+numbers_of (Init nodes partitions copies) = Some nodes ∷ Some partitions ∷ Some copies ∷ []
+numbers_of (Run run) = Some run.epoch ∷ Some run.workers ∷ Some run.attempts ∷ []
 numbers_of Dump = []
 numbers_of Verify = []
-numbers_of (Migrate keep) = keep ∷ []
+numbers_of (Migrate keep) = Some keep ∷ []
 
--- the words are the command: its name first, and then its options
+-- the numbers go together: a copy stands on each other node at most
+abbrev pub Agree : Kind → List (Option ℕ) → Type 0
+Agree kind.Init (Some nodes ∷ partitions ∷ Some copies ∷ []) = copies < nodes
+Agree kind numbers = ⊤
+
+-- the words are the command: its name first, and then its options, whose numbers go together
 abbrev pub IsCommand : List Text → Command → Type 0
 IsCommand words command = (others : List Text) × (words ≡ name_of (kind_of command) ∷ others) × GivesNumbers (options_of command) others (numbers_of command)
+    × Agree (kind_of command) (numbers_of command)
 
 -- the words are this command and no other
 pub record IsOnlyCommand (words : List Text) (command : Command) : Type 0 where

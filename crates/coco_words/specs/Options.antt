@@ -39,36 +39,50 @@ pub record WritesNumber (least most : ℕ) (text : Text) (number : ℕ) : Type 0
   pub above : least ≤ number
   pub below : number ≤ most
 
--- an option whose value is a number: its name, the number where it isn't given (none where it has to be), and its range
+-- what an option is that isn't given: bad words, no number, or this one
+pub data Missing : Type 0 where
+  Refused : Missing
+  Left : Missing
+  Taken : ℕ → Missing
+
+-- what an option is that isn't given, where it has this default or none
+abbrev pub missing_of : Option ℕ → Missing
+missing_of None = Refused
+missing_of (Some number) = Taken number
+
+-- an option whose value is a number: its name, what it is where it isn't given, and its range
 pub record NumberOption : Type 0 where
   pub name : Text
-  pub default : Option ℕ
+  pub missing : Missing
   pub least : ℕ
   pub most : ℕ
 
 -- the number of an option with this value, or with none
-abbrev pub IsNumberOf : NumberOption → Option Text → ℕ → Type 0
-IsNumberOf o None number = o.default ≡ Some number
-IsNumberOf o (Some text) number = WritesNumber o.least o.most text number
+abbrev pub IsNumberOf : NumberOption → Option Text → Option ℕ → Type 0
+IsNumberOf o None None = o.missing ≡ Left
+IsNumberOf o None (Some number) = o.missing ≡ Taken number
+IsNumberOf o (Some text) None = ⊥
+IsNumberOf o (Some text) (Some number) = WritesNumber o.least o.most text number
 
 -- each option has its number, where its value is that of its name
-abbrev pub AreNumbersOf : (Text → Option Text) → List NumberOption → List ℕ → Type 0
+abbrev pub AreNumbersOf : (Text → Option Text) → List NumberOption → List (Option ℕ) → Type 0
 AreNumbersOf values [] [] = ⊤
 AreNumbersOf values [] (n ∷ ns) = ⊥
 AreNumbersOf values (o ∷ os) [] = ⊥
 AreNumbersOf values (o ∷ os) (n ∷ ns) = IsNumberOf o (values o.name) n × AreNumbersOf values os ns
 
--- each number is in its option's range
-abbrev pub AreInRange : List NumberOption → List ℕ → Type 0
+-- each number is in its option's range, where there is one
+abbrev pub AreInRange : List NumberOption → List (Option ℕ) → Type 0
 AreInRange [] [] = ⊤
 AreInRange [] (n ∷ ns) = ⊥
 AreInRange (o ∷ os) [] = ⊥
-AreInRange (o ∷ os) (n ∷ ns) = (o.least ≤ n) × (n ≤ o.most) × AreInRange os ns
+AreInRange (o ∷ os) (None ∷ ns) = AreInRange os ns
+AreInRange (o ∷ os) (Some n ∷ ns) = (o.least ≤ n) × (n ≤ o.most) × AreInRange os ns
 
 abbrev pub names_in : List NumberOption → List Text
 names_in [] = []
 names_in (o ∷ os) = o.name ∷ names_in os
 
 -- the words give these numbers of these options
-abbrev pub GivesNumbers : List NumberOption → List Text → List ℕ → Type 0
+abbrev pub GivesNumbers : List NumberOption → List Text → List (Option ℕ) → Type 0
 GivesNumbers os words numbers = (options : List (Text × Text)) × GivesOptions (names_in os) words options × AreNumbersOf (λ name. value_of name options) os numbers

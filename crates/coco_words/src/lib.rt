@@ -4,10 +4,10 @@
 mod numbers;
 mod reading;
 
-ghost use Rattle.std.specs.Prelude.{◌≡◌, ℕ, List, map, MatchOption, IfOk};
+ghost use Rattle.std.specs.Prelude.{◌≡◌, ℕ, List, map, Option, MatchOption, IfOk};
 ghost use Rattle.std.specs.String.{string_bytes};
 ghost use Rattle.clap.specs.Words.{first_value, found_of};
-ghost use Rattle.coco_words.specs.Commands.{IsCommand, IsOnlyCommand, kind_of, name_of, numbers_of, options_for, options_of};
+ghost use Rattle.coco_words.specs.Commands.{Agree, IsCommand, IsOnlyCommand, kind_of, name_of, numbers_of, options_for, options_of};
 ghost use Rattle.coco_words.specs.Options.{AreInRange, AreNumbersOf};
 ghost use Rattle.coco_words.specs.declared.Command.{Command as Asked};
 
@@ -108,9 +108,9 @@ fn kind_named(name: &str) -> Option<Kind>
 // The command of a kind whose options have these values.
 fn command_with(kind: Kind, matches: &ArgMatches<'_>) -> Option<Command>
     ensures { MatchOption result
-        ((numbers : List ℕ) → AreNumbersOf (first_value (found_of matches.now)) (options_for kind) numbers → ⊥)
+        ((numbers : List (Option ℕ)) → AreNumbersOf (first_value (found_of matches.now)) (options_for kind) numbers → Agree kind numbers → ⊥)
         (λ command. (kind_of command ≡ kind) × AreNumbersOf (first_value (found_of matches.now)) (options_for kind) (numbers_of command)
-        × AreInRange (options_for kind) (numbers_of command)) }
+        × AreInRange (options_for kind) (numbers_of command) × Agree kind (numbers_of command)) }
 {
     match kind {
         Kind::Init => store_to_make(matches),
@@ -118,7 +118,7 @@ fn command_with(kind: Kind, matches: &ArgMatches<'_>) -> Option<Command>
         Kind::Dump => Some(Command::Dump),
         Kind::Verify => Some(Command::Verify),
         Kind::Migrate => {
-            let keep = number_of(matches, "keep", None, 1, MOST_KEEP as u32)?;
+            let keep = number_of(matches, "keep", None, 1, MOST_KEEP as u64)?;
             Some(Command::Migrate { keep: keep as u16 })
         }
     }
@@ -127,15 +127,15 @@ fn command_with(kind: Kind, matches: &ArgMatches<'_>) -> Option<Command>
 // The command `run` whose options have these values.
 fn lines_to_run(matches: &ArgMatches<'_>) -> Option<Command>
     ensures { MatchOption result
-        ((numbers : List ℕ) → AreNumbersOf (first_value (found_of matches.now)) (options_for Kind.Run) numbers → ⊥)
+        ((numbers : List (Option ℕ)) → AreNumbersOf (first_value (found_of matches.now)) (options_for Kind.Run) numbers → Agree Kind.Run numbers → ⊥)
         (λ command. (kind_of command ≡ Kind.Run) × AreNumbersOf (first_value (found_of matches.now)) (options_for Kind.Run) (numbers_of command)
-        × AreInRange (options_for Kind.Run) (numbers_of command)) }
+        × AreInRange (options_for Kind.Run) (numbers_of command) × Agree Kind.Run (numbers_of command)) }
 {
-    let epoch = number_of(matches, "epoch", Some(100), 1, MOST_BATCH_LINES as u32)?;
-    let workers = number_of(matches, "workers", Some(1), 1, MOST_WORKERS as u32)?;
-    let attempts = number_of(matches, "attempts", Some(3), 1, MOST_ATTEMPTS as u32)?;
+    let epoch = number_of(matches, "epoch", Some(100), 1, MOST_BATCH_LINES as u64)?;
+    let workers = number_of(matches, "workers", Some(1), 1, MOST_WORKERS as u64)?;
+    let attempts = number_of(matches, "attempts", Some(3), 1, MOST_ATTEMPTS as u64)?;
     Some(Command::Run(RunOptions {
-        epoch,
+        epoch: epoch as u32,
         workers: workers as u8,
         attempts: attempts as u8,
     }))
@@ -144,13 +144,16 @@ fn lines_to_run(matches: &ArgMatches<'_>) -> Option<Command>
 // The command `init` whose options have these values. A store has one node and no copies until there can be several.
 fn store_to_make(matches: &ArgMatches<'_>) -> Option<Command>
     ensures { MatchOption result
-        ((numbers : List ℕ) → AreNumbersOf (first_value (found_of matches.now)) (options_for Kind.Init) numbers → ⊥)
+        ((numbers : List (Option ℕ)) → AreNumbersOf (first_value (found_of matches.now)) (options_for Kind.Init) numbers → Agree Kind.Init numbers → ⊥)
         (λ command. (kind_of command ≡ Kind.Init) × AreNumbersOf (first_value (found_of matches.now)) (options_for Kind.Init) (numbers_of command)
-        × AreInRange (options_for Kind.Init) (numbers_of command)) }
+        × AreInRange (options_for Kind.Init) (numbers_of command) × Agree Kind.Init (numbers_of command)) }
 {
     let nodes = number_of(matches, "nodes", Some(1), 1, 1)?;
-    let partitions = number_of(matches, "partitions", Some(1), 1, MOST_PARTITIONS as u32)?;
+    let partitions = number_of(matches, "partitions", Some(1), 1, MOST_PARTITIONS as u64)?;
     let copies = number_of(matches, "copies", Some(0), 0, 0)?;
+    if copies >= nodes {
+        return None;
+    }
     Some(Command::Init {
         nodes: nodes as u8,
         partitions: partitions as u8,
@@ -169,6 +172,11 @@ impl From<AllocError> for WordsFault {
 }
 
 impl fmt::Display for WordsFault {
+    ghost use Rattle.std.specs.Prelude.{Some};
+    ghost use Rattle.coco_words.specs.Messages.{fault_text};
+
+    ghost output = { λ x. Some (fault_text x) };
+
     fn fmt<W: fmt::Write>(&self, f: &mut fmt::Formatter<W>) -> fmt::Result {
         match self {
             WordsFault::Usage => f.write_str("bad command line"),

@@ -1,5 +1,5 @@
 //! The options among the words, as `clap` reads them.
-ghost use Rattle.std.specs.Prelude.{◌≡◌, ℕ, List, map, codes, IfOk};
+ghost use Rattle.std.specs.Prelude.{◌≡◌, ℕ, List, Option, map, codes, IfOk};
 ghost use Rattle.std.specs.List.{list_any};
 ghost use Rattle.std.specs.Str.{bytes_eq};
 ghost use Rattle.std.specs.String.{string_bytes};
@@ -20,8 +20,8 @@ pub(crate) fn options_in<'a>(
     words: &'a [String],
 ) -> Result<ArgMatches<'a>, WordsFault>
     ensures reads { IfOk result (λ matches. (options : List (Text × Text)) × GivesOptions (names_in (options_for kind)) (map string_bytes words.now) options × HasValuesOf matches options) }
-    ensures only { IfOk result (λ matches. (numbers : List ℕ) (gives : GivesNumbers (options_for kind) (map string_bytes words.now) numbers) → HasValuesOf matches gives.0) }
-    ensures usage { result ≡ Err WordsFault.Usage → (numbers : List ℕ) → GivesNumbers (options_for kind) (map string_bytes words.now) numbers → ⊥ }
+    ensures only { IfOk result (λ matches. (numbers : List (Option ℕ)) (gives : GivesNumbers (options_for kind) (map string_bytes words.now) numbers) → HasValuesOf matches gives.0) }
+    ensures usage { result ≡ Err WordsFault.Usage → (numbers : List (Option ℕ)) → GivesNumbers (options_for kind) (map string_bytes words.now) numbers → ⊥ }
 {
     if has_dashes(words) {
         return Err(WordsFault::Usage);

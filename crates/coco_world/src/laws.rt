@@ -3,6 +3,9 @@
 
 ghost use Rattle.coco_world.specs.Laws.{InEachWorld, PromotesOnlyCommitted, NeverRevertedLater, NeverRevertedEarlier, CommittedStays, DurableGrows, FinishedHasSaid, SaysOnlyFinished};
 ghost use Rattle.coco_world.specs.Agreement.{Holds};
+ghost use Rattle.coco_world.specs.Steps.{CanRun, Event as Happening, run};
+ghost use Rattle.coco_world.specs.World.{World};
+ghost use Rattle.std.specs.Prelude.{List};
 
 /// What one node makes stable is committed, is prepared by every node, and is taken back by none.
 pub fn agreement()
@@ -14,6 +17,11 @@ pub fn agreement()
 /// What is known of each core, each letter and each durable entry.
 pub fn invariant()
     ensures { InEachWorld Holds }
+{}
+
+/// What is known of a world is known of each world that steps lead to from it.
+pub fn each_step_keeps()
+    ensures { (w : World) (events : List Happening) → Holds w → CanRun w events → Holds (run w events) }
 {}
 
 /// What is committed or durable stays so, over every list of steps.

@@ -3,4 +3,6 @@
 
 pub mod laws;
 
-pub use laws::{agreement, finished_nodes_have_finished, invariant, nothing_is_forgotten};
+pub use laws::{
+    agreement, each_step_keeps, finished_nodes_have_finished, invariant, nothing_is_forgotten,
+};

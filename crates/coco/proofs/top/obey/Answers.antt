@@ -1,11 +1,11 @@
 use Rattle.std.proofs.Common.{Err, inl, map, ap, sym, subst}
 use Rattle.std.specs.String.{string_bytes}
-use Rattle.coco_serve.specs.Serving.{Outside}
 use Rattle.coco_words.specs.Commands.{IsOnlyCommand}
 use Rattle.coco_words.specs.declared.Command.{Command}
 use Rattle.coco.specs.Commands.{Does}
 use Rattle.coco.proofs.EndingLemmas.{needs}
 use Rattle.coco.proofs.top.obey.Goals as goal
+use Rattle.coco_commands.specs.Serving.{Outside}
 
 pub returns-in-Ok-clause-obeys : goal.returns-in-Ok-clause-obeys
 returns-in-Ok-clause-obeys g c =

@@ -1,10 +1,10 @@
 use Rattle.std.proofs.Common.{List, ℕ, length, subst}
 use Rattle.coco_append.proofs.GainLemmas.{on_ok}
 use Rattle.coco_store.specs.Entries.{prepared_kind}
-use Rattle.coco_make.specs.Making.{ChangesOnly}
+use Rattle.coco_log.specs.Changes.{ChangesOnly}
 use Rattle.coco_make.specs.Steps.{HaveLogs}
 use Rattle.coco_make.proofs.MakeLemmas.{empty_made, first_changes, rest_changes}
-use Rattle.coco_make.proofs.StepLemmas.{changes_then}
+use Rattle.coco_log.proofs.Changing.{changes_then}
 use Rattle.coco_make.proofs.make.make_empty_logs.Goals as goal
 
 pub returns-in_err-make_logs-clause-changes : goal.returns-in_err-make_logs-clause-changes

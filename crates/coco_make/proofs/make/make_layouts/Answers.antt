@@ -1,7 +1,7 @@
 use Rattle.std.proofs.Common.{refl}
 use Rattle.coco_append.proofs.GainLemmas.{at_rest, made_stands, on_both}
 use Rattle.coco_make.proofs.LayoutLemmas.{changes_appended, has_layout, sees_appended, sees_made}
-use Rattle.coco_make.proofs.StepLemmas.{changes_made}
+use Rattle.coco_log.proofs.Changing.{changes_made}
 use Rattle.coco_make.proofs.make.make_layouts.Goals as goal
 
 pub returns-in_err-layouts-clause-moments : goal.returns-in_err-layouts-clause-moments

@@ -1,6 +1,7 @@
 use Rattle.std.proofs.Common.{refl, ◌∙◌}
 use Rattle.coco_store.proofs.Naming.{named_at}
-use Rattle.coco_make.proofs.StepLemmas.{changes_made, changes_none, changes_then, no_logs, one_more}
+use Rattle.coco_log.proofs.Changing.{changes_made, changes_none, changes_then}
+use Rattle.coco_make.proofs.StepLemmas.{no_logs, one_more}
 use Rattle.coco_make.proofs.make.make_logs.Goals as goal
 
 pub loop-file-init : goal.loop-file-init

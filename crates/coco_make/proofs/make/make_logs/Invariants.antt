@@ -1,6 +1,6 @@
 use Rattle.std.proofs.Common.{◌≡◌, Some}
 use Rattle.coco_host.specs.Files.{Files}
-use Rattle.coco_make.specs.Making.{ChangesOnly}
+use Rattle.coco_log.specs.Changes.{ChangesOnly}
 use Rattle.coco_make.specs.Steps.{HaveLogs}
 use Rattle.coco_make.proofs.make.make_logs.Given as goal
 

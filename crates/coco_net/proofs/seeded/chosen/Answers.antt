@@ -8,7 +8,7 @@ use Rattle.coco_net.proofs.seeded.chosen.Goals as goal
 
 pub loop-n-preserved : goal.loop-n-preserved
 loop-n-preserved c =
-    let sent = c.args.sent.now in
+    let sent = c.args.letters.now in
     let may = c.args.may_lose in
     let n = c.loop-n.n in
     let g = c.loop-n.generator in

@@ -1,0 +1,72 @@
+//! A turn of one request on a store without epochs, and what the host holds then, byte by byte.
+
+ghost use Rattle.std.specs.Prelude.{◌≡◌, [], None, IfOk};
+ghost use Rattle.coco_ast.specs.Builtins.{builtins};
+ghost use Rattle.coco_cluster.specs.Standing.{ClusterState};
+ghost use Rattle.coco_cluster.specs.Turning.{MayTurn};
+
+use crate::made::{COMMITS, PREPARED, new_cluster, new_logs};
+use coco_cluster::Cluster;
+use coco_gate::OpenGate;
+use coco_host::{Host, MemoryHost};
+use coco_types::{Args, Call, NoMemory, Request, Value};
+use std::alloc::Global;
+use std::sync::Wait;
+use std::test::Fail;
+use std::thread::Threads;
+use std::time::Clock;
+
+// `put(5, 70)` as id 1.
+fn put_of_seventy(alloc: Global) -> Result<Vec<Request>, NoMemory>
+    ensures { IfOk result (λ requests. (k : ClusterState) → k.procs ≡ builtins → k.kept.dones ≡ [] → k.kept.floor ≡ None → MayTurn k requests.items) }
+{
+    let mut args = Args::new(alloc);
+    args.push(Some(Value::Int(5)))?;
+    args.push(Some(Value::Int(70)))?;
+    let call = Call {
+        proc_no: 1,
+        snapshot: false,
+        args,
+    };
+    let mut requests = Vec::with_capacity(alloc, 1)?;
+    requests.push(Request { id: 1, call })?;
+    Ok(requests)
+}
+
+fn put_once<R: Threads + Wait + Clock + Sync, H: Host>(
+    rt: &R,
+    alloc: Global,
+    host: &mut H,
+) -> Result<Cluster, Fail> {
+    let (chief, node) = new_logs(alloc, host)?;
+    let mut cluster = new_cluster(alloc, chief, node, None)?;
+    let requests = put_of_seventy(alloc)?;
+    // Of four workers one finds a request to draw.
+    cluster.turn(rt, alloc, host, requests, 4, 3, &OpenGate)?;
+    Ok(cluster)
+}
+
+fn has_turned(cluster: &Cluster) -> bool {
+    let first = cluster.kept().nth(0).map(|done| done.id);
+    cluster.next_epoch() == 2 && first == Some(1)
+}
+
+// Whether a file has these bytes and no others.
+fn holds<H: Host>(host: &mut H, file: u32, wanted: &[u8]) -> bool {
+    let mut bytes = [0; 80];
+    match host.read_at(file, 0, &mut bytes) {
+        Ok(count) => bytes.get(..count) == Some(wanted),
+        Err(_) => false,
+    }
+}
+
+#[test]
+fn a_put_of_seventy_is_committed(rt: HostRuntime) -> Result<(), Fail> {
+    let mut host = MemoryHost::new(rt.alloc(), Vec::new(rt.alloc()));
+    let cluster = put_once(&rt, rt.alloc(), &mut host)?;
+    let is_well = has_turned(&cluster)
+        && holds(&mut host, 1, &COMMITS)
+        && holds(&mut host, 2, &PREPARED);
+    assert!(rt; is_well);
+    Ok(())
+}

@@ -1,0 +1,51 @@
+-- What the command `run` does with the store in a host's files, and what is seen of it.
+use Rattle.std.specs.Prelude.{◌≡◌, ◌⊎◌, ℕ, List, Option, Some}
+use Rattle.coco_host.specs.Files.{Files}
+use Rattle.coco_host.specs.Moments.{Observation}
+use Rattle.coco_ending.specs.declared.ending.Ending.{Ending}
+use Rattle.coco_ending.specs.declared.ending.Ending.TheVariants as ending
+use Rattle.coco_lines.specs.Reads.{Gives}
+use Rattle.coco_load.specs.Epochs.{IsNextOf}
+use Rattle.coco_log.specs.LogState.{IsOnlyRead}
+use Rattle.coco_serve.specs.Serving.{HasCause, Outside, Serves}
+use Rattle.coco_serve.specs.declared.ending.Served.{Served}
+use Rattle.coco_serve.specs.declared.ending.Served.TheVariants as served
+use Rattle.coco_serve.specs.declared.bounds.RunBounds.{RunBounds}
+use Rattle.coco_store.specs.Contents.{Contents, Holds, IsGoodStore}
+use Rattle.coco_commands.specs.Opening.{HasOneNode, IsRefusedInRun, IsUnopened}
+
+-- how a call ends whose lines were answered up to this ending
+abbrev pub ending_of_run : Served → Ending
+ending_of_run served.Finished = ending.Finished
+ending_of_run served.ReadFault = ending.ReadFault
+ending_of_run served.SayFault = ending.SayFault
+ending_of_run served.DiskFault = ending.DiskFault
+ending_of_run served.EpochsUsedUp = ending.EpochsUsedUp
+ending_of_run served.NoMemory = ending.NoMemory
+
+-- the store is opened, and then lines are answered on it. Until the opening has ended nothing is said, and all that a crash may leave it might have left
+-- at entry. Only files that are a store of one node are opened, and such files are never refused (`a_refused_store_is_not_run`): so `NotAStore` comes exactly
+-- where the files are refused, at that place, and neither a fault of the disk nor want of memory ended the opening. After it, where the files read at entry
+-- as a good store, each moment shows a good store whose history is that of entry grown by first batches of the bytes that the source gave, its new epochs
+-- numbered from `next` on, with a front of their answers said
+pub record Opens {H : Type 0} (moment : H → ℕ) (observed : H → ℕ → Observation → Type 0) (said : H → Option (List ℕ)) (reads : H → Option Files) (may_leave : H → Files → Type 0)
+    (bounds : RunBounds) (ending : Ending) (before after : Outside) (old new : H) : Type 0 where
+  pub opened : H
+  pub opening : IsOnlyRead moment observed said reads may_leave old opened
+  pub sound : (files : Files) → reads old ≡ Some files → HasOneNode files
+  pub bytes : List ℕ
+  pub gives : Gives before.source after.source bytes
+  pub next : ℕ
+  pub is_next : (files : Files) (c : Contents) → reads old ≡ Some files → Holds files c → IsNextOf c next
+  pub served : Served
+  pub ends : ending ≡ ending_of_run served
+  pub cause : HasCause next bytes before after served
+  pub serves : (files : Files) (c : Contents) → reads old ≡ Some files → IsGoodStore files c
+      → Serves moment observed said reads may_leave c next bounds bytes served opened new
+
+-- the store isn't opened, or it is
+abbrev pub RunsOn : {H : Type 0} (moment : H → ℕ) (observed : H → ℕ → Observation → Type 0) (said : H → Option (List ℕ)) (reads : H → Option Files) (may_leave : H → Files → Type 0)
+    → RunBounds → Ending → Outside → Outside → H → H → Type 0
+RunsOn moment observed said reads may_leave bounds ending before after old new =
+    IsUnopened moment observed said reads may_leave IsRefusedInRun ending before after old new
+    ⊎ Opens moment observed said reads may_leave bounds ending before after old new

@@ -1,0 +1,21 @@
+//! The commands on a store that is there: requests are run on it, what it has is told, it is given a keep number.
+#![tactic(auto)]
+
+mod dumping;
+mod laws;
+mod migrating;
+mod open;
+mod opening;
+mod running;
+mod saying;
+mod verifying;
+
+pub use coco_recover::{Opened, read_without, recover, recover_whole};
+pub use coco_serve::RunBounds;
+pub use dumping::dump;
+pub use laws::{a_layout_sets_the_keep_number, a_refused_store_is_not_run};
+pub use migrating::migrate;
+pub use open::cluster_of;
+pub use opening::{ending_of_opening, open_cluster};
+pub use running::run;
+pub use verifying::verify;

@@ -1,0 +1,62 @@
+//! The command `run`.
+
+ghost use Rattle.std.specs.Prelude.{◌≡◌, ◌<◌, ◌≤◌};
+ghost use Rattle.coco_types.specs.Limits.{most_batch_lines};
+ghost use Rattle.coco_commands.specs.Running.{RunsOn, ending_of_run};
+
+use crate::opening::open_cluster;
+use coco_ending::Ending;
+use coco_gate::Gate;
+use coco_host::Host;
+use coco_io::Source;
+use coco_serve::{RunBounds, Served, answer_lines};
+use std::alloc::Global;
+use std::sync::Wait;
+use std::thread::Threads;
+use std::time::Clock;
+
+/// Opens the store, and answers request lines on it to the end of the input, within these bounds.
+pub fn run<R: Threads + Wait + Clock + Sync, H: Host, S: Source, G: Gate + Sync>(
+    rt: &R,
+    alloc: Global,
+    host: &mut H,
+    input: &mut S,
+    bounds: RunBounds,
+    gate: &G,
+) -> Ending
+    requires some { 0 < bounds.size }
+    requires few { bounds.size ≤ most_batch_lines }
+    requires workers { 0 < bounds.workers }
+    requires attempts { 0 < bounds.attempts }
+    ensures { RunsOn H.moment H.observed H.said H.reads H.may_leave bounds result
+        (record { source = record { given = S.given input.old; left = S.remaining input.old; at_end = S.at_end input.old }; source_faults = S.faults input.old; say_faults = H.say_faults host.old; disk_faults = H.disk_faults host.old })
+        (record { source = record { given = S.given input.new; left = S.remaining input.new; at_end = S.at_end input.new }; source_faults = S.faults input.new; say_faults = H.say_faults host.new; disk_faults = H.disk_faults host.new })
+        host.old host.new }
+{
+    match open_cluster(alloc, host) {
+        Ok(mut cluster) => ending_of_run(answer_lines(
+            rt,
+            alloc,
+            host,
+            &mut cluster,
+            input,
+            bounds,
+            gate,
+        )),
+        Err(ending) => ending,
+    }
+}
+
+// How a call ends whose lines were answered up to this ending.
+fn ending_of_run(served: Served) -> Ending
+    ensures { result ≡ ending_of_run served }
+{
+    match served {
+        Served::Finished => Ending::Finished,
+        Served::ReadFault => Ending::ReadFault,
+        Served::SayFault => Ending::SayFault,
+        Served::DiskFault => Ending::DiskFault,
+        Served::EpochsUsedUp => Ending::EpochsUsedUp,
+        Served::NoMemory => Ending::NoMemory,
+    }
+}

@@ -1,0 +1,177 @@
+//! The worked stores of one node, opened from their bytes.
+
+use crate::made::{COMMITS, LAYOUTS, NO_COMMITS, NONE_PREPARED, PREPARED, host_with};
+use coco_host::MemoryHost;
+use coco_read::OpenFault;
+use coco_recover::{Opened, read_without, recover, recover_whole};
+use coco_types::{Key, OutFault, Value};
+use std::alloc::Global;
+use std::test::Fail;
+
+// The layout of the worked store, and behind it one from epoch 2 on with a base in file 3.
+const TWO_LAYOUTS: [u8; 75] = [
+    b'C', b'O', b'C', b'O', b'L', b'O', b'G', 0, 1, 0, 0, 0, 25, 1, 1, 1, 1, 0, 0, 0, 0, 1, 0, 0,
+    0, 2, 0, 0, 0, 0, 0, 0, 0, 0, 0, 0, 0, 0, 1, 0, 0, 0, 31, 1, 3, 1, 1, 0, 0, 0, 0, 4, 0, 0, 0,
+    5, 0, 0, 0, 0, 0, 0, 0, 2, 0, 0, 0, 0, 0, 0, 0, 0, 0, 3, 0,
+];
+
+// The base: put(5, 70) as id 1, get(5) as id 2, and the row.
+const BASE: [u8; 190] = [
+    b'C', b'O', b'C', b'O', b'L', b'O', b'G', 3, 1, 0, 0, 0, 34, 4, 0, 0, 0, 0, 0, 0, 0, 2, 0, 0,
+    0, 0, 0, 0, 0, 0, 0, 0, 0, 0, 0, 0, 0, 0, 2, 0, 0, 0, 0, 0, 0, 0, 1, 1, 0, 0, 0, 108, 5, 0, 0,
+    0, 2, 0, 0, 0, 0, 0, 0, 0, 1, 0, 0, 0, 0, 0, 0, 0, 1, 0, 1, 0, 2, 1, 0, 0, 0, 0, 0, 0, 0, 5, 1,
+    0, 0, 0, 0, 0, 0, 0, 70, 0, 0, 0, 0, 0, 0, 0, 1, 0, 1, 0, 0, 0, 0, 0, 0, 0, 70, 0, 0, 0, 0, 0,
+    0, 0, 2, 0, 0, 0, 0, 0, 0, 0, 2, 0, 0, 0, 1, 1, 0, 0, 0, 0, 0, 0, 0, 5, 0, 0, 0, 0, 0, 0, 0, 1,
+    0, 1, 0, 0, 0, 0, 0, 0, 0, 70, 1, 0, 0, 0, 24, 6, 0, 0, 0, 1, 0, 0, 0, 0, 0, 0, 0, 0, 0, 5, 1,
+    0, 0, 0, 0, 0, 0, 0, 70, 0,
+];
+
+// The layout of one node, and behind it one of two nodes and no copies.
+const TWO_NODES: [u8; 73] = [
+    b'C', b'O', b'C', b'O', b'L', b'O', b'G', 0, 1, 0, 0, 0, 25, 1, 1, 1, 1, 0, 0, 0, 0, 1, 0, 0,
+    0, 2, 0, 0, 0, 0, 0, 0, 0, 0, 0, 0, 0, 0, 1, 0, 0, 0, 29, 1, 1, 2, 1, 0, 0, 0, 0, 1, 0, 0, 0,
+    2, 0, 0, 0, 3, 0, 0, 0, 0, 0, 0, 0, 0, 0, 0, 0, 0, 0,
+];
+
+// What is seen of an opened store: the number of its next epoch, how many replies it keeps, its row 5, how many nodes
+// its last layout has, and where that layout's body begins.
+type Seen = (u64, u64, Option<i64>, u8, u64);
+
+fn number(value: Option<Value>) -> Option<i64> {
+    match value {
+        Some(Value::Int(number)) => Some(number),
+        _ => None,
+    }
+}
+
+fn seen(store: &Opened) -> Seen {
+    let five = Key { table: 0, row: 5 };
+    let value = match store.shards.first() {
+        Some(shard) => number(shard.stable(five)),
+        None => None,
+    };
+    (
+        store.next_epoch,
+        store.kept.len(),
+        value,
+        store.layout.nodes,
+        store.layout_place,
+    )
+}
+
+// What is seen once a store is opened, with all replies or by its keep number.
+fn opened(alloc: Global, host: &mut MemoryHost, is_whole: bool) -> Result<Seen, OpenFault> {
+    let store = if is_whole {
+        recover_whole(alloc, host)
+    } else {
+        recover(alloc, host)
+    };
+    match store {
+        Ok(store) => Ok(seen(&store)),
+        Err(fault) => Err(fault),
+    }
+}
+
+type Files = &'static [(u32, &'static [u8])];
+
+// Of the store that is refused the node lacks the entry of the committed epoch, which is found at its last gate.
+const STORES: [(&str, Files, Result<Seen, OpenFault>); 7] = [
+    (
+        "no epoch",
+        &[(0, &LAYOUTS), (1, &NO_COMMITS), (2, &NONE_PREPARED)],
+        Ok((1, 0, None, 1, 13)),
+    ),
+    (
+        "a prepared epoch",
+        &[(0, &LAYOUTS), (1, &NO_COMMITS), (2, &PREPARED)],
+        Ok((2, 0, None, 1, 13)),
+    ),
+    (
+        "a committed epoch",
+        &[(0, &LAYOUTS), (1, &COMMITS), (2, &PREPARED)],
+        Ok((2, 1, Some(70), 1, 13)),
+    ),
+    (
+        "an epoch that was not prepared",
+        &[(0, &LAYOUTS), (1, &COMMITS), (2, &NONE_PREPARED)],
+        Err(OpenFault::NotAStore { file: 2, at: 8 }),
+    ),
+    (
+        "a base",
+        &[
+            (0, &TWO_LAYOUTS),
+            (1, &COMMITS),
+            (2, &PREPARED),
+            (3, &BASE),
+            (4, &NO_COMMITS),
+            (5, &NONE_PREPARED),
+        ],
+        Ok((3, 2, Some(70), 1, 43)),
+    ),
+    (
+        "a file of no node",
+        &[
+            (0, &LAYOUTS),
+            (1, &NO_COMMITS),
+            (2, &NONE_PREPARED),
+            (3, &NONE_PREPARED),
+        ],
+        Ok((1, 0, None, 1, 13)),
+    ),
+    (
+        "two nodes",
+        &[
+            (0, &TWO_NODES),
+            (1, &NO_COMMITS),
+            (2, &NONE_PREPARED),
+            (3, &NONE_PREPARED),
+        ],
+        Ok((1, 0, None, 2, 43)),
+    ),
+];
+
+fn is_opened(
+    alloc: Global,
+    files: Files,
+    is_whole: bool,
+    wanted: &Result<Seen, OpenFault>,
+) -> Result<bool, OutFault> {
+    let mut host = host_with(alloc, files)?;
+    Ok(opened(alloc, &mut host, is_whole) == *wanted)
+}
+
+#[test]
+fn stores_are_opened_with_their_last_layout_or_refused(rt: HostRuntime) -> Result<(), Fail> {
+    for (name, files, wanted) in &STORES {
+        let is_well = is_opened(rt.alloc(), files, false, wanted)?
+            && is_opened(rt.alloc(), files, true, wanted)?;
+        assert!(rt; is_well, "{name}");
+    }
+    Ok(())
+}
+
+// Whether a store of which a node's file isn't read has committed epoch 1, and a log of the first of two nodes alone.
+fn is_first_alone(alloc: Global, host: &mut MemoryHost, node: u8) -> Result<bool, OpenFault> {
+    let parts = read_without(alloc, host, node)?;
+    Ok(
+        parts.epochs.as_slice() == [1].as_slice()
+            && matches!(parts.nodes.first(), Some(Some(_)))
+            && !matches!(parts.nodes.get(1), Some(Some(_))),
+    )
+}
+
+// Whether a store without its second node's file is read without that node, and refused without another and with all.
+fn is_left_out(alloc: Global) -> Result<bool, OutFault> {
+    let mut host = host_with(alloc, &[(0, &TWO_NODES), (1, &COMMITS), (2, &PREPARED)])?;
+    let refused = OpenFault::NotAStore { file: 3, at: 0 };
+    let is_read = is_first_alone(alloc, &mut host, 1) == Ok(true);
+    let is_refused = is_first_alone(alloc, &mut host, 0) == Err(refused)
+        && is_first_alone(alloc, &mut host, 2) == Err(refused);
+    Ok(is_read && is_refused && opened(alloc, &mut host, false) == Err(refused))
+}
+
+#[test]
+fn a_node_is_left_out(rt: HostRuntime) -> Result<(), Fail> {
+    assert!(rt; is_left_out(rt.alloc())?);
+    Ok(())
+}

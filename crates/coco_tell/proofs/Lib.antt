@@ -1,5 +1,0 @@
-pub mod BaseLemmas
-pub mod MapLists
-pub mod StoreTexts
-pub mod TellLemmas
-pub mod VerdictLemmas
