@@ -1,4 +1,5 @@
 pub mod Fields
-pub mod Reads
 pub mod Lists
+pub mod Messages
+pub mod Reads
 pub mod Values

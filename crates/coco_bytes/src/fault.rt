@@ -13,6 +13,11 @@ pub enum FieldFault {
 }
 
 impl fmt::Display for FieldFault {
+    ghost use Rattle.std.specs.Prelude.{Some};
+    ghost use Rattle.coco_bytes.specs.Messages.{fault_text};
+
+    ghost output = { λ x. Some (fault_text x) };
+
     fn fmt<W: fmt::Write>(&self, f: &mut fmt::Formatter<W>) -> fmt::Result {
         match self {
             FieldFault::Short { at } => write!(f, "the bytes end within the field at {at}"),

@@ -19,6 +19,11 @@ pub enum EntryFault {
 }
 
 impl fmt::Display for EntryFault {
+    ghost use Rattle.std.specs.Prelude.{Some};
+    ghost use Rattle.coco_entry.specs.Messages.{fault_text};
+
+    ghost output = { λ x. Some (fault_text x) };
+
     fn fmt<W: fmt::Write>(&self, f: &mut fmt::Formatter<W>) -> fmt::Result {
         match self {
             EntryFault::Bad { at } => write!(f, "no entry: bad at byte {at}"),

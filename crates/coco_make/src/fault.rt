@@ -17,6 +17,11 @@ pub enum MakeFault {
 }
 
 impl fmt::Display for MakeFault {
+    ghost use Rattle.std.specs.Prelude.{Some};
+    ghost use Rattle.coco_make.specs.Messages.{fault_text};
+
+    ghost output = { λ x. Some (fault_text x) };
+
     fn fmt<W: fmt::Write>(&self, f: &mut fmt::Formatter<W>) -> fmt::Result {
         match self {
             MakeFault::Disk => f.write_str("disk fault"),

@@ -19,6 +19,11 @@ pub enum MessageFault {
 }
 
 impl fmt::Display for MessageFault {
+    ghost use Rattle.std.specs.Prelude.{Some};
+    ghost use Rattle.coco_msg.specs.Messages.{fault_text};
+
+    ghost output = { λ x. Some (fault_text x) };
+
     fn fmt<W: fmt::Write>(&self, f: &mut fmt::Formatter<W>) -> fmt::Result {
         match self {
             MessageFault::Bad { at } => write!(f, "no message: bad at byte {at}"),

@@ -21,7 +21,7 @@ use Rattle.coco_store.proofs.Growing.{each_more}
 use Rattle.coco_store.proofs.Refusing.{unrefused}
 use Rattle.coco_read.specs.EntryRules.{EntryRules, AreKept, IsFile, IsFirstIn, IsReadLog, IsRefusedBody, IsStep, IsTaken, IsUnderWay, Takes}
 
-module _ {E : Type 0} (rules : EntryRules E) (reads : (e : E) → rules.Is e → rules.read (rules.bytes_of e) ≡ Ok e) where
+module _ {E : Type 0} (rules : EntryRules E) (reads : (before : List E) (e : E) → rules.Is e → rules.read before (rules.bytes_of e) ≡ Ok e) where
   -- nothing was read but the header
   pub way_first : (r : Reading) (es : List E) (file : List ℕ) → es ≡ [] → IsReading r [] file → IsUnderWay rules r es file
   way_first r es file none reading = subst (λ (l : List E). IsUnderWay rules r l file) (sym none) (record { reading = reading; are = tt; keep = tt })

@@ -13,7 +13,7 @@ abbrev pub counting : ℕ → EntryRules ℕ
 counting wanted = record {
   bytes_of = λ byte. byte ∷ [];
   Is = λ byte. byte < 2 ^ 8;
-  read = byte_in;
+  read = λ before. byte_in;
   Breaks = λ before byte at. (at ≡ 0) × (byte ≢ length before);
   Lacks = λ entries. length entries < wanted;
 }

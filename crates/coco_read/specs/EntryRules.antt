@@ -13,11 +13,11 @@ use Rattle.coco_store.specs.Rules.{EachBehind}
 use Rattle.coco_read.specs.declared.fault.OpenFault.{OpenFault}
 use Rattle.coco_read.specs.declared.fault.OpenFault.TheVariants as fault
 
--- which entries there are, with their bytes and their reading; at which byte one breaks a rule behind those before it; when something lacks behind them all
+-- which entries there are, with their bytes and their reading behind those before them; at which byte one breaks a rule behind those before it; when something lacks behind them all
 pub record EntryRules (E : Type 0) : Type 1 where
   pub bytes_of : E → List ℕ
   pub Is : E → Type 0
-  pub read : List ℕ → Result E FieldFault
+  pub read : List E → List ℕ → Result E FieldFault
   pub Breaks : List E → E → ℕ → Type 0
   pub Lacks : List E → Type 0
 
@@ -45,7 +45,7 @@ pub record IsBroken {E : Type 0} (rules : EntryRules E) (before : List E) (body 
 -- it is refused at this byte, which it has or ends at: it is no entry, or breaks a rule
 pub record IsRefusedBody {E : Type 0} (rules : EntryRules E) (before : List E) (body : List ℕ) (at : ℕ) : Type 0 where
   pub within : at ≤ length body
-  pub why : IsFaultAt at (rules.read body) ⊎ IsBroken rules before body at
+  pub why : IsFaultAt at (rules.read before body) ⊎ IsBroken rules before body at
 
 abbrev pub Takes : {E : Type 0} → EntryRules E → List E → List ℕ → Result (Option ℕ) NoMemory → List E → Type 0
 Takes rules before body (Ok None) after = IsTaken rules before body after

@@ -31,5 +31,5 @@ pub trait Rules {
         ensures { IsTrue result ↔ (rules (setting self.now)).Lacks (taken self.now) };
 
     /// The bytes of an entry are read as that entry.
-    ghost reads: { (s : Setting) (e : Entry) → (rules s).Is e → (rules s).read ((rules s).bytes_of e) ≡ Ok e };
+    ghost reads: { (s : Setting) (before : List Entry) (e : Entry) → (rules s).Is e → (rules s).read before ((rules s).bytes_of e) ≡ Ok e };
 }

@@ -4,8 +4,9 @@ ghost use Rattle.std.specs.Prelude.{◌≡◌, ◌↔◌, ◌<◌, ◌^◌, ◌�
 ghost use Rattle.coco_types.specs.RowKey.{RowKey};
 ghost use Rattle.coco_types.specs.declared.call.Done.{Done};
 ghost use Rattle.coco_types.specs.declared.value.Value.{Value as Datum};
+ghost use Rattle.coco_bytes.specs.Lists.{last_item};
 ghost use Rattle.coco_store.specs.Entries.{BaseEntry, Head, Dones, Values, base_bytes};
-ghost use Rattle.coco_store.specs.Refusals.{BaseBreaks};
+ghost use Rattle.coco_store.specs.Refusals.{BaseBreaks, may_stand as tag_may_stand};
 ghost use Rattle.coco_store.specs.Rules.{IsKeptDone, IsNextBase, IsNextValue, IsWhole, Setting};
 ghost use Rattle.coco_rules.specs.Behind.{IsBehind};
 ghost use Rattle.coco_rules.specs.Basing.{EndsAtKey, IsBehindBase, less_by, may_be_dones, may_be_rows};
@@ -81,6 +82,18 @@ impl BaseRules {
         ensures { result ≡ (head.now.epoch == self.now.base_epoch) }
     {
         head.epoch == self.base_epoch
+    }
+
+    /// Whether an entry of this tag may stand behind the entries before it, whatever follows the tag.
+    pub fn may_stand(&self, tag: u8) -> bool
+        ensures { (s : Setting) (before : List BaseEntry) → IsBehindBase s before self.now → result ≡ tag_may_stand (last_item before) tag }
+    {
+        match tag {
+            4 => !self.is_begun(),
+            5 => self.may_be_dones(),
+            6 => self.may_be_rows(),
+            _ => false,
+        }
     }
 
     /// Notes a head that keeps its rules behind the entries before it, and answers None; else the answer

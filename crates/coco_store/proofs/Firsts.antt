@@ -142,8 +142,8 @@ pub record BeginsWith {E : Type 0} (kind : ℕ) (bytes_of : E → List ℕ) (Is 
   pub is : file ≡ front kind (map bytes_of entries) ++ rest
   pub gate : (gate_behind kind bytes_of entries ≡ 8) ⊎ (0 < length rest)
 
-module _ {E : Type 0} (kind : ℕ) (bytes_of : E → List ℕ) (Is : E → Type 0) (read : List ℕ → Result E FieldFault) (Breaks : List E → E → ℕ → Type 0) (Lacks : List E → Type 0)
-    (reads : (e : E) → Is e → read (bytes_of e) ≡ Ok e) where
+module _ {E : Type 0} (kind : ℕ) (bytes_of : E → List ℕ) (Is : E → Type 0) (read : List E → List ℕ → Result E FieldFault) (Breaks : List E → E → ℕ → Type 0) (Lacks : List E → Type 0)
+    (reads : (before : List E) (e : E) → Is e → read before (bytes_of e) ≡ Ok e) where
   abbrev Keep : List E → Type 0
   Keep es = EachBehind (λ before e. (at : ℕ) → Breaks before e at → ⊥) [] es
 
@@ -152,7 +152,7 @@ module _ {E : Type 0} (kind : ℕ) (bytes_of : E → List ℕ) (Is : E → Type 
 
   pub one_entry : (x y : E) → Is x → Is y → bytes_of x ≡ bytes_of y → x ≡ y
   one_entry x y is also e =
-      let same : ◌≡◌ {A = Result E FieldFault} (Ok x) (Ok y) = sym (reads x is) ∙ ap read e ∙ reads y also in
+      let same : ◌≡◌ {A = Result E FieldFault} (Ok x) (Ok y) = sym (reads [] x is) ∙ ap (read []) e ∙ reads [] y also in
       cc
 
   -- the entry of a body among others
@@ -184,9 +184,9 @@ module _ {E : Type 0} (kind : ℕ) (bytes_of : E → List ℕ) (Is : E → Type 
       }
 
   -- such an entry is one, and keeps its rules
-  not_bad : (body : List ℕ) (at : ℕ) (one : E) → Is one → body ≡ bytes_of one → IsFaultAt at (read body) → ⊥
-  not_bad body at one is bytes fault =
-      let two : ◌≡◌ {A = Result E FieldFault} (Ok one) (Err fault.0) = sym (reads one is) ∙ ap read (sym bytes) ∙ fault.1 in
+  not_bad : (before : List E) (body : List ℕ) (at : ℕ) (one : E) → Is one → body ≡ bytes_of one → IsFaultAt at (read before body) → ⊥
+  not_bad before body at one is bytes fault =
+      let two : ◌≡◌ {A = Result E FieldFault} (Ok one) (Err fault.0) = sym (reads before one is) ∙ ap (read before) (sym bytes) ∙ fault.1 in
       cc
 
   not_broken : (es before : List E) (e : E) (at : ℕ) → Keep es → Is e → HasEntry es before (bytes_of e) → Breaks before e at → ⊥
@@ -262,7 +262,7 @@ module _ {E : Type 0} (kind : ℕ) (bytes_of : E → List ℕ) (Is : E → Type 
         | inr w ↦
             let there = is_next (map bytes_of before) (map bytes_of es) body next.gate next.behind begins.rest two.1 w in
             let found = entry_there es before body there.0 begins.are next.are there.1 in
-            absurd (not_bad body at found.one found.is-one found.bytes fault)
+            absurd (not_bad before body at found.one found.is-one found.bytes fault)
       ]
   refused_later es file begins b (breaks {entries = before} {e = e} {at = at} next is broken) =
       let two = short_front (map bytes_of before) (bytes_of e) next.short in
@@ -281,7 +281,7 @@ module _ {E : Type 0} (kind : ℕ) (bytes_of : E → List ℕ) (Is : E → Type 
 
   -- where a body goes on behind them: it is refused at this place of it, or what is refused stands behind it
   pub data IsRefusedIn (es : List E) (body : List ℕ) (b : ℕ) : Type 0 where
-    bad : {at : ℕ} → b ≡ gate_behind kind bytes_of es + (5 + at) → IsFaultAt at (read body) → IsRefusedIn es body b
+    bad : {at : ℕ} → b ≡ gate_behind kind bytes_of es + (5 + at) → IsFaultAt at (read es body) → IsRefusedIn es body b
     broken_by : {at : ℕ} {e : E} → b ≡ gate_behind kind bytes_of es + (5 + at) → body ≡ bytes_of e → Is e → Breaks es e at → IsRefusedIn es body b
     later : gate_behind kind bytes_of es + (5 + length body) ≤ b → IsRefusedIn es body b
 
@@ -311,10 +311,10 @@ module _ {E : Type 0} (kind : ℕ) (bytes_of : E → List ℕ) (Is : E → Type 
               elim (last_or_among (map bytes_of es) (map bytes_of before) there.0 body other there.1) [
                 | inl l ↦
                     let same : es ≡ before = same_entries bytes_of Is one_entry es before next.are goes.are l.front in
-                    bad {at = at} (ap (λ (k : List E). gate_behind kind bytes_of k + (5 + at)) (sym same)) (subst (λ (k : List ℕ). IsFaultAt at (read k)) (sym l.last) fault)
+                    bad {at = at} (ap (λ (k : List E). gate_behind kind bytes_of k + (5 + at)) (sym same)) (subst (λ (k : List ℕ). IsFaultAt at (read es k)) (sym l.last) (subst (λ (k : List E). IsFaultAt at (read k other)) (sym same) fault))
                 | inr m ↦
                     let found = entry_there es before other m.others next.are goes.are m.is in
-                    absurd (not_bad other at found.one found.is-one found.bytes fault)
+                    absurd (not_bad before other at found.one found.is-one found.bytes fault)
               ]
         ]
     refused_in b (breaks {entries = before} {e = e} {at = at} goes is broken) =
@@ -338,20 +338,20 @@ module _ {E : Type 0} (kind : ℕ) (bytes_of : E → List ℕ) (Is : E → Type 
         ]
 
     -- a body that is no entry
-    least_bad : (at b : ℕ) → IsFaultAt at (read body) → at ≤ length body → IsRefusedIn es body b → gate_behind kind bytes_of es + (5 + at) ≤ b
+    least_bad : (at b : ℕ) → IsFaultAt at (read es body) → at ≤ length body → IsRefusedIn es body b → gate_behind kind bytes_of es + (5 + at) ≤ b
     least_bad at b fault le (bad {at = other} is also) =
         let two : ◌≡◌ {A = Result E FieldFault} (Err fault.0) (Err also.0) = sym fault.1 ∙ also.1 in
         let same : fault.0 ≡ also.0 = cc in
         omega (arith, is, fault.2, also.2, ap fault_place same)
-    least_bad at b fault le (broken_by {at = other} {e = e} is bytes one broken) = absurd (not_bad body at e one bytes fault)
+    least_bad at b fault le (broken_by {at = other} {e = e} is bytes one broken) = absurd (not_bad es body at e one bytes fault)
     least_bad at b fault le (later far) = omega (arith, far, le)
 
-    pub first_bad : (at : ℕ) → IsFaultAt at (read body) → at ≤ length body → IsFirst (IsRefused file) (gate_behind kind bytes_of es + (5 + at))
+    pub first_bad : (at : ℕ) → IsFaultAt at (read es body) → at ≤ length body → IsFirst (IsRefused file) (gate_behind kind bytes_of es + (5 + at))
     first_bad at fault le = record { refused = no_entry {entries = es} {body = body} {at = at} next fault; least = λ b refused. least_bad at b fault le (refused_in b refused) }
 
   -- an entry that breaks a rule
   least_broken : (es : List E) (e : E) (at b : ℕ) → Is e → ((other : ℕ) → Breaks es e other → at ≤ other) → at ≤ length (bytes_of e) → IsRefusedIn es (bytes_of e) b → gate_behind kind bytes_of es + (5 + at) ≤ b
-  least_broken es e at b is least le (bad {at = other} place fault) = absurd (not_bad (bytes_of e) other e is refl fault)
+  least_broken es e at b is least le (bad {at = other} place fault) = absurd (not_bad es (bytes_of e) other e is refl fault)
   least_broken es e at b is least le (broken_by {at = other} {e = f} place bytes one broken) =
       let same : f ≡ e = one_entry f e one is (sym bytes) in
       let low : at ≤ other = least other (subst (λ (x : E). Breaks es x other) same broken) in

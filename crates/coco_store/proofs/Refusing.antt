@@ -1,6 +1,6 @@
 -- Where a file is refused, no store is in the files.
 use Rattle.std.proofs.Common.{◌≡◌, ◌≢◌, ℕ, ◌<◌, List, [], ◌∷◌, ◌++◌, map, Option, Some, refl, sym, ◌∙◌, ap, subst, arith, append_assoc, ⊎_elim}
-use Rattle.std.specs.Prelude.{Result, Ok, Err}
+use Rattle.std.specs.Prelude.{Result, Ok, Err, slice_index}
 use Rattle.std.specs.List.{All, AllByRecursion, flat_map}
 use Rattle.std.proofs.lemmas.List.Elements.{All-head, All-tail}
 use Rattle.std.proofs.lemmas.Bool.{cases_lt}
@@ -8,6 +8,7 @@ use Rattle.std.proofs.Math.Nat.{eq-or-lt_of_le}
 use Rattle.coco_host.specs.Files.{Files}
 use Rattle.coco_ast.proofs.Lists.{all_append, all_right}
 use Rattle.coco_bytes.specs.declared.fault.FieldFault.{FieldFault}
+use Rattle.coco_bytes.specs.Lists.{last_item}
 use Rattle.coco_entry.specs.declared.commit.Commit.{Commit}
 use Rattle.coco_entry.specs.declared.layout.LayoutEntry.{LayoutEntry}
 use Rattle.coco_entry.specs.declared.prepared.Prepared.{Prepared}
@@ -25,7 +26,7 @@ use Rattle.coco_log.specs.Grammar.{entry, header, IsShort}
 use Rattle.coco_log.proofs.OneLog.{behind_header, fits_or_not, front_gate, peel}
 use Rattle.coco_store.specs.Contents.{Contents, HoldsBase, HoldsCommits, HoldsHistory, HoldsLayouts, HoldsNode, IsGoodLayout, chief_of, file_of}
 use Rattle.coco_store.specs.Entries.{AreBase, BaseEntry, Dones, Head, IsBaseEntry, IsLogOf, Values, base_bytes, base_kind, commits_kind, layouts_kind, prepared_kind}
-use Rattle.coco_store.specs.Refusals.{AreCommitsRefused, AreLayoutsRefused, BaseBreaks, CommitBreaks, GoesOnWith, IsBaseRefused, IsFirst, IsFirstRefusal, IsNodeRefused, IsRefusedAt, ItemBreaks, LayoutBreaks, PreparedBreaks, OneRefusal, RefusedIsNone, base_in, mapped, no_log, no_entry, breaks, lacks, bad_nodes, bad_partitions, bad_copies, bad_base_epoch, bad_text, bad_keep, bad_order, bad_kept_done, bad_value, bad_commit_epoch, bad_done, bad_prepared_epoch, bad_row, in_layouts, in_base, in_commits, in_node}
+use Rattle.coco_store.specs.Refusals.{AreCommitsRefused, AreLayoutsRefused, BaseBreaks, CommitBreaks, GoesOnWith, IsBaseRefused, IsFirst, IsFirstRefusal, IsNodeRefused, IsRefusedAt, ItemBreaks, LayoutBreaks, PreparedBreaks, OneRefusal, RefusedIsNone, at_tag, base_behind, base_in, mapped, may_stand, no_log, no_entry, breaks, lacks, bad_nodes, bad_partitions, bad_copies, bad_base_epoch, bad_text, bad_keep, bad_order, bad_kept_done, bad_value, bad_commit_epoch, bad_done, bad_prepared_epoch, bad_row, in_layouts, in_base, in_commits, in_node}
 use Rattle.coco_store.specs.Rules.{EachBehind, HavePrepared, IsBase, IsCommittedDone, IsKeptDone, IsNextBase, IsNextCommit, IsNextPrepared, IsNextValue, IsNodeRow, IsWhole, Setting, base_values, dones_in, dones_of, kept_dones, values_of}
 use Rattle.coco_store.proofs.Growing.{each_at}
 use Rattle.coco_store.proofs.OneStore.{behind, one_base, one_base_file, one_chief_file, one_commit, one_layout, one_layouts, one_prepared}
@@ -85,15 +86,15 @@ module _ {E : Type 0} (kind : ℕ) (bytes_of : E → List ℕ) (Is : E → Type 
       next_of xs entries body first.more log.are next.are first.is
 
   -- a file that holds entries which keep their rules isn't refused
-  pub unrefused : (read : List ℕ → Result E FieldFault) (Rule : List E → E → Type 0) (Breaks : List E → E → ℕ → Type 0) (Lacks : List E → Type 0)
-      → ((e : E) → Is e → read (bytes_of e) ≡ Ok e)
+  pub unrefused : (read : List E → List ℕ → Result E FieldFault) (Rule : List E → E → Type 0) (Breaks : List E → E → ℕ → Type 0) (Lacks : List E → Type 0)
+      → ((before : List E) (e : E) → Is e → read before (bytes_of e) ≡ Ok e)
       → ((before : List E) (e : E) (at : ℕ) → Rule before e → Breaks before e at → ⊥)
       → (xs : List E) (file : List ℕ) → IsLogOf kind bytes_of Is xs file → EachBehind Rule [] xs → (Lacks xs → ⊥)
       → (at : ℕ) → IsRefusedAt kind bytes_of Is read Breaks Lacks file at → ⊥
   unrefused read Rule Breaks Lacks reads keeps xs file log each whole at (no_log fits) = fits_or_not kind file (map bytes_of xs) at log.log fits
   unrefused read Rule Breaks Lacks reads keeps xs file log each whole at (no_entry {entries = entries} {body = body} next fault) =
       let n = goes_on xs entries body file log next in
-      let is : read body ≡ Ok n.next = ap read n.bytes ∙ reads n.next n.is-next in
+      let is : read entries body ≡ Ok n.next = ap (read entries) n.bytes ∙ reads entries n.next n.is-next in
       let two : ◌≡◌ {A = Result E FieldFault} (Ok n.next) (Err fault.0) = sym is ∙ fault.1 in
       cc
   unrefused read Rule Breaks Lacks reads keeps xs file log each whole at (breaks {entries = entries} {e = e} {at = place} next is broken) =
@@ -129,13 +130,16 @@ layout_keeps e at good (bad_keep broken) = broken good.limits.keep
 layouts_unrefused : (earlier : List LayoutEntry) (s : Setting) (file : List ℕ) → HoldsLayouts earlier s file → (at : ℕ) → AreLayoutsRefused file at → ⊥
 layouts_unrefused earlier s file h =
     let last : IsGoodLayout s.entry = record { limits = h.limits; tree = s.tree; accepted = h.tree } in
-    unrefused layouts_kind layout_bytes IsLayout one_layout layout_in (λ _. IsGoodLayout) (λ _ e. LayoutBreaks e) (λ entries. entries ≡ []) layout_reads (λ _ e at. layout_keeps e at)
+    unrefused layouts_kind layout_bytes IsLayout one_layout (λ _. layout_in) (λ _. IsGoodLayout) (λ _ e. LayoutBreaks e) (λ entries. entries ≡ []) (λ _. layout_reads) (λ _ e at. layout_keeps e at)
     (earlier ++ s.entry ∷ []) file h.are (each_of_all IsGoodLayout [] (earlier ++ s.entry ∷ []) (all_append IsGoodLayout earlier (s.entry ∷ []) h.each (last, tt))) (behind s.entry earlier s.entry)
 
 base_reads : (e : BaseEntry) → IsBaseEntry e → base_in (base_bytes e) ≡ Ok e
 base_reads (Head head) is = ap (mapped Head) (entry_again 4 head_at _ IsHead head_agrees (head_bytes head) head (omega arith) is refl)
 base_reads (Dones dones) is = ap (mapped Dones) (entry_again 5 base_dones_at _ AreBaseDones base_dones_agree (base_dones_bytes dones) dones (omega arith) is refl)
 base_reads (Values rows) is = ap (mapped Values) (entry_again 6 base_rows_at _ AreBaseRows base_rows_agree (base_rows_bytes rows) rows (omega arith) is refl)
+
+base_stands : (before : List BaseEntry) (e : BaseEntry) → IsBaseEntry e → base_behind before (base_bytes e) ≡ Ok e
+base_stands before e is = ap (λ (r : Result BaseEntry FieldFault). at_tag r (may_stand (last_item before) (slice_index (base_bytes e) 0))) (base_reads e is)
 
 base_keeps : (s : Setting) (before : List BaseEntry) (e : BaseEntry) (at : ℕ) → IsNextBase s before e → BaseBreaks s before e at → ⊥
 base_keeps s before e at next (bad_order broken) = broken next.order
@@ -144,7 +148,7 @@ base_keeps s before e at next (bad_value {at = place} item) = kept_item (IsNextV
 
 base_unrefused : (s : Setting) (entries : List BaseEntry) (file : List ℕ) → AreBase entries file → IsBase s entries → (at : ℕ) → IsBaseRefused s file at → ⊥
 base_unrefused s entries file are h =
-    unrefused base_kind base_bytes IsBaseEntry one_base base_in (IsNextBase s) (BaseBreaks s) (λ es. ¬ (IsWhole es)) base_reads (base_keeps s) entries file are h.each (λ broken. broken h.whole)
+    unrefused base_kind base_bytes IsBaseEntry one_base base_behind (IsNextBase s) (BaseBreaks s) (λ es. ¬ (IsWhole es)) base_stands (base_keeps s) entries file are h.each (λ broken. broken h.whole)
 
 commit_reads : (e : Commit) → IsCommit e → commit_in (commit_bytes e) ≡ Ok e
 commit_reads e is = entry_again 2 commit_at _ IsCommit commit_agrees (commit_bytes e) e (omega arith) is refl
@@ -155,7 +159,7 @@ commit_keeps s base before e at next (bad_done {at = place} item) = kept_item (I
 
 commits_unrefused : (s : Setting) (base : List BaseEntry) (commits : List Commit) (file : List ℕ) → HoldsCommits s base commits file → (at : ℕ) → AreCommitsRefused s base file at → ⊥
 commits_unrefused s base commits file h =
-    unrefused commits_kind commit_bytes IsCommit one_commit commit_in (IsNextCommit s base) (CommitBreaks s base) (λ _. ⊥) commit_reads (commit_keeps s base) commits file h.are h.each (λ never. never)
+    unrefused commits_kind commit_bytes IsCommit one_commit (λ _. commit_in) (IsNextCommit s base) (CommitBreaks s base) (λ _. ⊥) (λ _. commit_reads) (commit_keeps s base) commits file h.are h.each (λ never. never)
 
 prepared_reads : (e : Prepared) → IsPrepared e → prepared_in (prepared_bytes e) ≡ Ok e
 prepared_reads e is = entry_again 3 prepared_at _ IsPrepared prepared_agrees (prepared_bytes e) e (omega arith) is refl
@@ -167,7 +171,7 @@ prepared_keeps s n before e at next (bad_row item) =
 
 node_unrefused : (s : Setting) (commits : List Commit) (n : ℕ) (entries : List Prepared) (file : List ℕ) → HoldsNode s commits n entries file → (at : ℕ) → IsNodeRefused s commits n file at → ⊥
 node_unrefused s commits n entries file h =
-    unrefused prepared_kind prepared_bytes IsPrepared one_prepared prepared_in (IsNextPrepared s n) (PreparedBreaks s n) (λ es. ¬ (HavePrepared es commits)) prepared_reads (prepared_keeps s n)
+    unrefused prepared_kind prepared_bytes IsPrepared one_prepared (λ _. prepared_in) (IsNextPrepared s n) (PreparedBreaks s n) (λ es. ¬ (HavePrepared es commits)) (λ _. prepared_reads) (prepared_keeps s n)
     entries file h.are h.each (λ broken. broken h.committed)
 
 -- ---- what holds of a file isn't refused in it

@@ -1,11 +1,13 @@
 -- Which of a store's files is refused first, and at which of its bytes.
-use Rattle.std.specs.Prelude.{◌≡◌, ℕ, ◌+◌, ◌*◌, ◌<◌, ◌≤◌, List, [], ◌∷◌, ◌++◌, length, map, Option, Some, None, Result, Ok, Err, slice_index, ◌==◌, if◌then◌else◌}
+use Rattle.std.specs.Prelude.{◌≡◌, ℕ, ◌+◌, ◌*◌, ◌<◌, ◌≤◌, Bool, ◌||◌, ◌&&◌, List, [], ◌∷◌, ◌++◌, length, map, Option, Some, None, Result, Ok, Err, slice_index, ◌==◌, if◌then◌else◌}
 use Rattle.std.specs.List.{All, AllByRecursion, flat_map}
 use Rattle.coco_types.specs.Limits.{epochs_end, most_nodes, most_partitions}
 use Rattle.coco_host.specs.Files.{Files}
 use Rattle.coco_ast.specs.Tree.{Procedures}
 use Rattle.coco_bytes.specs.declared.fault.FieldFault.{FieldFault}
+use Rattle.coco_bytes.specs.declared.fault.FieldFault.TheVariants.{Bad}
 use Rattle.coco_bytes.specs.Lists.{last_item}
+use Rattle.coco_entry.specs.declared.base.TheConstants.{MOST_ITEMS}
 use Rattle.coco_entry.specs.declared.commit.Commit.{Commit}
 use Rattle.coco_entry.specs.declared.layout.LayoutEntry.{LayoutEntry}
 use Rattle.coco_entry.specs.declared.prepared.Prepared.{Prepared}
@@ -36,9 +38,9 @@ abbrev pub gate_behind : {E : Type 0} → ℕ → (E → List ℕ) → List E �
 gate_behind kind bytes_of entries = length (front kind (map bytes_of entries))
 
 -- a file is refused at a place: it is no log, a body is no entry, an entry breaks a rule at a place of its body, or at the last gate something lacks
-pub data IsRefusedAt {E : Type 0} (kind : ℕ) (bytes_of : E → List ℕ) (Is : E → Type 0) (read : List ℕ → Result E FieldFault) (Breaks : List E → E → ℕ → Type 0) (Lacks : List E → Type 0) (file : List ℕ) : ℕ → Type 0 where
+pub data IsRefusedAt {E : Type 0} (kind : ℕ) (bytes_of : E → List ℕ) (Is : E → Type 0) (read : List E → List ℕ → Result E FieldFault) (Breaks : List E → E → ℕ → Type 0) (Lacks : List E → Type 0) (file : List ℕ) : ℕ → Type 0 where
   no_log : {at : ℕ} → FitsNoLog kind file at → IsRefusedAt kind bytes_of Is read Breaks Lacks file at
-  no_entry : {entries : List E} {body : List ℕ} {at : ℕ} → GoesOnWith kind bytes_of Is entries body file → IsFaultAt at (read body)
+  no_entry : {entries : List E} {body : List ℕ} {at : ℕ} → GoesOnWith kind bytes_of Is entries body file → IsFaultAt at (read entries body)
       → IsRefusedAt kind bytes_of Is read Breaks Lacks file (gate_behind kind bytes_of entries + (5 + at))
   breaks : {entries : List E} {e : E} {at : ℕ} → GoesOnWith kind bytes_of Is entries (bytes_of e) file → Is e → Breaks entries e at
       → IsRefusedAt kind bytes_of Is read Breaks Lacks file (gate_behind kind bytes_of entries + (5 + at))
@@ -94,17 +96,33 @@ mapped f (Err fault) = Err fault
 abbrev pub base_in : List ℕ → Result BaseEntry FieldFault
 base_in body = if slice_index body 0 == 5 then mapped Dones (base_dones_in body) else (if slice_index body 0 == 6 then mapped Values (base_rows_in body) else mapped Head (head_in body))
 
+-- whether an entry of this tag may stand behind this one: the head comes first and once, then Dones, then rows, and each list but the last of its sort is full
+abbrev pub may_stand : Option BaseEntry → ℕ → Bool
+may_stand None tag = tag == 4
+may_stand (Some (Head head)) tag = tag == 5 || tag == 6
+may_stand (Some (Dones dones)) tag = tag == 6 || (tag == 5 && length dones == MOST_ITEMS)
+may_stand (Some (Values rows)) tag = tag == 6 && length rows == MOST_ITEMS
+
+-- a body that is no entry is bad at its tag where its tag may not stand there
+abbrev pub at_tag : Result BaseEntry FieldFault → Bool → Result BaseEntry FieldFault
+at_tag (Ok e) may = Ok e
+at_tag (Err fault) may = if may then Err fault else Err (Bad 0)
+
+-- a body of a base file behind these entries
+abbrev pub base_behind : List BaseEntry → List ℕ → Result BaseEntry FieldFault
+base_behind before body = at_tag (base_in body) (may_stand (last_item before) (slice_index body 0))
+
 abbrev pub AreLayoutsRefused : List ℕ → ℕ → Type 0
-AreLayoutsRefused = IsRefusedAt layouts_kind layout_bytes IsLayout layout_in (λ before e. LayoutBreaks e) (λ entries. entries ≡ [])
+AreLayoutsRefused = IsRefusedAt layouts_kind layout_bytes IsLayout (λ before. layout_in) (λ before e. LayoutBreaks e) (λ entries. entries ≡ [])
 
 abbrev pub IsBaseRefused : Setting → List ℕ → ℕ → Type 0
-IsBaseRefused s = IsRefusedAt base_kind base_bytes IsBaseEntry base_in (BaseBreaks s) (λ entries. ¬ (IsWhole entries))
+IsBaseRefused s = IsRefusedAt base_kind base_bytes IsBaseEntry base_behind (BaseBreaks s) (λ entries. ¬ (IsWhole entries))
 
 abbrev pub AreCommitsRefused : Setting → List BaseEntry → List ℕ → ℕ → Type 0
-AreCommitsRefused s base = IsRefusedAt commits_kind commit_bytes IsCommit commit_in (CommitBreaks s base) (λ entries. ⊥)
+AreCommitsRefused s base = IsRefusedAt commits_kind commit_bytes IsCommit (λ before. commit_in) (CommitBreaks s base) (λ entries. ⊥)
 
 abbrev pub IsNodeRefused : Setting → List Commit → ℕ → List ℕ → ℕ → Type 0
-IsNodeRefused s commits n = IsRefusedAt prepared_kind prepared_bytes IsPrepared prepared_in (PreparedBreaks s n) (λ entries. ¬ (HavePrepared entries commits))
+IsNodeRefused s commits n = IsRefusedAt prepared_kind prepared_bytes IsPrepared (λ before. prepared_in) (PreparedBreaks s n) (λ entries. ¬ (HavePrepared entries commits))
 
 -- the least of these places
 pub record IsFirst (Refused : ℕ → Type 0) (at : ℕ) : Type 0 where

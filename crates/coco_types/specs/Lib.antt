@@ -2,6 +2,7 @@ pub mod Arguments
 pub mod Codes
 pub mod KeptReplies
 pub mod Limits
+pub mod Messages
 pub mod Packing
 pub mod Padded
 pub mod RowKey
