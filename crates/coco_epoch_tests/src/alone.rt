@@ -72,6 +72,7 @@ const CASES: [Case<'static>; 4] = [
 const ALONE: EpochConfig = EpochConfig {
     epoch: 1,
     workers: 1,
+    started: 1,
     attempts: 3,
     nodes: 1,
     copies: 0,

@@ -8,13 +8,15 @@ ghost use Rattle.coco_parallel.specs.Desks.{HasRoom};
 use crate::made::{Line, PUT, Work, answers, are_pieces, tables, three_shards, work_of};
 use coco_ast::Checked;
 use coco_copy::CopyTable;
-use coco_gate::OpenGate;
+use coco_gate::{Gate, HoldGate, OpenGate};
 use coco_journaled::Journal;
 use coco_net::{Lose, Net, QuietNet, ScriptNet};
+use coco_occ::{Transcript, Tried};
 use coco_parallel::epoch::{EpochDone, run_epoch};
 use coco_parallel::locks::{EndedLocks, close_all, start_all};
 use coco_parallel::rooms::Rooms;
 use coco_parallel::rows::turn;
+use coco_parallel::trace::Trace;
 use coco_shard::Shard;
 use coco_types::limits::MOST_BATCH_LINES;
 use coco_types::{Done, Key, NoMemory, Request, Value};
@@ -27,6 +29,16 @@ use std::thread::Threads;
 const KEY: Key = Key { table: 0, row: 4 };
 
 const FIVE: Key = Key { table: 0, row: 5 };
+
+// Two workers on three nodes with two copies, who try each request once.
+const ONE_ATTEMPT: EpochConfig = EpochConfig {
+    epoch: 7,
+    workers: 2,
+    started: 2,
+    attempts: 1,
+    nodes: 3,
+    copies: 2,
+};
 
 // A shard with this value.
 fn shard_with(alloc: Global, value: i64) -> Result<Shard, NoMemory> {
@@ -50,6 +62,21 @@ fn puts(alloc: Global) -> Result<Work, Fail>
     work_of(alloc, &lines)
 }
 
+// Puts of four numbers into row 5.
+fn puts_into_one_row(alloc: Global) -> Result<Work, Fail>
+    ensures few { IfOk result (λ work. length work.requests.items ≤ MOST_BATCH_LINES) }
+    ensures distinct { IfOk result (λ work. IsDistinct nat_eq (map (λ r. r.id) work.requests.items)) }
+    ensures fit { IfOk result (λ work. FitAll work.procs work.requests.items) }
+{
+    let lines: [(u64, Line<'_>); 4] = [
+        (9, (1, &[5, 40], false)),
+        (8, (1, &[5, 50], false)),
+        (3, (1, &[5, 60], false)),
+        (2, (1, &[5, 70], false)),
+    ];
+    work_of(alloc, &lines)
+}
+
 // A put of 70 into row 5.
 fn one_put(alloc: Global) -> Result<Work, Fail>
     ensures few { IfOk result (λ work. length work.requests.items ≤ MOST_BATCH_LINES) }
@@ -59,53 +86,67 @@ fn one_put(alloc: Global) -> Result<Work, Fail>
     work_of(alloc, &[(1, PUT)])
 }
 
-// The requests, run in an epoch by so many workers on three nodes with two copies, over this net
-// and in these rooms.
-fn ran<R: Threads + Wait + Sync, N: Net + Sync>(
+// An epoch of this number on three nodes with two copies, of whose workers so many are started.
+fn config_of(epoch: u64, workers: u8, started: u8) -> EpochConfig
+    ensures { result ≡ record { epoch = epoch; workers = workers; started = started; attempts = 3; nodes = 3; copies = 2 } }
+{
+    EpochConfig {
+        epoch,
+        workers,
+        started,
+        attempts: 3,
+        nodes: 3,
+        copies: 2,
+    }
+}
+
+// The requests, run so through this gate, over this net and in these rooms.
+fn ran<R: Threads + Wait + Sync, G: Gate + Sync, N: Net + Sync>(
     rt: &R,
     alloc: Global,
     procs: &Checked,
     requests: &mut [Request],
-    epoch: u64,
-    workers: u8,
+    config: EpochConfig,
+    gate: &G,
     net: &N,
     rooms: &mut Rooms,
 ) -> Result<EpochDone, NoMemory>
-    requires workers { 0 < workers }
+    requires started { 0 < config.started }
+    requires allowed { config.started ≤ config.workers }
+    requires attempts { 0 < config.attempts }
+    requires nodes { 0 < config.nodes }
+    requires copies { config.copies ≡ 2 }
     requires few { length requests.old ≤ MOST_BATCH_LINES }
     requires fit { FitAll procs.now requests.old }
     requires distinct { IsDistinct nat_eq (map (λ r. r.id) requests.old) }
 {
     let shards = three_shards(alloc)?;
     let tables = tables(alloc)?;
-    let config = EpochConfig {
-        epoch,
-        workers,
-        attempts: 3,
-        nodes: 3,
-        copies: 2,
-    };
     match run_epoch(
-        rt, alloc, shards, tables, procs, requests, config, &OpenGate, net, rooms,
+        rt, alloc, shards, tables, procs, requests, config, gate, net, rooms,
     ) {
         Ok(done) => Ok(done),
         Err(_) => Err(NoMemory),
     }
 }
 
-// The puts, run by so many workers in these rooms.
-fn ran_puts<R: Threads + Wait + Sync>(
+// The puts, run by so many workers, of whom so many are started, through this gate and in these rooms.
+fn ran_puts<R: Threads + Wait + Sync, G: Gate + Sync>(
     rt: &R,
     alloc: Global,
     workers: u8,
+    started: u8,
+    gate: &G,
     rooms: &mut Rooms,
 ) -> Result<EpochDone, Fail>
-    requires { 0 < workers }
+    requires some { 0 < started }
+    requires allowed { started ≤ workers }
 {
     let mut work = puts(alloc)?;
     let net = QuietNet::new(alloc);
     let requests = work.requests.as_mut_slice();
-    let epoch = ran(rt, alloc, &work.procs, requests, 7, workers, &net, rooms)?;
+    let config = config_of(7, workers, started);
+    let epoch = ran(rt, alloc, &work.procs, requests, config, gate, &net, rooms)?;
     Ok(epoch)
 }
 
@@ -118,7 +159,17 @@ fn ran_one_put<R: Threads + Wait + Sync, N: Net + Sync>(
     let mut work = one_put(alloc)?;
     let mut rooms = Rooms::new(alloc);
     let requests = work.requests.as_mut_slice();
-    let epoch = ran(rt, alloc, &work.procs, requests, 1, 1, net, &mut rooms)?;
+    let config = config_of(1, 1, 1);
+    let epoch = ran(
+        rt,
+        alloc,
+        &work.procs,
+        requests,
+        config,
+        &OpenGate,
+        net,
+        &mut rooms,
+    )?;
     Ok(epoch)
 }
 
@@ -246,40 +297,136 @@ fn shards_come_back_from_their_locks_in_order(rt: HostRuntime) -> Result<(), Fai
     Ok(())
 }
 
-// Whether the puts stand that so many workers run in new rooms.
-fn stand_by<R: Threads + Wait + Sync>(rt: &R, alloc: Global, workers: u8) -> Result<bool, Fail>
-    requires { 0 < workers }
+// Whether the puts stand that so many of these workers run in new rooms, and the others leave nothing.
+fn stand_by<R: Threads + Wait + Sync>(
+    rt: &R,
+    alloc: Global,
+    workers: u8,
+    started: u8,
+) -> Result<bool, Fail>
+    requires some { 0 < started }
+    requires allowed { started ≤ workers }
 {
-    let epoch = ran_puts(rt, alloc, workers, &mut Rooms::new(alloc))?;
-    Ok(stands(&epoch) && epoch.transcripts.len() == usize::from(workers))
+    let mut rooms = Rooms::new(alloc);
+    let epoch = ran_puts(rt, alloc, workers, started, &OpenGate, &mut rooms)?;
+    let transcripts = epoch.trace.transcripts.as_slice();
+    Ok(
+        stands(&epoch)
+            && epoch.trace.tail.is_empty()
+            && transcripts.len() == usize::from(workers)
+            && transcripts
+                .iter()
+                .skip(usize::from(started))
+                .all(|transcript| transcript.is_empty()),
+    )
 }
 
 #[test]
 fn workers_commit_puts_into_four_rows_at_time_1(rt: HostRuntime) -> Result<(), Fail> {
-    let alone = stand_by(&rt, rt.alloc(), 1)?;
-    let both = stand_by(&rt, rt.alloc(), 2)?;
-    assert!(rt; alone && both);
+    let alone = stand_by(&rt, rt.alloc(), 1, 1)?;
+    let both = stand_by(&rt, rt.alloc(), 2, 2)?;
+    let one_of_four = stand_by(&rt, rt.alloc(), 4, 1)?;
+    assert!(rt; alone && both && one_of_four);
     Ok(())
 }
 
 fn keep(rooms: &mut Rooms, epoch: EpochDone) {
-    rooms.keep(epoch.journals, epoch.copy_journals, epoch.transcripts);
+    rooms.keep(epoch.trace, epoch.copy_journals);
 }
 
-// Whether the puts stand a second time, which has taken the rooms that the first left.
-fn stand_again<R: Threads + Wait + Sync>(rt: &R, alloc: Global) -> Result<bool, Fail> {
-    let mut rooms = Rooms::new(alloc);
-    let first = ran_puts(rt, alloc, 2, &mut rooms)?;
-    keep(&mut rooms, first);
-    let left = rooms.of_locks();
-    let second = ran_puts(rt, alloc, 2, &mut rooms)?;
-    Ok(left == (3, 6) && stands(&second) && rooms.of_locks() == (0, 0))
+// Whether the puts stand by two workers in these rooms, who met at their first attempts.
+fn meet<R: Threads + Wait + Sync>(rt: &R, alloc: Global, rooms: &mut Rooms) -> Result<bool, Fail> {
+    let gate = HoldGate::new(10_000_000);
+    let epoch = ran_puts(rt, alloc, 2, 2, &gate, rooms)?;
+    let is_well = stands(&epoch) && gate.met();
+    keep(rooms, epoch);
+    Ok(is_well)
+}
+
+// Whether they stand by one of two.
+fn goes_alone<R: Threads + Wait + Sync>(
+    rt: &R,
+    alloc: Global,
+    rooms: &mut Rooms,
+) -> Result<bool, Fail> {
+    let epoch = ran_puts(rt, alloc, 2, 1, &OpenGate, rooms)?;
+    let is_well = stands(&epoch);
+    keep(rooms, epoch);
+    Ok(is_well)
 }
 
 #[test]
-fn an_epoch_in_the_rooms_of_another_comes_to_the_same(rt: HostRuntime) -> Result<(), Fail> {
-    let is_well = stand_again(&rt, rt.alloc())?;
-    assert!(rt; is_well);
+fn workers_meet_in_each_epoch_whoever_left_the_rooms(rt: HostRuntime) -> Result<(), Fail> {
+    let alloc = rt.alloc();
+    let mut rooms = Rooms::new(alloc);
+    let first = meet(&rt, alloc, &mut rooms)?;
+    let left = rooms.of_locks();
+    let second = meet(&rt, alloc, &mut rooms)?;
+    let third = meet(&rt, alloc, &mut rooms)?;
+    let alone = goes_alone(&rt, alloc, &mut rooms)?;
+    let last = meet(&rt, alloc, &mut rooms)?;
+    assert!(rt; first && second && third && alone && last);
+    assert!(rt; left == (3, 6) && rooms.of_locks() == left);
+    Ok(())
+}
+
+// Whether a script of this place committed.
+fn is_committed(transcripts: &[Transcript], place: u32) -> bool {
+    transcripts
+        .iter()
+        .any(|transcript| has_commit(transcript.as_slice(), place))
+}
+
+fn has_commit(scripts: &[Tried], place: u32) -> bool {
+    scripts.iter().any(|tried| tried.place == place && tried.outcome.commit().is_some())
+}
+
+// Whether the tail has, of four puts, those that no script committed, in order, each with the end of its one attempt.
+fn tells_tail(trace: &Trace) -> bool {
+    let mut entries = trace.tail.as_slice().iter();
+    for (place, id) in [(0, 9), (1, 8), (2, 3), (3, 2)] {
+        if !is_committed(trace.transcripts.as_slice(), place) {
+            match entries.next() {
+                Some(entry) if entry.id == id && entry.ends.len() == 1 => {}
+                _ => return false,
+            }
+        }
+    }
+    entries.next().is_none()
+}
+
+// Whether two workers who try each of the puts into one row once, and meet, tell their tail, whatever it has.
+fn is_tail_told<R: Threads + Wait + Sync>(
+    rt: &R,
+    alloc: Global,
+    rooms: &mut Rooms,
+) -> Result<bool, Fail> {
+    let mut work = puts_into_one_row(alloc)?;
+    let requests = work.requests.as_mut_slice();
+    let gate = HoldGate::new(10_000_000);
+    let net = QuietNet::new(alloc);
+    let epoch = ran(
+        rt,
+        alloc,
+        &work.procs,
+        requests,
+        ONE_ATTEMPT,
+        &gate,
+        &net,
+        rooms,
+    )?;
+    let is_well = epoch.dones.len() == 4 && tells_tail(&epoch.trace);
+    keep(rooms, epoch);
+    Ok(is_well)
+}
+
+#[test]
+fn requests_that_no_attempt_committed_are_the_tail(rt: HostRuntime) -> Result<(), Fail> {
+    let mut rooms = Rooms::new(rt.alloc());
+    for _ in 0..20u8 {
+        let is_well = is_tail_told(&rt, rt.alloc(), &mut rooms)?;
+        assert!(rt; is_well);
+    }
     Ok(())
 }
 

@@ -24,6 +24,7 @@ use std::test::Fail;
 const EPOCH: EpochConfig = EpochConfig {
     epoch: 7,
     workers: 1,
+    started: 1,
     attempts: 1,
     nodes: 3,
     copies: 2,

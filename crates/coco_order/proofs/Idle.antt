@@ -1,55 +1,48 @@
--- Workers may be idle: what some did is an execution of more, of whom the others did nothing.
-use Rattle.std.proofs.Common.{◌≡◌, ℕ, zero, suc, ◌+◌, ◌-◌, ◌<◌, ◌≤◌, nat_eq, nat_le, Bool, true, false, ◌&&◌, cond, List, [], ◌∷◌, ◌++◌, map, length, slice_index_or, refl, sym, ap, ◌∙◌, subst, arith}
+-- Workers may be idle: the lists of some, with empty transcripts of others behind them, are an execution of all.
+use Rattle.std.proofs.Common.{◌≡◌, ℕ, zero, suc, ◌+◌, ◌<◌, ◌≤◌, nat_eq, nat_le, Bool, true, false, ◌&&◌, cond, List, [], ◌∷◌, ◌++◌, map, length, replicate, slice_index_or, refl, sym, ap, ◌∙◌, subst, arith}
 use Rattle.std.specs.List.{AllByRecursion, filter_map, list_any}
 use Rattle.std.specs.List.Sorted.{IsPermutation}
 use Rattle.std.proofs.lemmas.Bool.{leb-false, leb-true}
+use Rattle.std.proofs.lemmas.List.{length-replicate}
 use Rattle.coco_types.specs.declared.call.Done.{Done}
 use Rattle.coco_types.specs.declared.call.Request.{Request}
 use Rattle.coco_ast.proofs.Lists.{all_weaker}
 use Rattle.coco_occ.specs.declared.outcome.Tried.{Tried}
-use Rattle.coco_order.specs.Execution.{AreOf, AreTries, AreWorkedOff, Beginning, Execution, IsExecution, IsTried, Transcript, Tries, all_at_shard, concat, concat_tries, how_many_at, journal_of, of_pass, transcript_of}
-use Rattle.coco_order.specs.Laws.{WorkersMayBeIdle}
+use Rattle.coco_order.specs.Execution.{AreOf, AreTries, AreWorkedOff, Beginning, Execution, InEachExecution, IsExecution, IsTried, Transcript, Tries, all_at_shard, concat, concat_tries, how_many_at, journal_of, of_pass, transcript_of}
+use Rattle.coco_order.specs.Laws.{IdleWorkersFit, wider, with_idle}
 use Rattle.coco_order.specs.Outcome.{IsOutcome, commit_of, commits, is_commit, tail_dones, tail_requests, uncommitted}
 use Rattle.coco_order.proofs.Passes.{all_append, no_pass}
 
 -- ---- lists with nothing behind them
 
-abbrev nothings : {X : Type 0} → ℕ → List (List X)
-nothings zero = []
-nothings (suc n) = [] ∷ nothings n
+pub count_more : {X : Type 0} (xss : List (List X)) (n : ℕ) → length (xss ++ replicate n []) ≡ length xss + n
+count_more {X = X} [] n = let e : length (replicate {A = List X} n []) ≡ n = length-replicate n [] in omega arith
+count_more (xs ∷ xss) n = let e : length (xss ++ replicate n []) ≡ length xss + n = count_more xss n in omega arith
 
-count_nothings : (X : Type 0) (n : ℕ) → length (nothings {X = X} n) ≡ n
-count_nothings X zero = refl
-count_nothings X (suc n) = ap suc (count_nothings X n)
-
-count_more : {X : Type 0} (xss : List (List X)) (n : ℕ) → length (xss ++ nothings n) ≡ length xss + n
-count_more {X = X} [] n = let e : length (nothings {X = X} n) ≡ n = count_nothings X n in omega arith
-count_more (xs ∷ xss) n = let e : length (xss ++ nothings n) ≡ length xss + n = count_more xss n in omega arith
-
-concat_more : {X : Type 0} (xss : List (List X)) (n : ℕ) → concat (xss ++ nothings n) ≡ concat xss
+pub concat_more : {X : Type 0} (xss : List (List X)) (n : ℕ) → concat (xss ++ replicate n []) ≡ concat xss
 concat_more [] zero = refl
 concat_more [] (suc n) = concat_more [] n
 concat_more (xs ∷ xss) n = ap (λ ys. xs ++ ys) (concat_more xss n)
 
-front_stays : {X : Type 0} (xss : List (List X)) (n k : ℕ) → k < length xss → slice_index_or (xss ++ nothings n) k [] ≡ slice_index_or xss k []
+pub front_stays : {X : Type 0} (xss : List (List X)) (n k : ℕ) → k < length xss → slice_index_or (xss ++ replicate n []) k [] ≡ slice_index_or xss k []
 front_stays [] n k lt = absurd (omega (arith, lt))
 front_stays (xs ∷ xss) n zero lt = refl
 front_stays (xs ∷ xss) n (suc k) lt = front_stays xss n k (omega (arith, lt))
 
-nothing_behind : {X : Type 0} (xss : List (List X)) (n k : ℕ) → length xss ≤ k → slice_index_or (xss ++ nothings n) k [] ≡ []
+pub nothing_behind : {X : Type 0} (xss : List (List X)) (n k : ℕ) → length xss ≤ k → slice_index_or (xss ++ replicate n []) k [] ≡ []
 nothing_behind [] zero k le = refl
 nothing_behind [] (suc n) zero le = refl
 nothing_behind [] (suc n) (suc k) le = nothing_behind [] n k (omega (arith, le))
 nothing_behind (xs ∷ xss) n zero le = absurd (omega (arith, le))
 nothing_behind (xs ∷ xss) n (suc k) le = nothing_behind xss n k (omega (arith, le))
 
-all_nothings : {X : Type 0} (P : List X → Type 0) → P [] → (n : ℕ) → AllByRecursion P (nothings n)
+all_nothings : {X : Type 0} (P : List X → Type 0) → P [] → (n : ℕ) → AllByRecursion P (replicate n [])
 all_nothings P p zero = tt
 all_nothings P p (suc n) = (p, all_nothings P p n)
 
 -- ---- tries
 
-no_tries : (rss : List (List Tries)) (n : ℕ) → map concat_tries rss ++ nothings n ≡ map concat_tries (rss ++ nothings n)
+no_tries : (rss : List (List Tries)) (n : ℕ) → map concat_tries rss ++ replicate n [] ≡ map concat_tries (rss ++ replicate n [])
 no_tries [] zero = refl
 no_tries [] (suc n) = ap (λ (ts : List Transcript). [] ∷ ts) (no_tries [] n)
 no_tries (rs ∷ rss) n = ap (λ (ts : List Transcript). concat_tries rs ∷ ts) (no_tries rss n)
@@ -63,27 +56,27 @@ same_left x y same place (r ∷ rs) =
 
 -- ---- more workers
 
-module _ (b : Beginning) (x : Execution) (is : IsExecution b x) (workers : ℕ) (more : b.workers ≤ workers) where
-  abbrev wider : Beginning
-  wider = record b { workers = workers }
+module _ (b : Beginning) (x : Execution) (is : IsExecution b x) (idle : ℕ) where
+  abbrev c : Beginning
+  c = wider b idle
 
-  abbrev with_idle : Execution
-  with_idle = record x { transcripts = x.transcripts ++ nothings (workers - b.workers) }
+  abbrev y : Execution
+  y = with_idle x idle
 
   -- a worker is one of those who ran, or did nothing
   by_worker : (P : ℕ → Transcript → Type 0) → ((worker : ℕ) → worker < b.workers → P worker (transcript_of x worker)) → ((worker : ℕ) → b.workers ≤ worker → P worker [])
-      → (worker : ℕ) → P worker (transcript_of with_idle worker)
-  by_worker P ran idle worker = choose (nat_le b.workers worker) refl
+      → (worker : ℕ) → P worker (transcript_of y worker)
+  by_worker P ran rest worker = choose (nat_le b.workers worker) refl
     where
-      choose : (t : Bool) → nat_le b.workers worker ≡ t → P worker (transcript_of with_idle worker)
+      choose : (t : Bool) → nat_le b.workers worker ≡ t → P worker (transcript_of y worker)
       choose true t =
           let le : b.workers ≤ worker = leb-true b.workers worker t in
-          subst (P worker) (sym (nothing_behind x.transcripts (workers - b.workers) worker (let e : length x.transcripts ≡ b.workers = is.workers in omega arith))) (idle worker le)
+          subst (P worker) (sym (nothing_behind x.transcripts idle worker (let e : length x.transcripts ≡ b.workers = is.workers in omega arith))) (rest worker le)
       choose false f =
           let lt : worker < b.workers = leb-false b.workers worker f in
-          subst (P worker) (sym (front_stays x.transcripts (workers - b.workers) worker (let e : length x.transcripts ≡ b.workers = is.workers in omega arith))) (ran worker lt)
+          subst (P worker) (sym (front_stays x.transcripts idle worker (let e : length x.transcripts ≡ b.workers = is.workers in omega arith))) (ran worker lt)
 
-  tried_still : (t : Tried) → IsTried b t → IsTried wider t
+  tried_still : (t : Tried) → IsTried b t → IsTried c t
   tried_still t at = record {
     request = at.request;
     writes = at.writes;
@@ -91,36 +84,36 @@ module _ (b : Beginning) (x : Execution) (is : IsExecution b x) (workers : ℕ) 
     script = at.script;
   }
 
-  worked_still : AreWorkedOff wider with_idle.transcripts
+  worked_still : AreWorkedOff c y.transcripts
   worked_still =
       let off = is.worked_off in
-      let n : ℕ = workers - b.workers in
+      let n : ℕ = idle in
       record {
-        tries = off.tries ++ nothings n;
-        transcripts_are = ap (λ (ts : List Transcript). ts ++ nothings n) off.transcripts_are ∙ no_tries off.tries n;
-        each = all_append (AllByRecursion (AreTries b.attempts)) off.tries (nothings n) off.each (all_nothings (AllByRecursion (AreTries b.attempts)) tt n);
+        tries = off.tries ++ replicate n [];
+        transcripts_are = ap (λ (ts : List Transcript). ts ++ replicate n []) off.transcripts_are ∙ no_tries off.tries n;
+        each = all_append (AllByRecursion (AreTries b.attempts)) off.tries (replicate n []) off.each (all_nothings (AllByRecursion (AreTries b.attempts)) tt n);
         once = λ place lt. ap (how_many_at place) (concat_more off.tries n) ∙ off.once place lt;
       }
 
-  wider_is : IsExecution wider with_idle
+  wider_is : IsExecution c y
   wider_is = record {
     some_partitions = is.some_partitions;
     fitting = is.fitting;
     shards = is.shards;
-    workers = count_more x.transcripts (workers - b.workers) ∙ (let e : length x.transcripts ≡ b.workers = is.workers in omega arith);
+    workers = count_more x.transcripts idle ∙ (let e : length x.transcripts ≡ b.workers = is.workers in omega arith);
     lawful = is.lawful;
-    scripts = λ worker lt. by_worker (λ _ ts. AllByRecursion (IsTried wider) ts) (λ w small. all_weaker (IsTried b) (IsTried wider) tried_still (transcript_of x w) (is.scripts w small)) (λ w le. tt) worker;
+    scripts = λ worker lt. by_worker (λ _ ts. AllByRecursion (IsTried c) ts) (λ w small. all_weaker (IsTried b) (IsTried c) tried_still (transcript_of x w) (is.scripts w small)) (λ w le. tt) worker;
     attempts = λ worker lt. by_worker (λ w ts. AreOf w ts) is.attempts (λ w le. record { by_worker = tt; rising = tt }) worker;
     passes = λ shard worker small lt. by_worker (λ w ts. of_pass w (journal_of x shard) ≡ all_at_shard shard ts) (λ w ran. is.passes shard w small ran)
         (λ w le. no_pass b.workers w (journal_of x shard) (is.no_other_pass shard small) le) worker;
-    no_other_pass = λ shard small. all_weaker (λ e. e.pass < b.workers) (λ e. e.pass < workers) (λ e lt. omega arith) (journal_of x shard) (is.no_other_pass shard small);
+    no_other_pass = λ shard small. all_weaker (λ e. e.pass < b.workers) (λ e. e.pass < b.workers + idle) (λ e lt. omega arith) (journal_of x shard) (is.no_other_pass shard small);
     worked_off = worked_still;
   }
 
-  same_concat : concat with_idle.transcripts ≡ concat x.transcripts
-  same_concat = concat_more x.transcripts (workers - b.workers)
+  same_concat : concat y.transcripts ≡ concat x.transcripts
+  same_concat = concat_more x.transcripts idle
 
-  wider_outcome : (epoch : ℕ) (dones : List Done) → IsOutcome b epoch x dones → IsOutcome wider epoch with_idle dones
+  wider_outcome : (epoch : ℕ) (dones : List Done) → IsOutcome b epoch x dones → IsOutcome c epoch y dones
   wider_outcome epoch dones out = record {
     rows = out.rows;
     most = out.most;
@@ -130,14 +123,10 @@ module _ (b : Beginning) (x : Execution) (is : IsExecution b x) (workers : ℕ) 
     order = out.order;
   }
     where
-      all_same : commits wider epoch with_idle ++ tail_dones b.procs epoch out.rows out.most (tail_requests wider with_idle) ≡ commits b epoch x ++ tail_dones b.procs epoch out.rows out.most (tail_requests b x)
+      all_same : commits c epoch y ++ tail_dones b.procs epoch out.rows out.most (tail_requests c y) ≡ commits b epoch x ++ tail_dones b.procs epoch out.rows out.most (tail_requests b x)
       all_same =
-          ap (λ (ts : List Tried). filter_map (commit_of b epoch) ts ++ tail_dones b.procs epoch out.rows out.most (tail_requests wider with_idle)) same_concat
-          ∙ ap (λ (rs : List Request). commits b epoch x ++ tail_dones b.procs epoch out.rows out.most rs) (same_left with_idle x same_concat 0 b.requests)
+          ap (λ (ts : List Tried). filter_map (commit_of b epoch) ts ++ tail_dones b.procs epoch out.rows out.most (tail_requests c y)) same_concat
+          ∙ ap (λ (rs : List Request). commits b epoch x ++ tail_dones b.procs epoch out.rows out.most rs) (same_left y x same_concat 0 b.requests)
 
-pub workers_may_be_idle : WorkersMayBeIdle
-workers_may_be_idle b epoch dones come workers more = record {
-  execution = with_idle b come.execution come.is workers more;
-  is = wider_is b come.execution come.is workers more;
-  outcome = wider_outcome b come.execution come.is workers more epoch dones come.outcome;
-}
+pub idle_workers_fit : InEachExecution IdleWorkersFit
+idle_workers_fit b x is = record { execution = wider_is b x is; outcome = wider_outcome b x is }

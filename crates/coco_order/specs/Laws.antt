@@ -1,5 +1,5 @@
 -- What holds of every execution.
-use Rattle.std.specs.Prelude.{◌≡◌, ℕ, suc, ◌+◌, ◌*◌, ◌<◌, ◌≤◌, List, ◌∷◌, ◌++◌, length, map, nat_eq, Option, Some}
+use Rattle.std.specs.Prelude.{◌≡◌, ℕ, suc, ◌+◌, ◌*◌, ◌<◌, ◌≤◌, List, [], ◌∷◌, ◌++◌, length, map, replicate, nat_eq, Option, Some}
 use Rattle.std.specs.List.{IsDistinct, slice_get}
 use Rattle.coco_types.specs.RowKey.{RowKey}
 use Rattle.coco_types.specs.declared.value.Value.{Value}
@@ -22,7 +22,7 @@ use Rattle.coco_journaled.specs.Replay.{Replays}
 use Rattle.coco_order.specs.OneKey.{Among, on, Installs, IsMine}
 use Rattle.coco_occ.specs.declared.outcome.Tried.{Tried}
 use Rattle.coco_order.specs.Execution.{Beginning, Execution, Journal, IsExecution, InEachExecution, journal_on, concat, journal_of, steps_of}
-use Rattle.coco_order.specs.Outcome.{AreCommits, AreOnce, ComeOfExecution, IsOutcome, commit_of, newest_at_end, tail_requests, tail_rows}
+use Rattle.coco_order.specs.Outcome.{AreCommits, AreOnce, IsOutcome, commit_of, newest_at_end, tail_requests, tail_rows}
 
 -- of the journal of each key, in every execution
 abbrev pub OnEachKeyOfEach : ((RowKey → Option Value) → RowKey → List Entry → Type 0) → Type 0
@@ -101,6 +101,15 @@ abbrev pub OutcomesAreEpochs : Beginning → Execution → Type 0
 OutcomesAreEpochs b x = (epoch : ℕ) (dones : List Done) → IsOutcome b epoch x dones → IsDistinct nat_eq (map (λ (r : Request). r.id) b.requests)
     → IsEpochOf b.requests (record { number = epoch; dones = dones })
 
--- Dones that come of an execution by some workers come of one by more, of whom the others tried nothing.
-abbrev pub WorkersMayBeIdle : Type 0
-WorkersMayBeIdle = (b : Beginning) (epoch : ℕ) (dones : List Done) → ComeOfExecution b epoch dones → (workers : ℕ) → b.workers ≤ workers → ComeOfExecution (record b { workers = workers }) epoch dones
+-- with so many workers more, who did nothing
+abbrev pub wider : Beginning → ℕ → Beginning
+wider b idle = record b { workers = b.workers + idle }
+
+abbrev pub with_idle : Execution → ℕ → Execution
+with_idle x idle = record x { transcripts = x.transcripts ++ replicate idle [] }
+
+-- The journals and the transcripts of some workers, with empty transcripts of more behind them, are an execution of all
+-- these workers, and what is the outcome of the one is that of the other.
+pub record IdleWorkersFit (b : Beginning) (x : Execution) : Type 0 where
+  pub execution : (idle : ℕ) → IsExecution (wider b idle) (with_idle x idle)
+  pub outcome : (idle epoch : ℕ) (dones : List Done) → IsOutcome b epoch x dones → IsOutcome (wider b idle) epoch (with_idle x idle) dones

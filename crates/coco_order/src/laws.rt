@@ -4,7 +4,7 @@ ghost use Rattle.coco_order.specs.OneKey.{OnEachKey, MarksAreOwn, WriteTimesRise
 ghost use Rattle.coco_order.specs.Conflicts.{TailsConflicted, TriesAreScripts};
 ghost use Rattle.coco_order.specs.Execution.{InEachExecution};
 ghost use Rattle.coco_order.specs.ExecutionExamples.{ReadIsLeftToTheTail, ReadIsTriedAgain};
-ghost use Rattle.coco_order.specs.Laws.{OnEachKeyOfEach, StepsAreMine, ApartInTime, TimesAreFew, CommitsAreOnce, CommitsAreSerial, OutcomesAreSerial, ClosedIsLawful, AnswersFit, ReadsAreFew, ScriptsAreFew, WritesAreRuns, TailWritesAreRuns, OutcomesAreEpochs, WorkersMayBeIdle};
+ghost use Rattle.coco_order.specs.Laws.{OnEachKeyOfEach, StepsAreMine, ApartInTime, TimesAreFew, CommitsAreOnce, CommitsAreSerial, OutcomesAreSerial, ClosedIsLawful, AnswersFit, ReadsAreFew, ScriptsAreFew, WritesAreRuns, TailWritesAreRuns, OutcomesAreEpochs, IdleWorkersFit};
 
 /// A journaled shard closes with a journal that is lawful from what the shard held at its start, and with the rows
 /// that the law says; and each answer of a lawful journal fits its ask.
@@ -90,9 +90,10 @@ pub fn outcomes_are_epochs()
     ensures { InEachExecution OutcomesAreEpochs }
 {}
 
-/// What came of some workers comes of more, of whom the others are idle: nobody has to be started who has nothing to do.
-pub fn workers_may_be_idle()
-    ensures { WorkersMayBeIdle }
+/// What some workers left, with empty transcripts of more behind it, is what all of these left: nobody has to be started
+/// who has nothing to do.
+pub fn idle_workers_fit()
+    ensures { InEachExecution IdleWorkersFit }
 {}
 
 /// Each request of the tail was tried as often as attempts are allowed, and each of these attempts ended in a conflict

@@ -17,7 +17,6 @@ use Rattle.coco_copy.specs.declared.ops.CopyAnswer.{CopyAnswer}
 use Rattle.coco_copy.specs.declared.ops.CopyAsk.{CopyAsk}
 use Rattle.coco_journaled.specs.declared.entry.Entry.{Entry}
 use Rattle.coco_journaled.specs.Passes.{HasPasses, entries_of, entry_of, new_pass}
-use Rattle.coco_occ.specs.declared.outcome.Tailed.{Tailed}
 use Rattle.coco_order.specs.Execution.{Journal, Transcript}
 use Rattle.coco_seen.specs.Notes.{Lock}
 use Rattle.coco_shard.specs.RowState.{ShardState}
@@ -42,18 +41,18 @@ use Rattle.coco_parallel.proofs.RunLemmas.{runs_end}
 -- ---- done
 
 module _ (machines : List ShardState) (tables : List CopyState) (locks copy_locks : List Lock) (rows : List (Vec ShardPass)) (copy_rows : List (Vec CopyPass)) (claims : Round) (procs : Procedures) (requests : List Request) (config : EpochConfig)
-    (carries : ℕ → ℕ → ℕ → ℕ → Bool) (dealt : AreDealt config.workers machines locks rows) (copy_dealt : AreDealt config.workers tables copy_locks copy_rows) (count : claims.seats ≡ config.workers) (after : List Station)
-    (still : length after ≡ length (crew config.workers machines tables locks copy_locks rows copy_rows claims dealt copy_dealt count))
-    (left : LeavesEach procs requests (length machines) config carries (crew config.workers machines tables locks copy_locks rows copy_rows claims dealt copy_dealt count) after) (some : 0 < config.workers) where
+    (carries : ℕ → ℕ → ℕ → ℕ → Bool) (dealt : AreDealt config.started machines locks rows) (copy_dealt : AreDealt config.started tables copy_locks copy_rows) (count : claims.seats ≡ config.started) (after : List Station)
+    (still : length after ≡ length (crew config.started machines tables locks copy_locks rows copy_rows claims dealt copy_dealt count))
+    (left : LeavesEach procs requests (length machines) config carries (crew config.started machines tables locks copy_locks rows copy_rows claims dealt copy_dealt count) after) (some : 0 < config.started) where
   module _ (ms : List ShardState) (js : List Journal) (cs : List CopyState) (ks : List CopyJournal) (back : AreBackBy answer_in after_ask (shard_rows after) (length machines) ms js) (copy_back : AreBackBy puts.answer_in puts.after_ask (table_rows after) (length tables) cs ks)
       (done : All (λ (s : Station). s.is_done ≡ true) after) (drawn : (place : ℕ) → place < length requests → times_drawn place (seats_of after) ≡ 1) where
-    is_run : (opening : Rows) → IsRun (start_of procs opening requests machines config carries) locks dealt.trays back.trays (crew config.workers machines tables locks copy_locks rows copy_rows claims dealt copy_dealt count) after js ms
+    is_run : (opening : Rows) → IsRun (start_of procs opening requests machines config carries) locks dealt.trays back.trays (crew config.started machines tables locks copy_locks rows copy_rows claims dealt copy_dealt count) after js ms
     is_run opening = record {
       some = some;
       started = dealt.started;
-      stations = crew_count config.workers machines tables locks copy_locks rows copy_rows claims dealt copy_dealt count;
+      stations = crew_count config.started machines tables locks copy_locks rows copy_rows claims dealt copy_dealt count;
       still = still;
-      dealt = all_dealt config.workers machines tables locks copy_locks rows copy_rows claims dealt copy_dealt count;
+      dealt = all_dealt config.started machines tables locks copy_locks rows copy_rows claims dealt copy_dealt count;
       left = left;
       done = λ worker d lt. done worker d (omega (arith, still, lt));
       drawn = λ place lt. ap (times_drawn place) (map_slots (λ (slot : Slot). slot.seat) after) ∙ drawn place lt;
@@ -63,24 +62,24 @@ module _ (machines : List ShardState) (tables : List CopyState) (locks copy_lock
     }
 
     many_rows : length (table_rows after) ≡ length copy_rows
-    many_rows = tables_count config.workers machines tables locks copy_locks rows copy_rows claims dealt copy_dealt count procs requests (length machines) config carries after still left
+    many_rows = tables_count config.started machines tables locks copy_locks rows copy_rows claims dealt copy_dealt count procs requests (length machines) config carries after still left
 
     same_tables : (n : ℕ) (d : Vec CopyPass) → n < length copy_rows → AreSame (slice_index_or copy_rows n d).items (slice_index_or (table_rows after) n d).items
-    same_tables = tables_same config.workers machines tables locks copy_locks rows copy_rows claims dealt copy_dealt count procs requests (length machines) config carries after still left
+    same_tables = tables_same config.started machines tables locks copy_locks rows copy_rows claims dealt copy_dealt count procs requests (length machines) config carries after still left
 
     closed_table : (table : ℕ) → table < length tables → ClosedBy puts.answer_in puts.after_ask table (table_at tables table) (table_rows after) (table_at cs table) (slice_index_or ks table [])
     closed_table table lt = closed_by puts.answer_in puts.after_ask (table_rows after) (length tables) cs ks copy_back table (table_at tables table) (begun 0 empty) lt (let n = copy_dealt.count in omega (arith, some, many_rows, n))
-        (bears config.workers tables copy_locks copy_rows (table_rows after) copy_dealt many_rows same_tables table (table_at tables table) (slice_get-get_or tables table (begun 0 empty) lt))
+        (bears config.started tables copy_locks copy_rows (table_rows after) copy_dealt many_rows same_tables table (table_at tables table) (slice_get-get_or tables table (begun 0 empty) lt))
 
     copied : (table : ℕ) → table < length tables → IsCopied (table_at tables table) (copy_passes_at table (slots_of after)) (slice_index_or ks table []) (table_at cs table)
     copied table lt = record { passes_are = subst (λ ps. HasPasses ps (slice_index_or ks table [])) (column_tables table after) (closed_table table lt).passes_are; replays = (closed_table table lt).replays }
 
-    module _ (worker : ℕ) (lt : worker < config.workers) where
+    module _ (worker : ℕ) (lt : worker < config.started) where
       abbrev crew_here : List Station
-      crew_here = crew config.workers machines tables locks copy_locks rows copy_rows claims dealt copy_dealt count
+      crew_here = crew config.started machines tables locks copy_locks rows copy_rows claims dealt copy_dealt count
 
       here : worker < length crew_here
-      here = let n = crew_count config.workers machines tables locks copy_locks rows copy_rows claims dealt copy_dealt count in omega (arith, lt, n)
+      here = let n = crew_count config.started machines tables locks copy_locks rows copy_rows claims dealt copy_dealt count in omega (arith, lt, n)
 
       d : Station
       d = (some_at crew_here worker here).0
@@ -92,15 +91,15 @@ module _ (machines : List ShardState) (tables : List CopyState) (locks copy_lock
       now = (slice_index_or after worker d).slot
 
       is_dealt : IsDealt dealt.trays worker before
-      is_dealt = all_dealt config.workers machines tables locks copy_locks rows copy_rows claims dealt copy_dealt count worker d here
+      is_dealt = all_dealt config.started machines tables locks copy_locks rows copy_rows claims dealt copy_dealt count worker d here
 
       row_is : before.copy_passes.items ≡ column worker copy_dealt.trays
-      row_is = ap (λ (s : Station). s.slot.copy_passes.items) (crew_at config.workers machines tables locks copy_locks rows copy_rows claims dealt copy_dealt count worker d lt) ∙ copy_dealt.rows_are worker d.slot.copy_passes lt
+      row_is = ap (λ (s : Station). s.slot.copy_passes.items) (crew_at config.started machines tables locks copy_locks rows copy_rows claims dealt copy_dealt count worker d lt) ∙ copy_dealt.rows_are worker d.slot.copy_passes lt
 
       has_entries : (table : ℕ) → table < length tables → (has : HasEntries before now table (slice_index_or ks table [])) × (has.pass.number ≡ worker)
       has_entries table within =
           let root : CopyState = table_at tables table in
-          let new = dealt_pass config.workers worker lt tables copy_locks copy_dealt.trays copy_dealt.started table root (slice_get-get_or tables table (begun 0 empty) within) in
+          let new = dealt_pass config.started worker lt tables copy_locks copy_dealt.trays copy_dealt.started table root (slice_get-get_or tables table (begun 0 empty) within) in
           let first : CopyPass = new_pass new.0 root worker in
           let first_is : slice_get before.copy_passes.items table ≡ Some first = ap (λ (ps : List CopyPass). slice_get ps table) row_is ∙ new.1 in
           let found = same_pass before.copy_passes.items now.copy_passes.items table first (left worker d here).same_copies first_is in
@@ -135,24 +134,23 @@ module _ (machines : List ShardState) (tables : List CopyState) (locks copy_lock
                 ∙ copies_are_of_commits job before now did.0 table (slice_index_or ks table []) did.1 has.0;
           })
 
-    commits : (opening : Rows) → HaveCommits (start_of procs opening requests machines config carries) (length tables) ks (map (λ (s : Station). s.slot.transcript) after)
+    commits : (opening : Rows) → HaveCommits (start_of procs opening requests machines config carries) config.started (length tables) ks (map (λ (s : Station). s.slot.transcript) after)
     commits opening = record {
       count = journals_count puts.answer_in puts.after_ask (table_rows after) (length tables) cs ks copy_back;
       puts = puts_commits;
       no_other = λ table within. subst (λ (n : ℕ). All (λ (e : Entry CopyAsk CopyAnswer). e.pass < n) (slice_index_or ks table [])) (
-          back_count table (table_at tables table) 0 (table_rows after) (bears config.workers tables copy_locks copy_rows (table_rows after) copy_dealt many_rows same_tables table (table_at tables table) (slice_get-get_or tables table (begun 0 empty) within))
+          back_count table (table_at tables table) 0 (table_rows after) (bears config.started tables copy_locks copy_rows (table_rows after) copy_dealt many_rows same_tables table (table_at tables table) (slice_get-get_or tables table (begun 0 empty) within))
           ∙ many_rows ∙ copy_dealt.count) (closed_table table within).passes_are.no_other;
     }
 
-    pub have_worked : (opening : Rows) (transcripts : List Transcript) (pieces : List (List Piece)) (tails : List (List Tailed)) → transcripts ≡ map (λ (s : Station). s.slot.transcript) after → pieces ≡ map (λ (s : Station). s.slot.pieces) after
-        → tails ≡ map (λ (s : Station). s.slot.tail) after → HaveWorked (start_of procs opening requests machines config carries) tables ms js cs ks transcripts pieces tails
-    have_worked opening transcripts pieces tails transcripts_are pieces_are tails_are = record {
+    pub have_worked : (opening : Rows) (transcripts : List Transcript) (pieces : List (List Piece)) → transcripts ≡ map (λ (s : Station). s.slot.transcript) after → pieces ≡ map (λ (s : Station). s.slot.pieces) after
+        → HaveWorked (start_of procs opening requests machines config carries) tables ms js cs ks transcripts pieces
+    have_worked opening transcripts pieces transcripts_are pieces_are = record {
       slots = slots_of after;
-      ended = runs_end (start_of procs opening requests machines config carries) locks dealt.trays back.trays (crew config.workers machines tables locks copy_locks rows copy_rows claims dealt copy_dealt count) after js ms (is_run opening);
+      ended = runs_end (start_of procs opening requests machines config carries) locks dealt.trays back.trays (crew config.started machines tables locks copy_locks rows copy_rows claims dealt copy_dealt count) after js ms (is_run opening);
       copies_are = machines_count puts.answer_in puts.after_ask (table_rows after) (length tables) cs ks copy_back;
-      commits = subst (λ (ts : List Transcript). HaveCommits (start_of procs opening requests machines config carries) (length tables) ks ts) (sym transcripts_are) (commits opening);
+      commits = subst (λ (ts : List Transcript). HaveCommits (start_of procs opening requests machines config carries) config.started (length tables) ks ts) (sym transcripts_are) (commits opening);
       copied = copied;
       transcripts_are = transcripts_are ∙ sym (map_slots (λ (slot : Slot). slot.transcript) after);
       pieces_are = pieces_are ∙ sym (map_slots (λ (slot : Slot). slot.pieces) after);
-      tails_are = tails_are ∙ sym (map_slots (λ (slot : Slot). slot.tail) after);
     }

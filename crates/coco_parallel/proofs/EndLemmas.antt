@@ -1,28 +1,25 @@
 -- What the workers tried and what the locks closed with is an execution.
-use Rattle.std.proofs.Common.{◌≡◌, ℕ, zero, suc, ◌+◌, ◌<◌, ◌%◌, nat_eq, List, [], ◌∷◌, ◌++◌, map, length, slice_index_or, Option, refl, sym, ap, ◌∙◌, subst, arith}
-use Rattle.std.specs.List.{AllByRecursion, filter, flat_map, slice_get}
+use Rattle.std.proofs.Common.{◌≡◌, ℕ, zero, suc, ◌+◌, ◌<◌, ◌%◌, nat_eq, List, [], ◌∷◌, ◌++◌, map, length, slice_index_or, refl, sym, ap, ◌∙◌, subst, arith}
+use Rattle.std.specs.List.{AllByRecursion, filter}
 use Rattle.std.proofs.lemmas.List.{length-append, length-map}
 use Rattle.std.proofs.lemmas.List.Elements.{filter-append, recursion_from_All}
 use Rattle.std.proofs.lemmas.List.Sums.{sum_by-cons}
 use Rattle.coco_types.specs.RowKey.{RowKey}
-use Rattle.coco_types.specs.declared.call.Request.{Request}
 use Rattle.coco_ast.proofs.Lists.{all_map, all_weaker}
 use Rattle.coco_ast.specs.Keyed.{value_at}
 use Rattle.coco_claim.specs.Numbers.{times}
 use Rattle.coco_claim.specs.Seats.{Drawer, times_drawn}
 use Rattle.coco_epoch.specs.Shards.{shard_at}
-use Rattle.coco_occ.specs.declared.outcome.Tailed.{Tailed}
 use Rattle.coco_order.specs.Execution.{AreOf, AreTries, AreWorkedOff, Execution, IsTried, Journal, Transcript, Tries, all_at_shard, concat, concat_tries, how_many_at, journal_of, of_pass, steps_of, transcript_of}
 use Rattle.coco_order.specs.Laws.{ClosedIsLawful}
 use Rattle.coco_seen.specs.Rules.{numbers}
 use Rattle.coco_shard.specs.Law.{Entry, IsLawful, law_row}
 use Rattle.coco_shard.specs.RowState.{ShardState, row_at, stable_at}
 use Rattle.coco_shard.specs.Table.{key_of}
-use Rattle.coco_worker.specs.Working.{IsWorkedOff, Job, Worked, scripts_of, tail_of}
+use Rattle.coco_worker.specs.Working.{IsWorkedOff, Worked, scripts_of}
 use Rattle.coco_worker.specs.declared.slot.Slot.{Slot}
 use Rattle.coco_parallel.specs.Ending.{HasEnded, HasWorked, Start, beginning_of, execution_of, job_of, passes_at}
 use Rattle.coco_parallel.specs.Laws.{AreAnExecution, AtEachEnd, IsStart, ShardsHaveRows}
-use Rattle.coco_parallel.specs.Tails.{HaveTails, left_of}
 use Rattle.coco_parallel.proofs.SlotLemmas.{all_tried, drawn_tried, of_worker, transcript_is}
 use Rattle.coco_shard.proofs.LawLemmas.{law_same, lawful_as}
 use Rattle.coco_parallel.proofs.LockLemmas.{IsOn, Keeps, all_sent_here, as_many_passes, at_worker, by_passes, each_pass}
@@ -81,56 +78,31 @@ worked_off s slots journals machines ended = record {
   once = λ place lt. drawn_once s place lt slots ended.worked ∙ ended.drawn place lt;
 }
 
--- ---- what was left to the tail
-
-module _ (s : Start) where
-  abbrev left_in : Tries → List Tailed
-  left_in r = left_of (slice_get s.requests r.place) r
-
-  tail_of_each : (j : Job) → j.requests ≡ s.requests → (ws : List Worked) → AllByRecursion (IsWorkedOff j) ws → flat_map tail_of ws ≡ flat_map left_in (map (λ (w : Worked). w.tries) ws)
-  tail_of_each j same [] all = refl
-  tail_of_each j same (w ∷ ws) all =
-      ap (λ (o : Option Request). left_of o w.tries ++ flat_map tail_of ws) (sym (ap (λ (rs : List Request). slice_get rs w.tries.place) (sym same) ∙ all.0.placed))
-      ∙ ap (λ (ds : List Tailed). left_in w.tries ++ ds) (tail_of_each j same ws all.1)
-
-  tail_is : (slot : Slot) (has : HasWorked s slot) → slot.tail ≡ flat_map left_in (map (λ (w : Worked). w.tries) has.worked)
-  tail_is slot has = has.works.tail ∙ ap (λ (ds : List Tailed). ds ++ flat_map tail_of has.worked) has.begun.tail ∙ tail_of_each (job_of s has.before.worker) refl has.worked has.works.each
-
-  pub tails_are : (slots : List Slot) (all : AllByRecursion (HasWorked s) slots) → map (λ (slot : Slot). slot.tail) slots ≡ map (flat_map left_in) (tries_in s slots all)
-  tails_are [] all = refl
-  tails_are (slot ∷ slots) all =
-      ap (λ (ds : List Tailed). ds ∷ map (λ (t : Slot). t.tail) slots) (tail_is slot all.0)
-      ∙ ap (λ (dss : List (List Tailed)). flat_map left_in (map (λ (w : Worked). w.tries) all.0.worked) ∷ dss) (tails_are slots all.1)
-
-pub have_tails : (s : Start) (slots : List Slot) (journals : List Journal) (machines : List ShardState) → HasEnded s slots journals machines → HaveTails (beginning_of s) (map transcript_in slots) (map (λ (slot : Slot). slot.tail) slots)
-unfolding worked_off
-have_tails s slots journals machines ended = record { worked_off = worked_off s slots journals machines ended; tails_are = tails_are s slots ended.worked }
-
 -- ---- the end of an epoch
 
 module _ (closed_is_lawful : ClosedIsLawful) (s : Start) (slots : List Slot) (journals : List Journal) (machines : List ShardState) (start : IsStart s) (ended : HasEnded s slots journals machines) where
   abbrev x : Execution
   x = execution_of slots journals
 
-  slots_count : length slots ≡ s.config.workers
-  slots_count = sym (length-map slots worker_of) ∙ ap length ended.workers ∙ numbers_count 0 s.config.workers
+  slots_count : length slots ≡ s.config.started
+  slots_count = sym (length-map slots worker_of) ∙ ap length ended.workers ∙ numbers_count 0 s.config.started
 
-  by_worker : (Q : ℕ → Transcript → Type 0) → AllByRecursion (λ slot. Q slot.worker slot.transcript) slots → (worker : ℕ) → worker < s.config.workers → Q worker (transcript_of x worker)
-  by_worker Q all worker lt = subst (λ w. Q w (transcript_of x worker)) (omega arith) (at_worker Q slots 0 s.config.workers ended.workers all worker lt)
+  by_worker : (Q : ℕ → Transcript → Type 0) → AllByRecursion (λ slot. Q slot.worker slot.transcript) slots → (worker : ℕ) → worker < s.config.started → Q worker (transcript_of x worker)
+  by_worker Q all worker lt = subst (λ w. Q w (transcript_of x worker)) (omega arith) (at_worker Q slots 0 s.config.started ended.workers all worker lt)
 
-  scripts : (worker : ℕ) → worker < s.config.workers → AllByRecursion (IsTried (beginning_of s)) (transcript_of x worker)
+  scripts : (worker : ℕ) → worker < s.config.started → AllByRecursion (IsTried (beginning_of s)) (transcript_of x worker)
   scripts = by_worker (λ worker ts. AllByRecursion (IsTried (beginning_of s)) ts)
       (all_weaker (HasWorked s) (λ slot. AllByRecursion (IsTried (beginning_of s)) slot.transcript) (λ slot has. all_tried s slot has) slots ended.worked)
 
-  attempts : (worker : ℕ) → worker < s.config.workers → AreOf worker (transcript_of x worker)
+  attempts : (worker : ℕ) → worker < s.config.started → AreOf worker (transcript_of x worker)
   attempts = by_worker AreOf (all_weaker (HasWorked s) (λ slot. AreOf slot.worker slot.transcript) (λ slot has. of_worker s slot has) slots ended.worked)
 
-  passes : (shard worker : ℕ) → shard < length s.shards → worker < s.config.workers → of_pass worker (journal_of x shard) ≡ all_at_shard shard (transcript_of x worker)
+  passes : (shard worker : ℕ) → shard < length s.shards → worker < s.config.started → of_pass worker (journal_of x shard) ≡ all_at_shard shard (transcript_of x worker)
   passes shard worker within lt =
       by_worker (λ w ts. of_pass w (journal_of x shard) ≡ all_at_shard shard ts)
       (each_pass s shard within (journal_of x shard) slots ended.worked (recursion_from_All (Keeps s shard within (journal_of x shard)) (passes_at shard slots) (ended.closed shard within).passes_are.own)) worker lt
 
-  no_other_pass : (shard : ℕ) → shard < length s.shards → AllByRecursion (λ e. e.pass < s.config.workers) (journal_of x shard)
+  no_other_pass : (shard : ℕ) → shard < length s.shards → AllByRecursion (λ e. e.pass < s.config.started) (journal_of x shard)
   no_other_pass shard within =
       subst (λ (n : ℕ). AllByRecursion (λ e. e.pass < n) (journal_of x shard)) (as_many_passes s shard within (journal_of x shard) slots ended.worked ∙ slots_count)
       (recursion_from_All (λ e. e.pass < length (passes_at shard slots)) (journal_of x shard) (ended.closed shard within).passes_are.no_other)
@@ -138,7 +110,7 @@ module _ (closed_is_lawful : ClosedIsLawful) (s : Start) (slots : List Slot) (jo
   -- each entry is on a key of the shard's partition
   pub on_shard : (shard : ℕ) → shard < length s.shards → AllByRecursion (IsOn (length s.shards) shard) (steps_of (journal_of x shard))
   on_shard shard within =
-      by_passes (IsOn (length s.shards) shard) s.config.workers (journal_of x shard)
+      by_passes (IsOn (length s.shards) shard) s.config.started (journal_of x shard)
       (λ worker lt. subst (AllByRecursion (IsOn (length s.shards) shard)) (sym (passes shard worker within lt)) (all_sent_here (beginning_of s) shard (transcript_of x worker) (scripts worker lt)))
       (no_other_pass shard within)
 

@@ -15,6 +15,7 @@ mod KeepingLemmas
 mod RanLemmas
 mod EndsLemmas
 mod TailLemmas
+mod ToldLemmas
 mod TakenLemmas
 mod OpeningLemmas
 mod EpochLemmas
@@ -22,4 +23,5 @@ mod PieceOrderLemmas
 mod WholeLemmas
 mod PieceLemmas
 mod LeftLemmas
+mod TraceLemmas
 mod Sharing

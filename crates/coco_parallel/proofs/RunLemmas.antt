@@ -164,13 +164,13 @@ module _ (s : Start) (locks : List Lock) (trays back : Trays) (before after : Li
       each : (n : ℕ) (d : Station) → n < length after → HasWorked s (slice_index_or after n d).slot
       each n d lt =
           let here : n < length before = (let same : length after ≡ length before = run.still in omega arith) in
-          let below : n < s.config.workers = (let count : length before ≡ s.config.workers = run.stations in omega arith) in
+          let below : n < s.config.started = (let count : length before ≡ s.config.started = run.stations in omega arith) in
           let left = run.left n d here in
           let did = left.worked (run.done n d here) in
           record {
             before = (slice_index_or before n d).slot;
             worked = did.0;
-            begun = dealt_new s.config.workers n below s.shards locks trays (slice_index_or before n d).slot run.started (run.dealt n d here);
+            begun = dealt_new s.config.started n below s.shards locks trays (slice_index_or before n d).slot run.started (run.dealt n d here);
             same = left.same;
             worker = left.worker;
             works = did.1;

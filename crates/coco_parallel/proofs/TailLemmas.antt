@@ -14,28 +14,49 @@ use Rattle.coco_parallel.proofs.SlotLemmas.{by_bool}
 
 -- ---- which requests
 
-module _ (x : Execution) where
-  left_append : (place : ℕ) (rs qs : List Request) → uncommitted x place (rs ++ qs) ≡ uncommitted x place rs ++ uncommitted x (place + length rs) qs
-  left_append place [] qs = ap (λ (n : ℕ). uncommitted x n qs) (omega arith)
-  left_append place (r ∷ rs) qs =
-      by_test (is_committed x place) (left_append (suc place) rs qs)
-      ∙ ap (λ (n : ℕ). cond (is_committed x place) (uncommitted x (suc place) rs) (r ∷ uncommitted x (suc place) rs) ++ uncommitted x n qs) (omega arith)
+-- what is told of the requests from a place on, in order, but for those of places that committed
+module _ {X : Type 0} (x : Execution) (one : ℕ → Request → X) (all : ℕ → List Request → List X) (none : (place : ℕ) → all place [] ≡ [])
+    (step : (place : ℕ) (r : Request) (rs : List Request) → all place (r ∷ rs) ≡ cond (is_committed x place) (all (suc place) rs) (one place r ∷ all (suc place) rs)) where
+  told_append : (place : ℕ) (rs qs : List Request) → all place (rs ++ qs) ≡ all place rs ++ all (place + length rs) qs
+  told_append place [] qs = let here : place ≡ place + 0 = omega arith in ap (λ (n : ℕ). all n qs) here ∙ ap (λ (xs : List X). xs ++ all (place + 0) qs) (sym (none place))
+  told_append place (r ∷ rs) qs =
+      let next : suc place + length rs ≡ place + suc (length rs) = omega arith in
+      step place r (rs ++ qs) ∙ by_test (is_committed x place) (told_append (suc place) rs qs)
+      ∙ ap (λ (n : ℕ). cond (is_committed x place) (all (suc place) rs) (one place r ∷ all (suc place) rs) ++ all n qs) next
+      ∙ ap (λ (xs : List X). xs ++ all (place + suc (length rs)) qs) (sym (step place r rs))
     where
-      by_test : (b : Bool) → uncommitted x (suc place) (rs ++ qs) ≡ uncommitted x (suc place) rs ++ uncommitted x (suc place + length rs) qs
-          → cond b (uncommitted x (suc place) (rs ++ qs)) (r ∷ uncommitted x (suc place) (rs ++ qs)) ≡ cond b (uncommitted x (suc place) rs) (r ∷ uncommitted x (suc place) rs) ++ uncommitted x (suc place + length rs) qs
+      by_test : (b : Bool) → all (suc place) (rs ++ qs) ≡ all (suc place) rs ++ all (suc place + length rs) qs
+          → cond b (all (suc place) (rs ++ qs)) (one place r ∷ all (suc place) (rs ++ qs)) ≡ cond b (all (suc place) rs) (one place r ∷ all (suc place) rs) ++ all (suc place + length rs) qs
       by_test true more = more
-      by_test false more = ap (λ (ls : List Request). r ∷ ls) more
+      by_test false more = ap (λ (xs : List X). one place r ∷ xs) more
 
-  left_more : (rs : List Request) (place : ℕ) (d : Request) → place < length rs → uncommitted x 0 (take (place + 1) rs) ≡ uncommitted x 0 (take place rs) ++ cond (is_committed x place) [] (slice_index_or rs place d ∷ [])
-  left_more rs place d lt =
-      ap (uncommitted x 0) (take_more rs place d lt) ∙ left_append 0 (take place rs) (slice_index_or rs place d ∷ [])
-      ∙ ap (λ (n : ℕ). uncommitted x 0 (take place rs) ++ uncommitted x n (slice_index_or rs place d ∷ [])) (omega (arith, length-take-le place rs (omega (arith, lt))))
+  told_more : (rs : List Request) (place : ℕ) (d : Request) → place < length rs → all 0 (take (place + 1) rs) ≡ all 0 (take place rs) ++ cond (is_committed x place) [] (one place (slice_index_or rs place d) ∷ [])
+  told_more rs place d lt =
+      let taken : 0 + length (take place rs) ≡ place = omega (arith, length-take-le place rs (omega (arith, lt))) in
+      ap (all 0) (take_more rs place d lt) ∙ told_append 0 (take place rs) (slice_index_or rs place d ∷ [])
+      ∙ ap (λ (n : ℕ). all 0 (take place rs) ++ all n (slice_index_or rs place d ∷ [])) taken
+      ∙ ap (λ (xs : List X). all 0 (take place rs) ++ xs) (step place (slice_index_or rs place d) [] ∙ ap (λ (xs : List X). cond (is_committed x place) xs (one place (slice_index_or rs place d) ∷ xs)) (none (suc place)))
 
-  -- a request of a committed place doesn't go to the tail, each other one does
+  -- a request of a committed place isn't told, each other one is
+  pub not_told : (rs : List Request) (place : ℕ) → place < length rs → is_committed x place ≡ true → all 0 (take place rs) ≡ all 0 (take (place + 1) rs)
+  not_told [] place lt is = absurd (omega (arith, lt))
+  not_told (r ∷ rs) place lt is = sym (append-nil (all 0 (take place (r ∷ rs)))) ∙ ap (λ b. all 0 (take place (r ∷ rs)) ++ cond b [] (one place (slice_index_or (r ∷ rs) place r) ∷ [])) (sym is) ∙ sym (told_more (r ∷ rs) place r lt)
+
+  pub told : (rs : List Request) (place : ℕ) (d : Request) → place < length rs → is_committed x place ≡ false → all 0 (take place rs) ++ one place (slice_index_or rs place d) ∷ [] ≡ all 0 (take (place + 1) rs)
+  told rs place d lt is = ap (λ b. all 0 (take place rs) ++ cond b [] (one place (slice_index_or rs place d) ∷ [])) (sym is) ∙ sym (told_more rs place d lt)
+
+  pub none_told : (place : ℕ) (rs : List Request) → ((k : ℕ) → k < length rs → is_committed x (place + k) ≡ true) → all place rs ≡ []
+  none_told place [] each = none place
+  none_told place (r ∷ rs) each =
+      let here : place ≡ place + 0 = omega arith in
+      let next : (k : ℕ) → suc place + k ≡ place + suc k = λ k. omega arith in
+      step place r rs ∙ ap (λ b. cond b (all (suc place) rs) (one place r ∷ all (suc place) rs)) (ap (is_committed x) here ∙ each 0 (omega arith))
+      ∙ none_told (suc place) rs (λ k lt. ap (is_committed x) (next k) ∙ each (suc k) (omega (arith, lt)))
+
+module _ (x : Execution) where
+  -- the request of a committed place doesn't go to the tail, each other one does
   pub skipped : (tail : List PlacedRequest) (rs : List Request) (place : ℕ) → place < length rs → is_committed x place ≡ true → requests_of tail ≡ uncommitted x 0 (take place rs) → requests_of tail ≡ uncommitted x 0 (take (place + 1) rs)
-  skipped tail [] place lt is was = absurd (omega (arith, lt))
-  skipped tail (r ∷ rs) place lt is was = was ∙ sym (append-nil (uncommitted x 0 (take place (r ∷ rs))))
-      ∙ ap (λ b. uncommitted x 0 (take place (r ∷ rs)) ++ cond b [] (slice_index_or (r ∷ rs) place r ∷ [])) (sym is) ∙ sym (left_more (r ∷ rs) place r lt)
+  skipped tail rs place lt is was = was ∙ not_told x (λ _ r. r) (uncommitted x) (λ _. refl) (λ _ _ _. refl) rs place lt is
 
   pub added : (tail : List PlacedRequest) (rs : List Request) (place : ℕ) (p : PlacedRequest) → place < length rs → is_committed x place ≡ false → p.request ≡ slice_index_or rs place p.request → requests_of tail ≡ uncommitted x 0 (take place rs)
       → requests_of (tail ++ p ∷ []) ≡ uncommitted x 0 (take (place + 1) rs)
@@ -43,7 +64,7 @@ module _ (x : Execution) where
       map-append (λ (q : PlacedRequest). q.request) tail (p ∷ [])
       ∙ ap (λ (ls : List Request). ls ++ p.request ∷ []) was
       ∙ ap (λ (r : Request). uncommitted x 0 (take place rs) ++ r ∷ []) there
-      ∙ ap (λ b. uncommitted x 0 (take place rs) ++ cond b [] (slice_index_or rs place p.request ∷ [])) (sym none) ∙ sym (left_more rs place p.request lt)
+      ∙ told x (λ _ r. r) (uncommitted x) (λ _. refl) (λ _ _ _. refl) rs place p.request lt none
 
   -- what holds of all requests holds of those, and they are no more
   pub all_left_over : (P : Request → Type 0) (place : ℕ) (rs : List Request) → AllByRecursion P rs → AllByRecursion P (uncommitted x place rs)

@@ -1,7 +1,8 @@
 -- A whole epoch, from what its workers leave to what the tail leaves behind them.
-use Rattle.std.proofs.Common.{◌≡◌, ℕ, ◌<◌, ◌≤◌, ◌^◌, Bool, nat_eq, List, map, length, sym, ◌∙◌, subst}
+use Rattle.std.proofs.Common.{◌≡◌, ℕ, ◌<◌, ◌≤◌, ◌^◌, Bool, nat_eq, List, map, length, sym, ap, ◌∙◌, subst}
 use Rattle.std.specs.FinMap.{empty}
 use Rattle.std.specs.List.{IsDistinct}
+use Rattle.std.proofs.lemmas.List.{length-map}
 use Rattle.coco_types.specs.Limits.{most_batch_lines}
 use Rattle.coco_types.specs.declared.call.Done.{Done}
 use Rattle.coco_types.specs.declared.call.Piece.{Piece}
@@ -11,26 +12,33 @@ use Rattle.coco_ast.specs.Tree.{Procedures}
 use Rattle.coco_copy.specs.CopyState.{CopyState}
 use Rattle.coco_epoch.specs.Running.{FitAll}
 use Rattle.coco_epoch.specs.Shards.{AreOfPartitions, AreSettled, HoldMap, KeepStable, SettleOn}
-use Rattle.coco_occ.specs.declared.outcome.Tailed.{Tailed}
 use Rattle.coco_order.specs.Execution.{Journal, Transcript}
 use Rattle.coco_shard.specs.RowState.{ShardState, stable_at}
 use Rattle.coco_worker.specs.declared.slot.EpochConfig.{EpochConfig}
+use Rattle.coco_worker.specs.declared.slot.Slot.{Slot}
 use Rattle.coco_parallel.specs.Ending.{Start, beginning_of, execution_of}
 use Rattle.coco_parallel.specs.Ends.{EndsAreSerial, IsEnd, IsSmall, MayBeginTail, TailMayBegin}
-use Rattle.coco_parallel.specs.Epochs.{IsWorkedEpoch, beginning_with, execution_with}
+use Rattle.coco_parallel.specs.Epochs.{IsWorkedEpoch, started_with, execution_with}
 use Rattle.coco_parallel.specs.Laws.{AtEachEnd, IsStart}
 use Rattle.coco_parallel.specs.Worked.{CopyJournal, HaveWorked, begun_all, emptied, start_of}
+use Rattle.coco_parallel.proofs.EndLemmas.{numbers_count}
 use Rattle.coco_parallel.proofs.KeepingLemmas.{emptied_begun, emptied_copied, settled_same}
 use Rattle.coco_parallel.proofs.OpeningLemmas.{hold_some_map}
 
 module _ (procs : Procedures) (requests : List Request) (shards : List ShardState) (config : EpochConfig) (carries : ℕ → ℕ → ℕ → ℕ → Bool) (tables : List CopyState) (machines : List ShardState) (journals : List Journal) (copies : List CopyState)
-    (copy_journals : List CopyJournal) (transcripts : List Transcript) (lists : List (List Piece)) (tails : List (List Tailed))
-    (worked : (opening : Rows) → HaveWorked (start_of procs opening requests shards config carries) (begun_all config.epoch tables) machines journals copies copy_journals transcripts lists tails) where
+    (copy_journals : List CopyJournal) (transcripts : List Transcript) (lists : List (List Piece))
+    (worked : (opening : Rows) → HaveWorked (start_of procs opening requests shards config carries) (begun_all config.epoch tables) machines journals copies copy_journals transcripts lists) where
   -- the copies as they were when the epoch began
   pub copies_back : emptied copies ≡ begun_all config.epoch tables
   copies_back =
       let w = worked empty in
       emptied_copied (begun_all config.epoch tables) copies copy_journals w.copies_are (λ table lt. (w.copied table lt).replays) ∙ emptied_begun config.epoch tables
+
+  -- a transcript of each worker that was started
+  pub as_many_transcripts : length transcripts ≡ config.started
+  as_many_transcripts =
+      let w = worked empty in
+      ap length w.transcripts_are ∙ length-map w.slots (λ (slot : Slot). slot.transcript) ∙ sym (length-map w.slots (λ (slot : Slot). slot.worker)) ∙ ap length w.ended.workers ∙ numbers_count 0 config.started
 
   module _ (some : 0 < length shards) (fit : FitAll procs requests) (partitions : AreOfPartitions shards) (settled : AreSettled shards) (distinct : IsDistinct nat_eq (map (λ (r : Request). r.id) requests)) (few : length requests ≤ most_batch_lines)
       (attempts : config.attempts < 2 ^ 8) where
@@ -56,12 +64,12 @@ module _ (procs : Procedures) (requests : List Request) (shards : List ShardStat
         settled_same shards after back settled (record { count = kept.count ∙ first.count; stable = λ p k. kept.stable p k ∙ first.stable p k }) settle
 
     pub whole_epoch : AtEachEnd EndsAreSerial → (after : List ShardState) (dones : List Done) (parts : List Piece) → KeepStable machines after
-        → ((opening : Rows) (js : List Journal) → IsEnd (beginning_with procs opening requests machines config) config.epoch (execution_with js transcripts) lists machines after dones parts)
-        → (m : Rows) → HoldMap m shards → IsWorkedEpoch (beginning_with procs m requests shards config) config.epoch journals transcripts after dones parts
+        → ((opening : Rows) (js : List Journal) → IsEnd (started_with procs opening requests machines config) config.epoch (execution_with js transcripts) lists machines after dones parts)
+        → (m : Rows) → HoldMap m shards → IsWorkedEpoch (started_with procs m requests shards config) config.epoch journals transcripts after dones parts
     whole_epoch law after dones parts kept end m holds =
         let w = worked m in
         let by_machines : IsEnd (beginning_of (start_at m)) config.epoch (execution_with journals transcripts) lists machines after dones parts =
-        subst (λ (n : ℕ). IsEnd (record { procs = procs; opening = m; requests = requests; partitions = n; workers = config.workers; attempts = config.attempts }) config.epoch (execution_with journals transcripts) lists machines after dones parts) w.ended.machines_are (end m journals) in
+        subst (λ (n : ℕ). IsEnd (record { procs = procs; opening = m; requests = requests; partitions = n; workers = config.started; attempts = config.attempts }) config.epoch (execution_with journals transcripts) lists machines after dones parts) w.ended.machines_are (end m journals) in
         let by_slots : IsEnd (beginning_of (start_at m)) config.epoch (execution_of w.slots journals) lists machines after dones parts =
         subst (λ (ts : List Transcript). IsEnd (beginning_of (start_at m)) config.epoch (execution_with journals ts) lists machines after dones parts) w.transcripts_are by_machines in
         subst (λ (ts : List Transcript). IsWorkedEpoch (beginning_of (start_at m)) config.epoch journals ts after dones parts) (sym w.transcripts_are)

@@ -35,7 +35,7 @@ beginning_of s = record {
   opening = s.opening;
   requests = s.requests;
   partitions = length s.shards;
-  workers = s.config.workers;
+  workers = s.config.started;
   attempts = s.config.attempts;
 }
 
@@ -80,7 +80,7 @@ pub record IsClosed (root : ShardState) (passes : List ShardPass) (journal : Jou
 -- Each worker has worked off what it drew, each request was drawn once, and each lock is closed.
 pub record HasEnded (s : Start) (slots : List Slot) (journals : List Journal) (machines : List ShardState) : Type 0 where
   pub worked : AllByRecursion (HasWorked s) slots
-  pub workers : map (λ (slot : Slot). slot.worker) slots ≡ numbers 0 s.config.workers
+  pub workers : map (λ (slot : Slot). slot.worker) slots ≡ numbers 0 s.config.started
   pub drawn : (place : ℕ) → place < length s.requests → times_drawn place (map (λ (slot : Slot). slot.seat) slots) ≡ 1
   pub journals_are : length journals ≡ length s.shards
   pub machines_are : length machines ≡ length s.shards

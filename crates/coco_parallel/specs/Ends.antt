@@ -1,6 +1,6 @@
 -- What the end of an epoch makes of its transcripts: the Dones of the commits, and the tail behind them.
-use Rattle.std.specs.Prelude.{◌≡◌, ℕ, ◌<◌, ◌≤◌, ◌^◌, false, nat_eq, List, ◌++◌, map, length}
-use Rattle.std.specs.List.{IsDistinct, filter_map, slice_get}
+use Rattle.std.specs.Prelude.{◌≡◌, ℕ, ◌<◌, ◌≤◌, ◌^◌, Bool, false, nat_eq, List, ◌++◌, map, length, slice_index_or}
+use Rattle.std.specs.List.{IsDistinct, filter, filter_map, slice_get}
 use Rattle.std.specs.List.Sorted.{IsPermutation}
 use Rattle.coco_types.specs.Limits.{most_batch_lines, most_time}
 use Rattle.coco_types.specs.declared.call.Done.{Done}
@@ -12,12 +12,14 @@ use Rattle.coco_epoch.specs.Pieces.{pieces_of}
 use Rattle.coco_epoch.specs.Running.{AreAtTheirPlaces, requests_of}
 use Rattle.coco_epoch.specs.declared.placed.PlacedRequest.{PlacedRequest}
 use Rattle.coco_epoch.specs.Shards.{AreQuietAfter, HaveNewest, KeepStable}
+use Rattle.coco_occ.specs.declared.outcome.Ended.{Ended}
 use Rattle.coco_occ.specs.declared.outcome.Tried.{Tried}
 use Rattle.coco_order.specs.Execution.{Beginning, Execution, Journal, Transcript, concat}
 use Rattle.coco_order.specs.Order.{AreInOrder}
-use Rattle.coco_order.specs.Outcome.{AreCommits, AreOnce, done_of, tail_dones, tail_requests, tail_rows}
+use Rattle.coco_order.specs.Outcome.{AreCommits, AreOnce, done_of, is_committed, tail_dones, tail_requests, tail_rows}
 pub use Rattle.coco_order.specs.Outcome.{has_commit}
 use Rattle.coco_shard.specs.RowState.{ShardState}
+use Rattle.coco_worker.specs.Trying.{ends_of}
 use Rattle.coco_worker.specs.declared.slot.Slot.{Slot}
 use Rattle.coco_parallel.specs.Ending.{Start, beginning_of, execution_of}
 use Rattle.coco_parallel.specs.Epochs.{IsWorkedEpoch}
@@ -33,6 +35,14 @@ dones_of epoch requests ts = filter_map (λ (t : Tried). done_of epoch (slice_ge
 pub record AreLeft (ts : List Tried) (before after : List Request) : Type 0 where
   pub ids : map (λ (r : Request). r.id) after ≡ map (λ (r : Request). r.id) before
   pub others : (place : ℕ) → has_commit ts place ≡ false → slice_get after place ≡ slice_get before place
+
+-- the ends of those of the attempts that are at a place and didn't commit
+abbrev pub ends_at : ℕ → List Tried → List Ended
+ends_at place ts = ends_of (filter (λ (t : Tried). nat_eq t.place place) ts)
+
+-- for each place whether a script of it committed
+abbrev pub AreCommitted : Execution → List Bool → Type 0
+AreCommitted x flags = (place : ℕ) → place < length flags → slice_index_or flags place false ≡ is_committed x place
 
 -- The tail of these requests ran behind these commits and pieces, whichever map the shards' newest values are, at the
 -- times above each read time.

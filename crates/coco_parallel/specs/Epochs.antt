@@ -16,6 +16,10 @@ abbrev pub beginning_with : Procedures → Rows → List Request → List ShardS
 beginning_with procs opening requests shards config =
     record { procs = procs; opening = opening; requests = requests; partitions = length shards; workers = config.workers; attempts = config.attempts }
 
+-- and what of it those begin with who are started
+abbrev pub started_with : Procedures → Rows → List Request → List ShardState → EpochConfig → Beginning
+started_with procs opening requests shards config = record (beginning_with procs opening requests shards config) { workers = config.started }
+
 abbrev pub execution_with : List Journal → List Transcript → Execution
 execution_with journals transcripts = record { journals = journals; transcripts = transcripts }
 

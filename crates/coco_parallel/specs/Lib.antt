@@ -12,3 +12,4 @@ pub mod Epochs
 pub mod Ends
 pub mod PieceOrder
 pub mod Tails
+pub mod Traces

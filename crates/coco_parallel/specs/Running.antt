@@ -29,9 +29,9 @@ pub record IsDealt (trays : List (Vec ShardPass)) (worker : ℕ) (slot : Slot) :
 -- The shards are put behind locks, the passes go to the stations, these run and are done, each request was drawn once,
 -- the passes go back, and the locks are closed.
 pub record IsRun (s : Start) (locks : List Lock) (trays back : List (Vec ShardPass)) (before after : List Station) (journals : List Journal) (machines : List ShardState) : Type 0 where
-  pub some : 0 < s.config.workers
-  pub started : AreStarted s.config.workers s.shards locks trays
-  pub stations : length before ≡ s.config.workers
+  pub some : 0 < s.config.started
+  pub started : AreStarted s.config.started s.shards locks trays
+  pub stations : length before ≡ s.config.started
   pub still : length after ≡ length before
   pub dealt : (worker : ℕ) (d : Station) → worker < length before → IsDealt trays worker (slice_index_or before worker d).slot
   pub left : LeavesEach s.procs s.requests (length s.shards) s.config s.carries before after

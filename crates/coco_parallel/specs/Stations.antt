@@ -28,4 +28,3 @@ pub record IsCrew (requests workers : ℕ) (claims : Round) (seats back : Vec Dr
   pub scripts_room : HasRoom workers left.scripts
   pub transcripts_room : HasRoom workers left.transcripts
   pub pieces_room : HasRoom workers left.pieces
-  pub tails_room : HasRoom workers left.tails

@@ -1,28 +1,28 @@
--- What the workers of an epoch left to the tail.
-use Rattle.std.specs.Prelude.{◌≡◌, ℕ, ◌≤◌, false, List, [], length, map, Option, None, Some}
-use Rattle.std.specs.List.{AllByRecursion, flat_map, slice_get}
-use Rattle.coco_types.specs.Limits.{most_time}
+-- The tail of an execution: the requests that no attempt committed, each with the ends of the attempts at it.
+use Rattle.std.specs.Prelude.{◌≡◌, ◌≢◌, ℕ, suc, ◌<◌, ◌≤◌, ◌^◌, false, if◌then◌else◌, List, [], ◌∷◌, length, Some}
+use Rattle.std.specs.List.{AllByRecursion, slice_get}
+use Rattle.coco_types.specs.Limits.{most_batch_lines}
 use Rattle.coco_types.specs.declared.call.Request.{Request}
+use Rattle.coco_occ.specs.declared.outcome.Outcome.TheVariants.{OverTime}
 use Rattle.coco_occ.specs.declared.outcome.Tailed.{Tailed}
+use Rattle.coco_occ.specs.declared.outcome.Tried.{Tried}
 use Rattle.coco_order.specs.Conflicts.{HasConflicted, tried_at}
-use Rattle.coco_order.specs.Execution.{AreWorkedOff, Beginning, Execution, IsExecution, Transcript, Tries, all_tries, concat}
-use Rattle.coco_order.specs.OneKey.{Among}
+use Rattle.coco_order.specs.Execution.{Beginning, Execution, IsExecution, concat}
 use Rattle.coco_order.specs.Outcome.{is_committed}
-use Rattle.coco_worker.specs.Trying.{ends_of, time_of}
-use Rattle.coco_worker.specs.Working.{tailed}
+use Rattle.coco_worker.specs.Trying.{ends_of}
 
--- of tries that ended without a commit, the id of their request and the ends of all attempts at it, in order
-abbrev pub left_of : Option Request → Tries → List Tailed
-left_of None r = []
-left_of (Some request) r = tailed request.id (ends_of (all_tries r)) (time_of r.last.outcome)
+-- the id of a place's request, with the ends of the attempts at the place, in order
+abbrev pub entry_at : Execution → ℕ → Request → Tailed
+entry_at x place r = record { id = r.id; ends = ends_of (tried_at x place) }
 
--- Each request was worked off in one of the transcripts by its tries, and each worker's tail has those of its requests that
--- no attempt committed, in the order in which it worked them off, with the ends of their attempts in order.
-pub record HaveTails (b : Beginning) (transcripts : List Transcript) (tails : List (List Tailed)) : Type 0 where
-  pub worked_off : AreWorkedOff b transcripts
-  pub tails_are : tails ≡ map (flat_map (λ (r : Tries). left_of (slice_get b.requests r.place) r)) worked_off.tries
+-- those of the requests from a place on that no attempt committed, in input order
+abbrev pub tail_from : Execution → ℕ → List Request → List Tailed
+tail_from x place [] = []
+tail_from x place (r ∷ rs) = if is_committed x place then tail_from x (suc place) rs else entry_at x place r ∷ tail_from x (suc place) rs
 
--- ---- in every execution
+-- the tail is those of all requests
+abbrev pub IsTail : Beginning → Execution → List Tailed → Type 0
+IsTail b x tail = tail ≡ tail_from x 0 b.requests
 
 -- The request of a place at which no attempt committed, with the ends of the attempts at it in order. They are as many as
 -- are allowed, and each is a conflict that a journal shows.
@@ -31,14 +31,15 @@ pub record IsLeftOver (b : Beginning) (x : Execution) (d : Tailed) : Type 0 wher
   pub request : Request
   pub placed : slice_get b.requests place ≡ Some request
   pub none : is_committed x place ≡ false
-  pub is : d ≡ record { id = request.id; ends = ends_of (tried_at x place) }
+  pub is : d ≡ entry_at x place request
   pub conflicted : HasConflicted b x place
 
--- each entry of the tails is such a request, and each such request has an entry
-pub record AreLeftOver (b : Beginning) (x : Execution) (tails : List (List Tailed)) : Type 0 where
-  pub each : AllByRecursion (IsLeftOver b x) (concat tails)
-  pub all : (place : ℕ) (request : Request) → slice_get b.requests place ≡ Some request → is_committed x place ≡ false → Among (concat tails) (record { id = request.id; ends = ends_of (tried_at x place) })
+-- each entry of the tail is such a request, and no attempt was over time
+pub record AreLeftOver (b : Beginning) (x : Execution) (tail : List Tailed) : Type 0 where
+  pub each : AllByRecursion (IsLeftOver b x) tail
+  pub in_time : AllByRecursion (λ (t : Tried). t.outcome ≢ OverTime) (concat x.transcripts)
 
--- where the scripts are no more than the greatest time
+-- in every execution of an epoch's size: there are no more requests than an epoch may have, and the attempts at each fit a
+-- byte
 abbrev pub TailsAreLeft : Type 0
-TailsAreLeft = (b : Beginning) (x : Execution) (tails : List (List Tailed)) → IsExecution b x → HaveTails b x.transcripts tails → length (concat x.transcripts) ≤ most_time → AreLeftOver b x tails
+TailsAreLeft = (b : Beginning) (x : Execution) (tail : List Tailed) → IsExecution b x → IsTail b x tail → length b.requests ≤ most_batch_lines → b.attempts < 2 ^ 8 → AreLeftOver b x tail

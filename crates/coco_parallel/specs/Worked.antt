@@ -15,7 +15,6 @@ use Rattle.coco_epoch.specs.Shards.{shard_at}
 use Rattle.coco_journaled.specs.declared.entry.Entry.{Entry}
 use Rattle.coco_journaled.specs.Passes.{HasPasses, entries_of}
 use Rattle.coco_journaled.specs.Replay.{Replays}
-use Rattle.coco_occ.specs.declared.outcome.Tailed.{Tailed}
 use Rattle.coco_order.specs.Execution.{Journal, Transcript}
 use Rattle.coco_shard.specs.RowState.{ShardState, stable_at}
 use Rattle.coco_worker.specs.Working.{Job, IsWorkedOff, Worked, copied, scripts_of}
@@ -49,11 +48,11 @@ pub record PutsItsCommits (j : Job) (tables : ℕ) (journals : List CopyJournal)
   pub scripts : transcript ≡ scripts_of worked
   pub puts : (table : ℕ) → table < tables → map (λ (e : Entry CopyAsk CopyAnswer). e.ask) (entries_of j.worker (slice_index_or journals table [])) ≡ flat_map (copied j table) worked
 
--- the tables' journals have the puts of the workers' commits, and no others
-pub record HaveCommits (s : Start) (tables : ℕ) (journals : List CopyJournal) (transcripts : List Transcript) : Type 0 where
+-- the tables' journals have the puts of these workers' commits, and no others
+pub record HaveCommits (s : Start) (workers tables : ℕ) (journals : List CopyJournal) (transcripts : List Transcript) : Type 0 where
   pub count : length journals ≡ tables
-  pub puts : (worker : ℕ) → worker < s.config.workers → PutsItsCommits (job_of s worker) tables journals (slice_index_or transcripts worker [])
-  pub no_other : (table : ℕ) → table < tables → All (λ (e : Entry CopyAsk CopyAnswer). e.pass < s.config.workers) (slice_index_or journals table [])
+  pub puts : (worker : ℕ) → worker < workers → PutsItsCommits (job_of s worker) tables journals (slice_index_or transcripts worker [])
+  pub no_other : (table : ℕ) → table < tables → All (λ (e : Entry CopyAsk CopyAnswer). e.pass < workers) (slice_index_or journals table [])
 
 -- each of these tables is, behind its lock, what its journal makes of it
 pub record AreReplayed (tables : List CopyState) (journals : List CopyJournal) (copies : List CopyState) : Type 0 where
@@ -64,15 +63,14 @@ pub record AreReplayed (tables : List CopyState) (journals : List CopyJournal) (
 
 -- The workers have worked off all requests, the shards and the tables are as their locks left them, and what the
 -- workers kept is theirs.
-pub record HaveWorked (s : Start) (tables : List CopyState) (shards : List ShardState) (journals : List Journal) (copies : List CopyState) (copy_journals : List CopyJournal) (transcripts : List Transcript) (pieces : List (List Piece)) (tails : List (List Tailed)) : Type 0 where
+pub record HaveWorked (s : Start) (tables : List CopyState) (shards : List ShardState) (journals : List Journal) (copies : List CopyState) (copy_journals : List CopyJournal) (transcripts : List Transcript) (pieces : List (List Piece)) : Type 0 where
   pub slots : List Slot
   pub ended : HasEnded s slots journals shards
   pub copies_are : length copies ≡ length tables
-  pub commits : HaveCommits s (length tables) copy_journals transcripts
+  pub commits : HaveCommits s s.config.started (length tables) copy_journals transcripts
   pub copied : (table : ℕ) → table < length tables → IsCopied (table_at tables table) (copy_passes_at table slots) (slice_index_or copy_journals table []) (table_at copies table)
   pub transcripts_are : transcripts ≡ map (λ (slot : Slot). slot.transcript) slots
   pub pieces_are : pieces ≡ map (λ (slot : Slot). slot.pieces) slots
-  pub tails_are : tails ≡ map (λ (slot : Slot). slot.tail) slots
 
 -- ---- given up
 

@@ -1,17 +1,19 @@
 //! The end of an epoch: the Dones of its commits, and behind them the tail of the requests that no script committed.
 
-ghost use Rattle.std.specs.Prelude.{◌≡◌, ℕ, ◌<◌, ◌≤◌, ◌||◌, ◌++◌, ◌∷◌, [], List, false, length, map, nat_eq, slice_index_or, vec_len, IfOk, OnOk};
+ghost use Rattle.std.specs.Prelude.{◌≡◌, ◌<◌, ◌≤◌, ◌++◌, ◌∷◌, [], List, length, map, nat_eq, IfOk, OnOk};
 ghost use Rattle.std.specs.List.{IsDistinct};
 ghost use Rattle.coco_ast.specs.Keyed.{Rows};
-ghost use Rattle.coco_epoch.specs.Running.{AreAtTheirPlaces, FitAll, IsOver, requests_of};
+ghost use Rattle.coco_epoch.specs.Running.{FitAll, IsOver, requests_of};
 ghost use Rattle.coco_epoch.specs.Shards.{AreOfPartitions, AreQuietAfter, KeepStable};
 ghost use Rattle.coco_order.specs.Execution.{Journal, concat};
-ghost use Rattle.coco_order.specs.Outcome.{AreOnce, uncommitted};
-ghost use Rattle.coco_parallel.specs.Ends.{AreLeft, IsEnd, RanTail, dones_of, has_commit};
-ghost use Rattle.coco_parallel.specs.Epochs.{beginning_with, execution_with};
+ghost use Rattle.coco_order.specs.Outcome.{AreOnce};
+ghost use Rattle.coco_parallel.specs.Ends.{AreLeft, IsEnd, RanTail, dones_of};
+ghost use Rattle.coco_parallel.specs.Epochs.{execution_with, started_with};
 ghost use Rattle.coco_parallel.specs.Laws.{IsGreatestIn};
+ghost use Rattle.coco_parallel.specs.Tails.{tail_from};
 
 use crate::pieces::in_done_order;
+use crate::tail::{committed_places, tail_of, told_tail};
 use coco_ast::Checked;
 use coco_epoch::{PlacedRequest, Progress};
 use coco_occ::{Transcript, Tried};
@@ -19,12 +21,13 @@ use coco_order::ordered;
 use coco_shard::Shard;
 use coco_types::limits::{MOST_BATCH_LINES, MOST_PARTITIONS, MOST_TIME};
 use coco_types::{Args, Call, Done, Dones, NoMemory, Pieces, Request};
-use coco_worker::EpochConfig;
+use coco_worker::{EpochConfig, Tail};
 use std::alloc::Global;
 use std::mem;
 
 /// Runs the tail behind the commits of these transcripts, and puts all Dones in the order of commit, and all pieces in
-/// that of their Dones. The calls of the requests that committed go into their Dones.
+/// that of their Dones. The calls of the requests that committed go into their Dones. The tail is also told, in input
+/// order.
 pub(crate) fn end_epoch(
     alloc: Global,
     shards: &mut [Shard],
@@ -33,7 +36,7 @@ pub(crate) fn end_epoch(
     config: EpochConfig,
     transcripts: &[Transcript],
     lists: Vec<Pieces>,
-) -> Result<(Dones, Pieces), NoMemory>
+) -> Result<(Dones, Pieces, Tail), NoMemory>
     requires fit { FitAll procs.now requests.old }
     requires few { length requests.old ≤ MOST_BATCH_LINES }
     requires distinct { IsDistinct nat_eq (map (λ r. r.id) requests.old) }
@@ -43,9 +46,12 @@ pub(crate) fn end_epoch(
     requires partitions { AreOfPartitions shards.old }
     requires quiet { AreQuietAfter MOST_TIME shards.old }
     ensures end { IfOk result (λ r. (opening : Rows) (journals : List Journal) →
-        IsEnd (beginning_with procs.now opening requests.old shards.old config) config.epoch (execution_with journals transcripts.now) lists.items shards.old shards.new r.0 r.1) }
+        IsEnd (started_with procs.now opening requests.old shards.old config) config.epoch (execution_with journals transcripts.now) lists.items shards.old shards.new r.0 r.1) }
+    ensures tail { IfOk result (λ r. (journals : List Journal) → r.2 ≡ tail_from (execution_with journals transcripts.now) 0 requests.old) }
     ensures kept { KeepStable shards.old shards.new }
 {
+    let committed = committed_places(alloc, requests.len(), transcripts)?;
+    let told = told_tail(alloc, requests, committed.as_slice(), transcripts)?;
     let mut progress = Progress::start(alloc, config.epoch, requests.len())?;
     take_commits(
         alloc,
@@ -56,11 +62,15 @@ pub(crate) fn end_epoch(
     )?;
     progress.dones = ordered(progress.dones);
     progress.pieces = all_pieces(alloc, lists)?;
-    let tail = tail_of(alloc, requests, transcripts)?;
+    let tail = tail_of(alloc, requests, committed.as_slice())?;
     run_left(&mut progress, procs, shards, tail)?;
     let Progress { dones, pieces, .. } = progress;
     let pieces = in_done_order(pieces.into_vec(), requests);
-    Ok((Dones::from_vec(ordered(dones)), Pieces::from_vec(pieces)))
+    Ok((
+        Dones::from_vec(ordered(dones)),
+        Pieces::from_vec(pieces),
+        told,
+    ))
 }
 
 // Adds the Dones of the scripts that committed, in the order of the transcripts, with the calls of their requests.
@@ -134,76 +144,6 @@ fn no_call(alloc: Global) -> Call {
         proc_no: 0,
         snapshot: false,
         args: Args::new(alloc),
-    }
-}
-
-// The requests that no script committed, with their places, in input order.
-fn tail_of(
-    alloc: Global,
-    requests: &[Request],
-    transcripts: &[Transcript],
-) -> Result<Vec<PlacedRequest>, NoMemory>
-    requires few { length requests.now ≤ MOST_BATCH_LINES }
-    requires distinct { IsDistinct nat_eq (map (λ r. r.id) requests.now) }
-    ensures requests { IfOk result (λ tail. (journals : List Journal) → requests_of tail.items ≡ uncommitted (execution_with journals transcripts.now) 0 requests.now) }
-    ensures places { IfOk result (λ tail. AreAtTheirPlaces requests.now tail.items) }
-{
-    let committed = committed_places(alloc, requests.len(), transcripts)?;
-    let mut tail = Vec::new(alloc);
-    for place in 0..requests.len() {
-        if !committed[place] {
-            tail.push(placed(requests, place)?)?;
-        }
-    }
-    Ok(tail)
-}
-
-// The request of a place.
-fn placed(requests: &[Request], place: usize) -> Result<PlacedRequest, NoMemory>
-    requires within { place < length requests.now }
-    requires few { length requests.now ≤ MOST_BATCH_LINES }
-    ensures place { IfOk result (λ p. p.place ≡ place) }
-    ensures request { IfOk result (λ p. p.request ≡ slice_index_or requests.now place p.request) }
-{
-    let request = &requests[place];
-    Ok(PlacedRequest {
-        place: place as u32,
-        request: Request {
-            id: request.id,
-            call: request.call.try_clone()?,
-        },
-    })
-}
-
-// For each of so many places whether a script of it committed.
-fn committed_places(
-    alloc: Global,
-    count: usize,
-    transcripts: &[Transcript],
-) -> Result<Vec<bool>, NoMemory>
-    ensures count { IfOk result (λ places. vec_len places ≡ count) }
-    ensures each { IfOk result (λ places. (place : ℕ) → place < count → slice_index_or places.items place false ≡ has_commit (concat transcripts.now) place) }
-{
-    let mut places = Vec::with_capacity(alloc, count)?;
-    for _ in 0..count {
-        places.push_reserved(false);
-    }
-    for transcript in transcripts {
-        mark(transcript.as_slice(), places.as_mut_slice());
-    }
-    Ok(places)
-}
-
-// Marks the places of the scripts that committed.
-fn mark(tried: &[Tried], places: &mut [bool])
-    ensures count { length places.new ≡ length places.old }
-    ensures each { (place : ℕ) → place < length places.old → slice_index_or places.new place false ≡ (slice_index_or places.old place false || has_commit tried.now place) }
-{
-    for script in tried {
-        let place = script.place as usize;
-        if script.outcome.commit().is_some() && place < places.len() {
-            places[place] = true;
-        }
     }
 }
 

@@ -10,7 +10,7 @@ ghost use Rattle.coco_parallel.specs.Tails.{TailsAreLeft};
 use coco_order::laws::{
     closed_journals_are_lawful, commits_are_once, commits_are_serial, marks_are_own,
     outcomes_are_epochs, outcomes_are_serial, reads_are_few, scripts_are_few, tail_writes_are_runs,
-    tails_conflicted, times_are_few, tries_are_scripts, writes_are_runs,
+    tails_conflicted, times_are_few, writes_are_runs,
 };
 
 /// What the workers tried and what the locks of the shards closed with is an execution, and the shards have the rows
@@ -76,11 +76,12 @@ pub fn ends_are_serial()
     pieces_are_of_dones();
 }
 
-/// In every execution the tails of the workers are the requests that no attempt committed, each with the ends of as many
-/// attempts as are allowed, and each of these ends is a conflict that a journal shows.
+/// In every execution of an epoch's size each entry of the tail is a request that no attempt committed, with the ends of
+/// as many attempts as are allowed, each of them a conflict that a journal shows; and no attempt is over time.
 pub fn tails_are_left()
     ensures { TailsAreLeft }
 {
     tails_conflicted();
-    tries_are_scripts();
+    scripts_are_few();
+    times_are_few();
 }

@@ -11,4 +11,6 @@ pub mod rooms;
 pub mod rows;
 pub mod side_by_side;
 pub mod stations;
+mod tail;
+pub mod trace;
 pub mod workers;

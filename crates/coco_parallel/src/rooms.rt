@@ -2,6 +2,7 @@
 
 ghost use Rattle.std.specs.Prelude.{◌≡◌, vec_len};
 
+use crate::trace::Trace;
 use coco_copy::CopyTable;
 use coco_journaled::{Journal, Room};
 use coco_occ::{ScriptRooms, Transcript};
@@ -9,6 +10,9 @@ use coco_packs::Packs;
 use coco_shard::Shard;
 use std::alloc::Global;
 use std::{mem, vec};
+
+// Some 6 MB; few epochs need more, and none that follows has to hold it.
+const MOST_KEPT_ENTRIES: usize = 65_536;
 
 /// The rooms of an epoch's locks and of its workers' transcripts, which the next epoch's begin with. Locks take theirs
 /// from the end, so the last lock's stands first; workers take theirs in order.
@@ -37,17 +41,12 @@ impl Rooms {
         }
     }
 
-    /// Keeps the transcripts of an epoch that is read and the journals, these with the lists that the locks left. Out of
-    /// memory, journals and lists are let go.
-    pub fn keep(
-        &mut self,
-        journals: Vec<Journal<Shard>>,
-        copy_journals: Vec<Journal<CopyTable>>,
-        transcripts: Vec<Transcript>,
-    ) {
-        keep_all(&mut self.shards, journals, &mut self.shard_lists);
+    /// Keeps the transcripts of an epoch that is read and the journals, these with the lists that the locks left. A
+    /// journal of more than 65,536 entries is let go, as are journals and lists out of memory.
+    pub fn keep(&mut self, trace: Trace, copy_journals: Vec<Journal<CopyTable>>) {
+        keep_all(&mut self.shards, trace.journals, &mut self.shard_lists);
         keep_all(&mut self.copies, copy_journals, &mut self.copy_lists);
-        self.transcripts = transcripts;
+        self.transcripts = trace.transcripts;
     }
 
     /// How many rooms there are for the locks of shards, and how many for those of copies.
@@ -68,7 +67,7 @@ impl Rooms {
     }
 }
 
-// Makes a room of each journal with its lists, the last one first.
+// Makes a room of each journal with its lists, the last one first, but for one whose room would be held for nothing.
 fn keep_all<M: Packs + Drop>(
     rooms: &mut Vec<Room<M>>,
     mut journals: Vec<Journal<M>>,
@@ -78,6 +77,8 @@ fn keep_all<M: Packs + Drop>(
         let Some(lists) = all_lists.pop() else {
             return;
         };
-        let _ = rooms.push(Room { journal, lists });
+        if journal.len() <= MOST_KEPT_ENTRIES {
+            let _ = rooms.push(Room { journal, lists });
+        }
     }
 }

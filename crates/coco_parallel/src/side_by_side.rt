@@ -28,7 +28,7 @@ use coco_order::laws::closed_journals_are_lawful;
 use coco_shard::Shard;
 use coco_types::limits::{MOST_BATCH_LINES, MOST_PARTITIONS};
 use coco_types::{NoMemory, Pieces, Request};
-use coco_worker::{EpochConfig, Tail};
+use coco_worker::EpochConfig;
 use std::alloc::Global;
 use std::sync::Wait;
 use std::thread::Threads;
@@ -42,7 +42,6 @@ pub struct Worked {
     pub copy_journals: Vec<Journal<CopyTable>>,
     pub transcripts: Vec<Transcript>,
     pub pieces: Vec<Pieces>,
-    pub tails: Vec<Tail>,
 }
 
 /// The shards and the copies of an epoch for which there was no memory.
@@ -71,8 +70,9 @@ struct Crew {
     left: Left,
 }
 
-/// Lets workers work off the requests of an epoch side by side, each in a thread of its own. The copies begin the
-/// epoch. Out of memory, the shards are as they were handed in, and so are the copies but for what pended in them.
+/// Lets the workers that are started work off the requests of an epoch side by side, each in a thread of its own. The
+/// copies begin the epoch. Out of memory, the shards are as they were handed in, and so are the copies but for what
+/// pended in them.
 pub fn run_workers<R: Threads + Wait + Sync, G: Gate + Sync, N: Net + Sync>(
     rt: &R,
     alloc: Global,
@@ -89,19 +89,19 @@ pub fn run_workers<R: Threads + Wait + Sync, G: Gate + Sync, N: Net + Sync>(
     requires most { length shards.items ≤ MOST_PARTITIONS }
     requires tables { length copies.items ≡ length shards.items * config.copies }
     requires settled { AreSettled shards.items }
-    requires workers { 0 < config.workers }
+    requires workers { 0 < config.started }
     requires attempts { 0 < config.attempts }
     requires nodes { 0 < config.nodes }
     requires few { length requests.now ≤ MOST_BATCH_LINES }
     requires fit { AllByRecursion (λ r. Fits procs.now r.call) requests.now }
     ensures worked { IfOk result (λ w. (opening : Rows) →
         HaveWorked (start_of procs.now opening requests.now shards.items config (N.carries net.now)) (begun_all config.epoch copies.items)
-        w.shards.items w.journals.items w.copies.items w.copy_journals.items w.transcripts.items w.pieces.items w.tails.items) }
+        w.shards.items w.journals.items w.copies.items w.copy_journals.items w.transcripts.items w.pieces.items) }
     ensures shards { IfErr result (λ refused. refused.shards.items ≡ shards.items) }
     ensures copies { IfErr result (λ refused. refused.copies.items ≡ begun_all config.epoch copies.items) }
 {
     begin_all(copies.as_mut_slice(), config.epoch);
-    let workers = config.workers as u32;
+    let workers = config.started as u32;
     let Ok(crew) = Crew::of(alloc, requests.len() as u32, workers) else {
         return Err(taken_back(shards, copies));
     };
@@ -132,22 +132,22 @@ fn run_crew<R: Threads + Wait + Sync, G: Gate + Sync, N: Net + Sync>(
     net: &N,
     rooms: &mut Rooms,
 ) -> (Worked, bool)
-    requires shards { (machines : List ShardState) × IsOpen config.workers machines desks.shards.locks desks.shards.trays desks.shards.back desks.shards.ended.machines desks.shards.ended.journals desks.rows.items }
-    requires copies { (tables : List CopyState) × IsOpen config.workers tables desks.copies.locks desks.copies.trays desks.copies.back desks.copies.ended.machines desks.copies.ended.journals desks.copy_rows.items }
-    requires crew { IsCrew (length requests.now) config.workers crew.claims crew.seats crew.back crew.stations crew.left }
+    requires shards { (machines : List ShardState) × IsOpen config.started machines desks.shards.locks desks.shards.trays desks.shards.back desks.shards.ended.machines desks.shards.ended.journals desks.rows.items }
+    requires copies { (tables : List CopyState) × IsOpen config.started tables desks.copies.locks desks.copies.trays desks.copies.back desks.copies.ended.machines desks.copies.ended.journals desks.copy_rows.items }
+    requires crew { IsCrew (length requests.now) config.started crew.claims crew.seats crew.back crew.stations crew.left }
     requires some { 0 < length desks.shards.locks.items }
     requires most { length desks.shards.locks.items ≤ MOST_PARTITIONS }
     requires tables { length desks.copies.locks.items ≡ length desks.shards.locks.items * config.copies }
-    requires workers { 0 < config.workers }
+    requires workers { 0 < config.started }
     requires attempts { 0 < config.attempts }
     requires nodes { 0 < config.nodes }
     requires fit { AllByRecursion (λ r. Fits procs.now r.call) requests.now }
-    ensures worked { (machines : List ShardState) (tables : List CopyState) → AreDealt config.workers machines desks.shards.locks.items desks.rows.items → AreDealt config.workers tables desks.copies.locks.items desks.copy_rows.items
+    ensures worked { (machines : List ShardState) (tables : List CopyState) → AreDealt config.started machines desks.shards.locks.items desks.rows.items → AreDealt config.started tables desks.copies.locks.items desks.copy_rows.items
         → result.1 ≡ true → (opening : Rows) →
         HaveWorked (start_of procs.now opening requests.now machines config (N.carries net.now)) tables
-        result.0.shards.items result.0.journals.items result.0.copies.items result.0.copy_journals.items result.0.transcripts.items result.0.pieces.items result.0.tails.items }
-    ensures shards { (machines : List ShardState) → AreDealt config.workers machines desks.shards.locks.items desks.rows.items → AreSettled machines → KeepValues machines result.0.shards.items }
-    ensures copies { (tables : List CopyState) → AreDealt config.workers tables desks.copies.locks.items desks.copy_rows.items → emptied result.0.copies.items ≡ emptied tables }
+        result.0.shards.items result.0.journals.items result.0.copies.items result.0.copy_journals.items result.0.transcripts.items result.0.pieces.items }
+    ensures shards { (machines : List ShardState) → AreDealt config.started machines desks.shards.locks.items desks.rows.items → AreSettled machines → KeepValues machines result.0.shards.items }
+    ensures copies { (tables : List CopyState) → AreDealt config.started tables desks.copies.locks.items desks.copy_rows.items → emptied result.0.copies.items ≡ emptied tables }
 {
     let Desks {
         mut shards,
@@ -198,13 +198,12 @@ fn worked_of(
     left: Left,
     rooms: &mut Rooms,
 ) -> Worked
-    ensures { result ≡ record { shards = shards.machines; journals = shards.journals; copies = copies.machines; copy_journals = copies.journals; transcripts = left.transcripts; pieces = left.pieces; tails = left.tails } }
+    ensures { result ≡ record { shards = shards.machines; journals = shards.journals; copies = copies.machines; copy_journals = copies.journals; transcripts = left.transcripts; pieces = left.pieces } }
 {
     let Left {
         scripts,
         transcripts,
         pieces,
-        tails,
     } = left;
     rooms.scripts = scripts;
     rooms.shard_lists = shards.lists;
@@ -216,7 +215,6 @@ fn worked_of(
         copy_journals: copies.journals,
         transcripts,
         pieces,
-        tails,
     }
 }
 
@@ -233,7 +231,6 @@ impl Crew {
             scripts: Vec::with_capacity(alloc, count)?,
             transcripts: Vec::with_capacity(alloc, count)?,
             pieces: Vec::with_capacity(alloc, count)?,
-            tails: Vec::with_capacity(alloc, count)?,
         };
         Ok(Crew {
             claims,

@@ -23,7 +23,6 @@ pub struct Left {
     pub scripts: Vec<ScriptRooms>,
     pub transcripts: Vec<Transcript>,
     pub pieces: Vec<Pieces>,
-    pub tails: Vec<Tail>,
 }
 
 /// A station for each worker, with its rows and its seat, and with the rooms that were kept for it. There is room for
@@ -127,13 +126,11 @@ pub fn dismiss(
     requires scripts { HasRoom (vec_len stations) left.old.scripts }
     requires transcripts { HasRoom (vec_len stations) left.old.transcripts }
     requires pieces { HasRoom (vec_len stations) left.old.pieces }
-    requires tails { HasRoom (vec_len stations) left.old.tails }
     ensures rows { rows.new.items ≡ map (λ (s : Manned). s.slot.passes) stations.items }
     ensures copy_rows { copy_rows.new.items ≡ map (λ (s : Manned). s.slot.copy_passes) stations.items }
     ensures seats { seats.new.items ≡ map (λ (s : Manned). s.slot.seat) stations.items }
     ensures transcripts { left.new.transcripts.items ≡ map (λ (s : Manned). s.slot.transcript) stations.items }
     ensures pieces { left.new.pieces.items ≡ map (λ (s : Manned). s.slot.pieces) stations.items }
-    ensures tails { left.new.tails.items ≡ map (λ (s : Manned). s.slot.tail) stations.items }
 {
     for station in stations {
         let Station { slot, is_done: _ } = station;
@@ -145,7 +142,7 @@ pub fn dismiss(
             rooms,
             transcript,
             pieces,
-            tail,
+            tail: _,
         } = slot;
         rows.push_reserved(passes);
         copy_rows.push_reserved(copy_passes);
@@ -153,6 +150,5 @@ pub fn dismiss(
         left.scripts.push_reserved(rooms);
         left.transcripts.push_reserved(transcript);
         left.pieces.push_reserved(pieces);
-        left.tails.push_reserved(tail);
     }
 }

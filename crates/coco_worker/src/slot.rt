@@ -7,12 +7,13 @@ use coco_occ::{ScriptRooms, Tailed, Transcript};
 use coco_shard::Shard;
 use coco_types::{Pieces, Sequence};
 
-/// The number of an epoch, its workers and how often they may try a request, and how many nodes there are and copies
-/// of each partition.
+/// The number of an epoch, how many workers it may have and how many of these are started, how often they may try a
+/// request, and how many nodes there are and copies of each partition.
 #[derive(Clone, Copy, Debug, PartialEq, Eq)]
 pub struct EpochConfig {
     pub epoch: u64,
     pub workers: u8,
+    pub started: u8,
     pub attempts: u8,
     pub nodes: u8,
     pub copies: u8,

@@ -27,19 +27,19 @@ returns-in-Err-clause-copies g c =
 
 pub run_crew-worked-requires-clause-some : goal.run_crew-worked-requires-clause-some
 run_crew-worked-requires-clause-some g c κs within =
-    let many = (as_many_started c.args.config.workers c.args.shards.items c.in-Ok-open_both.desks.shards.locks.items c.in-Ok-open_both.ensures.shards.dealt.trays c.in-Ok-open_both.ensures.shards.dealt.started).0 in
+    let many = (as_many_started c.args.config.started c.args.shards.items c.in-Ok-open_both.desks.shards.locks.items c.in-Ok-open_both.ensures.shards.dealt.trays c.in-Ok-open_both.ensures.shards.dealt.started).0 in
     let some = c.requires.some in
     omega (arith, many, some)
 
 pub run_crew-worked-requires-clause-most : goal.run_crew-worked-requires-clause-most
 run_crew-worked-requires-clause-most g c κs within =
-    let many = (as_many_started c.args.config.workers c.args.shards.items c.in-Ok-open_both.desks.shards.locks.items c.in-Ok-open_both.ensures.shards.dealt.trays c.in-Ok-open_both.ensures.shards.dealt.started).0 in
+    let many = (as_many_started c.args.config.started c.args.shards.items c.in-Ok-open_both.desks.shards.locks.items c.in-Ok-open_both.ensures.shards.dealt.trays c.in-Ok-open_both.ensures.shards.dealt.started).0 in
     subst (λ n. n ≤ MOST_PARTITIONS) (sym many) c.requires.most
 
 pub run_crew-worked-requires-clause-tables : goal.run_crew-worked-requires-clause-tables
 run_crew-worked-requires-clause-tables g c κs within =
-    let many = (as_many_started c.args.config.workers c.args.shards.items c.in-Ok-open_both.desks.shards.locks.items c.in-Ok-open_both.ensures.shards.dealt.trays c.in-Ok-open_both.ensures.shards.dealt.started).0 in
-    let copies = (as_many_started c.args.config.workers _ c.in-Ok-open_both.desks.copies.locks.items c.in-Ok-open_both.ensures.copies.dealt.trays c.in-Ok-open_both.ensures.copies.dealt.started).0 in
+    let many = (as_many_started c.args.config.started c.args.shards.items c.in-Ok-open_both.desks.shards.locks.items c.in-Ok-open_both.ensures.shards.dealt.trays c.in-Ok-open_both.ensures.shards.dealt.started).0 in
+    let copies = (as_many_started c.args.config.started _ c.in-Ok-open_both.desks.copies.locks.items c.in-Ok-open_both.ensures.copies.dealt.trays c.in-Ok-open_both.ensures.copies.dealt.started).0 in
     let begun_count = ap length (begun_back c.args.config.epoch c.args.copies.len c.args.copies.items c.as_mut_slice.result.now c.begin_all.new.copies (drop (length c.begin_all.new.copies) c.args.copies.items) c.args.copies.ok.0 c.as_mut_slice.ensures.value c.begin_all.ensures) in
     let each = length-map c.args.copies.items (λ (t : CopyState). begun c.args.config.epoch t.stable) in
     let tables = c.requires.tables in
@@ -48,7 +48,7 @@ run_crew-worked-requires-clause-tables g c κs within =
 pub returns-then-done-clause-worked : goal.returns-then-done-clause-worked
 returns-then-done-clause-worked g c =
     λ opening.
-    subst (λ ts. HaveWorked (start_of c.args.procs.now opening c.args.requests.now c.args.shards.items c.args.config (g.N.Net.carries c.args.net.now)) ts c.run_crew-worked.result.0.shards.items c.run_crew-worked.result.0.journals.items c.run_crew-worked.result.0.copies.items c.run_crew-worked.result.0.copy_journals.items c.run_crew-worked.result.0.transcripts.items c.run_crew-worked.result.0.pieces.items c.run_crew-worked.result.0.tails.items)
+    subst (λ ts. HaveWorked (start_of c.args.procs.now opening c.args.requests.now c.args.shards.items c.args.config (g.N.Net.carries c.args.net.now)) ts c.run_crew-worked.result.0.shards.items c.run_crew-worked.result.0.journals.items c.run_crew-worked.result.0.copies.items c.run_crew-worked.result.0.copy_journals.items c.run_crew-worked.result.0.transcripts.items c.run_crew-worked.result.0.pieces.items)
     (begun_back c.args.config.epoch c.args.copies.len c.args.copies.items c.as_mut_slice.result.now c.begin_all.new.copies (drop (length c.begin_all.new.copies) c.args.copies.items) c.args.copies.ok.0 c.as_mut_slice.ensures.value c.begin_all.ensures)
     (c.run_crew-worked.ensures.worked c.args.shards.items _ c.in-Ok-open_both.ensures.shards.dealt c.in-Ok-open_both.ensures.copies.dealt c.if-done.true opening)
 

@@ -10,12 +10,10 @@ invariant-loop-station l = record {
   seats : l.seats.items ++ map (λ (s : Station). s.slot.seat) l.station-iterator.rest.items ≡ map (λ (s : Station). s.slot.seat) l.fn.stations.items;
   transcripts : l.left.transcripts.items ++ map (λ (s : Station). s.slot.transcript) l.station-iterator.rest.items ≡ map (λ (s : Station). s.slot.transcript) l.fn.stations.items;
   pieces : l.left.pieces.items ++ map (λ (s : Station). s.slot.pieces) l.station-iterator.rest.items ≡ map (λ (s : Station). s.slot.pieces) l.fn.stations.items;
-  tails : l.left.tails.items ++ map (λ (s : Station). s.slot.tail) l.station-iterator.rest.items ≡ map (λ (s : Station). s.slot.tail) l.fn.stations.items;
   rows_room : vec_len l.rows + length l.station-iterator.rest.items ≤ vec_capacity l.rows;
   copy_rows_room : vec_len l.copy_rows + length l.station-iterator.rest.items ≤ vec_capacity l.copy_rows;
   seats_room : vec_len l.seats + length l.station-iterator.rest.items ≤ vec_capacity l.seats;
   scripts_room : vec_len l.left.scripts + length l.station-iterator.rest.items ≤ vec_capacity l.left.scripts;
   transcripts_room : vec_len l.left.transcripts + length l.station-iterator.rest.items ≤ vec_capacity l.left.transcripts;
   pieces_room : vec_len l.left.pieces + length l.station-iterator.rest.items ≤ vec_capacity l.left.pieces;
-  tails_room : vec_len l.left.tails + length l.station-iterator.rest.items ≤ vec_capacity l.left.tails;
 }

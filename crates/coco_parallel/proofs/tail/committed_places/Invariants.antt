@@ -1,7 +1,7 @@
 use Rattle.std.proofs.Common.{◌≡◌, ◌<◌, ℕ, false, All, take, slice_index_or, vec_len, vec_capacity}
 use Rattle.coco_order.specs.Execution.{concat}
 use Rattle.coco_parallel.specs.Ends.{has_commit}
-use Rattle.coco_parallel.proofs.ends.committed_places.Given as goal
+use Rattle.coco_parallel.proofs.tail.committed_places.Given as goal
 
 abbrev pub invariant-loop : goal.invariant-loop
 invariant-loop l = record {

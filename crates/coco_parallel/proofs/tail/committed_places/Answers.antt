@@ -3,7 +3,7 @@ use Rattle.coco_order.specs.Execution.{concat}
 use Rattle.coco_parallel.specs.Ends.{has_commit}
 use Rattle.coco_parallel.proofs.DeskLemmas.{written_back}
 use Rattle.coco_parallel.proofs.EndsLemmas.{commit_append, concat_more}
-use Rattle.coco_parallel.proofs.ends.committed_places.Goals as goal
+use Rattle.coco_parallel.proofs.tail.committed_places.Goals as goal
 
 pub loop-transcript-preserved : goal.loop-transcript-preserved
 loop-transcript-preserved c =
