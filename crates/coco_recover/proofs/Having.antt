@@ -85,6 +85,7 @@ same_had law keep c d store same has =
       map = λ rows. law d store.shards.items store.copies.items rows tables;
       primaries = λ rows. one_map_held d store.shards.items store.copies.items (law d store.shards.items store.copies.items rows tables);
       next = subst (λ (l : List ℕ). IsNextTo l store.next_epoch) (same_epochs c d same) has.next;
+      epochs = has.epochs ∙ ap commit_epochs same.commits;
       base = has.base ∙ ap base_values same.base;
       place = has.place ∙ ap place_behind same.earlier;
     }
@@ -100,6 +101,7 @@ opened_of last committed loaded based logs = record {
   copies = loaded.tables.copies;
   logs = logs;
   next_epoch = loaded.next;
+  epochs = committed.epochs;
   keep = last.entry.keep;
   base = based.rows;
   base_file = last.entry.base_file;
@@ -126,6 +128,7 @@ module _ (read : AllIsRead) (tables : TablesHoldTheMap) (history : KeptAreTheHis
         primaries = λ have. one_map_held c loaded.tables.shards.items loaded.tables.copies.items (tables c loaded.tables.shards.items loaded.tables.copies.items have held);
         next = subst (λ (l : List ℕ). IsNextTo (behind ++ l) loaded.next)
             (each ∙ ap (λ (n : ℕ). flat_map (λ m. prepared_epochs (c.prepared m)) (range_with_len 0 n)) all) holds.next;
+        epochs = are.remembered.epochs;
         base = rows.values ∙ ap base_values (sym one_base);
         place = place;
       }

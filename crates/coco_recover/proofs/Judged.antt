@@ -10,7 +10,7 @@ use Rattle.coco_recover.specs.Refusal.{refusal_of}
 
 module _ {E : Type 0} (rules : EntryRules E) (before : List E) (body : List ℕ) (after : List E) where
   -- it can't be read
-  pub unread : (fault : EntryFault) → Answers {A = E} (Err fault) (rules.read body) → ((at : ℕ) → IsFaultAt at (rules.read body) → at ≤ length body)
+  pub unread : (fault : EntryFault) → Answers {A = E} (Err fault) (rules.read before body) → ((at : ℕ) → IsFaultAt at (rules.read before body) → at ≤ length body)
       → Takes rules before body (refusal_of fault) after
   unread (faults.Bad at) reads within = record { within = within at reads; why = inl reads }
   unread faults.NoMemory reads within = tt

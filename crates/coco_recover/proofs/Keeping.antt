@@ -4,7 +4,7 @@ use Rattle.std.specs.List.{AllByRecursion, IsDistinct, flat_map}
 use Rattle.coco_types.specs.Limits.{most_batch_lines, most_kept}
 use Rattle.coco_types.specs.declared.call.Done.{Done}
 use Rattle.coco_ast.specs.Fitting.{Fits}
-use Rattle.coco_ast.specs.History.{floor_of, is_held}
+use Rattle.coco_ast.specs.History.{IsBefore, IsRising, floor_of, is_held}
 use Rattle.coco_ast.proofs.Lists.{all_append, all_both, all_from_map, all_map, all_weaker, filter_all}
 use Rattle.coco_bytes.specs.Lists.{FitInTurn}
 use Rattle.coco_entry.specs.declared.commit.Commit.{Commit}
@@ -74,10 +74,24 @@ all_good of_base of_commits s base commits each_base each =
     let follows = of_commits s (whole added) None base before x each_base behind next (holds_whole added) in (follows.0.once, follows.1))
     [] commits tt each (subst Good (sym (append-nil (kept_dones base))) first)
 
--- ---- calls that fit, and not too many
+-- ---- in order
+
+rising_more : (ds : List Done) (d : Done) → IsRising ds → AllByRecursion (λ x. IsBefore x d) ds → IsRising (ds ++ d ∷ [])
+rising_more [] d rising all = (tt, tt)
+rising_more (x ∷ ds) d rising all = (all_append (λ (e : Done). IsBefore x e) ds (d ∷ []) rising.0 (all.0, tt), rising_more ds d rising.1 all.1)
+
+filter_rising : (p : Done → Bool) (xs : List Done) → IsRising xs → IsRising (filter p xs)
+filter_rising p [] rising = rising
+filter_rising p (x ∷ xs) rising = elim (p x) as (λ b. IsRising (cond b (x ∷ filter p xs) (filter p xs))) [
+  | true ↦ (filter_keeps (λ (e : Done). IsBefore x e) p xs rising.0, filter_rising p xs rising.1)
+  | false ↦ filter_rising p xs rising.1
+]
+
+-- ---- calls that fit, in order, and not too many
 
 pub record IsBounded (s : Setting) (ds : List Done) : Type 0 where
   pub fit : AllByRecursion (λ d. Fits s.tree d.call) ds
+  pub rising : IsRising ds
   pub few : AreFew most_batch_lines ds
   pub room : s.entry.keep ≡ None → length ds ≤ most_kept
 
@@ -89,6 +103,7 @@ module _ (s : Setting) where
   one_bounded : (ds : List Done) (d : Done) → IsBounded s ds → IsNextDone s ds d → IsBounded s (ds ++ d ∷ [])
   one_bounded ds d was next = record {
     fit = all_append (λ (x : Done). Fits s.tree x.call) ds (d ∷ []) was.fit (next.fits, tt);
+    rising = rising_more ds d was.rising next.rises;
     few = few_more most_batch_lines ds d was.few next.few;
     room = room_more s.entry.keep ds d next.room;
   }
@@ -100,7 +115,7 @@ module _ (s : Setting) where
 
   all_bounded : (base : List BaseEntry) (commits : List Commit) → EachBehind (IsNextBase s) [] base → EachBehind (IsNextCommit s base) [] commits → IsBounded s (kept_dones base ++ dones_in commits)
   all_bounded base commits each_base each =
-      let none : IsBounded s [] = record { fit = tt; few = λ e. omega arith; room = λ _. omega arith } in
+      let none : IsBounded s [] = record { fit = tt; rising = tt; few = λ e. omega arith; room = λ _. omega arith } in
       let first : IsBounded s (kept_dones base) = base_so s (IsBounded s)
       (λ before x _ next was. more_bounded (IsKeptDone s) (λ _ _ is. is.next) (kept_dones before) (dones_of x) next.dones was) [] base tt each_base none in
       commits_so s (IsBounded s) base
@@ -114,7 +129,7 @@ module _ {A : Type 0} (Rule : List A → A → Type 0) (P : A → Type 0) (weake
   each_all before [] each = tt
   each_all before (x ∷ xs) each = (weaker before x each.0, each_all (before ++ x ∷ []) xs each.1)
 
-flat_all : {A B : Type 0} (P : B → Type 0) (f : A → List B) (xs : List A) → AllByRecursion (λ x. AllByRecursion P (f x)) xs → AllByRecursion P (flat_map f xs)
+pub flat_all : {A B : Type 0} (P : B → Type 0) (f : A → List B) (xs : List A) → AllByRecursion (λ x. AllByRecursion P (f x)) xs → AllByRecursion P (flat_map f xs)
 flat_all P f [] all = tt
 flat_all P f (x ∷ xs) all = all_append P (f x) (flat_map f xs) all.0 (flat_all P f xs all.1)
 
@@ -176,6 +191,7 @@ module _ (of_base : BaseDonesFollow) (of_commits : CommittedDonesFollow) (s : Se
         rising = good.1;
         below = below_all s base commits next are.base are.are first epochs;
         few = bounded.few;
+        in_order = subst IsRising (sym are.kept.kept) (filter_rising is_kept added bounded.rising);
         once = subst HasDistinctIds (sym are.kept.kept) (filter_once is_kept added good.0);
         fit = subst (AllByRecursion (λ (d : Done). Fits s.tree d.call)) (sym are.kept.kept) (filter_keeps (λ (d : Done). Fits s.tree d.call) is_kept added bounded.fit);
       }

@@ -26,7 +26,7 @@ use Rattle.coco_recover.specs.Bases.{base_rules}
 use Rattle.coco_recover.specs.Commits.{commit_rules}
 use Rattle.coco_recover.specs.Layouts.{layout_rules, setting_of}
 use Rattle.coco_recover.specs.Nodes.{IsLoaded, node_rules, nodes_of}
-use Rattle.coco_recover.specs.Readings.{base_reads, commit_reads, layout_reads, prepared_reads}
+use Rattle.coco_recover.specs.Readings.{base_stands, commit_reads, layout_reads, prepared_reads}
 use Rattle.coco_recover.specs.Steps.{HoldsEntries, HoldsLast, IsLeft, IsRead}
 use Rattle.coco_recover.specs.Without.{AreOthersHeld, AreOthersRead, ArePartsOf, BehindGatesButForANode, GoodStoresAreButForANode, HasParts, HoldsBut, IsGoodBut, IsHistoryRefusal, IsLogBut, OneRefusalButForANode, RefusedButForANodeIsNone, RestsBut, StoresAreButForANode, base_refused, before_nodes, commits_refused, in_other, layouts_refused}
 use Rattle.coco_recover.specs.declared.commits.Committed.{Committed}
@@ -58,7 +58,7 @@ no_layouts earlier s file at h first =
           (each_of_all IsGoodLayout [] all (all_append IsGoodLayout earlier (s.entry ∷ []) h.each (last, tt)));
       whole = behind s.entry earlier s.entry;
     } in
-    not_refused layout_rules layout_reads 0 all file at is first
+    not_refused layout_rules (λ _. layout_reads) 0 all file at is first
 
 no_base : (s : Setting) (entries : List BaseEntry) (file : List ℕ) (at : ℕ) → AreBase entries file → IsBase s entries → IsFirstIn (base_rules s) 3 file at → ⊥
 no_base s entries file at are h first =
@@ -67,7 +67,7 @@ no_base s entries file at are h first =
       keep = each_kept (IsNextBase s) (BaseBreaks s) (base_keeps s) [] entries h.each;
       whole = λ broken. broken h.whole;
     } in
-    not_refused (base_rules s) base_reads 3 entries file at is first
+    not_refused (base_rules s) base_stands 3 entries file at is first
 
 no_commits : (s : Setting) (base : List BaseEntry) (commits : List Commit) (file : List ℕ) (at : ℕ) → HoldsCommits s base commits file
     → IsFirstIn (commit_rules (record { setting = s; base = base; keep = None })) 1 file at → ⊥
@@ -77,7 +77,7 @@ no_commits s base commits file at h first =
       keep = each_kept (IsNextCommit s base) (CommitBreaks s base) (commit_keeps s base) [] commits h.each;
       whole = λ never. never;
     } in
-    not_refused (commit_rules (record { setting = s; base = base; keep = None })) commit_reads 1 commits file at is first
+    not_refused (commit_rules (record { setting = s; base = base; keep = None })) (λ _. commit_reads) 1 commits file at is first
 
 no_node : (s : Setting) (commits : List Commit) (n : ℕ) (entries : List Prepared) (file : List ℕ) (at : ℕ) → HoldsNode s commits n entries file → IsFirst (IsNodeRefused s commits n file) at → ⊥
 no_node s commits n entries file at h first =
@@ -87,7 +87,7 @@ no_node s commits n entries file at h first =
       keep = each_kept (IsNextPrepared s n) (PreparedBreaks s n) (prepared_keeps s n) [] entries h.each;
       whole = λ broken. broken h.committed;
     } in
-    not_refused rules prepared_reads 2 entries file at is first
+    not_refused rules (λ _. prepared_reads) 2 entries file at is first
 
 history_held_or_refused : (files : Files) (f a : ℕ) (c : Contents) → IsHistoryRefusal files f a → HoldsHistory files c → ⊥
 history_held_or_refused files f a c (layouts_refused first) h = no_layouts c.earlier c.setting (files 0) a h.layouts first

@@ -14,4 +14,5 @@ pub mod Reading
 pub mod Resting
 pub mod Shards
 pub mod Sounding
+pub mod Tabled
 pub mod Within

@@ -14,11 +14,11 @@ use Rattle.coco_log.specs.LogState.{IsFresh}
 use Rattle.coco_store.specs.Entries.{BaseEntry, commits_kind, layouts_kind}
 use Rattle.coco_store.specs.Rules.{EachBehind, IsNextCommit, IsNextPrepared, Setting, base_of, commit_epochs, prepared_epochs}
 use Rattle.coco_store.proofs.Naming.{names_apart}
-use Rattle.coco_recover.specs.Bases.{entries_of}
+use Rattle.coco_recover.specs.Bases.{IsBased, entries_of}
 use Rattle.coco_recover.specs.Commits.{AreCommitted}
 use Rattle.coco_recover.specs.Layouts.{IsGoodLast, setting_of}
 use Rattle.coco_recover.specs.Nodes.{entries_at, nodes_of}
-use Rattle.coco_recover.specs.Opening.{AreLogs, IsSoundStore}
+use Rattle.coco_recover.specs.Opening.{AreLogs, IsSoundStore, IsTabled}
 use Rattle.coco_recover.specs.Steps.{AreRead}
 use Rattle.coco_recover.specs.declared.base.Based.{Based}
 use Rattle.coco_recover.specs.declared.commits.Committed.{Committed}
@@ -29,6 +29,7 @@ use Rattle.coco_recover.proofs.Having.{opened_of}
 use Rattle.coco_recover.proofs.Keeping.{each_all, keeps_below}
 use Rattle.coco_recover.proofs.OneMap.{one_map, one_map-on}
 use Rattle.coco_recover.proofs.Shards.{shards_hold}
+use Rattle.coco_recover.proofs.Tabled.{rows_tabled, values_tabled}
 
 -- ---- the next epoch's number
 
@@ -75,7 +76,7 @@ next_below epochs next is all = let below : is.greatest < epochs_end = member_of
 
 module _ (of_base : BaseDonesFollow) (of_commits : CommittedDonesFollow) (last : LastLayout) (committed : Committed) (loaded : Loaded) (based : Based) (logs : Logs)
     (good : IsGoodLast last) (are : AreCommitted (setting_of last) committed) (read : AreRead last committed loaded logs.nodes.items last.entry.layout.nodes)
-    (root : IsFresh logs.root 0 layouts_kind) (chief : IsFresh logs.chief last.entry.layout.chief_file commits_kind) where
+    (rows : IsBased (setting_of last) based) (root : IsFresh logs.root 0 layouts_kind) (chief : IsFresh logs.chief last.entry.layout.chief_file commits_kind) where
   are_logs : AreLogs last.entry.layout logs
   are_logs = record {
     root = root;
@@ -102,6 +103,11 @@ module _ (of_base : BaseDonesFollow) (of_commits : CommittedDonesFollow) (last :
         map = one_map s base epochs entries;
         primaries = shards_hold last.entry.layout (maps_read s base epochs entries) loaded.tables.shards.items loaded.tables.copies.items read.are.tables (one_map s base epochs entries)
             (λ p below. sym (one_map-on s base epochs entries p below));
+        tabled = rows_tabled s (entries_of committed.base.items) epochs entries are.remembered.base good.limits.nodes.0
+            (λ n less. read.each n less);
+        base_tabled = subst (AllByRecursion (λ r. IsTabled last.procs r.0)) (sym rows.values) (values_tabled s (entries_of based.history.entries.items) rows.behind.each);
+        rises = are.rises;
+        below = subst (AllByRecursion (λ (e : ℕ). e < loaded.next)) (sym are.remembered.epochs) above.1;
         keeps = keeps_below of_base of_commits s committed are.remembered loaded.next above.0 above.1;
         first = omega (arith, next.next);
         end = next_below (last.entry.layout.base_epoch ∷ epochs ++ flat_map prepared_epochs (nodes_of loaded)) loaded.next next

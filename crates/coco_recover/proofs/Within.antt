@@ -1,5 +1,5 @@
 -- Where bytes aren't an entry, the place that is told is one of theirs, or their end.
-use Rattle.std.proofs.Common.{◌≡◌, ℕ, zero, suc, ◌+◌, ◌-◌, ◌≤◌, ◌^◌, Bool, true, false, cond, ltb, eqb, List, [], ◌∷◌, length, drop, ◌++◌, get_or, Option, Some, None, Result, Ok, Err, refl, sym, subst, arith}
+use Rattle.std.proofs.Common.{◌≡◌, ℕ, zero, suc, ◌+◌, ◌-◌, ◌≤◌, ◌^◌, Bool, true, false, cond, ltb, eqb, List, [], ◌∷◌, length, drop, ◌++◌, get_or, Option, Some, None, Result, Ok, Err, refl, sym, subst, ap, ◌∙◌, arith}
 use Rattle.std.specs.Prelude.{slice_range}
 use Rattle.std.specs.Int.{Width, w16, w32, w64, byte_len, from_be_bytes, cast_signed}
 use Rattle.std.specs.Option.{option_map}
@@ -13,7 +13,7 @@ use Rattle.coco_types.specs.declared.value.Value.{Value}
 use Rattle.coco_types.specs.declared.value.Value.TheVariants.{Int, Text}
 use Rattle.coco_bytes.specs.declared.fault.FieldFault.{FieldFault}
 use Rattle.coco_bytes.specs.declared.fault.FieldFault.TheVariants.{Short, Bad}
-use Rattle.coco_bytes.specs.Lists.{items_at}
+use Rattle.coco_bytes.specs.Lists.{items_at, last_item}
 use Rattle.coco_bytes.specs.Reads.{◌>>=◌, Read, bytes16_at, fault_place, flag_at, i64_at, number_at, text16_at, u16_at, u32_at, u64_at, u8_at}
 use Rattle.coco_bytes.specs.Values.{key_at, text_at, value_at, value_of_kind}
 use Rattle.coco_entry.specs.Bases.{base_done_at, base_dones_at, base_dones_in, base_row_at, base_rows_at, base_rows_in, floor_at, floor_number_at, head_at, head_in, items_count_at, present, present_at, stamp_of, stamp_rises, stamped, stamped_at}
@@ -22,8 +22,8 @@ use Rattle.coco_entry.specs.Commits.{commit_at, commit_in}
 use Rattle.coco_entry.specs.Grammar.{IsFaultAt, Reader, bytes32_at, listed, made, tag_at, tagged, tested, then_by, whole, ◌▸◌}
 use Rattle.coco_entry.specs.Layouts.{file_at, files_at, later_at, layout_at, layout_fields_at, layout_in, named_by, sizes_at, version_at}
 use Rattle.coco_entry.specs.Rows.{key_rises, prepared_at, prepared_in, rising_key_at, row_at}
-use Rattle.coco_store.specs.Entries.{Dones, Head, Values}
-use Rattle.coco_store.specs.Refusals.{base_in, mapped}
+use Rattle.coco_store.specs.Entries.{BaseEntry, Dones, Head, Values}
+use Rattle.coco_store.specs.Refusals.{at_tag, base_behind, base_in, mapped, may_stand}
 
 -- ---- a field
 
@@ -363,5 +363,19 @@ base_fails body = either (eqb (get_or body 0 0) 5) (eqb (get_or body 0 0) 6)
     either false true = mapped_fails Values body (base_rows_in body) (tagged_fails 6 base_rows_within body)
     either false false = mapped_fails Head body (head_in body) (tagged_fails 4 head_within body)
 
-pub base_fault : (body : List ℕ) (at : ℕ) → IsFaultAt at (base_in body) → at ≤ length body
-base_fault body at fault = fault_within body at (base_in body) (base_fails body) fault
+at_tag_fails : (body : List ℕ) (r : Result BaseEntry FieldFault) (may : Bool) → FailsWithin body r → FailsWithin body (at_tag r may)
+at_tag_fails body (Ok e) may h = tt
+at_tag_fails body (Err fault) true h = h
+at_tag_fails body (Err fault) false h = omega arith
+
+pub base_fault : (before : List BaseEntry) (body : List ℕ) (at : ℕ) → IsFaultAt at (base_behind before body) → at ≤ length body
+base_fault before body at fault =
+    fault_within body at (base_behind before body) (at_tag_fails body (base_in body) (may_stand (last_item before) (get_or body 0 0)) (base_fails body)) fault
+
+-- a body that is no entry is bad at its tag, where that may not stand there
+pub tag_bad : (before : List BaseEntry) (body : List ℕ) (at : ℕ) → may_stand (last_item before) (get_or body 0 0) ≡ false → IsFaultAt at (base_in body) → IsFaultAt 0 (base_behind before body)
+tag_bad before body at may fault = (Bad 0, ap (at_tag (base_in body)) may ∙ ap (λ (r : Result BaseEntry FieldFault). at_tag r false) fault.1, refl)
+
+-- and else where it was read
+pub tag_good : (before : List BaseEntry) (body : List ℕ) (at : ℕ) → may_stand (last_item before) (get_or body 0 0) ≡ true → IsFaultAt at (base_in body) → IsFaultAt at (base_behind before body)
+tag_good before body at may fault = (fault.0, ap (at_tag (base_in body)) may ∙ ap (λ (r : Result BaseEntry FieldFault). at_tag r true) fault.1, fault.2)

@@ -8,7 +8,7 @@ use Rattle.coco_rules.specs.Basing.{IsBehindBase}
 use Rattle.coco_rules.specs.Behind.{IsBehind}
 use Rattle.coco_rules.specs.declared.base.BaseRules.{BaseRules}
 use Rattle.coco_store.specs.Entries.{BaseEntry, Dones, Head, IsBaseEntry, Values, base_bytes}
-use Rattle.coco_store.specs.Refusals.{BaseBreaks, base_in}
+use Rattle.coco_store.specs.Refusals.{BaseBreaks, base_behind}
 use Rattle.coco_store.specs.Rules.{EachBehind, IsNextBase, IsWhole, Setting, base_of, base_values, floor_in, kept_dones}
 use Rattle.coco_recover.specs.declared.base.BaseHistory.{BaseHistory}
 use Rattle.coco_recover.specs.declared.base.Based.{Based}
@@ -50,7 +50,7 @@ abbrev pub base_rules : Setting → EntryRules BaseEntry
 base_rules s = record {
   bytes_of = base_bytes;
   Is = IsBaseEntry;
-  read = base_in;
+  read = base_behind;
   Breaks = BaseBreaks s;
   Lacks = λ entries. ¬ (IsWhole entries);
 }

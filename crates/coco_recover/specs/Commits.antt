@@ -18,7 +18,7 @@ abbrev pub commit_rules : Basis → EntryRules Commit
 commit_rules b = record {
   bytes_of = commit_bytes;
   Is = IsCommit;
-  read = commit_in;
+  read = λ before. commit_in;
   Breaks = CommitBreaks b.setting b.base;
   Lacks = λ entries. ⊥;
 }

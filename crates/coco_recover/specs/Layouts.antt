@@ -16,7 +16,7 @@ abbrev pub layout_rules : EntryRules LayoutEntry
 layout_rules = record {
   bytes_of = layout_bytes;
   Is = IsLayout;
-  read = layout_in;
+  read = λ before. layout_in;
   Breaks = λ before e. LayoutBreaks e;
   Lacks = λ entries. entries ≡ [];
 }

@@ -29,7 +29,7 @@ abbrev pub node_rules : NodeBasis → EntryRules Prepared
 node_rules b = record {
   bytes_of = prepared_bytes;
   Is = IsPrepared;
-  read = prepared_in;
+  read = λ before. prepared_in;
   Breaks = PreparedBreaks b.basis.setting b.node;
   Lacks = λ entries. ¬ (HavePrepared entries b.commits);
 }

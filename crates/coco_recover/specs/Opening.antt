@@ -1,5 +1,5 @@
 -- What is had of an opened store: what its files hold, by logs that stand in them.
-use Rattle.std.specs.Prelude.{◌≡◌, ◌≢◌, ℕ, ◌%◌, ◌<◌, ◌≤◌, nat_eq, List, length, Option, None, slice_index, slice_index_or}
+use Rattle.std.specs.Prelude.{◌≡◌, ◌≢◌, ℕ, ◌%◌, ◌<◌, ◌≤◌, nat_eq, List, length, Option, None, slice_index, slice_index_or, IsSome}
 use Rattle.std.specs.List.{AllByRecursion, filter, flat_map, slice_get}
 use Rattle.std.specs.FinMap.{empty}
 use Rattle.std.specs.Option.{unwrap_or}
@@ -9,7 +9,7 @@ use Rattle.coco_types.specs.declared.call.Done.{Done}
 use Rattle.coco_host.specs.Files.{Files}
 use Rattle.coco_append.specs.Gaining.{Stands}
 use Rattle.coco_ast.specs.Fitting.{Fits}
-use Rattle.coco_ast.specs.History.{floor, kept, with_keep}
+use Rattle.coco_ast.specs.History.{IsRising, RisesAbove, floor, kept, with_keep}
 use Rattle.coco_ast.specs.Keyed.{Rows, value_at}
 use Rattle.coco_ast.specs.Tree.{Procedures}
 use Rattle.coco_entry.specs.declared.layout.Layout.{Layout}
@@ -25,7 +25,7 @@ use Rattle.coco_shard.specs.RowState.{IsOfPartition, IsSettled, ShardState, stab
 use Rattle.coco_store.specs.Contents.{Contents, Holds, history_of, map_in, on, rows_of}
 use Rattle.coco_store.specs.Entries.{commits_kind, layouts_kind, prepared_kind}
 use Rattle.coco_store.specs.Placement.{IsHeldBy}
-use Rattle.coco_store.specs.Rules.{IsWithinLimits, base_values}
+use Rattle.coco_store.specs.Rules.{IsWithinLimits, base_values, commit_epochs}
 use Rattle.coco_store.specs.Texts.{IsAcceptedText}
 use Rattle.coco_recover.specs.Layouts.{place_behind}
 use Rattle.coco_recover.specs.declared.opening.Logs.{Logs}
@@ -66,6 +66,7 @@ pub record Has (keep : Option ℕ) (c : Contents) (store : Opened) : Type 0 wher
   pub map : HaveRows c → HoldMap c.setting.entry.layout (map_in c) store.shards.items store.copies.items
   pub primaries : HaveRows c → ShardsHold (map_in c) store.shards.items
   pub next : IsNextOf c store.next_epoch
+  pub epochs : store.epochs.items ≡ commit_epochs c.commits
   pub base : flat_map (λ rows. rows) store.base.items ≡ base_values c.base
   pub place : store.layout_place ≡ place_behind c.earlier
 
@@ -98,7 +99,7 @@ pub record AllStand (logs : Logs) (reads : Option Files) (may_leave : Files → 
   pub chief : Stands logs.chief reads may_leave
   pub nodes : (n : ℕ) → n < length logs.nodes.items → Stands (node_log logs n) reads may_leave
 
--- the kept Dones are calls of these procedures, each id once, and those that stay of Dones which were added epoch by epoch, not too many of each, and all below this one
+-- the kept Dones are calls of these procedures, rising by epoch, time and id, each id once, and those that stay of Dones which were added epoch by epoch, not too many of each, and all below this one
 pub record AreKeptBelow (procs : Procedures) (kept : Keeping) (epoch : ℕ) : Type 0 where
   pub before : Option ℕ
   pub added : List Done
@@ -106,10 +107,15 @@ pub record AreKeptBelow (procs : Procedures) (kept : Keeping) (epoch : ℕ) : Ty
   pub rising : NeverFall added
   pub below : AllByRecursion (λ d. d.epoch < epoch) added
   pub few : (e : ℕ) → length (filter (λ d. nat_eq d.epoch e) added) ≤ most_batch_lines
+  pub in_order : IsRising kept.dones
   pub once : HasDistinctIds kept.dones
   pub fit : AllByRecursion (λ d. Fits procs d.call) kept.dones
 
--- the layout is good, each table holds a map of its partition, the shards hold one map together, and the next epoch's number is above those of the kept Dones
+-- a row's table is one of these procedures
+abbrev pub IsTabled : Procedures → RowKey → Type 0
+IsTabled procs key = key.table < length procs.tables
+
+-- the layout is good, each table holds a map of its partition, the shards hold one map together, each row's table is there, the committed epochs rise, and the next epoch's number is above them and those of the kept Dones
 pub record IsSoundStore (store : Opened) : Type 0 where
   pub is : IsLayout (entry_in store)
   pub limits : IsWithinLimits (entry_in store)
@@ -118,6 +124,10 @@ pub record IsSoundStore (store : Opened) : Type 0 where
   pub tables : HoldMaps store.layout maps store.shards.items store.copies.items
   pub map : Rows
   pub primaries : ShardsHold map store.shards.items
+  pub tabled : (p j : ℕ) (k : RowKey) → IsSome (value_at (maps p j) k) → IsTabled store.procs k
+  pub base_tabled : AllByRecursion (λ r. IsTabled store.procs r.0) (flat_map (λ rows. rows) store.base.items)
+  pub rises : RisesAbove store.layout.base_epoch store.epochs.items
+  pub below : AllByRecursion (λ e. e < store.next_epoch) store.epochs.items
   pub keeps : AreKeptBelow store.procs store.kept store.next_epoch
   pub first : 0 < store.next_epoch
   pub end : store.next_epoch ≤ epochs_end

@@ -6,7 +6,7 @@ ghost use Rattle.coco_load.specs.Tables.{IsRing};
 ghost use Rattle.coco_rules.specs.Basing.{IsBehindBase};
 ghost use Rattle.coco_rules.specs.Judged.{Judges};
 ghost use Rattle.coco_store.specs.Entries.{BaseEntry, IsBaseEntry, base_bytes};
-ghost use Rattle.coco_store.specs.Refusals.{BaseBreaks, base_in};
+ghost use Rattle.coco_store.specs.Refusals.{BaseBreaks, base_behind, base_in};
 ghost use Rattle.coco_store.specs.Rules.{EachBehind, IsNextBase, Setting};
 ghost use Rattle.coco_recover.specs.Bases.{IsBased, IsGathered, entries_of, entry_of};
 ghost use Rattle.coco_recover.specs.Layouts.{setting_of};
@@ -106,6 +106,23 @@ fn read_part(alloc: Global, body: &[u8]) -> Result<BasePart, EntryFault>
         5 => Ok(BasePart::Dones(read_base_dones(alloc, body)?)),
         6 => Ok(BasePart::Rows(read_base_rows(alloc, body)?)),
         _ => Ok(BasePart::Head(read_head(body)?)),
+    }
+}
+
+// Where a body that is no entry is bad behind the entries before it: at its tag, if that may not stand there.
+fn first_bad(rules: &BaseRules, body: &[u8], fault: EntryFault) -> EntryFault
+    ensures { (s : Setting) (before : List BaseEntry) → IsBehindBase s before rules.now → Answers {A = BaseEntry} (Err fault) (base_in body.now)
+        → Answers {A = BaseEntry} (Err result) (base_behind before body.now) }
+{
+    match fault {
+        EntryFault::NoMemory => EntryFault::NoMemory,
+        EntryFault::Bad { at } => {
+            if rules.may_stand(tag_of(body)) {
+                EntryFault::Bad { at }
+            } else {
+                EntryFault::Bad { at: 0 }
+            }
+        }
     }
 }
 
@@ -257,7 +274,7 @@ impl<'a> BaseReading<'a> {
 impl<'a> Rules for BaseReading<'a> {
     ghost use Rattle.coco_store.specs.Entries.{BaseEntry};
     ghost use Rattle.coco_recover.specs.Bases.{BaseBasis, base_rules};
-    ghost use Rattle.coco_recover.specs.Readings.{base_reads};
+    ghost use Rattle.coco_recover.specs.Readings.{base_stands};
 
     ghost Entry = { BaseEntry };
 
@@ -270,13 +287,13 @@ impl<'a> Rules for BaseReading<'a> {
     ghost taken = { λ r. r.taken };
 
     fn take(&mut self, alloc: Global, body: &[u8]) -> Result<Option<usize>, NoMemory> {
-        let part = match read_part(alloc, body) {
-            Ok(part) => part,
-            Err(fault) => return refused(fault),
-        };
         if self.is_spent {
             return Err(NoMemory);
         }
+        let part = match read_part(alloc, body) {
+            Ok(part) => part,
+            Err(fault) => return refused(first_bad(&self.rules, body, fault)),
+        };
         self.is_spent = true;
         if let Some(at) = judge(&mut self.rules, &self.last.procs, &part)? {
             return Ok(Some(at));
@@ -290,5 +307,5 @@ impl<'a> Rules for BaseReading<'a> {
         self.is_spent || !self.rules.is_whole()
     }
 
-    ghost reads = { λ _. base_reads };
+    ghost reads = { λ _. base_stands };
 }

@@ -146,5 +146,5 @@ impl<'a> Rules for CommitReading<'a> {
         false
     }
 
-    ghost reads = { λ _. commit_reads };
+    ghost reads = { λ _ _. commit_reads };
 }

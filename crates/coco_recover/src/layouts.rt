@@ -120,5 +120,5 @@ impl Rules for LayoutReading {
 
     ghost use Rattle.coco_recover.specs.Readings.{layout_reads};
 
-    ghost reads = { λ _ e. layout_reads e };
+    ghost reads = { λ _ _. layout_reads };
 }

@@ -201,5 +201,5 @@ impl<'a> Rules for NodeReading<'a> {
         }
     }
 
-    ghost reads = { λ _. prepared_reads };
+    ghost reads = { λ _ _. prepared_reads };
 }

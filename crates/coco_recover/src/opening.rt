@@ -48,6 +48,8 @@ pub struct Opened {
     pub logs: Logs,
     /// The number of the epoch that comes next.
     pub next_epoch: u64,
+    /// The numbers of the committed epochs, rising.
+    pub epochs: Vec<u64>,
     pub keep: Option<u16>,
     /// The rows of the base, entry by entry.
     pub base: Vec<MapRows>,
@@ -152,6 +154,7 @@ fn open_behind<H: Host>(
         copies,
         logs: Logs { root, chief, nodes },
         next_epoch: loaded.next,
+        epochs: committed.epochs,
         keep,
         base: rows,
         base_file,

@@ -67,7 +67,7 @@ pub returns-clause-sound : goal.returns-clause-sound
 returns-clause-sound g c =
     is_sound c.kept_dones_follow_the_files.ensures.base c.kept_dones_follow_the_files.ensures.committed c.args.last c.in_ok-committed.committed c.in_ok-loaded.loaded c.in_ok-history.field-0
     (record { root = c.args.root; chief = c.in_ok-committed.chief; nodes = c.in_ok-loaded.nodes })
-    c.requires.good c.in_ok-committed.ensures.committed c.in_ok-loaded.ensures.read c.requires.root c.in_ok-committed.ensures.log
+    c.requires.good c.in_ok-committed.ensures.committed c.in_ok-loaded.ensures.read c.in_ok-history.ensures.based c.requires.root c.in_ok-committed.ensures.log
 
 pub returns-clause-few : goal.returns-clause-few
 returns-clause-few g c is =

@@ -11,8 +11,11 @@ use Rattle.coco_recover.proofs.base.BaseReadingRules.take.Goals as goal
 
 pub returns-in-Err-clause-takes : goal.returns-in-Err-clause-takes
 returns-in-Err-clause-takes c =
-    rw c.refused.ensures
-    (unread (base_rules c.args.self.now.under.setting) c.args.self.now.taken c.args.body.now c.args.self.now.taken c.in-Err.fault c.in-Err.ensures.fault (base_fault c.args.body.now))
+    let r = c.self.inside in
+    let s = setting_of r.last.now in
+    let before = entries_of r.gathered.entries.items in
+    rw (← c.self.view_is, c.if-self.false, c.refused.ensures)
+    (unread (base_rules s) before c.args.body.now before c.first_bad.result (c.first_bad.ensures s before (c.self.invariant c.if-self.false).behind c.in-Err.ensures.fault) (base_fault before c.args.body.now))
 
 pub returns-in-Some-clause-takes : goal.returns-in-Some-clause-takes
 returns-in-Some-clause-takes c =
