@@ -11,6 +11,8 @@ use Rattle.coco_log.proofs.OnlyRead.{sees_then, sees_weaker}
 use Rattle.coco_append.specs.Gaining.{Gains, ShowsEither}
 use Rattle.coco_store.specs.Contents.{Contents}
 use Rattle.coco_cluster.specs.Storing.{ShowsOneOf, Stores, with_epoch, with_rows}
+use Rattle.coco_cluster.specs.Writing.{WritesLogs}
+use Rattle.coco_cluster.proofs.WriteLemmas.{writes_then}
 
 -- ---- answers
 
@@ -43,22 +45,27 @@ module _ {H : Type 0} (moment : H → ℕ) (observed : H → ℕ → Observation
   second_shows : (before after : Option (List ℕ)) (seen : Observation) → after ≡ before → ShowsEither prepared committed after seen → ShowsOneOf epoch rows dones c before seen
   second_shows before after seen same shows = record { store = ⊎_elim (λ was. inr (inl was)) (λ more. inr (inr more)) shows.store; said = sym same ∙ shows.said }
 
+  abbrev Writes : H → H → Type 0
+  Writes from to = WritesLogs c.setting (reads from) (reads to) (may_leave from) (may_leave to)
+
   -- the first one failed
   pub first_failed : (one result : Result (Unit {0}) LogFault) (fault : LogFault) (old mid : H) → result ≡ Err fault → Gains moment observed said reads may_leave one c prepared old mid
-      → Stores moment observed said reads may_leave result epoch rows dones c old mid
-  first_failed one result fault old mid failed gains = record {
+      → Writes old mid → Stores moment observed said reads may_leave result epoch rows dones c old mid
+  first_failed one result fault old mid failed gains writes = record {
     ok = no_ok result fault _ failed;
     moments = sees_weaker moment observed old mid (ShowsEither c prepared (said old)) (ShowsOneOf epoch rows dones c (said old)) (first_shows (said old)) gains.moments;
     left = λ bytes spoke image leaves. ⊎_elim (λ was. inl was) (λ more. inr (inl more)) (gains.left bytes spoke image leaves);
+    others = writes;
   }
 
   -- the second one was tried too
   pub second_tried : (one two : Result (Unit {0}) LogFault) (old mid new : H) → said mid ≡ said old → Gains moment observed said reads may_leave one c prepared old mid
-      → Gains moment observed said reads may_leave two prepared committed mid new → Stores moment observed said reads may_leave two epoch rows dones c old new
-  second_tried one two old mid new same first second = record {
+      → Gains moment observed said reads may_leave two prepared committed mid new → Writes old mid → Writes mid new → Stores moment observed said reads may_leave two epoch rows dones c old new
+  second_tried one two old mid new same first second wrote writes = record {
     ok = second.ok;
     moments = sees_then moment observed old mid new (ShowsOneOf epoch rows dones c (said old)) (ShowsEither prepared committed (said mid))
         (sees_weaker moment observed old mid (ShowsEither c prepared (said old)) (ShowsOneOf epoch rows dones c (said old)) (first_shows (said old)) first.moments)
         second.moments (λ seen shows. second_shows (said old) (said mid) seen same shows);
     left = λ bytes spoke image leaves. ⊎_elim (λ was. inr (inl was)) (λ more. inr (inr more)) (second.left bytes (same ∙ spoke) image leaves);
+    others = writes_then c.setting (reads old) (reads mid) (reads new) (may_leave old) (may_leave mid) (may_leave new) wrote writes;
   }

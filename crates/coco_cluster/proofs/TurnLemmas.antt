@@ -15,7 +15,7 @@ use Rattle.coco_ast.specs.Growth.{GrowsBy}
 use Rattle.coco_ast.specs.History.{AreAbove, Epoch, History, RepliesAreRuns, done_of, floor, floor_of, followed_by, is_held, kept, kept_of, map_of, rows_after}
 use Rattle.coco_ast.specs.Keyed.{Rows}
 use Rattle.coco_ast.proofs.KeptLemmas.{follows}
-use Rattle.coco_ast.proofs.Lists.{all_append, all_map, all_weaker}
+use Rattle.coco_ast.proofs.Lists.{all_map}
 use Rattle.coco_append.specs.Gaining.{RestsOn}
 use Rattle.coco_commits.specs.EpochEntries.{AreRun, HasRunReady, IsNextIn, MayPrepareRun, MayRun, pieces_in}
 use Rattle.coco_bytes.specs.Lists.{FitInTurn}
@@ -31,8 +31,6 @@ use Rattle.coco_kept.specs.Keeping.{HoldsKept, Keeping}
 use Rattle.coco_load.specs.Keeping.{MayFollow}
 use Rattle.coco_log.specs.LogState.{LogState}
 use Rattle.coco_log.specs.declared.fault.LogFault.{LogFault}
-use Rattle.coco_order.specs.Execution.{Beginning}
-use Rattle.coco_order.specs.Outcome.{ComeOfExecution}
 use Rattle.coco_parallel.specs.Epochs.{beginning_with}
 use Rattle.coco_prepared.specs.LastWrites.{AreLastWrites}
 use Rattle.coco_shard.specs.RowState.{ShardState}
@@ -41,8 +39,10 @@ use Rattle.coco_store.specs.Laws.{HasReady, MayCommit, MayPrepare, with_commit}
 use Rattle.coco_worker.specs.declared.slot.EpochConfig.{EpochConfig}
 use Rattle.coco_cluster.specs.Standing.{ClusterState, IsSound, KeepsBelow, StandsAt}
 use Rattle.coco_cluster.specs.Storing.{AreEntries, IsOneOf, MayStore, ShowsOneOf, Stores, commit_of, prepared_of, with_epoch, with_rows}
-use Rattle.coco_cluster.specs.Turning.{Grown, beginning_on, HasRoom, IsStoreOf, MayTurn, MayWork, RanOn, ShowsStore, Turns}
+use Rattle.coco_parallel.specs.Traces.{IsTraceOf, Traced}
+use Rattle.coco_cluster.specs.Turning.{Grown, HasRoom, HasTurned, IsStoreOf, MayTurn, MayWork, RanOn, ShowsStore, Turns, beginning_at, beginning_on, without_trace}
 use Rattle.coco_cluster.specs.declared.fault.TurnFault.{TurnFault}
+use Rattle.coco_cluster.proofs.BehindLemmas.{behind_epoch, behind_later, behind_rows}
 use Rattle.coco_cluster.proofs.KeepLemmas.{as_many, floor_now, keeps_on, kept_now, may_follow, same_kept}
 use Rattle.coco_cluster.proofs.MapLemmas.{given_back}
 use Rattle.coco_cluster.proofs.StoreLemmas.{at_ok, no_ok}
@@ -51,6 +51,22 @@ use Rattle.coco_log.proofs.OnlyRead.{sees_weaker}
 -- the history of contents with a commit entry more
 history_grows : (c : Contents) (commit : Commit) → history_of (with_commit commit c) ≡ followed_by (history_of c) (epoch_of commit)
 history_grows c commit = ap (λ es. record (history_of c) { epochs = es }) (map-append epoch_of c.commits (commit ∷ []))
+
+-- where a cluster stands doesn't hang on what its last turn left
+pub stands_untraced : (c : Contents) (k : ClusterState) → StandsAt c k → StandsAt c (without_trace k)
+stands_untraced c k stands = record {
+  one = stands.one;
+  procs = stands.procs;
+  dones = stands.dones;
+  floor = stands.floor;
+  keep = stands.keep;
+  map = stands.map;
+  partitions = stands.partitions;
+  chief = stands.chief;
+  node = stands.node;
+  held = stands.held;
+  next = stands.next;
+}
 
 -- ---- the laws of runs, as they are called
 
@@ -71,48 +87,43 @@ zero_alone n less = omega (arith, less)
 
 -- ---- a run on a cluster's shards
 
--- what it begins with, if they hold this map
-abbrev pub begins : ClusterState → Rows → List Request → ℕ → ℕ → Beginning
-begins k m requests workers attempts =
-    record { procs = k.procs; opening = m; requests = requests; partitions = length k.shards; workers = workers; attempts = attempts }
-
--- a cluster ran new requests: its shards, kept Dones, and what is to be written
-pub record HasRun (k : ClusterState) (requests : List Request) (workers attempts : ℕ) (shards : List ShardState) (now : Keeping) (dones : List Done) (rows : List Row) : Type 0 where
+-- a cluster ran new requests: its shards, kept Dones, what is to be written, and what the workers left
+pub record HasRun (k : ClusterState) (requests : List Request) (workers attempts : ℕ) (shards : List ShardState) (now : Keeping) (dones : List Done) (rows : List Row) (trace : Traced) : Type 0 where
   pub sound : IsSound k.kept k.shards k.chief k.node k.next_epoch k.spent
   pub unspent : k.spent ≡ false
   pub may : MayTurn k requests
   pub below : k.next_epoch < epochs_end
   pub some : 0 < length requests
   pub count : length shards ≡ length k.shards
-  pub ran : (m : Rows) → HoldMap m k.shards → RanOn (begins k m requests workers attempts) k.next_epoch k.held shards dones rows
+  pub ran : (m : Rows) → HoldMap m k.shards → RanOn (beginning_at k m requests workers attempts) k.next_epoch k.held shards dones rows trace
   pub few : length rows < 2 ^ 32
   pub same : now ≡ record k.kept { room = now.room }
 
 some_of : (n : ℕ) → (n == 0) ≡ false → 0 < n
 some_of n not_none = grind (arith, nat_tests)
 
-pub has_run : (k seen : ClusterState) (requests given : List Request) (workers attempts : ℕ) (config : EpochConfig) (shards : List ShardState) (held : List Bool) (now : Keeping) (dones : List Done) (rows : List Row)
+pub has_run : (k seen : ClusterState) (requests given : List Request) (workers attempts : ℕ) (config : EpochConfig) (shards : List ShardState) (held : List Bool) (now : Keeping) (dones : List Done) (rows : List Row) (trace : Traced)
     → k ≡ seen → seen.spent ≡ false → IsSound k.kept k.shards k.chief k.node k.next_epoch k.spent → MayTurn seen requests → k.next_epoch < epochs_end
-    → (n : ℕ) → (n == 0) ≡ false → n ≡ length requests → config ≡ record { epoch = k.next_epoch; workers = workers; attempts = attempts; nodes = 1; copies = 0 } → given ≡ requests → length shards ≡ length k.shards → held ≡ k.held
-    → ((m : Rows) → HoldMap m k.shards → RanOn (beginning_with k.procs m given k.shards config) config.epoch held shards dones rows) → length rows < 2 ^ 32 → now ≡ record k.kept { room = now.room }
-    → HasRun k requests workers attempts shards now dones rows
-has_run k seen requests given workers attempts config shards held now dones rows is unspent sound may below n not_none len one_node same count same_held ran few kept = record {
+    → (n : ℕ) → (n == 0) ≡ false → n ≡ length requests → config ≡ record { epoch = k.next_epoch; workers = workers; started = workers; attempts = attempts; nodes = 1; copies = 0 } → given ≡ requests → length shards ≡ length k.shards → held ≡ k.held
+    → ((m : Rows) → HoldMap m k.shards → RanOn (beginning_with k.procs m given k.shards config) config.epoch held shards dones rows trace) → length rows < 2 ^ 32 → now ≡ record k.kept { room = now.room }
+    → HasRun k requests workers attempts shards now dones rows trace
+has_run k seen requests given workers attempts config shards held now dones rows trace is unspent sound may below n not_none len one_node same count same_held ran few kept = record {
   sound = sound;
   unspent = ap (λ (s : ClusterState). s.spent) is ∙ unspent;
   may = subst (λ (s : ClusterState). MayTurn s requests) (sym is) may;
   below = below;
   some = (let s = some_of n not_none in omega (arith, s, len));
   count = count;
-  ran = λ m holds. subst (λ rs. RanOn (begins k m rs workers attempts) k.next_epoch k.held shards dones rows) same
-      (subst (λ hs. RanOn (begins k m given workers attempts) k.next_epoch hs shards dones rows) same_held
-      (subst (λ (told : EpochConfig). RanOn (beginning_with k.procs m given k.shards told) told.epoch held shards dones rows) one_node (ran m holds)));
+  ran = λ m holds. subst (λ rs. RanOn (beginning_at k m rs workers attempts) k.next_epoch k.held shards dones rows trace) same
+      (subst (λ hs. RanOn (beginning_at k m given workers attempts) k.next_epoch hs shards dones rows trace) same_held
+      (subst (λ (told : EpochConfig). RanOn (beginning_with k.procs m given k.shards told) told.epoch held shards dones rows trace) one_node (ran m holds)));
   few = few;
   same = kept;
 }
 
 -- the requests may be run
 pub may_work : (k seen : ClusterState) (requests : List Request) (workers attempts : ℕ) (config : EpochConfig) → k ≡ seen → seen.spent ≡ false → IsSound k.kept k.shards k.chief k.node k.next_epoch k.spent
-    → MayTurn seen requests → 0 < workers → 0 < attempts → config ≡ record { epoch = k.next_epoch; workers = workers; attempts = attempts; nodes = 1; copies = 0 } → MayWork k.procs requests config k.shards
+    → MayTurn seen requests → 0 < workers → 0 < attempts → config ≡ record { epoch = k.next_epoch; workers = workers; started = workers; attempts = attempts; nodes = 1; copies = 0 } → MayWork k.procs requests config k.shards
 may_work k seen requests workers attempts config is unspent sound may some_workers some_attempts one_node = subst (λ (told : EpochConfig). MayWork k.procs requests told k.shards) (sym one_node) (record {
   some = sound.some;
   most = sound.most;
@@ -147,11 +158,11 @@ fit_all : (epoch : ℕ) (before : Option Done) (ds : List Done) → AllByRecursi
 fit_all epoch before [] all = tt
 fit_all epoch before (d ∷ ds) all = (all.0, fit_all epoch (Some d) ds all.1)
 
-module _ (k : ClusterState) (requests : List Request) (workers attempts : ℕ) (shards : List ShardState) (now : Keeping) (dones : List Done) (rows : List Row) (run : HasRun k requests workers attempts shards now dones rows) where
+module _ (k : ClusterState) (requests : List Request) (workers attempts : ℕ) (shards : List ShardState) (now : Keeping) (dones : List Done) (rows : List Row) (trace : Traced) (run : HasRun k requests workers attempts shards now dones rows trace) where
   abbrev m : Rows
   m = (run.sound.holds run.unspent).0
 
-  ran : RanOn (begins k m requests workers attempts) k.next_epoch k.held shards dones rows
+  ran : RanOn (beginning_at k m requests workers attempts) k.next_epoch k.held shards dones rows trace
   ran = run.ran m (run.sound.holds run.unspent).1
 
   keeps : KeepsBelow now k.next_epoch
@@ -161,19 +172,19 @@ module _ (k : ClusterState) (requests : List Request) (workers attempts : ℕ) (
   unkept = subst (λ ds. AllByRecursion (λ (r : Request). done_of r.id ds ≡ None) requests) (sym (ap (λ (n : Keeping). n.dones) run.same)) run.may.unkept
 
   pub follow : MayFollow now dones
-  follow = may_follow requests k.next_epoch dones ran.serial.each run.may.distinct now keeps unkept
+  follow = may_follow requests k.next_epoch dones ran.worked.serial.each run.may.distinct now keeps unkept
 
   pub entries : AreEntries k.next_epoch rows dones
   entries = record {
     few_rows = run.few;
-    few_dones = (let same = as_many requests k.next_epoch dones ran.serial.each run.may.distinct in let few = run.may.few in omega (arith, same, few));
+    few_dones = (let same = as_many requests k.next_epoch dones ran.worked.serial.each run.may.distinct in let few = run.may.few in omega (arith, same, few));
     rise = ran.last.rising;
-    numbered = fit_all k.next_epoch None dones ran.serial.each.numbered;
+    numbered = fit_all k.next_epoch None dones ran.worked.serial.each.numbered;
   }
 
   -- a revert gives back the shards
   pub reverts : (mid back : List ShardState) → mid ≡ shards → length back ≡ length mid → ((n : Rows) → AreOfPartitions mid → HaveStable n mid → HoldMap n back) → back ≡ k.shards
-  reverts mid back same as_many holds = given_back m k.shards shards mid back (run.sound.holds run.unspent).1 run.count ran.serial.partitions ran.serial.stable same as_many (holds m)
+  reverts mid back same as_many holds = given_back m k.shards shards mid back (run.sound.holds run.unspent).1 run.count ran.worked.serial.partitions ran.worked.serial.stable same as_many (holds m)
 
   -- the epoch is over
   module _ (last : List ShardState) (end : Keeping) (over : HasEnded shards now dones last end) where
@@ -182,35 +193,48 @@ module _ (k : ClusterState) (requests : List Request) (workers attempts : ℕ) (
     sound_then tables same chief node chief_file node_file unspent = subst (λ ts. IsSound end ts chief node (k.next_epoch + 1) false) (sym same) (record {
       some = (let s = run.sound.some in omega (arith, s, over.count, run.count));
       most = (let s = run.sound.most in omega (arith, s, over.count, run.count));
-      keeps = keeps_on requests k.next_epoch dones ran.serial.each run.may.distinct now keeps end over.keep over.more unkept;
+      keeps = keeps_on requests k.next_epoch dones ran.worked.serial.each run.may.distinct now keeps end over.keep over.more unkept;
       first = omega arith;
       end = (let b = run.below in omega (arith, b));
-      holds = λ _. (rows_after k.procs m dones, over.ends (rows_after k.procs m dones) ran.serial.partitions ran.serial.newest);
+      holds = λ _. (rows_after k.procs m dones, over.ends (rows_after k.procs m dones) ran.worked.serial.partitions ran.worked.serial.newest);
       unspent = λ _. (unspent.1, unspent.0);
       apart = λ one. run.sound.apart (sym chief_file ∙ one ∙ node_file);
     })
 
     kept_then : end.dones ≡ kept_of k.kept.keep (k.kept.dones ++ dones)
-    kept_then = kept_now requests k.next_epoch dones ran.serial.each run.may.distinct now keeps end over.keep over.more
+    kept_then = kept_now requests k.next_epoch dones ran.worked.serial.each run.may.distinct now keeps end over.keep over.more
         ∙ ap (λ (n : Keeping). kept_of n.keep (n.dones ++ dones)) run.same
 
     -- no more are kept than were, and those of the epoch
     pub few_then : length end.dones ≤ length k.kept.dones + length requests
     few_then =
-        let same = as_many requests k.next_epoch dones ran.serial.each run.may.distinct in
+        let same = as_many requests k.next_epoch dones ran.worked.serial.each run.may.distinct in
         let passed = few_pass (is_held k.kept.keep (k.kept.dones ++ dones)) (k.kept.dones ++ dones) in
         omega (arith, same, passed, ap (length {A = Done}) kept_then, length-append k.kept.dones dones)
 
+    -- the cluster has turned from the map that its shards held
+    pub turned_from : (seen after : ClusterState) → k ≡ seen → after.trace ≡ Some trace → after.kept ≡ end → after.shards ≡ last → (from : Rows) → HoldMap from seen.shards → HasTurned requests workers attempts from seen after
+    turned_from seen after is trace_is kept tables from holds =
+        let here = run.ran from (subst (λ (s : ClusterState). HoldMap from s.shards) (sym is) holds) in
+        subst (λ (s : ClusterState). HasTurned requests workers attempts from s after) is (record {
+          dones = dones;
+          trace = trace;
+          trace_is = trace_is;
+          traced = here.worked.traced;
+          kept = ap (λ (n : Keeping). n.dones) kept ∙ kept_then;
+          map = subst (HoldMap (rows_after k.procs from dones)) (sym tables) (over.ends (rows_after k.procs from dones) here.worked.serial.partitions here.worked.serial.newest);
+        })
+
     floor_then : end.floor ≡ floor_of k.kept.keep k.kept.floor (k.kept.dones ++ dones)
-    floor_then = floor_now requests k.next_epoch dones ran.serial.each run.may.distinct now keeps end over.keep over.more
+    floor_then = floor_now requests k.next_epoch dones ran.worked.serial.each run.may.distinct now keeps end over.keep over.more
         ∙ ap (λ (n : Keeping). floor_of n.keep n.floor (n.dones ++ dones)) run.same
 
 -- ---- on a host that rests on the store
 
 module _ {H : Type 0} (moment : H → ℕ) (observed : H → ℕ → Observation → Type 0) (said : H → Option (List ℕ)) (reads : H → Option Files) (may_leave : H → Files → Type 0) (old : H)
     (commits : RunsAreCommits) (prepares : RunsArePrepared)
-    (k : ClusterState) (requests : List Request) (workers attempts : ℕ) (shards : List ShardState) (now : Keeping) (dones : List Done) (rows : List Row)
-    (run : HasRun k requests workers attempts shards now dones rows)
+    (k : ClusterState) (requests : List Request) (workers attempts : ℕ) (shards : List ShardState) (now : Keeping) (dones : List Done) (rows : List Row) (trace : Traced)
+    (run : HasRun k requests workers attempts shards now dones rows trace)
     (seen_as : ClusterState) (view_is : k ≡ seen_as) (c : Contents) (rests : RestsOn c (reads old) (may_leave old)) (stands_so : StandsAt c seen_as) (room : HasRoom c requests) where
   stands : StandsAt c k
   stands = subst (StandsAt c) (sym view_is) stands_so
@@ -227,7 +251,7 @@ module _ {H : Type 0} (moment : H → ℕ) (observed : H → ℕ → Observation
   abbrev d : Contents
   d = with_epoch epoch rows dones c
 
-  ran_here : RanOn (begins k (map_in c) requests workers attempts) epoch k.held shards dones rows
+  ran_here : RanOn (beginning_at k (map_in c) requests workers attempts) epoch k.held shards dones rows trace
   ran_here = run.ran (map_in c) stands.map
 
   may_run : MayRun c requests epoch
@@ -250,15 +274,15 @@ module _ {H : Type 0} (moment : H → ℕ) (observed : H → ℕ → Observation
 
   is_next : IsNextIn c requests (commit_of epoch dones)
   is_next = commits rests.files c rests.good requests epoch may_run dones (record {
-    each = ran_here.serial.each;
-    early = ran_here.serial.early;
-    replies = subst (λ ps. RepliesAreRuns ps (map_in c) dones) stands.procs ran_here.serial.replies;
-    times = ran_here.serial.times;
+    each = ran_here.worked.serial.each;
+    early = ran_here.worked.serial.early;
+    replies = subst (λ ps. RepliesAreRuns ps (map_in c) dones) stands.procs ran_here.worked.serial.replies;
+    times = ran_here.worked.serial.times;
   })
 
   pieces_are : ran_here.pieces ≡ pieces_in c requests dones
   pieces_are =
-      ran_here.serial.pieces ∙ ap (λ n. pieces_of k.procs n requests (map_in c) dones) (run.count ∙ stands.partitions)
+      ran_here.worked.serial.pieces ∙ ap (λ n. pieces_of k.procs n requests (map_in c) dones) (run.count ∙ stands.partitions)
       ∙ ap (λ ps. pieces_of ps c.setting.entry.layout.partitions requests (map_in c) dones) stands.procs
 
   last_writes : AreLastWrites k.held (pieces_in c requests dones) rows
@@ -289,29 +313,31 @@ module _ {H : Type 0} (moment : H → ℕ) (observed : H → ℕ → Observation
   history_is : history_of d ≡ followed_by h e
   history_is = history_grows (with_rows epoch rows c) (commit_of epoch dones)
 
-  begins_there : begins k (map_in c) requests workers attempts ≡ beginning_on c requests workers attempts
+  begins_there : beginning_at k (map_in c) requests workers attempts ≡ beginning_on c requests workers attempts
   begins_there =
-      ap (λ ps. record (begins k (map_in c) requests workers attempts) { procs = ps }) stands.procs
+      ap (λ ps. record (beginning_at k (map_in c) requests workers attempts) { procs = ps }) stands.procs
       ∙ ap (λ n. record (beginning_on c requests workers attempts) { partitions = n }) stands.partitions
 
-  grown : Grown requests workers attempts epoch c d
+  grown : Grown requests workers attempts epoch trace c d
   grown = record {
     setting = refl;
     base = refl;
     e = e;
     number = refl;
-    come = subst (λ b. ComeOfExecution b epoch dones) begins_there ran_here.come;
+    traced = subst (λ b. IsTraceOf b epoch dones trace) begins_there ran_here.worked.traced;
     history = history_is;
     grows = subst (GrowsBy h requests) (sym history_is) is_next.grown;
+    below = behind_epoch c epoch rows dones stands.next;
   }
 
   -- ---- what is seen
 
-  store_of : (image : Files) → IsOneOf epoch rows dones c image → IsStoreOf c.setting h image ⊎ IsStoreOf c.setting (history_of d) image
-  store_of image one = ⊎_elim (λ was. inl (record { contents = c; setting = refl; good = was; history = refl }))
-      (λ more. ⊎_elim (λ prepared. inl (record { contents = with_rows epoch rows c; setting = refl; good = prepared; history = refl })) (λ both. inr (record { contents = d; setting = refl; good = both; history = refl })) more) one
+  store_of : (image : Files) → IsOneOf epoch rows dones c image → IsStoreOf c.setting h (epoch + 1) image ⊎ IsStoreOf c.setting (history_of d) (epoch + 1) image
+  store_of image one = ⊎_elim (λ was. inl (record { contents = c; setting = refl; good = was; history = refl; below = behind_later c epoch (epoch + 1) (omega arith) stands.next }))
+      (λ more. ⊎_elim (λ prepared. inl (record { contents = with_rows epoch rows c; setting = refl; good = prepared; history = refl; below = behind_rows c epoch rows stands.next }))
+      (λ both. inr (record { contents = d; setting = refl; good = both; history = refl; below = behind_epoch c epoch rows dones stands.next })) more) one
 
-  shows_store : (bytes : Option (List ℕ)) (seen : Observation) → ShowsOneOf epoch rows dones c bytes seen → ShowsStore c.setting h (history_of d) bytes seen
+  shows_store : (bytes : Option (List ℕ)) (seen : Observation) → ShowsOneOf epoch rows dones c bytes seen → ShowsStore c.setting h (history_of d) (epoch + 1) bytes seen
   shows_store bytes seen shows = record { store = store_of seen.image shows.store; said = shows.said }
 
   -- ---- the turn, where its entries were to be appended
@@ -324,14 +350,16 @@ module _ {H : Type 0} (moment : H → ℕ) (observed : H → ℕ → Observation
     are_stored : Stores moment observed said reads may_leave stored epoch rows dones c old new
     are_stored = subst (λ rs. Storing rs dones) same_rows (subst (λ ds. Storing given_rows ds) same_dones stores) may_store
 
-    turned : (result : Result (Unit {0}) TurnFault) (after : ClusterState) → OnOk result (RestsOn d (reads new) (may_leave new) × StandsAt d after)
+    turned : (result : Result (Unit {0}) TurnFault) (after : ClusterState) → OnOk result (RestsOn d (reads new) (may_leave new) × StandsAt d after × (after.trace ≡ Some trace))
         → Turns moment observed said reads may_leave result requests workers attempts c seen_as after old new
     turned result after ok = subst (λ (s : ClusterState). Turns moment observed said reads may_leave result requests workers attempts c s after old new) view_is (record {
       d = d;
+      trace = trace;
       grown = grown;
       ok = ok;
-      moments = sees_weaker moment observed old new (ShowsOneOf epoch rows dones c (said old)) (ShowsStore c.setting h (history_of d) (said old)) (shows_store (said old)) are_stored.moments;
+      moments = sees_weaker moment observed old new (ShowsOneOf epoch rows dones c (said old)) (ShowsStore c.setting h (history_of d) (epoch + 1) (said old)) (shows_store (said old)) are_stored.moments;
       left = λ bytes spoke image leaves. store_of image (are_stored.left bytes spoke image leaves);
+      others = are_stored.others;
     })
 
     pub failed : (result : Result (Unit {0}) TurnFault) (fault : TurnFault) (after : ClusterState) → result ≡ Err fault → Turns moment observed said reads may_leave result requests workers attempts c seen_as after old new
@@ -340,33 +368,27 @@ module _ {H : Type 0} (moment : H → ℕ) (observed : H → ℕ → Observation
     module _ (last : List ShardState) (end : Keeping) (over : HasEnded shards now dones last end) where
       module _ (chief node : LogState) (chief_same : (chief.file ≡ k.chief.file) × (chief.kind ≡ k.chief.kind)) (node_same : (node.file ≡ k.node.file) × (node.kind ≡ k.node.kind)) where
         abbrev after : List ShardState → ClusterState
-        after tables = record { procs = k.procs; kept = end; shards = tables; chief = chief; node = node; held = k.held; next_epoch = epoch + 1; spent = false }
+        after tables = record { procs = k.procs; kept = end; shards = tables; chief = chief; node = node; held = k.held; next_epoch = epoch + 1; trace = Some trace; spent = false }
 
         stands_then : StandsAt d (after last)
         stands_then = record {
           one = stands.one;
           procs = stands.procs;
-          dones = kept_then k requests workers attempts shards now dones rows run last end over ∙ ap (λ n. kept_of n (k.kept.dones ++ dones)) stands.keep ∙ ap (λ ds. kept_of h.keep (ds ++ dones)) stands.dones
+          dones = kept_then k requests workers attempts shards now dones rows trace run last end over ∙ ap (λ n. kept_of n (k.kept.dones ++ dones)) stands.keep ∙ ap (λ ds. kept_of h.keep (ds ++ dones)) stands.dones
               ∙ sym (follows c.setting.tree h e).held ∙ ap kept (sym history_is);
-          floor = floor_then k requests workers attempts shards now dones rows run last end over ∙ ap (λ n. floor_of n k.kept.floor (k.kept.dones ++ dones)) stands.keep
+          floor = floor_then k requests workers attempts shards now dones rows trace run last end over ∙ ap (λ n. floor_of n k.kept.floor (k.kept.dones ++ dones)) stands.keep
               ∙ ap (λ f. floor_of h.keep f (k.kept.dones ++ dones)) stands.floor
               ∙ ap (λ ds. floor_of h.keep (floor h) (ds ++ dones)) stands.dones ∙ sym (follows c.setting.tree h e).forgotten ∙ ap floor (sym history_is);
           keep = over.keep ∙ ap (λ (n : Keeping). n.keep) run.same ∙ stands.keep;
           map = subst (λ n. HoldMap n last)
               (ap (λ ps. rows_after ps (map_in c) dones) stands.procs ∙ sym (follows c.setting.tree h e).rows ∙ ap (map_of c.setting.tree) (sym history_is))
-              (over.ends (rows_after k.procs (map_in c) dones) ran_here.serial.partitions ran_here.serial.newest);
+              (over.ends (rows_after k.procs (map_in c) dones) ran_here.worked.serial.partitions ran_here.worked.serial.newest);
           partitions = over.count ∙ run.count ∙ stands.partitions;
           chief = record { file = chief_same.0 ∙ stands.chief.file; kind = chief_same.1 ∙ stands.chief.kind };
           node = record { file = node_same.0 ∙ stands.node.file; kind = node_same.1 ∙ stands.node.kind };
           held = stands.held;
-          next = record {
-            base = (let b = stands.next.base in omega (arith, b));
-            commits = all_append (λ (x : Commit). x.epoch < epoch + 1) c.commits (commit_of epoch dones ∷ [])
-                (all_weaker (λ (x : Commit). x.epoch < epoch) (λ (x : Commit). x.epoch < epoch + 1) (λ x less. omega (arith, less)) c.commits stands.next.commits) (omega arith, tt);
-            prepared = all_append (λ (x : Prepared). x.epoch < epoch + 1) (c.prepared 0) (prepared_of epoch rows ∷ [])
-                (all_weaker (λ (x : Prepared). x.epoch < epoch) (λ (x : Prepared). x.epoch < epoch + 1) (λ x less. omega (arith, less)) (c.prepared 0) stands.next.prepared) (omega arith, tt);
-          };
+          next = behind_epoch c epoch rows dones stands.next;
         }
 
         pub succeeded : (tables : List ShardState) → tables ≡ last → stored ≡ Ok tt → Turns moment observed said reads may_leave (Ok tt) requests workers attempts c seen_as (after tables) old new
-        succeeded tables same is = turned (Ok tt) (after tables) (at_ok stored tt (RestsOn d (reads new) (may_leave new)) is are_stored.ok, subst (λ ts. StandsAt d (after ts)) (sym same) stands_then)
+        succeeded tables same is = turned (Ok tt) (after tables) (at_ok stored tt (RestsOn d (reads new) (may_leave new)) is are_stored.ok, subst (λ ts. StandsAt d (after ts)) (sym same) stands_then, refl)

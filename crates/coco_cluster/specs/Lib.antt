@@ -1,5 +1,9 @@
 pub mod Faults
+pub mod Messages
+pub mod Pacing
 pub mod Standing
 pub mod StateCode
 pub mod Storing
+pub mod TraceCode
 pub mod Turning
+pub mod Writing

@@ -16,9 +16,10 @@ use Rattle.coco_kept.specs.Keeping.{HasDistinctIds, HoldsKept, Keeping}
 use Rattle.coco_log.specs.LogState.{LogState}
 use Rattle.coco_shard.specs.RowState.{ShardState}
 use Rattle.coco_store.specs.Contents.{Contents, history_of, map_in}
+use Rattle.coco_parallel.specs.Traces.{Traced}
 
 -- the procedures, the kept Dones, the shards, the logs of the coordinator and of the node, the partitions that the node holds, the number of the next
--- epoch, and whether it may be used no more
+-- epoch, what the epoch of the last turn left, if it committed one, and whether it may be used no more
 pub record ClusterState : Type 0 where
   pub procs : Procedures
   pub kept : Keeping
@@ -27,6 +28,7 @@ pub record ClusterState : Type 0 where
   pub node : LogState
   pub held : List Bool
   pub next_epoch : ℕ
+  pub trace : Option Traced
   pub spent : Bool
 
 -- an epoch of this number comes behind all that stand in the files

@@ -14,6 +14,8 @@ use Rattle.coco_log.specs.LogState.{LogState}
 use Rattle.coco_shard.specs.Codes.{row_code}
 use Rattle.coco_shard.specs.RowState.{ShardState}
 use Rattle.coco_cluster.specs.Standing.{ClusterState}
+use Rattle.coco_cluster.specs.TraceCode.{traced_code}
+use Rattle.coco_parallel.specs.Traces.{Traced}
 
 abbrev pub done_code : Coded Done
 done_code = code_by (ℕ × (Call × (ℕ × (ℕ × Reply)))) (coded× coded_ℕ (coded× call_code (coded× coded_ℕ (coded× coded_ℕ reply_code))))
@@ -31,7 +33,7 @@ abbrev pub shard_code : Coded ShardState
 shard_code = code key_code row_code
 
 abbrev pub cluster_code : Coded ClusterState
-cluster_code = code_by (Procedures × (Keeping × (List ShardState × (LogState × (LogState × (List Bool × (ℕ × Bool)))))))
-    (coded× procedures_code (coded× keeping_code (coded× (coded_list shard_code) (coded× log_code (coded× log_code (coded× (coded_list coded_bool) (coded× coded_ℕ coded_bool)))))))
-    (λ k. (k.procs, (k.kept, (k.shards, (k.chief, (k.node, (k.held, (k.next_epoch, k.spent))))))))
-    (λ p. record { procs = p.0; kept = p.1.0; shards = p.1.1.0; chief = p.1.1.1.0; node = p.1.1.1.1.0; held = p.1.1.1.1.1.0; next_epoch = p.1.1.1.1.1.1.0; spent = p.1.1.1.1.1.1.1 }) (λ _. refl)
+cluster_code = code_by (Procedures × (Keeping × (List ShardState × (LogState × (LogState × (List Bool × (ℕ × (Option Traced × Bool))))))))
+    (coded× procedures_code (coded× keeping_code (coded× (coded_list shard_code) (coded× log_code (coded× log_code (coded× (coded_list coded_bool) (coded× coded_ℕ (coded× (coded_option traced_code) coded_bool))))))))
+    (λ k. (k.procs, (k.kept, (k.shards, (k.chief, (k.node, (k.held, (k.next_epoch, (k.trace, k.spent)))))))))
+    (λ p. record { procs = p.0; kept = p.1.0; shards = p.1.1.0; chief = p.1.1.1.0; node = p.1.1.1.1.0; held = p.1.1.1.1.1.0; next_epoch = p.1.1.1.1.1.1.0; trace = p.1.1.1.1.1.1.1.0; spent = p.1.1.1.1.1.1.1.1 }) (λ _. refl)

@@ -14,6 +14,7 @@ use Rattle.coco_log.specs.LogState.{LogState}
 use Rattle.coco_log.specs.declared.fault.LogFault.{LogFault}
 use Rattle.coco_store.specs.Contents.{Contents, IsGoodStore}
 use Rattle.coco_store.specs.Laws.{MayCommit, MayPrepare, with_commit, with_prepared}
+use Rattle.coco_cluster.specs.Writing.{WritesLogs}
 
 abbrev pub prepared_of : ℕ → List Row → Prepared
 prepared_of epoch rows = record { epoch = epoch; rows = rows }
@@ -51,9 +52,10 @@ pub record ShowsOneOf (epoch : ℕ) (rows : List Row) (dones : List Done) (c : C
   pub store : IsOneOf epoch rows dones c seen.image
   pub said : bytes ≡ Some seen.said
 
--- both entries are there where the call succeeded; meanwhile and afterwards there is one of the three
+-- both entries are there where the call succeeded; meanwhile and afterwards there is one of the three, and behind it the other files are as they were
 pub record Stores {H : Type 0} (moment : H → ℕ) (observed : H → ℕ → Observation → Type 0) (said : H → Option (List ℕ)) (reads : H → Option Files) (may_leave : H → Files → Type 0)
     (result : Result (Unit {0}) LogFault) (epoch : ℕ) (rows : List Row) (dones : List Done) (c : Contents) (old new : H) : Type 0 where
   pub ok : OnOk result (RestsOn (with_epoch epoch rows dones c) (reads new) (may_leave new))
   pub moments : SeesOnly moment observed old new (ShowsOneOf epoch rows dones c (said old))
   pub left : (bytes : List ℕ) → said old ≡ Some bytes → (image : Files) → may_leave new image → IsOneOf epoch rows dones c image
+  pub others : WritesLogs c.setting (reads old) (reads new) (may_leave old) (may_leave new)

@@ -1,5 +1,5 @@
 -- What a turn makes of the store, and what is seen of it meanwhile.
-use Rattle.std.specs.Prelude.{◌≡◌, ◌⊎◌, ℕ, ◌+◌, ◌<◌, ◌≤◌, Bool, List, [], map, length, Option, None, Some, Result, OnOk, nat_eq}
+use Rattle.std.specs.Prelude.{◌≡◌, ◌⊎◌, ℕ, ◌+◌, ◌<◌, ◌≤◌, Bool, List, [], ◌++◌, map, length, Option, None, Some, Result, OnOk, nat_eq}
 use Rattle.std.specs.List.{AllByRecursion, IsDistinct}
 use Rattle.coco_types.specs.Limits.{most_batch_lines, most_partitions}
 use Rattle.coco_types.specs.declared.call.Done.{Done}
@@ -10,7 +10,7 @@ use Rattle.coco_host.specs.Moments.{Observation, SeesOnly}
 use Rattle.coco_append.specs.Gaining.{RestsOn}
 use Rattle.coco_ast.specs.Fitting.{Fits}
 use Rattle.coco_ast.specs.Growth.{GrowsBy}
-use Rattle.coco_ast.specs.History.{AreAbove, Epoch, History, all_dones, done_of, followed_by}
+use Rattle.coco_ast.specs.History.{AreAbove, Epoch, History, all_dones, done_of, followed_by, kept_of, rows_after}
 use Rattle.coco_ast.specs.Keyed.{Rows}
 use Rattle.coco_ast.specs.Tree.{Procedures}
 use Rattle.coco_commits.specs.EpochEntries.{HasRoomFor}
@@ -19,14 +19,15 @@ use Rattle.coco_epoch.specs.Running.{FitAll}
 use Rattle.coco_epoch.specs.SerialEpoch.{IsSerialEpoch}
 use Rattle.coco_epoch.specs.Shards.{HoldMap}
 use Rattle.coco_order.specs.Execution.{Beginning}
-use Rattle.coco_order.specs.Outcome.{ComeOfExecution}
 use Rattle.coco_parallel.specs.Epochs.{beginning_with}
 use Rattle.coco_prepared.specs.LastWrites.{AreLastWrites}
 use Rattle.coco_shard.specs.RowState.{ShardState}
 use Rattle.coco_store.specs.Contents.{Contents, IsGoodStore, history_of, map_in}
 use Rattle.coco_store.specs.Rules.{Setting}
 use Rattle.coco_worker.specs.declared.slot.EpochConfig.{EpochConfig}
-use Rattle.coco_cluster.specs.Standing.{ClusterState, StandsAt}
+use Rattle.coco_cluster.specs.Standing.{ClusterState, IsBehindAll, StandsAt}
+use Rattle.coco_cluster.specs.Writing.{WritesLogs}
+use Rattle.coco_parallel.specs.Traces.{IsTraceOf, Traced}
 use Rattle.coco_cluster.specs.declared.fault.TurnFault.{TurnFault}
 
 -- requests that a cluster may run: they fit, and each has an id of its own that is neither kept nor forgotten
@@ -54,21 +55,20 @@ pub record MayWork (procs : Procedures) (requests : List Request) (config : Epoc
   pub nodes : 0 < config.nodes
   pub alone : config.copies ≡ 0
 
--- the Dones and pieces of an epoch that workers ran on shards
-pub record HasWorked (b : Beginning) (epoch : ℕ) (shards : List ShardState) (dones : List Done) (pieces : List Piece) : Type 0 where
+-- the Dones and pieces of an epoch that workers ran on shards, and what they left of how they ran it
+pub record HasWorked (b : Beginning) (epoch : ℕ) (shards : List ShardState) (dones : List Done) (pieces : List Piece) (trace : Traced) : Type 0 where
   pub serial : IsSerialEpoch b.procs b.requests epoch b.opening shards dones pieces
-  pub come : ComeOfExecution b epoch dones
+  pub traced : IsTraceOf b epoch dones trace
 
 -- whatever map the shards held, an epoch of these requests was run from it, as they have it behind that
-abbrev pub HaveWorked : Procedures → List Request → EpochConfig → List ShardState → List ShardState → List Done → List Piece → Type 0
-HaveWorked procs requests config before after dones pieces =
-    (m : Rows) → HoldMap m before → HasWorked (beginning_with procs m requests before config) config.epoch after dones pieces
+abbrev pub HaveWorked : Procedures → List Request → EpochConfig → List ShardState → List ShardState → List Done → List Piece → Traced → Type 0
+HaveWorked procs requests config before after dones pieces trace =
+    (m : Rows) → HoldMap m before → HasWorked (beginning_with procs m requests before config) config.epoch after dones pieces trace
 
 -- an epoch with the rows of its prepared entry
-pub record RanOn (b : Beginning) (epoch : ℕ) (held : List Bool) (shards : List ShardState) (dones : List Done) (rows : List Row) : Type 0 where
+pub record RanOn (b : Beginning) (epoch : ℕ) (held : List Bool) (shards : List ShardState) (dones : List Done) (rows : List Row) (trace : Traced) : Type 0 where
   pub pieces : List Piece
-  pub serial : IsSerialEpoch b.procs b.requests epoch b.opening shards dones pieces
-  pub come : ComeOfExecution b epoch dones
+  pub worked : HasWorked b epoch shards dones pieces trace
   pub last : AreLastWrites held pieces rows
 
 -- what an epoch of these requests begins with on contents, with so many workers and attempts at each request
@@ -76,38 +76,63 @@ abbrev pub beginning_on : Contents → List Request → ℕ → ℕ → Beginnin
 beginning_on c requests workers attempts =
     record { procs = c.setting.tree; opening = map_in c; requests = requests; partitions = c.setting.entry.layout.partitions; workers = workers; attempts = attempts }
 
--- the contents have grown by an epoch of this number: one Done for each request, in the order of commit, as an execution from the map before has them
-pub record Grown (requests : List Request) (workers attempts epoch : ℕ) (c d : Contents) : Type 0 where
+-- the contents have grown by an epoch of this number: one Done for each request, in the order of commit, as this trace has them from the map before
+pub record Grown (requests : List Request) (workers attempts epoch : ℕ) (trace : Traced) (c d : Contents) : Type 0 where
   pub setting : d.setting ≡ c.setting
   pub base : d.base ≡ c.base
   pub e : Epoch
   pub number : e.number ≡ epoch
-  pub come : ComeOfExecution (beginning_on c requests workers attempts) epoch e.dones
+  pub traced : IsTraceOf (beginning_on c requests workers attempts) epoch e.dones trace
   pub history : history_of d ≡ followed_by (history_of c) e
   pub grows : GrowsBy (history_of c) requests (history_of d)
+  pub below : IsBehindAll d (epoch + 1)
 
--- a good store with this history, under this layout and its procedures
-pub record IsStoreOf (s : Setting) (h : History) (files : Files) : Type 0 where
+-- a good store with this history, under this layout and its procedures, in which no entry is of this epoch or a later one
+pub record IsStoreOf (s : Setting) (h : History) (end : ℕ) (files : Files) : Type 0 where
   pub contents : Contents
   pub setting : contents.setting ≡ s
   pub good : IsGoodStore files contents
   pub history : history_of contents ≡ h
+  pub below : IsBehindAll contents end
 
--- seen at a moment: a good store with one history or the other, and no more said
-pub record ShowsStore (s : Setting) (before after : History) (bytes : Option (List ℕ)) (seen : Observation) : Type 0 where
-  pub store : IsStoreOf s before seen.image ⊎ IsStoreOf s after seen.image
+-- seen at a moment: a good store with one history or the other, in which no entry is of this epoch or a later one, and no more said
+pub record ShowsStore (s : Setting) (before after : History) (end : ℕ) (bytes : Option (List ℕ)) (seen : Observation) : Type 0 where
+  pub store : IsStoreOf s before end seen.image ⊎ IsStoreOf s after end seen.image
   pub said : bytes ≡ Some seen.said
 
--- the store has grown by an epoch, where the turn succeeded. At each moment of it, and behind it whatever it answered, all that a crash may leave is a
--- good store with the history of before or the grown one
+-- the store has grown by an epoch, where the turn succeeded, and the cluster has the trace of it. At each moment, and behind the turn whatever it answered,
+-- all that a crash may leave is a good store with the history of before or the grown one, in which no entry is of a later epoch; and behind it the other files are as they were
 pub record Turns {H : Type 0} (moment : H → ℕ) (observed : H → ℕ → Observation → Type 0) (said : H → Option (List ℕ)) (reads : H → Option Files) (may_leave : H → Files → Type 0)
     (result : Result (Unit {0}) TurnFault) (requests : List Request) (workers attempts : ℕ) (c : Contents) (before after : ClusterState) (old new : H) : Type 0 where
   pub d : Contents
-  pub grown : Grown requests workers attempts before.next_epoch c d
-  pub ok : OnOk result (RestsOn d (reads new) (may_leave new) × StandsAt d after)
-  pub moments : SeesOnly moment observed old new (ShowsStore c.setting (history_of c) (history_of d) (said old))
-  pub left : (bytes : List ℕ) → said old ≡ Some bytes → (image : Files) → may_leave new image → IsStoreOf c.setting (history_of c) image ⊎ IsStoreOf c.setting (history_of d) image
+  pub trace : Traced
+  pub grown : Grown requests workers attempts before.next_epoch trace c d
+  pub ok : OnOk result (RestsOn d (reads new) (may_leave new) × StandsAt d after × (after.trace ≡ Some trace))
+  pub moments : SeesOnly moment observed old new (ShowsStore c.setting (history_of c) (history_of d) (before.next_epoch + 1) (said old))
+  pub left : (bytes : List ℕ) → said old ≡ Some bytes → (image : Files) → may_leave new image
+      → IsStoreOf c.setting (history_of c) (before.next_epoch + 1) image ⊎ IsStoreOf c.setting (history_of d) (before.next_epoch + 1) image
+  pub others : WritesLogs c.setting (reads old) (reads new) (may_leave old) (may_leave new)
+
+-- a cluster whose last turn committed no epoch
+abbrev pub without_trace : ClusterState → ClusterState
+without_trace k = record k { trace = None }
 
 -- nothing was written, since there was nothing to do or before anything was
 abbrev pub IsUntouched : {H : Type 0} → Result (Unit {0}) TurnFault → List Request → ClusterState → ClusterState → H → H → Type 0
-IsUntouched result requests before after old new = (new ≡ old) × OnOk result ((requests ≡ []) × (after ≡ before))
+IsUntouched result requests before after old new = (new ≡ old) × OnOk result ((requests ≡ []) × (after ≡ without_trace before))
+
+-- ---- on every host
+
+-- what an epoch of these requests begins with on a cluster whose shards hold this map
+abbrev pub beginning_at : ClusterState → Rows → List Request → ℕ → ℕ → Beginning
+beginning_at k m requests workers attempts =
+    record { procs = k.procs; opening = m; requests = requests; partitions = length k.shards; workers = workers; attempts = attempts }
+
+-- the cluster has run an epoch from this map: it has its trace, its Dones among the kept ones, and the map behind it
+pub record HasTurned (requests : List Request) (workers attempts : ℕ) (m : Rows) (before after : ClusterState) : Type 0 where
+  pub dones : List Done
+  pub trace : Traced
+  pub trace_is : after.trace ≡ Some trace
+  pub traced : IsTraceOf (beginning_at before m requests workers attempts) before.next_epoch dones trace
+  pub kept : after.kept.dones ≡ kept_of before.kept.keep (before.kept.dones ++ dones)
+  pub map : HoldMap (rows_after before.procs m dones) after.shards

@@ -1,10 +1,14 @@
 //! The store in hand, and its turns.
-ghost use Rattle.std.specs.Prelude.{◌≡◌, ◌⊎◌, ◌+◌, ◌<◌, ◌≤◌, [], false, true, length, IsOk, OnOk, OnErr};
+ghost use Rattle.std.specs.Prelude.{◌≡◌, ◌⊎◌, ◌+◌, ◌<◌, ◌≤◌, [], None, false, true, length, IsOk, OnOk, OnErr};
+ghost use Rattle.std.specs.Option.{option_map};
+ghost use Rattle.coco_ast.specs.Keyed.{Rows};
 ghost use Rattle.coco_append.specs.Gaining.{RestsOn, Stands};
+ghost use Rattle.coco_epoch.specs.Shards.{HoldMap};
 ghost use Rattle.coco_store.specs.Contents.{Contents};
 ghost use Rattle.coco_cluster.specs.Faults.{CountsTurn};
 ghost use Rattle.coco_cluster.specs.Standing.{IsSound, StandsAt};
-ghost use Rattle.coco_cluster.specs.Turning.{HasRoom, IsUntouched, MayTurn, Turns};
+ghost use Rattle.coco_parallel.specs.Traces.{traced};
+ghost use Rattle.coco_cluster.specs.Turning.{HasRoom, HasTurned, IsUntouched, MayTurn, Turns, without_trace};
 ghost use Rattle.coco_cluster.specs.declared.fault.TurnFault.TheVariants as fault;
 
 use crate::TurnFault;
@@ -17,6 +21,7 @@ use coco_gate::Gate;
 use coco_host::Host;
 use coco_kept::Kept;
 use coco_log::Log;
+use coco_parallel::trace::Trace;
 use coco_shard::Shard;
 use coco_types::Request;
 use coco_types::limits::EPOCHS_END;
@@ -49,6 +54,7 @@ pub struct Cluster {
     node: Log,
     held: Vec<bool>,
     next_epoch: u64,
+    trace: Option<Trace>,
     body: Vec<u8>,
     room: EpochRoom,
     is_spent: bool,
@@ -57,12 +63,14 @@ pub struct Cluster {
 impl Model for Cluster {
     ghost use Rattle.coco_cluster.specs.Standing.{ClusterState, IsSound};
     ghost use Rattle.coco_cluster.specs.StateCode.{cluster_code};
+    ghost use Rattle.coco_parallel.specs.Traces.{traced};
+    ghost use Rattle.std.specs.Option.{option_map};
 
     ghost Value = { ClusterState };
 
     ghost coded = { cluster_code };
 
-    ghost view = { λ k. record { procs = k.procs; kept = k.kept; shards = k.shards.items; chief = k.chief; node = k.node; held = k.held.items; next_epoch = k.next_epoch; spent = k.is_spent } };
+    ghost view = { λ k. record { procs = k.procs; kept = k.kept; shards = k.shards.items; chief = k.chief; node = k.node; held = k.held.items; next_epoch = k.next_epoch; trace = option_map traced k.trace; spent = k.is_spent } };
 
     ghost invariant = { λ k. IsSound k.kept k.shards.items k.chief k.node k.next_epoch k.is_spent };
 }
@@ -71,7 +79,7 @@ impl Cluster {
     /// The cluster of an opened store. It takes no memory.
     pub fn of(alloc: Global, store: InHand) -> Cluster
         requires { IsSound store.kept store.shards.items store.chief store.node store.next_epoch false }
-        ensures { result ≡ record { procs = store.procs; kept = store.kept; shards = store.shards.items; chief = store.chief; node = store.node; held = store.held.items; next_epoch = store.next_epoch; spent = false } }
+        ensures { result ≡ record { procs = store.procs; kept = store.kept; shards = store.shards.items; chief = store.chief; node = store.node; held = store.held.items; next_epoch = store.next_epoch; trace = None; spent = false } }
     {
         Cluster {
             procs: store.procs,
@@ -81,6 +89,7 @@ impl Cluster {
             node: store.node,
             held: store.held,
             next_epoch: store.next_epoch,
+            trace: None,
             body: Vec::new(alloc),
             room: EpochRoom::new(alloc),
             is_spent: false,
@@ -90,8 +99,9 @@ impl Cluster {
     /// Runs new requests as one epoch, by so many workers with so many attempts at each, and commits it: its prepared
     /// entry, then its commit entry, and then the shards are promoted and its Dones are kept. Whatever it answers, at
     /// each moment what a crash may leave is a good store, without the epoch or with it. Without requests there is
-    /// nothing to do. After a fault the shards are as they were before the turn, also where the files may have the epoch:
-    /// the cluster is spent, and the store has to be opened again.
+    /// nothing to do. The trace of the turn before is gone, and that of this one stays until the next turn. After a fault
+    /// the shards are as they were before the turn, also where the files may have the epoch: the cluster is spent, and
+    /// the store has to be opened again.
     pub fn turn<R: Threads + Wait + Clock + Sync, H: Host, G: Gate + Sync>(
         &mut self,
         rt: &R,
@@ -110,12 +120,14 @@ impl Cluster {
         ensures turns { (c : Contents) → RestsOn c (H.reads host.old) (H.may_leave host.old) → StandsAt c self.old → HasRoom c requests.items
             → IsUntouched result requests.items self.old self.new host.old host.new
             ⊎ Turns H.moment H.observed H.said H.reads H.may_leave result requests.items workers attempts c self.old self.new host.old host.new }
-        ensures nothing { requests.items ≡ [] → IsOk result × (host.new ≡ host.old) × (self.new ≡ self.old) }
+        ensures nothing { requests.items ≡ [] → IsOk result × (host.new ≡ host.old) × (self.new ≡ without_trace self.old) }
         ensures stand { OnOk result (Stands self.new.node (H.reads host.new) (H.may_leave host.new) × Stands self.new.chief (H.reads host.new) (H.may_leave host.new)) }
         ensures unspent { OnOk result (self.new.spent ≡ false) }
         ensures spent { OnErr result (self.new.spent ≡ true) }
         ensures given_back { OnErr result (self.new.shards ≡ self.old.shards) }
         ensures next { OnOk result (0 < length requests.items → self.new.next_epoch ≡ self.old.next_epoch + 1) }
+        ensures turned { OnOk result (0 < length requests.items → (m : Rows) → HoldMap m self.old.shards → HasTurned requests.items workers attempts m self.old self.new) }
+        ensures untraced { OnErr result (self.new.trace ≡ None) }
         ensures used_up { 0 < length requests.items → EPOCHS_END ≤ self.old.next_epoch → result ≡ Err fault.EpochsUsedUp }
         ensures procs { self.new.procs ≡ self.old.procs }
         ensures said { H.said host.new ≡ H.said host.old }
@@ -124,6 +136,7 @@ impl Cluster {
         ensures unused { result ≡ Err fault.EpochsUsedUp → host.new ≡ host.old }
         ensures kept { OnOk result (length self.new.kept.dones ≤ length self.old.kept.dones + length requests.items) }
     {
+        self.room.keep(alloc, &mut self.trace);
         if requests.is_empty() {
             return Ok(());
         }
@@ -133,7 +146,7 @@ impl Cluster {
         }
         let epoch = self.next_epoch;
         let config = on_one_node(epoch, workers, attempts);
-        let Ran { dones, rows } = run_epoch(
+        let Ran { dones, rows, trace } = run_epoch(
             rt,
             alloc,
             &mut self.room,
@@ -162,8 +175,17 @@ impl Cluster {
         }
         end_epoch(&mut self.shards, &mut self.kept, dones);
         self.next_epoch += 1;
+        self.trace = Some(trace);
         self.is_spent = false;
         Ok(())
+    }
+
+    /// What the epoch of the last turn left: each shard's journal, each worker's transcript, and the requests that no
+    /// attempt committed. None where that turn committed no epoch.
+    pub fn trace(&self) -> Option<&Trace>
+        ensures { option_map (λ t. traced t.now) result ≡ self.now.trace }
+    {
+        self.trace.as_ref()
     }
 
     /// The kept replies.

@@ -39,6 +39,11 @@ impl From<NoMemory> for TurnFault {
 }
 
 impl fmt::Display for TurnFault {
+    ghost use Rattle.std.specs.Prelude.{Some};
+    ghost use Rattle.coco_cluster.specs.Messages.{fault_text};
+
+    ghost output = { λ x. Some (fault_text x) };
+
     fn fmt<W: fmt::Write>(&self, f: &mut fmt::Formatter<W>) -> fmt::Result {
         match self {
             TurnFault::Disk => f.write_str("disk fault"),

@@ -14,10 +14,15 @@ use Rattle.coco_ast.specs.History.{History, all_dones, kept}
 use Rattle.coco_ast.proofs.KeptLemmas.{keeps_all}
 use Rattle.coco_batches.specs.declared.answer.LineAnswer.{LineAnswer}
 use Rattle.coco_batches.specs.declared.batch.Batch.{Batch}
-use Rattle.coco_cluster.specs.Standing.{ClusterState, StandsAt}
-use Rattle.coco_cluster.specs.Turning.{Grown, HasRoom, IsUntouched, ShowsStore, Turns, beginning_on}
+use Rattle.coco_cluster.specs.Standing.{ClusterState, IsBehindAll, StandsAt}
+use Rattle.coco_cluster.proofs.TurnLemmas.{stands_untraced}
+use Rattle.coco_parallel.specs.Traces.{IsTraceOf, Traced, execution_in}
+use Rattle.coco_cluster.specs.Turning.{Grown, HasRoom, IsUntouched, ShowsStore, Turns, beginning_on, without_trace}
 use Rattle.coco_cluster.specs.declared.fault.TurnFault.{TurnFault}
 use Rattle.coco_cluster.specs.declared.fault.TurnFault.TheVariants as turn
+use Rattle.coco_cluster.specs.Writing.{WritesLogs}
+use Rattle.coco_cluster.proofs.BehindLemmas.{behind_later}
+use Rattle.coco_cluster.proofs.WriteLemmas.{writes_none, writes_then}
 use Rattle.coco_log.proofs.OnlyRead.{sees_then, sees_weaker}
 use Rattle.coco_commits.specs.EpochEntries.{HasRoomFor}
 use Rattle.coco_host.specs.Files.{Files, NoMore}
@@ -25,6 +30,7 @@ use Rattle.coco_host.specs.Moments.{IsNew, IsSaidBetween, Observation, SeesOnly}
 use Rattle.coco_host.specs.Record.{known}
 use Rattle.coco_host.proofs.Sees.{started}
 use Rattle.coco_io.proofs.KnownLemmas.{append_known-nil}
+use Rattle.coco_order.specs.Execution.{Beginning}
 use Rattle.coco_order.specs.Outcome.{ComeOfExecution}
 use Rattle.coco_store.specs.Contents.{Contents, history_of}
 use Rattle.coco_store.specs.Rules.{Setting}
@@ -73,17 +79,22 @@ says_part (Err e) piece before now ok err = (err.0, err.2)
 
 -- ---- growth
 
-execution_of : (requests : List Request) (bounds : RunBounds) (epoch : ℕ) (c d : Contents) → Grown requests bounds.workers bounds.attempts epoch c d
+comes_of : (b : Beginning) (epoch : ℕ) (dones : List Done) (trace : Traced) → IsTraceOf b epoch dones trace → ComeOfExecution b epoch dones
+comes_of b epoch dones trace of = record { execution = execution_in trace; is = of.execution; outcome = of.outcome }
+
+execution_of : (requests : List Request) (bounds : RunBounds) (epoch : ℕ) (trace : Traced) (c d : Contents) → Grown requests bounds.workers bounds.attempts epoch trace c d
     → HasExecution (manner_of c.setting bounds) (history_of c) requests (history_of d)
-execution_of [] bounds epoch c d g = tt
-execution_of (r ∷ rs) bounds epoch c d g = (g.e, subst (λ n. ComeOfExecution (beginning_on c (r ∷ rs) bounds.workers bounds.attempts) n g.e.dones) (sym g.number) g.come, g.history)
+execution_of [] bounds epoch trace c d g = tt
+execution_of (r ∷ rs) bounds epoch trace c d g =
+    let b = beginning_on c (r ∷ rs) bounds.workers bounds.attempts in
+    (g.e, subst (λ n. ComeOfExecution b n g.e.dones) (sym g.number) (comes_of b epoch g.e.dones trace g.traced), g.history)
 
-grows_by_execution : (requests : List Request) (bounds : RunBounds) (epoch : ℕ) (c d : Contents) → Grown requests bounds.workers bounds.attempts epoch c d
+grows_by_execution : (requests : List Request) (bounds : RunBounds) (epoch : ℕ) (trace : Traced) (c d : Contents) → Grown requests bounds.workers bounds.attempts epoch trace c d
     → GrowsByExecution (manner_of c.setting bounds) (history_of c) requests (history_of d)
-grows_by_execution requests bounds epoch c d g = (g.grows, execution_of requests bounds epoch c d g)
+grows_by_execution requests bounds epoch trace c d g = (g.grows, execution_of requests bounds epoch trace c d g)
 
-adds_one : (requests : List Request) (workers attempts epoch : ℕ) (c d : Contents) → Grown requests workers attempts epoch c d → AddsFrom epoch (history_of c) (history_of d)
-adds_one requests workers attempts epoch c d g = record { added = g.e ∷ []; epochs = ap (λ (h : History). h.epochs) g.history; numbered = ap (λ n. n ∷ []) g.number }
+abbrev adds_one : (requests : List Request) (workers attempts epoch : ℕ) (trace : Traced) (c d : Contents) → Grown requests workers attempts epoch trace c d → AddsFrom epoch (history_of c) (history_of d)
+adds_one requests workers attempts epoch trace c d g = record { added = g.e ∷ []; epochs = ap (λ (h : History). h.epochs) g.history; numbered = ap (λ n. n ∷ []) g.number }
 
 no_growth : (requests : List Request) (m : Manner) (h : History) → requests ≡ [] → GrowsByExecution m h requests h
 no_growth requests m h none = subst (λ rs. GrowsByExecution m h rs h) (sym none) (refl, tt)
@@ -97,43 +108,54 @@ module _ {H : Type 0} (moment : H → ℕ) (observed : H → ℕ → Observation
     pub setting : d.setting ≡ c.setting
     pub grows : GrowsByExecution (manner_of c.setting bounds) (history_of c) requests (history_of d)
     pub numbers : AddsFrom next (history_of c) (history_of d)
+    pub below : IsBehindAll d (next + length numbers.added)
+    pub last : IsBehindAll d (next + 1)
     pub rests : RestsOn d (reads mid) (may_leave mid)
     pub stands : StandsAt d after
-    pub moments : SeesOnly moment observed old mid (ShowsStore c.setting (history_of c) (history_of d) (said old))
+    pub moments : SeesOnly moment observed old mid (ShowsStore c.setting (history_of c) (history_of d) (next + 1) (said old))
+    pub others : WritesLogs c.setting (reads old) (reads mid) (may_leave old) (may_leave mid)
 
   abbrev pub OnlyNow : Type 0
   OnlyNow = (host : H) (seen : Observation) → observed host (moment host) seen → may_leave host seen.image × (said host ≡ Some seen.said)
 
-  unmoved : OnlyNow → (c : Contents) (host : H) → RestsOn c (reads host) (may_leave host) → SeesOnly moment observed host host (ShowsStore c.setting (history_of c) (history_of c) (said host))
-  unmoved only_now c host rests = started moment observed host (ShowsStore c.setting (history_of c) (history_of c) (said host)) (λ seen since.
+  unmoved : OnlyNow → (c : Contents) (end : ℕ) (host : H) → RestsOn c (reads host) (may_leave host) → IsBehindAll c end → SeesOnly moment observed host host (ShowsStore c.setting (history_of c) (history_of c) end (said host))
+  unmoved only_now c end host rests below = started moment observed host (ShowsStore c.setting (history_of c) (history_of c) end (said host)) (λ seen since.
       let now = only_now host seen since in
-      record { store = inl (record { contents = c; setting = refl; good = rests.left seen.image now.0; history = refl }); said = now.1 })
+      record { store = inl (record { contents = c; setting = refl; good = rests.left seen.image now.0; history = refl; below = below }); said = now.1 })
 
   pub committed : OnlyNow → (result : Result (Unit {0}) TurnFault) (x : Unit {0}) (requests : List Request) (bounds : RunBounds) (c : Contents) (before after : ClusterState) (old mid : H) → result ≡ Ok x
       → RestsOn c (reads old) (may_leave old) → StandsAt c before
       → IsUntouched result requests before after old mid ⊎ Turns moment observed said reads may_leave result requests bounds.workers bounds.attempts c before after old mid
       → Committed c requests bounds before.next_epoch after old mid
   committed only_now result x requests bounds c before after old mid ok rests stands (inl none) =
-      let nothing : (requests ≡ []) × (after ≡ before) = subst (λ (r : Result _ _). OnOk r ((requests ≡ []) × (after ≡ before))) ok none.1 in
+      let nothing : (requests ≡ []) × (after ≡ without_trace before) = subst (λ (r : Result _ _). OnOk r ((requests ≡ []) × (after ≡ without_trace before))) ok none.1 in
       record {
         d = c;
         setting = refl;
         grows = no_growth requests (manner_of c.setting bounds) (history_of c) nothing.0;
         numbers = adds_none before.next_epoch (history_of c);
+        below = behind_later c before.next_epoch (before.next_epoch + 0) (omega arith) stands.next;
+        last = behind_later c before.next_epoch (before.next_epoch + 1) (omega arith) stands.next;
         rests = subst (λ h. RestsOn c (reads h) (may_leave h)) (sym none.0) rests;
-        stands = subst (StandsAt c) (sym nothing.1) stands;
-        moments = subst (λ h. SeesOnly moment observed old h (ShowsStore c.setting (history_of c) (history_of c) (said old))) (sym none.0) (unmoved only_now c old rests);
+        stands = subst (StandsAt c) (sym nothing.1) (stands_untraced c before stands);
+        moments = subst (λ h. SeesOnly moment observed old h (ShowsStore c.setting (history_of c) (history_of c) (before.next_epoch + 1) (said old))) (sym none.0)
+            (unmoved only_now c (before.next_epoch + 1) old rests (behind_later c before.next_epoch (before.next_epoch + 1) (omega arith) stands.next));
+        others = writes_none c.setting (reads old) (reads mid) (may_leave old) (may_leave mid) (ap reads none.0) (λ image left. subst (λ h. may_leave h image) none.0 left);
       }
   committed only_now result x requests bounds c before after old mid ok rests stands (inr t) =
-      let done : RestsOn t.d (reads mid) (may_leave mid) × StandsAt t.d after = subst (λ (r : Result _ _). OnOk r (RestsOn t.d (reads mid) (may_leave mid) × StandsAt t.d after)) ok t.ok in
+      let done : RestsOn t.d (reads mid) (may_leave mid) × StandsAt t.d after × (after.trace ≡ Some t.trace) =
+      subst (λ (r : Result _ _). OnOk r (RestsOn t.d (reads mid) (may_leave mid) × StandsAt t.d after × (after.trace ≡ Some t.trace))) ok t.ok in
       record {
         d = t.d;
         setting = t.grown.setting;
-        grows = grows_by_execution requests bounds before.next_epoch c t.d t.grown;
-        numbers = adds_one requests bounds.workers bounds.attempts before.next_epoch c t.d t.grown;
+        grows = grows_by_execution requests bounds before.next_epoch t.trace c t.d t.grown;
+        numbers = adds_one requests bounds.workers bounds.attempts before.next_epoch t.trace c t.d t.grown;
+        below = t.grown.below;
+        last = t.grown.below;
         rests = done.0;
         stands = done.1;
         moments = t.moments;
+        others = t.others;
       }
 
   -- ---- a turn that failed
@@ -143,8 +165,8 @@ module _ {H : Type 0} (moment : H → ℕ) (observed : H → ℕ → Observation
   refused turn.EpochsUsedUp old new same = same
   refused turn.NoMemory old new same = same
 
-  turn_shows : (s : Setting) (before after : History) (bytes : Option (List ℕ)) (texts : List ℕ) (seen : Observation) → ShowsStore s before after bytes seen → ShowsBatch s before after bytes texts seen
-  turn_shows s before after bytes texts seen shows =
+  turn_shows : (s : Setting) (before after : History) (end : ℕ) (bytes : Option (List ℕ)) (texts : List ℕ) (seen : Observation) → ShowsStore s before after end bytes seen → ShowsBatch s before after end bytes texts seen
+  turn_shows s before after end bytes texts seen shows =
       ⊎_elim (λ was. inl (was, shows.said)) (λ grown. inr (grown, nothing_said bytes seen.said texts shows.said)) shows.store
 
   turn_ends : (f : TurnFault) (result : Result (Unit {0}) TurnFault) (batch : Batch) (requests : List Request) (bounds : RunBounds) (c : Contents) (before after : ClusterState) (old new : H) → requests ≡ batch.fresh → said new ≡ said old
@@ -153,19 +175,17 @@ module _ {H : Type 0} (moment : H → ℕ) (observed : H → ℕ → Observation
   turn_ends f result batch requests bounds c before after old new same quiet unused t = by f unused
     where
       grows : GrowsByExecution (manner_of c.setting bounds) (history_of c) batch.fresh (history_of t.d)
-      grows = subst (λ rs. GrowsByExecution (manner_of c.setting bounds) (history_of c) rs (history_of t.d)) same (grows_by_execution requests bounds before.next_epoch c t.d t.grown)
+      grows = subst (λ rs. GrowsByExecution (manner_of c.setting bounds) (history_of c) rs (history_of t.d)) same (grows_by_execution requests bounds before.next_epoch t.trace c t.d t.grown)
 
-      numbers : AddsFrom before.next_epoch (history_of c) (history_of t.d)
-      numbers = adds_one requests bounds.workers bounds.attempts before.next_epoch c t.d t.grown
-
-      moments : SeesOnly moment observed old new (ShowsBatch c.setting (history_of c) (history_of t.d) (said old) (batch_texts c t.d batch))
-      moments = sees_weaker moment observed old new (ShowsStore c.setting (history_of c) (history_of t.d) (said old)) (ShowsBatch c.setting (history_of c) (history_of t.d) (said old) (batch_texts c t.d batch))
-          (turn_shows c.setting (history_of c) (history_of t.d) (said old) (batch_texts c t.d batch)) t.moments
+      moments : SeesOnly moment observed old new (ShowsBatch c.setting (history_of c) (history_of t.d) (before.next_epoch + 1) (said old) (batch_texts c t.d batch))
+      moments = sees_weaker moment observed old new (ShowsStore c.setting (history_of c) (history_of t.d) (before.next_epoch + 1) (said old))
+          (ShowsBatch c.setting (history_of c) (history_of t.d) (before.next_epoch + 1) (said old) (batch_texts c t.d batch))
+          (turn_shows c.setting (history_of c) (history_of t.d) (before.next_epoch + 1) (said old) (batch_texts c t.d batch)) t.moments
 
       by : (f : TurnFault) → (f ≡ turn.EpochsUsedUp → new ≡ old) → IsRefused (Err (fault_of_turn f)) old new ⊎ WorksOffBatch moment observed said reads may_leave (Err (fault_of_turn f)) batch bounds c before.next_epoch after old new
-      by turn.Disk unused = inr (record { d = t.d; setting = t.grown.setting; grows = grows; numbers = numbers; moments = moments; ends = (t.left, quiet) })
+      by turn.Disk unused = inr (record { d = t.d; setting = t.grown.setting; grows = grows; numbers = adds_one requests bounds.workers bounds.attempts before.next_epoch t.trace c t.d t.grown; below = t.grown.below; moments = moments; others = t.others; ends = (t.left, quiet) })
       by turn.EpochsUsedUp unused = inl (unused refl)
-      by turn.NoMemory unused = inr (record { d = t.d; setting = t.grown.setting; grows = grows; numbers = numbers; moments = moments; ends = inl (t.left, quiet) })
+      by turn.NoMemory unused = inr (record { d = t.d; setting = t.grown.setting; grows = grows; numbers = adds_one requests bounds.workers bounds.attempts before.next_epoch t.trace c t.d t.grown; below = t.grown.below; moments = moments; others = t.others; ends = inl (t.left, quiet) })
 
   pub turn_failed : (f : TurnFault) (turned : Result (Unit {0}) TurnFault) (result : Result (Unit {0}) BatchFault) (batch : Batch) (requests : List Request) (bounds : RunBounds) (c : Contents) (before after : ClusterState) (old new : H)
       → turned ≡ Err f → result ≡ Err (fault_of_turn f) → requests ≡ batch.fresh → said new ≡ said old → (turned ≡ Err turn.EpochsUsedUp → new ≡ old)
@@ -183,13 +203,13 @@ module _ {H : Type 0} (moment : H → ℕ) (observed : H → ℕ → Observation
     texts = batch_texts c done.d batch
 
     abbrev Shows : Observation → Type 0
-    Shows = ShowsBatch c.setting (history_of c) (history_of done.d) (said old) texts
+    Shows = ShowsBatch c.setting (history_of c) (history_of done.d) (next + 1) (said old) texts
 
     grows_so : GrowsByExecution (manner_of c.setting bounds) (history_of c) batch.fresh (history_of done.d)
     grows_so = subst (λ rs. GrowsByExecution (manner_of c.setting bounds) (history_of c) rs (history_of done.d)) same done.grows
 
     shown : SeesOnly moment observed old mid Shows
-    shown = sees_weaker moment observed old mid (ShowsStore c.setting (history_of c) (history_of done.d) (said old)) Shows (turn_shows c.setting (history_of c) (history_of done.d) (said old) texts) done.moments
+    shown = sees_weaker moment observed old mid (ShowsStore c.setting (history_of c) (history_of done.d) (next + 1) (said old)) Shows (turn_shows c.setting (history_of c) (history_of done.d) (next + 1) (said old) texts) done.moments
 
     -- out of memory before anything is said
     pub unsaid : (result : Result (Unit {0}) BatchFault) → result ≡ Err fault.NoMemory → WorksOffBatch moment observed said reads may_leave result batch bounds c next after old mid
@@ -198,7 +218,9 @@ module _ {H : Type 0} (moment : H → ℕ) (observed : H → ℕ → Observation
       setting = done.setting;
       grows = grows_so;
       numbers = done.numbers;
+      below = done.below;
       moments = shown;
+      others = done.others;
       ends = inr (done.rests, (0, quiet ∙ sym (append_known-nil (said old))));
     })
 
@@ -211,7 +233,7 @@ module _ {H : Type 0} (moment : H → ℕ) (observed : H → ℕ → Observation
       saying_shows seen is_new =
           let between : IsSaidBetween (said old) (said new) seen.said = subst (λ o. IsSaidBetween o (said new) seen.said) quiet is_new.said in
           inr (
-            record { contents = done.d; setting = done.setting; good = done.rests.left seen.image is_new.image; history = refl },
+            record { contents = done.d; setting = done.setting; good = done.rests.left seen.image is_new.image; history = refl; below = done.last },
             said_between (said old) (said new) texts seen.said said_part.0 said_part.1 between,
           )
 
@@ -223,14 +245,17 @@ module _ {H : Type 0} (moment : H → ℕ) (observed : H → ℕ → Observation
         left = λ image leaves. done.rests.left image (crash image leaves);
       }
 
-      answered : (result : Result (Unit {0}) BatchFault) → BatchEnds c done.d after texts (said old) (said new) (reads new) (may_leave new) result
+      answered : (result : Result (Unit {0}) BatchFault) → BatchEnds c done.d (next + 1) after texts (said old) (said new) (reads new) (may_leave new) result
           → WorksOffBatch moment observed said reads may_leave result batch bounds c next after old new
       answered result ends = record {
         d = done.d;
         setting = done.setting;
         grows = grows_so;
         numbers = done.numbers;
+        below = done.below;
         moments = sees_then moment observed old mid new Shows (IsNew (may_leave mid) (said mid) (said new)) shown sees saying_shows;
+        others = writes_then c.setting (reads old) (reads mid) (reads new) (may_leave old) (may_leave mid) (may_leave new) done.others
+            (writes_none c.setting (reads mid) (reads new) (may_leave mid) (may_leave new) unread crash);
         ends = ends;
       }
 

@@ -14,7 +14,10 @@ use Rattle.coco_ast.proofs.GrowthLemmas.{growth_keeps}
 use Rattle.coco_batches.specs.Asking.{known_of}
 use Rattle.coco_batches.specs.BatchReading.{ReadsBatch}
 use Rattle.coco_batches.specs.declared.batch.Batch.{Batch}
-use Rattle.coco_cluster.specs.Standing.{ClusterState, StandsAt}
+use Rattle.coco_cluster.specs.Standing.{ClusterState, IsBehindAll, StandsAt}
+use Rattle.coco_cluster.specs.Writing.{WritesLogs}
+use Rattle.coco_cluster.proofs.BehindLemmas.{behind_later}
+use Rattle.coco_cluster.proofs.WriteLemmas.{writes_then}
 use Rattle.coco_host.specs.Files.{Files}
 use Rattle.coco_host.specs.Moments.{Observation, SeesOnly}
 use Rattle.coco_io.proofs.KnownLemmas.{append_known-append}
@@ -142,17 +145,36 @@ module _ {H : Type 0} (moment : H → ℕ) (observed : H → ℕ → Observation
         is ∙ ap (λ o. append_known o (take i texts)) a.says ∙ append_known-append (said first) (answers_of h a.classes) (take i texts)
         ∙ ap (append_known (said first)) (sym (ap (take (length (answers_of h a.classes) + i)) all_answers ∙ take-append-add (answers_of h a.classes) texts i))
 
-    batch_shows : (seen : Observation) → ShowsBatch a.d.setting h g (said mid) texts seen → IsServed c.setting bounds opening batches' classes' g (said first) seen
-    batch_shows seen shows = ⊎_elim
-        (λ was. more_served c.setting bounds opening a.batches a.classes h (said first) as_many more cs g keeps.prefix seen
-        (all_served c.setting bounds opening a.batches a.classes h (said first) a.grown seen (moved a.d.setting c.setting h seen.image a.setting was.0) (length (answers_of h a.classes))
-        (sym was.1 ∙ a.says ∙ ap (append_known (said first)) (sym (take-length (answers_of h a.classes))))))
-        (λ grew. all_served c.setting bounds opening batches' classes' g (said first) grown' seen (moved a.d.setting c.setting g seen.image a.setting grew.0) (length (answers_of h a.classes) + grew.1.0) (front_said (Some seen.said) grew.1.0 grew.1.1)) shows
+    -- the epochs that are told in the whole run and in the batch
+    end_before : k.next_epoch + 1 ≤ next + length a.numbers.added + 1
+    end_before = let n = a.reached in omega (arith, n)
 
-    moments' : SeesOnly moment observed first host (IsServed c.setting bounds opening batches' classes' g (said first))
-    moments' = sees_then moment observed first mid host (IsServed c.setting bounds opening batches' classes' g (said first)) (ShowsBatch a.d.setting h g (said mid) texts)
-        (sees_weaker moment observed first mid (IsServed c.setting bounds opening a.batches a.classes h (said first)) (IsServed c.setting bounds opening batches' classes' g (said first))
-        (more_served c.setting bounds opening a.batches a.classes h (said first) as_many more cs g keeps.prefix) a.moments) x.moments batch_shows
+    end_then : k.next_epoch + 1 ≤ next + length numbers'.added + 1
+    end_then = let n = a.reached in omega (arith, n, length-append a.numbers.added x.numbers.added)
+
+    batch_shows : (seen : Observation) → ShowsBatch a.d.setting h g (k.next_epoch + 1) (said mid) texts seen → IsServed c.setting bounds opening next batches' classes' g (said first) seen
+    batch_shows seen shows = ⊎_elim
+        (λ was. more_served c.setting bounds opening next a.batches a.classes h (said first) as_many more cs g keeps.prefix seen
+        (all_served c.setting bounds opening next a.batches a.classes h (said first) a.grown a.numbers seen
+        (moved a.d.setting c.setting h (k.next_epoch + 1) (next + length a.numbers.added + 1) seen.image a.setting end_before was.0) (length (answers_of h a.classes))
+        (sym was.1 ∙ a.says ∙ ap (append_known (said first)) (sym (take-length (answers_of h a.classes))))))
+        (λ grew. all_served c.setting bounds opening next batches' classes' g (said first) grown' numbers' seen
+        (moved a.d.setting c.setting g (k.next_epoch + 1) (next + length numbers'.added + 1) seen.image a.setting end_then grew.0) (length (answers_of h a.classes) + grew.1.0) (front_said (Some seen.said) grew.1.0 grew.1.1)) shows
+
+    moments' : SeesOnly moment observed first host (IsServed c.setting bounds opening next batches' classes' g (said first))
+    moments' = sees_then moment observed first mid host (IsServed c.setting bounds opening next batches' classes' g (said first)) (ShowsBatch a.d.setting h g (k.next_epoch + 1) (said mid) texts)
+        (sees_weaker moment observed first mid (IsServed c.setting bounds opening next a.batches a.classes h (said first)) (IsServed c.setting bounds opening next batches' classes' g (said first))
+        (more_served c.setting bounds opening next a.batches a.classes h (said first) as_many more cs g keeps.prefix) a.moments) x.moments batch_shows
+
+    others' : WritesLogs c.setting (reads first) (reads host) (may_leave first) (may_leave host)
+    others' = writes_then c.setting (reads first) (reads mid) (reads host) (may_leave first) (may_leave mid) (may_leave host) a.others
+        (subst (λ s. WritesLogs s (reads mid) (reads host) (may_leave mid) (may_leave host)) a.setting x.others)
+
+    abbrev end' : ℕ
+    end' = next + length numbers'.added
+
+    below' : IsBehindAll x.d end'
+    below' = behind_later x.d (k.next_epoch + length x.numbers.added) end' (let n = a.reached in omega (arith, n, length-append a.numbers.added x.numbers.added)) x.below
 
     abbrev IsWhole : Type 0
     IsWhole = RestsOn x.d (reads host) (may_leave host) × StandsAt x.d k' × (said host ≡ append_known (said mid) texts)
@@ -179,6 +201,7 @@ module _ {H : Type 0} (moment : H → ℕ) (observed : H → ℕ → Observation
           stands = done.1;
           says = says_whole done;
           moments = moments';
+          others = others';
           numbers = numbers';
           reached = (
               let same : epochs_of batch.fresh ≡ epochs_of (new_of cs) = ap epochs_of r.taking.fresh in
@@ -208,7 +231,8 @@ module _ {H : Type 0} (moment : H → ℕ) (observed : H → ℕ → Observation
       ends_so e ends = record {
         progress = progress';
         moments = moments';
-        left = left_by moment observed said reads may_leave seen_now first host (IsServed c.setting bounds opening batches' classes' g (said first)) moments';
+        left = left_by moment observed said reads may_leave seen_now first host (IsServed c.setting bounds opening next batches' classes' g (said first)) moments';
+        others = others';
         ends = ends;
       }
 
@@ -217,7 +241,7 @@ module _ {H : Type 0} (moment : H → ℕ) (observed : H → ℕ → Observation
           let end = cut_short (r.ends short) in
           ends_so ending.Finished (
             (all_lines ∙ ap (λ ls. joined batches' ++ ls) end.0 ∙ append-nil (joined batches'), end.1),
-            (x.d, x.setting ∙ a.setting, refl, done.0),
+            (x.d, x.setting ∙ a.setting, refl, below', done.0),
             says_whole done,
           )
 
@@ -248,24 +272,27 @@ module _ {H : Type 0} (moment : H → ℕ) (observed : H → ℕ → Observation
             most = omega (arith, shorter);
           }
 
-      rests_then : RestsOn x.d (reads host) (may_leave host) → RestsAt c.setting g (reads host) (may_leave host)
-      rests_then rests = (x.d, x.setting ∙ a.setting, refl, rests)
+      rests_then : RestsOn x.d (reads host) (may_leave host) → RestsAt c.setting g end' (reads host) (may_leave host)
+      rests_then rests = (x.d, x.setting ∙ a.setting, refl, below', rests)
 
       say_ends : RestsOn x.d (reads host) (may_leave host) × SaysPart texts (said mid) (said host) → Serves moment observed said reads may_leave c next bounds bytes ending.SayFault first host
       say_ends ends = ends_so ending.SayFault (rests_then ends.0, says_part ends.1)
 
       abbrev Leaves : (History → List (List Class) → Type 0) → Type 0
-      Leaves Says = LeavesLast c.setting bounds opening batches' classes' g Says (said host) (may_leave host)
+      Leaves Says = LeavesLast c.setting bounds opening next batches' classes' g Says (said host) (may_leave host)
 
       -- the batch's turn failed
-      leaves_before : (Says : History → List (List Class) → Type 0) → LeavesEither a.d.setting h g (said mid) (may_leave host) → said host ≡ said mid → Says h a.classes → Leaves Says
+      leaves_before : (Says : History → List (List Class) → Type 0) → LeavesEither a.d.setting h g (k.next_epoch + 1) (said mid) (may_leave host) → said host ≡ said mid → Says h a.classes → Leaves Says
       leaves_before Says left same says = record {
         count = last;
         last = inr one_more;
         history = h;
         grown = grown_before;
+        numbers = a.numbers;
         says = subst (Says h) (sym take_classes) says;
-        left = λ bytes spoke image leaves. ⊎_elim (λ was. inl (moved a.d.setting c.setting h image a.setting was)) (λ grew. inr (moved a.d.setting c.setting g image a.setting grew)) (left bytes (sym same ∙ spoke) image leaves);
+        left = λ bytes spoke image leaves. ⊎_elim
+            (λ was. inl (moved a.d.setting c.setting h (k.next_epoch + 1) (next + length a.numbers.added + 1) image a.setting end_before was))
+            (λ grew. inr (moved a.d.setting c.setting g (k.next_epoch + 1) (next + length a.numbers.added + 1) image a.setting end_before grew)) (left bytes (sym same ∙ spoke) image leaves);
       }
 
       says_before : said host ≡ said mid → said host ≡ append_known (said first) (answers_of h a.classes)
@@ -281,7 +308,7 @@ module _ {H : Type 0} (moment : H → ℕ) (observed : H → ℕ → Observation
             most = omega arith;
           }
 
-      disk_ends : LeavesEither a.d.setting h g (said mid) (may_leave host) × (said host ≡ said mid) → Serves moment observed said reads may_leave c next bounds bytes ending.DiskFault first host
+      disk_ends : LeavesEither a.d.setting h g (k.next_epoch + 1) (said mid) (may_leave host) × (said host ≡ said mid) → Serves moment observed said reads may_leave c next bounds bytes ending.DiskFault first host
       disk_ends ends = ends_so ending.DiskFault (leaves_before (SaysAll (said first) (said host)) ends.0 ends.1 (says_before ends.1))
 
       -- the batch is committed
@@ -292,24 +319,31 @@ module _ {H : Type 0} (moment : H → ℕ) (observed : H → ℕ → Observation
         history = g;
         grown = subst (λ bs. IsGrown manner opening bs (take (length batches') classes') g) (sym (take-length batches'))
             (subst (λ l. IsGrown manner opening batches' l g) (sym all_classes) grown');
+        numbers = numbers';
         says = subst (Says g) (sym all_classes) says;
-        left = λ bytes spoke image leaves. inl (record { contents = x.d; setting = x.setting ∙ a.setting; good = rests.left image leaves; history = refl });
+        left = λ bytes spoke image leaves. inl (record {
+          contents = x.d;
+          setting = x.setting ∙ a.setting;
+          good = rests.left image leaves;
+          history = refl;
+          below = behind_later x.d end' (end' + 1) (omega arith) below';
+        });
       }
         where
           all_classes : take (length batches') classes' ≡ classes'
           all_classes = ap (λ i. take i classes') (sym (paired tree opening batches' classes' g grown'.grown)) ∙ take-length classes'
 
-      memory_ends : LeavesEither a.d.setting h g (said mid) (may_leave host) × (said host ≡ said mid) ⊎ RestsOn x.d (reads host) (may_leave host) × SaysPart texts (said mid) (said host)
+      memory_ends : LeavesEither a.d.setting h g (k.next_epoch + 1) (said mid) (may_leave host) × (said host ≡ said mid) ⊎ RestsOn x.d (reads host) (may_leave host) × SaysPart texts (said mid) (said host)
           → Serves moment observed said reads may_leave c next bounds bytes ending.NoMemory first host
       memory_ends ends = ends_so ending.NoMemory (⊎_elim
           (λ before. leaves_before (SaysUpTo (said first) (said host)) before.0 before.1 (says_before_whole before.1))
           (λ after. leaves_after (SaysUpTo (said first) (said host)) after.0 (says_part after.1)) ends)
 
-      batch_fails : (f : BatchFault) → BatchEnds a.d x.d k' texts (said mid) (said host) (reads host) (may_leave host) (Err f) → Serves moment observed said reads may_leave c next bounds bytes (ending_of f) first host
+      batch_fails : (f : BatchFault) → BatchEnds a.d x.d (k.next_epoch + 1) k' texts (said mid) (said host) (reads host) (may_leave host) (Err f) → Serves moment observed said reads may_leave c next bounds bytes (ending_of f) first host
       batch_fails fault.Say ends = say_ends ends
       batch_fails fault.Disk ends = disk_ends ends
       batch_fails fault.EpochsUsedUp ends = absurd ends
       batch_fails fault.NoMemory ends = memory_ends ends
 
       pub answers_failed : (f : BatchFault) → result ≡ Err f → Serves moment observed said reads may_leave c next bounds bytes (ending_of f) first host
-      answers_failed f is = batch_fails f (subst (BatchEnds a.d x.d k' texts (said mid) (said host) (reads host) (may_leave host)) is x.ends)
+      answers_failed f is = batch_fails f (subst (BatchEnds a.d x.d (k.next_epoch + 1) k' texts (said mid) (said host) (reads host) (may_leave host)) is x.ends)

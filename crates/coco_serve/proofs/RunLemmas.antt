@@ -15,8 +15,11 @@ use Rattle.coco_ast.proofs.Growths.{prefix_trans}
 use Rattle.coco_ast.proofs.Lists.{all_append}
 use Rattle.coco_batches.specs.Asking.{known_of}
 use Rattle.coco_batches.specs.BatchReading.{TakesLines}
-use Rattle.coco_cluster.specs.Standing.{ClusterState, StandsAt}
+use Rattle.coco_cluster.specs.Standing.{ClusterState, IsBehindAll, StandsAt}
 use Rattle.coco_cluster.specs.Turning.{IsStoreOf}
+use Rattle.coco_cluster.specs.Writing.{WritesLogs}
+use Rattle.coco_cluster.proofs.BehindLemmas.{behind_later}
+use Rattle.coco_cluster.proofs.WriteLemmas.{writes_none}
 use Rattle.coco_host.specs.Files.{Files}
 use Rattle.coco_store.specs.Rules.{Setting}
 use Rattle.coco_host.specs.Moments.{Observation, SeesOnly}
@@ -137,15 +140,16 @@ classes_at c d k lines cs stands same are =
 begins_itself : (h : History) → IsPrefixOf h h
 begins_itself h = (refl, refl, ([], sym (append-nil h.epochs)))
 
--- the same store, its setting told otherwise
-pub moved : (s t : Setting) (h : History) (files : Files) → s ≡ t → IsStoreOf s h files → IsStoreOf t h files
-moved s t h files same store = record { contents = store.contents; setting = store.setting ∙ same; good = store.good; history = store.history }
+-- the same store, its setting told otherwise, and in which no entry is of an epoch that comes later
+pub moved : (s t : Setting) (h : History) (end later : ℕ) (files : Files) → s ≡ t → end ≤ later → IsStoreOf s h end files → IsStoreOf t h later files
+moved s t h end later files same le store =
+    record { contents = store.contents; setting = store.setting ∙ same; good = store.good; history = store.history; below = behind_later store.contents end later le store.below }
 
-module _ (in_setting : Setting) (bounds : RunBounds) (opening : History) (batches : List Lines) (classes : List (List Class)) (whole : History) (said : Option (List ℕ)) where
+module _ (in_setting : Setting) (bounds : RunBounds) (opening : History) (next : ℕ) (batches : List Lines) (classes : List (List Class)) (whole : History) (said : Option (List ℕ)) where
   -- the whole history, and a front of all answers
-  pub all_served : IsGrown (manner_of in_setting bounds) opening batches classes whole → (seen : Observation) → IsStoreOf in_setting whole seen.image → (part : ℕ) → Some seen.said ≡ append_known said (take part (answers_of whole classes))
-      → IsServed in_setting bounds opening batches classes whole said seen
-  all_served grown seen store part says =
+  pub all_served : IsGrown (manner_of in_setting bounds) opening batches classes whole → (numbers : AddsFrom next opening whole) → (seen : Observation) → IsStoreOf in_setting whole (next + length numbers.added + 1) seen.image
+      → (part : ℕ) → Some seen.said ≡ append_known said (take part (answers_of whole classes)) → IsServed in_setting bounds opening next batches classes whole said seen
+  all_served grown numbers seen store part says =
       let all_batches : batches ≡ take (length batches) batches = sym (take-length batches) in
       let as_many : length classes ≡ length batches = paired in_setting.tree opening batches classes whole grown.grown in
       let all_classes : classes ≡ take (length batches) classes = sym (ap (λ n. take n classes) (sym as_many) ∙ take-length classes) in
@@ -153,6 +157,7 @@ module _ (in_setting : Setting) (bounds : RunBounds) (opening : History) (batche
         count = length batches;
         within = omega arith;
         history = whole;
+        numbers = numbers;
         store = store;
         grown = subst (λ bs. IsGrown (manner_of in_setting bounds) opening bs (take (length batches) classes) whole) all_batches (subst (λ cs. IsGrown (manner_of in_setting bounds) opening batches cs whole) all_classes grown);
         begins = begins_itself whole;
@@ -161,8 +166,8 @@ module _ (in_setting : Setting) (bounds : RunBounds) (opening : History) (batche
       }
 
   -- with a batch more
-  pub more_served : length classes ≡ length batches → (b : Lines) (c : List Class) (g : History) → IsPrefixOf whole g → (seen : Observation) → IsServed in_setting bounds opening batches classes whole said seen
-      → IsServed in_setting bounds opening (batches ++ b ∷ []) (classes ++ c ∷ []) g said seen
+  pub more_served : length classes ≡ length batches → (b : Lines) (c : List Class) (g : History) → IsPrefixOf whole g → (seen : Observation) → IsServed in_setting bounds opening next batches classes whole said seen
+      → IsServed in_setting bounds opening next (batches ++ b ∷ []) (classes ++ c ∷ []) g said seen
   more_served as_many b c g begins seen s =
       let same_batches : take s.count batches ≡ take s.count (batches ++ b ∷ []) = sym (take-append-le s.count batches (b ∷ []) s.within) in
       let same_classes : take s.count classes ≡ take s.count (classes ++ c ∷ []) = (let w = s.within in sym (take-append-le s.count classes (c ∷ []) (omega (arith, w, as_many)))) in
@@ -170,6 +175,7 @@ module _ (in_setting : Setting) (bounds : RunBounds) (opening : History) (batche
         count = s.count;
         within = (let w = s.within in let l = length-append batches (b ∷ []) in omega (arith, w, l));
         history = s.history;
+        numbers = s.numbers;
         store = s.store;
         grown = subst (λ bs. IsGrown (manner_of in_setting bounds) opening bs (take s.count (classes ++ c ∷ [])) s.history) same_batches
             (subst (λ cs. IsGrown (manner_of in_setting bounds) opening (take s.count batches) cs s.history) same_classes s.grown);
@@ -204,9 +210,10 @@ module _ {H : Type 0} (moment : H → ℕ) (observed : H → ℕ → Observation
     pub rests : RestsOn d (reads host) (may_leave host)
     pub stands : StandsAt d k
     pub says : said host ≡ append_known (said first) (answers_of (history_of d) classes)
-    pub moments : SeesOnly moment observed first host (IsServed c.setting bounds (history_of c) batches classes (history_of d) (said first))
+    pub moments : SeesOnly moment observed first host (IsServed c.setting bounds (history_of c) next batches classes (history_of d) (said first))
     pub numbers : AddsFrom next (history_of c) (history_of d)
     pub reached : k.next_epoch ≡ next + length numbers.added
+    pub others : WritesLogs c.setting (reads first) (reads host) (may_leave first) (may_leave host)
 
   abbrev pub OnlyNow : Type 0
   OnlyNow = (host : H) (seen : Observation) → observed host (moment host) seen → may_leave host seen.image × (said host ≡ Some seen.said)
@@ -227,12 +234,13 @@ module _ {H : Type 0} (moment : H → ℕ) (observed : H → ℕ → Observation
     rests = rests;
     stands = stands;
     says = sym (append_known-nil (said host));
-    moments = started moment observed host (IsServed c.setting bounds (history_of c) [] [] (history_of c) (said host)) (λ seen since.
+    moments = started moment observed host (IsServed c.setting bounds (history_of c) next [] [] (history_of c) (said host)) (λ seen since.
         let now = only_now host seen since in
-        all_served c.setting bounds (history_of c) [] [] (history_of c) (said host) (record { grown = (refl, refl); executed = refl }) seen
-        (record { contents = c; setting = refl; good = rests.left seen.image now.0; history = refl }) 0 (sym now.1 ∙ sym (append_known-nil (said host))));
+        all_served c.setting bounds (history_of c) next [] [] (history_of c) (said host) (record { grown = (refl, refl); executed = refl }) (adds_none next (history_of c)) seen
+        (record { contents = c; setting = refl; good = rests.left seen.image now.0; history = refl; below = behind_later c k.next_epoch (next + 0 + 1) (omega (arith, same)) stands.next }) 0 (sym now.1 ∙ sym (append_known-nil (said host))));
     numbers = adds_none next (history_of c);
     reached = omega (arith, same);
+    others = writes_none c.setting (reads host) (reads host) (may_leave host) (may_leave host) refl (λ image left. left);
   }
 
   -- what is left at exit was seen
@@ -266,15 +274,23 @@ module _ {H : Type 0} (moment : H → ℕ) (observed : H → ℕ → Observation
     ended_so e ends = record {
       progress = still;
       moments = a.moments;
-      left = left_by seen_now first host (IsServed c.setting bounds (history_of c) a.batches a.classes h (said first)) a.moments;
+      left = left_by seen_now first host (IsServed c.setting bounds (history_of c) next a.batches a.classes h (said first)) a.moments;
+      others = a.others;
       ends = ends;
     }
 
-    rests_at : RestsAt c.setting h (reads host) (may_leave host)
-    rests_at = (a.d, a.setting, refl, a.rests)
+    abbrev end : ℕ
+    end = next + length a.numbers.added
 
-    leaves_one : LeavesEither c.setting h h (said host) (may_leave host)
-    leaves_one bytes spoke image leaves = inl (record { contents = a.d; setting = a.setting; good = a.rests.left image leaves; history = refl })
+    below : IsBehindAll a.d end
+    below = behind_later a.d k.next_epoch end (let n = a.reached in omega (arith, n)) a.stands.next
+
+    rests_at : RestsAt c.setting h end (reads host) (may_leave host)
+    rests_at = (a.d, a.setting, refl, below, a.rests)
+
+    leaves_one : LeavesEither c.setting h h (end + 1) (said host) (may_leave host)
+    leaves_one bytes spoke image leaves =
+        inl (record { contents = a.d; setting = a.setting; good = a.rests.left image leaves; history = refl; below = behind_later a.d end (end + 1) (omega arith) below })
 
     all_batches : IsGrown manner (history_of c) (take (length a.batches) a.batches) (take (length a.batches) a.classes) h
     all_batches =
@@ -285,12 +301,13 @@ module _ {H : Type 0} (moment : H → ℕ) (observed : H → ℕ → Observation
     all_classes : take (length a.batches) a.classes ≡ a.classes
     all_classes = ap (λ n. take n a.classes) (sym (paired tree (history_of c) a.batches a.classes h a.grown.grown)) ∙ take-length a.classes
 
-    leaves_by : (Says : History → List (List Class) → Type 0) → Says h a.classes → LeavesLast c.setting bounds (history_of c) a.batches a.classes h Says (said host) (may_leave host)
+    leaves_by : (Says : History → List (List Class) → Type 0) → Says h a.classes → LeavesLast c.setting bounds (history_of c) next a.batches a.classes h Says (said host) (may_leave host)
     leaves_by Says says = record {
       count = length a.batches;
       last = inl refl;
       history = h;
       grown = all_batches;
+      numbers = a.numbers;
       says = subst (Says h) (sym all_classes) says;
       left = leaves_one;
     }

@@ -1,10 +1,11 @@
 -- What is committed and said of one batch, and what is seen meanwhile.
-use Rattle.std.specs.Prelude.{◌≡◌, ◌⊎◌, ℕ, List, take, Option, Result, Ok, Err}
+use Rattle.std.specs.Prelude.{◌≡◌, ◌⊎◌, ℕ, ◌+◌, List, length, take, Option, Result, Ok, Err}
 use Rattle.std.specs.Io.KnownBytes.{append_known}
 use Rattle.coco_append.specs.Gaining.{RestsOn}
 use Rattle.coco_ast.specs.History.{kept}
 use Rattle.coco_batches.specs.declared.batch.Batch.{Batch}
-use Rattle.coco_cluster.specs.Standing.{ClusterState, StandsAt}
+use Rattle.coco_cluster.specs.Standing.{ClusterState, IsBehindAll, StandsAt}
+use Rattle.coco_cluster.specs.Writing.{WritesLogs}
 use Rattle.coco_host.specs.Files.{Files}
 use Rattle.coco_host.specs.Moments.{Observation, SeesOnly}
 use Rattle.coco_store.specs.Contents.{Contents, history_of}
@@ -24,25 +25,27 @@ abbrev pub SaysPart : List ℕ → Option (List ℕ) → Option (List ℕ) → T
 SaysPart texts before now = (k : ℕ) × (now ≡ append_known before (take k texts))
 
 -- how a batch ends, by its answer: committed and said whole; committed, and the saying broke off; or its turn failed, and the one store or the other is
--- left. Memory may run out at either place
-abbrev pub BatchEnds : Contents → Contents → ClusterState → List ℕ → Option (List ℕ) → Option (List ℕ) → Option Files → (Files → Type 0) → Result (Unit {0}) BatchFault → Type 0
-BatchEnds c d after texts before now reads may_leave (Ok x) = RestsOn d reads may_leave × StandsAt d after × (now ≡ append_known before texts)
-BatchEnds c d after texts before now reads may_leave (Err fault.Say) = RestsOn d reads may_leave × SaysPart texts before now
-BatchEnds c d after texts before now reads may_leave (Err fault.Disk) = LeavesEither c.setting (history_of c) (history_of d) before may_leave × (now ≡ before)
-BatchEnds c d after texts before now reads may_leave (Err fault.EpochsUsedUp) = ⊥
-BatchEnds c d after texts before now reads may_leave (Err fault.NoMemory) =
-    LeavesEither c.setting (history_of c) (history_of d) before may_leave × (now ≡ before) ⊎ RestsOn d reads may_leave × SaysPart texts before now
+-- left, in which no entry is of this epoch or a later one. Memory may run out at either place
+abbrev pub BatchEnds : Contents → Contents → ℕ → ClusterState → List ℕ → Option (List ℕ) → Option (List ℕ) → Option Files → (Files → Type 0) → Result (Unit {0}) BatchFault → Type 0
+BatchEnds c d end after texts before now reads may_leave (Ok x) = RestsOn d reads may_leave × StandsAt d after × (now ≡ append_known before texts)
+BatchEnds c d end after texts before now reads may_leave (Err fault.Say) = RestsOn d reads may_leave × SaysPart texts before now
+BatchEnds c d end after texts before now reads may_leave (Err fault.Disk) = LeavesEither c.setting (history_of c) (history_of d) end before may_leave × (now ≡ before)
+BatchEnds c d end after texts before now reads may_leave (Err fault.EpochsUsedUp) = ⊥
+BatchEnds c d end after texts before now reads may_leave (Err fault.NoMemory) =
+    LeavesEither c.setting (history_of c) (history_of d) end before may_leave × (now ≡ before) ⊎ RestsOn d reads may_leave × SaysPart texts before now
 
 -- the store has grown by a batch, whose epoch, if it has one, is numbered `next`, and whose answers are said behind it. At each moment there is the store
--- of before with nothing said, or the grown one with a front of the answers
+-- of before with nothing said, or the grown one with a front of the answers, and no entry is of a later epoch; and behind it the other files are as they were
 pub record WorksOffBatch {H : Type 0} (moment : H → ℕ) (observed : H → ℕ → Observation → Type 0) (said : H → Option (List ℕ)) (reads : H → Option Files) (may_leave : H → Files → Type 0)
     (result : Result (Unit {0}) BatchFault) (batch : Batch) (bounds : RunBounds) (c : Contents) (next : ℕ) (after : ClusterState) (old new : H) : Type 0 where
   pub d : Contents
   pub setting : d.setting ≡ c.setting
   pub grows : GrowsByExecution (manner_of c.setting bounds) (history_of c) batch.fresh (history_of d)
   pub numbers : AddsFrom next (history_of c) (history_of d)
-  pub moments : SeesOnly moment observed old new (ShowsBatch c.setting (history_of c) (history_of d) (said old) (batch_texts c d batch))
-  pub ends : BatchEnds c d after (batch_texts c d batch) (said old) (said new) (reads new) (may_leave new) result
+  pub below : IsBehindAll d (next + length numbers.added)
+  pub moments : SeesOnly moment observed old new (ShowsBatch c.setting (history_of c) (history_of d) (next + 1) (said old) (batch_texts c d batch))
+  pub others : WritesLogs c.setting (reads old) (reads new) (may_leave old) (may_leave new)
+  pub ends : BatchEnds c d (next + 1) after (batch_texts c d batch) (said old) (said new) (reads new) (may_leave new) result
 
 -- a batch may break off before anything is done
 abbrev pub IsRefused : {H : Type 0} → Result (Unit {0}) BatchFault → H → H → Type 0

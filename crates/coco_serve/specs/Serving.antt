@@ -4,7 +4,8 @@ use Rattle.std.specs.Io.KnownBytes.{append_known}
 use Rattle.coco_types.specs.Limits.{epochs_end, most_input_bytes}
 use Rattle.coco_append.specs.Gaining.{RestsOn}
 use Rattle.coco_ast.specs.History.{History}
-use Rattle.coco_cluster.specs.Standing.{ClusterState, StandsAt}
+use Rattle.coco_cluster.specs.Standing.{ClusterState, IsBehindAll, StandsAt}
+use Rattle.coco_cluster.specs.Writing.{WritesLogs}
 use Rattle.coco_host.specs.Files.{Files}
 use Rattle.coco_host.specs.Moments.{Observation, SeesOnly}
 use Rattle.coco_io.specs.Counts.{Rose}
@@ -74,19 +75,21 @@ pub record SaysUpTo (before now : Option (List ℕ)) (h : History) (classes : Li
 
 -- ---- what is left
 
--- the files read as a store of this history in this setting, and so does all that a crash may leave
-abbrev pub RestsAt : Setting → History → Option Files → (Files → Type 0) → Type 0
-RestsAt s h reads may_leave = (d : Contents) × (d.setting ≡ s) × (history_of d ≡ h) × RestsOn d reads may_leave
+-- the files read as a store of this history in this setting, in which no entry is of this epoch or a later one, and so does all that a crash may leave
+abbrev pub RestsAt : Setting → History → ℕ → Option Files → (Files → Type 0) → Type 0
+RestsAt s h end reads may_leave = (d : Contents) × (d.setting ≡ s) × (history_of d ≡ h) × IsBehindAll d end × RestsOn d reads may_leave
 
--- some first batches are said, all of them or all but one; what a crash may leave is a store of their history or of the whole one
-pub record LeavesLast (s : Setting) (bounds : RunBounds) (opening : History) (batches : List Batch) (classes : List (List Class)) (whole : History) (Says : History → List (List Class) → Type 0)
+-- some first batches are said, all of them or all but one; what a crash may leave is a store of their history or of the whole one, and no entry in it is of a later epoch than the next one
+-- behind that history
+pub record LeavesLast (s : Setting) (bounds : RunBounds) (opening : History) (next : ℕ) (batches : List Batch) (classes : List (List Class)) (whole : History) (Says : History → List (List Class) → Type 0)
     (now : Option (List ℕ)) (may_leave : Files → Type 0) : Type 0 where
   pub count : ℕ
   pub last : (length batches ≡ count) ⊎ (length batches ≡ count + 1)
   pub history : History
   pub grown : IsGrown (manner_of s bounds) opening (take count batches) (take count classes) history
+  pub numbers : AddsFrom next opening history
   pub says : Says history (take count classes)
-  pub left : LeavesEither s history whole now may_leave
+  pub left : LeavesEither s history whole (next + length numbers.added + 1) now may_leave
 
 -- as many epochs were added as there were numbers for, and the next batch has a new request
 pub record AreUsedUp (m : Manner) (opening : History) (next size : ℕ) (bytes : List ℕ) (p : Progress m opening next size bytes) : Type 0 where
@@ -102,23 +105,23 @@ pub record AreUsedUp (m : Manner) (opening : History) (next size : ℕ) (bytes :
 -- by its ending: an input that was read to its end is committed and answered whole; after a fault of reading so are all whole batches; a fault of saying
 -- leaves all batches committed, the last one said in part; and after a fault of the disk, or out of memory, one batch more may be committed than is said
 abbrev pub RunEnds : (c : Contents) → (next : ℕ) → (bounds : RunBounds) → (bytes : List ℕ) → Progress (manner_of c.setting bounds) (history_of c) next bounds.size bytes → Option (List ℕ) → Option (List ℕ) → Option Files → (Files → Type 0) → Served → Type 0
-RunEnds c next bounds bytes p before now reads may_leave Finished = AreAll bounds.size bytes p.batches × RestsAt c.setting p.history reads may_leave × SaysAll before now p.history p.classes
-RunEnds c next bounds bytes p before now reads may_leave ReadFault = AreAllWhole bounds.size bytes p.batches × RestsAt c.setting p.history reads may_leave × SaysAll before now p.history p.classes
-RunEnds c next bounds bytes p before now reads may_leave SayFault = RestsAt c.setting p.history reads may_leave × SaysUpTo before now p.history p.classes
+RunEnds c next bounds bytes p before now reads may_leave Finished = AreAll bounds.size bytes p.batches × RestsAt c.setting p.history (next + length p.numbers.added) reads may_leave × SaysAll before now p.history p.classes
+RunEnds c next bounds bytes p before now reads may_leave ReadFault = AreAllWhole bounds.size bytes p.batches × RestsAt c.setting p.history (next + length p.numbers.added) reads may_leave × SaysAll before now p.history p.classes
+RunEnds c next bounds bytes p before now reads may_leave SayFault = RestsAt c.setting p.history (next + length p.numbers.added) reads may_leave × SaysUpTo before now p.history p.classes
 RunEnds c next bounds bytes p before now reads may_leave DiskFault =
-    LeavesLast c.setting bounds (history_of c) p.batches p.classes p.history (SaysAll before now) now may_leave
+    LeavesLast c.setting bounds (history_of c) next p.batches p.classes p.history (SaysAll before now) now may_leave
 RunEnds c next bounds bytes p before now reads may_leave EpochsUsedUp =
-    RestsAt c.setting p.history reads may_leave × SaysAll before now p.history p.classes × AreUsedUp (manner_of c.setting bounds) (history_of c) next bounds.size bytes p
+    RestsAt c.setting p.history (next + length p.numbers.added) reads may_leave × SaysAll before now p.history p.classes × AreUsedUp (manner_of c.setting bounds) (history_of c) next bounds.size bytes p
 RunEnds c next bounds bytes p before now reads may_leave NoMemory =
-    LeavesLast c.setting bounds (history_of c) p.batches p.classes p.history (SaysUpTo before now) now may_leave
+    LeavesLast c.setting bounds (history_of c) next p.batches p.classes p.history (SaysUpTo before now) now may_leave
 
--- of a host that rested on these contents: what was seen in the run and is left behind it, and how it ended. Each history seen begins the whole one, so its
--- epochs are numbered from `next` on too
+-- of a host that rested on these contents: what was seen in the run and is left behind it, which files it wrote, and how it ended
 pub record Serves {H : Type 0} (moment : H → ℕ) (observed : H → ℕ → Observation → Type 0) (said : H → Option (List ℕ)) (reads : H → Option Files) (may_leave : H → Files → Type 0)
     (c : Contents) (next : ℕ) (bounds : RunBounds) (bytes : List ℕ) (ending : Served) (old new : H) : Type 0 where
   pub progress : Progress (manner_of c.setting bounds) (history_of c) next bounds.size bytes
-  pub moments : SeesOnly moment observed old new (IsServed c.setting bounds (history_of c) progress.batches progress.classes progress.history (said old))
-  pub left : (seen : Observation) → said new ≡ Some seen.said → may_leave new seen.image → IsServed c.setting bounds (history_of c) progress.batches progress.classes progress.history (said old) seen
+  pub moments : SeesOnly moment observed old new (IsServed c.setting bounds (history_of c) next progress.batches progress.classes progress.history (said old))
+  pub left : (seen : Observation) → said new ≡ Some seen.said → may_leave new seen.image → IsServed c.setting bounds (history_of c) next progress.batches progress.classes progress.history (said old) seen
+  pub others : WritesLogs c.setting (reads old) (reads new) (may_leave old) (may_leave new)
   pub ends : RunEnds c next bounds bytes progress (said old) (said new) (reads new) (may_leave new) ending
 
 -- the bytes that the source gave, why the run ended so, and what it made of each store that the cluster stood at

@@ -6,16 +6,16 @@ use Rattle.coco_entry.specs.declared.prepared.Row.{Row}
 use Rattle.coco_order.specs.Execution.{Beginning}
 use Rattle.coco_prepared.specs.LastWrites.{AreLastWrites}
 use Rattle.coco_shard.specs.RowState.{ShardState}
+use Rattle.coco_parallel.specs.Traces.{Traced}
 use Rattle.coco_cluster.specs.Turning.{HasWorked, RanOn}
 use Rattle.coco_cluster.proofs.MapLemmas.{always_err, given_back}
 use Rattle.coco_cluster.proofs.epoch.run_epoch.Goals as goal
 
-ran_on : (b : Beginning) (epoch : ℕ) (held : List Bool) (shards : List ShardState) (dones : List Done) (pieces given : List Piece) (rows : List Row)
-    → HasWorked b epoch shards dones pieces → given ≡ pieces → AreLastWrites held given rows → RanOn b epoch held shards dones rows
-ran_on b epoch held shards dones pieces given rows worked same last = record {
+ran_on : (b : Beginning) (epoch : ℕ) (held : List Bool) (shards : List ShardState) (dones : List Done) (pieces given : List Piece) (rows : List Row) (trace : Traced)
+    → HasWorked b epoch shards dones pieces trace → given ≡ pieces → AreLastWrites held given rows → RanOn b epoch held shards dones rows trace
+ran_on b epoch held shards dones pieces given rows trace worked same last = record {
   pieces = pieces;
-  serial = worked.serial;
-  come = worked.come;
+  worked = worked;
   last = subst (λ ps. AreLastWrites held ps rows) same last;
 }
 

@@ -1,0 +1,9 @@
+-- How the reason is printed why a turn failed.
+use Rattle.std.specs.Prelude.{ℕ, List, codes}
+use Rattle.coco_cluster.specs.declared.fault.TurnFault.{TurnFault}
+use Rattle.coco_cluster.specs.declared.fault.TurnFault.TheVariants.{Disk, EpochsUsedUp, NoMemory}
+
+abbrev pub fault_text : TurnFault → List ℕ
+fault_text Disk = codes "disk fault"
+fault_text EpochsUsedUp = codes "epochs used up"
+fault_text NoMemory = codes "out of memory"
