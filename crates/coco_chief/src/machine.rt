@@ -5,7 +5,7 @@ ghost use Rattle.coco_chief.specs.Ranges.{end_of, AreRanges, AreRanges-prop};
 ghost use Rattle.coco_chief.specs.Table.{is_open};
 
 use crate::flags::{all_down, are_all_up, is_up};
-use crate::ranges::{Range, add_epoch, is_covered, ranges_of};
+use crate::ranges::{Range, add_epoch, epochs_of, is_covered, ranges_of};
 use crate::telling::{Word, tell_each, tell_unfinished};
 use coco_msg::{Action, Message, one};
 use coco_types::NoMemory;
@@ -41,6 +41,9 @@ impl ChiefCore {
     ghost use Rattle.coco_chief.specs.declared.machine.Phase.TheVariants.{Voting, Forcing, Rest as Still};
     ghost use Rattle.coco_chief.specs.Shown.{chief_of};
     ghost use Rattle.coco_chief.specs.Table.{restarted, begun, aborted, forced, on_vote, on_finished, on_query, counts, on_message, handled, reminds, has_finished, has_voted};
+    ghost use Rattle.coco_chief.specs.Chief.{has};
+    ghost use Rattle.std.specs.Prelude.{ℕ};
+    ghost use Rattle.std.specs.List.Sorted.{IsStrictlyIncreasing};
 
     /// The core for so many nodes, with these epochs in its durable entries.
     pub fn restart(alloc: Global, nodes: u8, committed: Vec<u64>) -> Result<ChiefCore, NoMemory>
@@ -217,6 +220,14 @@ impl ChiefCore {
         ensures { result ≡ has_voted node (chief_of self.now) }
     {
         is_up(&self.voted, node)
+    }
+
+    /// The committed epochs, rising.
+    pub fn epochs(&self, alloc: Global) -> Result<Vec<u64>, NoMemory>
+        ensures rising { IfOk result (λ epochs. IsStrictlyIncreasing epochs.items) }
+        ensures committed { IfOk result (λ epochs. (e : ℕ) → has epochs.items e ≡ (chief_of self.now).committed e) }
+    {
+        epochs_of(alloc, &self.committed)
     }
 
     /// The epoch that was begun last, 0 where there is none.

@@ -1,9 +1,10 @@
 //! Committed epochs as ranges, so that a long history takes little room and a query is a binary search.
 
-ghost use Rattle.std.specs.Prelude.{◌≡◌, ℕ, ◌<◌, ◌≤◌, ◌==◌, ◌||◌, ◌↔◌, length, slice_index_or, IsTrue, IfOk, OnOk, OnErr, IsSorted, IsPermutation};
+ghost use Rattle.std.specs.Prelude.{◌++◌, ◌≡◌, ℕ, ◌<◌, ◌≤◌, ◌==◌, ◌||◌, ◌↔◌, length, slice_index_or, IsTrue, IfOk, OnOk, OnErr, IsSorted, IsPermutation};
+ghost use Rattle.std.specs.List.Sorted.{IsStrictlyIncreasing};
 ghost use Rattle.std.specs.Ordering.{nat_cmp};
 ghost use Rattle.coco_chief.specs.Chief.{has, last_of};
-ghost use Rattle.coco_chief.specs.Ranges.{covers, end_of, AreRanges};
+ghost use Rattle.coco_chief.specs.Ranges.{covers, end_of, span_of, AreRanges};
 
 use coco_types::NoMemory;
 use std::alloc::Global;
@@ -86,4 +87,29 @@ pub fn ranges_of(alloc: Global, mut epochs: Vec<u64>) -> Result<Vec<Range>, NoMe
 {
     sort_once(&mut epochs);
     ranges_of_rising(alloc, &epochs)
+}
+
+// Adds the epochs of a range at the end.
+fn write_out(epochs: &mut Vec<u64>, range: &Range) -> Result<(), NoMemory>
+    requires { range.now.first ≤ range.now.last }
+    ensures { OnOk result (epochs.new.items ≡ epochs.old.items ++ span_of range.now) }
+{
+    for behind in 0..range.last - range.first {
+        epochs.push(range.first + behind)?;
+    }
+    epochs.push(range.last)?;
+    Ok(())
+}
+
+/// The epochs of ranges, one by one.
+pub fn epochs_of(alloc: Global, ranges: &[Range]) -> Result<Vec<u64>, NoMemory>
+    requires { AreRanges 0 ranges.now }
+    ensures rising { IfOk result (λ epochs. IsStrictlyIncreasing epochs.items) }
+    ensures covered { IfOk result (λ epochs. (x : ℕ) → has epochs.items x ≡ covers ranges.now x) }
+{
+    let mut epochs = Vec::new(alloc);
+    for range in ranges {
+        write_out(&mut epochs, range)?;
+    }
+    Ok(epochs)
 }

@@ -235,6 +235,13 @@ impl NodeCore {
         Ok(Vec::new(alloc))
     }
 
+    /// The greatest epoch of its durable entries, 0 where there is none.
+    pub fn durable(&self) -> u64
+        ensures { result ≡ self.now.durable }
+    {
+        self.durable
+    }
+
     /// The epoch whose entry is being made durable, 0 where there is none.
     pub fn forcing(&self) -> u64
         ensures { result ≡ self.now.forcing }

@@ -167,3 +167,13 @@ fn a_commit_is_told_to_every_node(rt: HostRuntime) -> Result<(), Fail> {
     assert!(rt; commits(alloc, &mut core)?);
     Ok(())
 }
+
+#[test]
+fn committed_epochs_are_told_in_order(rt: HostRuntime) -> Result<(), Fail> {
+    let alloc = rt.alloc();
+    let committed = vec![in alloc; 10, 3, 9]?;
+    let core = ChiefCore::restart(alloc, 1, committed)?;
+    let epochs = core.epochs(alloc)?;
+    assert!(rt; epochs.as_slice() == [3, 9, 10].as_slice());
+    Ok(())
+}

@@ -7,6 +7,8 @@ mod chief;
 #[cfg(test)]
 mod copies;
 #[cfg(test)]
+mod letters;
+#[cfg(test)]
 mod messages;
 #[cfg(test)]
 mod net;

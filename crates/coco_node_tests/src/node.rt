@@ -102,7 +102,7 @@ fn asks(alloc: Global, core: &NodeCore, words: &str) -> Result<bool, NoMemory> {
 // Whether a restarted core asks once what became of epoch 1, and then does this.
 fn does_as_told(alloc: Global, committed: bool, done: &str) -> Result<bool, NoMemory> {
     let mut core = restarted(alloc, None)?;
-    let is_asked = asks(alloc, &core, "to 8 Query { epoch: 1 } ")?;
+    let is_asked = core.durable() == 1 && asks(alloc, &core, "to 8 Query { epoch: 1 } ")?;
     let tell = Message::Tell {
         epoch: 1,
         committed,

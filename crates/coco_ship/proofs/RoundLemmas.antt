@@ -25,7 +25,7 @@ use Rattle.coco_ship.specs.Shipping.{news, AreBegun, ArePhase, AreWhole, AreWrit
 use Rattle.coco_ship.specs.Sending.{answer_of, ask_of, reply_of, AreAnswers, AreAsks, IsAnswer}
 use Rattle.coco_ship.specs.Taking.{Brings, Hears, OfBoth, OfTables}
 use Rattle.coco_ship.specs.Exchanges.{AreExchanges, AreOwersAsked}
-use Rattle.coco_ship.specs.Going.{AreHonest, AreTold, HasAnswered, IsDoneBy, IsGoing, IsHonest, IsTold, IsWaitedFor, Passes, Unless}
+use Rattle.coco_ship.specs.Going.{AreHonest, AreTold, HasAnswered, IsDoneBy, IsGoing, IsHonest, IsLater, IsTold, IsWaitedFor, Passes, Unless}
 use Rattle.coco_ship.proofs.DeliverLemmas.{holder_within, news_is, news_none, out_letters, primary_within}
 use Rattle.coco_ship.proofs.GoingLemmas.{all_there, answered_kept, answered_there, answers_all_there, answers_honest, asks_honest, honest_after, honest_both, honest_some, told_total}
 use Rattle.coco_ship.proofs.KeepLemmas.{honest_kept, lines_kept}
@@ -442,3 +442,19 @@ is_silent_then ring epoch sent posts ls ts ms us f0 f1 node lines tables after t
 -- not all have answered while one is waited for
 pub waited_not : (ring : Ring) (lines : List Line) (node : ℕ) → IsWaitedFor ring lines node → ((n : ℕ) → HasAnswered ring lines n) → ⊥
 waited_not ring lines node waited all = two_sides (sym (all node waited.p waited.j waited.is_copy waited.holds waited.line waited.here) ∙ waited.waits)
+
+-- ---- what a net counts and was told
+
+pub later_none : (faults : ℕ) (seed : Option ℕ) → IsLater faults seed faults seed
+later_none faults seed = record { faults_rise = omega arith; seed_stays = refl }
+
+pub later_then : (a : ℕ) (s : Option ℕ) (b : ℕ) (t : Option ℕ) (c : ℕ) (u : Option ℕ) → IsLater a s b t → IsLater b t c u → IsLater a s c u
+later_then a s b t c u first next = record { faults_rise = omega (arith, first.faults_rise, next.faults_rise); seed_stays = next.seed_stays ∙ first.seed_stays }
+
+-- nothing was counted
+pub later_same : (a : ℕ) (s : Option ℕ) (b : ℕ) (t : Option ℕ) → b ≡ a → t ≡ s → IsLater a s b t
+later_same a s b t faults seed = record { faults_rise = omega (arith, faults); seed_stays = seed }
+
+-- or one fault at most
+pub later_one : (a : ℕ) (s : Option ℕ) (b : ℕ) (t : Option ℕ) → (b ≡ a) ⊎ (b ≡ a + 1) → t ≡ s → IsLater a s b t
+later_one a s b t faults seed = record { faults_rise = elim faults [ inl same ↦ omega arith | inr more ↦ omega arith ]; seed_stays = seed }

@@ -1,5 +1,5 @@
 -- What holds between the exchanges of a ship phase.
-use Rattle.std.specs.Prelude.{◌≡◌, ℕ, ◌+◌, ◌≤◌, ◌++◌, true, false, is_some, List, [], All as Each, Contains, Some, ◌⊎◌}
+use Rattle.std.specs.Prelude.{◌≡◌, ℕ, ◌+◌, ◌≤◌, ◌++◌, true, false, is_some, List, [], All as Each, Contains, Option, Some, ◌⊎◌}
 use Rattle.std.specs.List.{slice_get}
 use Rattle.coco_types.specs.declared.call.Piece.{Piece}
 use Rattle.coco_msg.specs.declared.message.Message.{Message}
@@ -94,3 +94,8 @@ StaysWritten ring epoch sent lines tables tables_after = (pieces : List Piece) �
 -- copies that were told all and have all have answered All
 abbrev pub Answered : Ring → List Line → List CopyState → List Line → Type 0
 Answered ring lines tables lines_after = (pieces : List Piece) → AreLines ring pieces lines tables → AreTold ring pieces lines → (node : ℕ) → HasAnswered ring lines_after node
+
+-- what a net counts and was told, later: faults don't fall, and the seed stays
+pub record IsLater (faults : ℕ) (seed : Option ℕ) (faults_later : ℕ) (seed_later : Option ℕ) : Type 0 where
+  pub faults_rise : faults ≤ faults_later
+  pub seed_stays : seed_later ≡ seed

@@ -53,6 +53,7 @@ pub(crate) fn send_all<N: Net>(net: &mut N, letters: VecDeque<Posted>) -> Result
     ensures given { N.given net.new ≡ N.given net.old }
     ensures fresh { OnOk result (N.fresh net.new ≡ N.fresh net.old ++ letters.items) }
     ensures faults { N.faults net.new ≡ N.faults net.old }
+    ensures seed { N.last_seed net.new ≡ N.last_seed net.old }
 {
     let mut letters = letters;
     while let Some(posted) = letters.pop_front() {
@@ -74,6 +75,7 @@ pub(crate) fn take_all<N: Net>(
     ensures sent { N.sent net.new ≡ N.sent net.old }
     ensures given { N.given net.new ≡ N.given net.old }
     ensures faults { N.faults net.new ≡ N.faults net.old }
+    ensures seed { N.last_seed net.new ≡ N.last_seed net.old }
 {
     let mut letters = Vec::new(alloc);
     for _letter in 0..net.waiting(place) {

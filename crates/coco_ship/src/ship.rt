@@ -3,7 +3,7 @@
 ghost use Rattle.std.specs.Prelude.{◌≡◌, ◌+◌, ◌*◌, ◌<◌, ◌≤◌, ℕ, ◌⊎◌, All, Contains, IfErr, ◌++◌, OnOk, MatchOption, length};
 ghost use Rattle.std.specs.Bool.{MatchBool};
 ghost use Rattle.coco_ship.specs.declared.ship.ShipFault.TheVariants.{NoMemory as Spent};
-ghost use Rattle.coco_ship.specs.Going.{Answered, AreTold, GoesOn, HasAnswered, IsDoneBy, IsGoing, IsWaitedFor, Passes, StaysWritten, Unless};
+ghost use Rattle.coco_ship.specs.Going.{Answered, AreTold, GoesOn, HasAnswered, IsDoneBy, IsGoing, IsLater, IsWaitedFor, Passes, StaysWritten, Unless};
 ghost use Rattle.coco_ship.specs.Taking.{waiting_below, Brings, Hears, OfBoth, OfTables};
 ghost use Rattle.coco_ship.specs.Exchanges.{AreAsked};
 ghost use Rattle.coco_ship.specs.Letters.{AreInside, AreOther};
@@ -68,6 +68,7 @@ fn hand_out<N: Net>(
     ensures given { N.given net.new ≡ N.given net.old }
     ensures sent { N.sent net.new ≡ N.sent net.old }
     ensures faults { N.faults net.new ≡ N.faults net.old }
+    ensures seed { N.last_seed net.new ≡ N.last_seed net.old }
 {
     for node in 0..ring.nodes {
         let letters = take_all(alloc, net, node)?;
@@ -97,6 +98,7 @@ fn deliver<N: Net>(
     ensures new_ones { OnOk result (N.faults net.new ≡ N.faults net.old → All (Contains (news (N.given net.old) (N.given net.new))) (N.fresh net.old)) }
     ensures sent { N.sent net.new ≡ N.sent net.old }
     ensures faults { OnOk result ((N.faults net.new ≡ N.faults net.old) ⊎ (N.faults net.new ≡ N.faults net.old + 1)) }
+    ensures later { IsLater (N.faults net.old) (N.last_seed net.old) (N.faults net.new) (N.last_seed net.new) }
 {
     net.round()?;
     hand_out(alloc, net, ring, epoch, lines, copies)
@@ -124,6 +126,7 @@ fn carry<N: Net>(
     ensures were_sent { All (Contains (N.sent net.old ++ letters.items)) (news (N.given net.old) (N.given net.new)) }
     ensures heard { OnOk result (OfBoth ring (Hears ring epoch (news (N.given net.old) (N.given net.new))) lines.old copies.old lines.new copies.new) }
     ensures came { OnOk result (Unless (N.faults net.old) (N.faults net.new) (All (Contains (news (N.given net.old) (N.given net.new))) letters.items)) }
+    ensures later { IsLater (N.faults net.old) (N.last_seed net.old) (N.faults net.new) (N.last_seed net.new) }
 {
     send_all(net, letters)?;
     deliver(alloc, net, ring, epoch, lines, copies)
@@ -153,6 +156,7 @@ fn ask_round<N: Net>(
     ensures done { OnOk result (OfBoth ring (IsDoneBy ring epoch (news (N.given net.old) (N.given net.new))) lines.old copies.old lines.new copies.new) }
     ensures asked { OnOk result (AreAsked ring epoch lines.old (news (N.sent net.old) (N.sent net.new))) }
     ensures told { OnOk result (Unless (N.faults net.old) (N.faults net.new) (AreTold ring pieces.now lines.new)) }
+    ensures later { IsLater (N.faults net.old) (N.last_seed net.old) (N.faults net.new) (N.last_seed net.new) }
 {
     let letters = asks(alloc, ring, epoch, pieces, lines)?;
     carry(alloc, net, ring, epoch, letters, lines, copies)
@@ -178,6 +182,7 @@ fn answer_round<N: Net>(
     ensures right { KeepsRight ring epoch (N.sent net.old) (N.given net.old) lines.old copies.old (N.sent net.new) (N.given net.new) }
     ensures done { OnOk result (OfBoth ring (IsDoneBy ring epoch (news (N.given net.old) (N.given net.new))) lines.old copies.old lines.new copies.new) }
     ensures answered { OnOk result (Unless (N.faults net.old) (N.faults net.new) (Answered ring lines.old copies.old lines.new)) }
+    ensures later { IsLater (N.faults net.old) (N.last_seed net.old) (N.faults net.new) (N.last_seed net.new) }
 {
     let letters = answers(alloc, ring, epoch, lines)?;
     carry(alloc, net, ring, epoch, letters, lines, copies)
@@ -208,6 +213,7 @@ fn exchange<N: Net>(
     ensures asked { OnOk result (AreAsked ring epoch lines.old (news (N.sent net.old) (N.sent net.new))) }
     // An exchange without a fault ends the phase.
     ensures faults { OnOk result (Unless (N.faults net.old) (N.faults net.new) ((node : ℕ) → HasAnswered ring lines.new node)) }
+    ensures later { IsLater (N.faults net.old) (N.last_seed net.old) (N.faults net.new) (N.last_seed net.new) }
 {
     ask_round(alloc, net, ring, epoch, pieces, lines, copies)?;
     answer_round(alloc, net, ring, epoch, lines, copies)
@@ -268,6 +274,7 @@ fn exchanges<N: Net>(
     ensures answered { OnOk result (HaveAnswered ring epoch (news (N.given net.old) (N.given net.new))) }
     ensures alone { ring.copies ≡ 0 → N.sent net.new ≡ N.sent net.old }
     ensures silent { IfErr result (OnSilent ring epoch (news (N.sent net.old) (N.sent net.new)) (news (N.given net.old) (N.given net.new)) (N.faults net.old) (N.faults net.new)) }
+    ensures later { IsLater (N.faults net.old) (N.last_seed net.old) (N.faults net.new) (N.last_seed net.new) }
 {
     for _exchange in 0..EXCHANGES {
         match silent(ring, lines) {
@@ -312,6 +319,9 @@ pub fn ship_epoch<N: Net>(
     ensures alone { ring.copies ≡ 0 → N.sent net.new ≡ N.sent net.old }
     // Silent comes only after 16 exchanges, in each of which the count of faults rose.
     ensures silent { IfErr result (OnSilent ring epoch (news (N.sent net.old) (N.sent net.new)) (news (N.given net.old) (N.given net.new)) (N.faults net.old) (N.faults net.new)) }
+    // Whatever the answer, no disturbance is asked for, and the count of faults doesn't fall.
+    ensures seed { N.last_seed net.new ≡ N.last_seed net.old }
+    ensures faults { N.faults net.old ≤ N.faults net.new }
 {
     let mut lines = lines_of(alloc, ring, pieces, copies)?;
     exchanges(alloc, net, ring, epoch, pieces, &mut lines, copies)

@@ -20,4 +20,5 @@ loop-posted-preserved g c =
       given = c.send.ensures.given ∙ before.given;
       fresh = ap (λ ps. ps ++ rest) fresh ∙ append_assoc (g.N.Net.fresh c.loop-posted.net) (s ∷ []) rest ∙ ap (λ ps. g.N.Net.fresh c.loop-posted.net ++ ps) (sym items) ∙ before.fresh;
       faults = c.send.ensures.faults ∙ before.faults;
+      seed = c.send.ensures.seed ∙ before.seed;
     }

@@ -14,4 +14,5 @@ invariant-loop-posted g l = record {
   given : g.N.Net.given l.net ≡ g.N.Net.given l.initial.net;
   fresh : g.N.Net.fresh l.net ++ l.letters.items ≡ g.N.Net.fresh l.initial.net ++ l.initial.letters.items;
   faults : g.N.Net.faults l.net ≡ g.N.Net.faults l.initial.net;
+  seed : g.N.Net.last_seed l.net ≡ g.N.Net.last_seed l.initial.net;
 }

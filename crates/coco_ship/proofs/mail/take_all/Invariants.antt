@@ -10,4 +10,5 @@ invariant-loop-letter g l = record {
   sent : g.N.Net.sent l.net ≡ g.N.Net.sent l.initial.net;
   given : g.N.Net.given l.net ≡ g.N.Net.given l.initial.net;
   faults : g.N.Net.faults l.net ≡ g.N.Net.faults l.initial.net;
+  seed : g.N.Net.last_seed l.net ≡ g.N.Net.last_seed l.initial.net;
 }

@@ -3,7 +3,7 @@ use Rattle.std.specs.List.{All, Contains}
 use Rattle.std.proofs.lemmas.Result.{on_ok_weaker}
 use Rattle.coco_ship.specs.Going.{Answered}
 use Rattle.coco_ship.specs.Shipping.{news}
-use Rattle.coco_ship.proofs.RoundLemmas.{answer_going, answer_written, answered_after, answers_inside, answers_phase, done_answered, done_by, on_ok_two, passes_none, unless_then}
+use Rattle.coco_ship.proofs.RoundLemmas.{answer_going, answer_written, answered_after, answers_inside, answers_phase, done_answered, done_by, later_none, on_ok_two, passes_none, unless_then}
 use Rattle.coco_ship.proofs.ThereLemmas.{answered_exact, answered_right, right_none}
 use Rattle.coco_ship.proofs.ship.answer_round.Goals as goal
 
@@ -72,3 +72,6 @@ returns-clause-right g c = λ pieces going.
 pub returns-in_err-letters-clause-right : goal.returns-in_err-letters-clause-right
 returns-in_err-letters-clause-right g c = λ pieces going.
     right_none c.args.ring c.args.epoch pieces (g.N.Net.sent c.args.net.now) (g.N.Net.sent c.args.net.now) (g.N.Net.given c.args.net.now) c.args.lines.now (g.N.Net.given c.args.net.now) refl
+
+pub returns-in_err-letters-clause-later : goal.returns-in_err-letters-clause-later
+returns-in_err-letters-clause-later g c = later_none (g.N.Net.faults c.args.net.now) (g.N.Net.last_seed c.args.net.now)

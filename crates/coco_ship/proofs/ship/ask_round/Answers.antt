@@ -4,7 +4,7 @@ use Rattle.std.proofs.lemmas.Result.{on_ok_weaker}
 use Rattle.coco_ship.specs.Going.{AreTold}
 use Rattle.coco_ship.specs.Shipping.{news}
 use Rattle.coco_ship.proofs.ExchangeLemmas.{asked_now}
-use Rattle.coco_ship.proofs.RoundLemmas.{ask_going, ask_written, asks_inside, asks_phase, done_by, on_ok_two, passes_none, told_after, unless_then}
+use Rattle.coco_ship.proofs.RoundLemmas.{ask_going, ask_written, asks_inside, asks_phase, done_by, later_none, on_ok_two, passes_none, told_after, unless_then}
 use Rattle.coco_ship.proofs.ThereLemmas.{asked_exact, asked_right, right_none}
 use Rattle.coco_ship.proofs.ship.ask_round.Goals as goal
 
@@ -75,3 +75,6 @@ returns-clause-asked g c =
     on_ok_weaker c.carry.result
     (λ is. asked_now c.args.ring c.args.epoch c.args.pieces.now c.args.lines.now (g.N.Net.sent c.args.net.now) c.in_ok-letters.letters.items (g.N.Net.sent c.carry.new.net) c.in_ok-letters.ensures is)
     c.carry.ensures.sent
+
+pub returns-in_err-letters-clause-later : goal.returns-in_err-letters-clause-later
+returns-in_err-letters-clause-later g c = later_none (g.N.Net.faults c.args.net.now) (g.N.Net.last_seed c.args.net.now)

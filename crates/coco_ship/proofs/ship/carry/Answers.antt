@@ -4,7 +4,7 @@ use Rattle.std.proofs.lemmas.Result.{on_ok_weaker}
 use Rattle.coco_net.specs.declared.letter.Posted.{Posted}
 use Rattle.coco_ship.specs.Shipping.{news}
 use Rattle.coco_ship.specs.Taking.{Brings, Hears, OfBoth, OfTables}
-use Rattle.coco_ship.proofs.RoundLemmas.{all_among, carry_came, none_given, on_ok_two, passes_given, passes_sent, phase_front}
+use Rattle.coco_ship.proofs.RoundLemmas.{all_among, carry_came, later_same, later_then, none_given, on_ok_two, passes_given, passes_sent, phase_front}
 use Rattle.coco_ship.proofs.ship.carry.Goals as goal
 
 pub returns-in_err-send_all-clause-passes : goal.returns-in_err-send_all-clause-passes
@@ -54,3 +54,12 @@ pub returns-clause-only : goal.returns-clause-only
 returns-clause-only g c =
     let sent : g.N.Net.sent c.deliver.new.net ≡ g.N.Net.sent c.args.net.now ++ c.args.letters.items = c.deliver.ensures.sent ∙ c.in_ok-send_all.ensures.sent in
     all_among (g.N.Net.sent c.args.net.now) (g.N.Net.sent c.deliver.new.net) c.args.letters.items [] c.args.letters.items sent (append-nil c.args.letters.items)
+
+pub returns-in_err-send_all-clause-later : goal.returns-in_err-send_all-clause-later
+returns-in_err-send_all-clause-later g c =
+    later_same (g.N.Net.faults c.args.net.now) (g.N.Net.last_seed c.args.net.now) (g.N.Net.faults c.send_all.new.net) (g.N.Net.last_seed c.send_all.new.net) c.send_all.ensures.faults c.send_all.ensures.seed
+
+pub returns-clause-later : goal.returns-clause-later
+returns-clause-later g c =
+    later_then (g.N.Net.faults c.args.net.now) (g.N.Net.last_seed c.args.net.now) (g.N.Net.faults c.send_all.new.net) (g.N.Net.last_seed c.send_all.new.net) (g.N.Net.faults c.deliver.new.net) (g.N.Net.last_seed c.deliver.new.net)
+    (later_same (g.N.Net.faults c.args.net.now) (g.N.Net.last_seed c.args.net.now) (g.N.Net.faults c.send_all.new.net) (g.N.Net.last_seed c.send_all.new.net) c.send_all.ensures.faults c.send_all.ensures.seed) c.deliver.ensures.later

@@ -5,6 +5,7 @@ use Rattle.coco_net.specs.declared.letter.Posted.{Posted}
 use Rattle.coco_ship.specs.Shipping.{news}
 use Rattle.coco_ship.specs.Taking.{waiting_below, Brings, Hears, OfBoth, OfTables}
 use Rattle.coco_ship.proofs.DeliverLemmas.{brings_among, hears_all_given, news_is, waiting_all}
+use Rattle.coco_ship.proofs.RoundLemmas.{later_one, later_same, later_then}
 use Rattle.coco_ship.proofs.ship.deliver.Goals as goal
 
 pub returns-clause-ok : goal.returns-clause-ok
@@ -47,3 +48,13 @@ returns-clause-new_ones g c =
     let come : g.N.Net.faults c.hand_out.new.net ≡ g.N.Net.faults c.args.net.now → All (Contains (news (g.N.Net.given c.args.net.now) (g.N.Net.given c.hand_out.new.net))) fresh =
     λ same. subst (λ (ps : List Posted). All (Contains ps) fresh) (sym (news_is (g.N.Net.given c.args.net.now) (g.N.Net.given c.hand_out.new.net) gives.0 given)) (gives.2.new_ones (sym c.hand_out.ensures.faults ∙ same)) in
     on_ok_weaker c.hand_out.result (λ _. come) c.hand_out.ensures.ok
+
+pub returns-in_err-round-clause-later : goal.returns-in_err-round-clause-later
+returns-in_err-round-clause-later g c =
+    later_same (g.N.Net.faults c.args.net.now) (g.N.Net.last_seed c.args.net.now) (g.N.Net.faults c.round.new.self) (g.N.Net.last_seed c.round.new.self) c.in_err-round.ensures.err.2 c.round.ensures.seed
+
+pub returns-clause-later : goal.returns-clause-later
+returns-clause-later g c =
+    later_then (g.N.Net.faults c.args.net.now) (g.N.Net.last_seed c.args.net.now) (g.N.Net.faults c.round.new.self) (g.N.Net.last_seed c.round.new.self) (g.N.Net.faults c.hand_out.new.net) (g.N.Net.last_seed c.hand_out.new.net)
+    (later_one (g.N.Net.faults c.args.net.now) (g.N.Net.last_seed c.args.net.now) (g.N.Net.faults c.round.new.self) (g.N.Net.last_seed c.round.new.self) c.in_ok-round.ensures.faults c.round.ensures.seed)
+    (later_same (g.N.Net.faults c.round.new.self) (g.N.Net.last_seed c.round.new.self) (g.N.Net.faults c.hand_out.new.net) (g.N.Net.last_seed c.hand_out.new.net) c.hand_out.ensures.faults c.hand_out.ensures.seed)

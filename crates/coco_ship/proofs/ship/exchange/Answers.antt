@@ -2,7 +2,7 @@ use Rattle.std.proofs.Common.{◌≡◌, ◌*◌, ℕ, arith, length}
 use Rattle.std.proofs.lemmas.Result.{on_ok_weaker}
 use Rattle.coco_ship.specs.Going.{Answered, AreTold, HasAnswered}
 use Rattle.coco_ship.proofs.ExchangeLemmas.{asked_more_sent}
-use Rattle.coco_ship.proofs.RoundLemmas.{done_then, exchange_faults, passes_then}
+use Rattle.coco_ship.proofs.RoundLemmas.{done_then, exchange_faults, later_then, passes_then}
 use Rattle.coco_ship.proofs.ThereLemmas.{exact_then, right_then}
 use Rattle.coco_ship.proofs.ship.exchange.Goals as goal
 
@@ -56,3 +56,7 @@ returns-clause-asked g c =
     on_ok_weaker c.answer_round.result
     (λ _. asked_more_sent c.args.ring c.args.epoch c.args.lines.now (g.N.Net.sent c.args.net.now) (g.N.Net.sent c.ask_round.new.net) (g.N.Net.sent c.answer_round.new.net) c.ask_round.ensures.passes.sends c.answer_round.ensures.passes.sends c.in_ok-ask_round.ensures.asked)
     c.answer_round.ensures.going
+
+pub returns-clause-later : goal.returns-clause-later
+returns-clause-later g c =
+    later_then (g.N.Net.faults c.args.net.now) (g.N.Net.last_seed c.args.net.now) (g.N.Net.faults c.ask_round.new.net) (g.N.Net.last_seed c.ask_round.new.net) (g.N.Net.faults c.answer_round.new.net) (g.N.Net.last_seed c.answer_round.new.net) c.ask_round.ensures.later c.answer_round.ensures.later

@@ -4,7 +4,7 @@ use Rattle.coco_ship.specs.Going.{HasAnswered}
 use Rattle.coco_ship.specs.Placing.{holder_of}
 use Rattle.coco_ship.specs.Shipping.{news}
 use Rattle.coco_ship.proofs.ExchangeLemmas.{asked_before, exchanges_none, exchanges_rise, exchanges_weaker, loop_exchanges, owers_asked}
-use Rattle.coco_ship.proofs.RoundLemmas.{done_none, done_then, is_silent_then, passes_none, passes_then, waited_not, was_given, whole_all}
+use Rattle.coco_ship.proofs.RoundLemmas.{done_none, done_then, is_silent_then, later_none, later_then, passes_none, passes_then, waited_not, was_given, whole_all}
 use Rattle.coco_ship.proofs.ThereLemmas.{exact_none, exact_then, right_none, right_then, there_all}
 use Rattle.coco_ship.proofs.ship.exchanges.Goals as goal
 
@@ -16,6 +16,7 @@ loop-exchange-init g c = record {
   exchanges = inl (exchanges_none (AreAsked c.args.ring c.args.epoch c.args.lines.now) (g.N.Net.sent c.args.net.now) (g.N.Net.faults c.args.net.now));
   exact = exact_none c.args.ring c.args.epoch c.args.pieces.now (g.N.Net.given c.args.net.now) c.args.lines.now;
   right = right_none c.args.ring c.args.epoch c.args.pieces.now (g.N.Net.sent c.args.net.now) (g.N.Net.sent c.args.net.now) (g.N.Net.given c.args.net.now) c.args.lines.now (g.N.Net.given c.args.net.now) refl;
+  later = later_none (g.N.Net.faults c.args.net.now) (g.N.Net.last_seed c.args.net.now);
   alone = λ none i. g.N.Net.sent c.args.net.now;
 }
 
@@ -53,6 +54,7 @@ loop-exchange-preserved g c =
       exact = exact_then ring c.args.epoch c.args.pieces.now g0 ls (g.N.Net.given c.loop-exchange.net) ms (g.N.Net.given c.exchange.new.net) c.exchange.new.lines before.passes.gives c.exchange.ensures.passes.gives before.exact c.in_ok-exchange-in-Some.ensures.exact;
       right = right_then ring c.args.epoch c.args.pieces.now s0 g0 ls (g.N.Net.sent c.loop-exchange.net) (g.N.Net.given c.loop-exchange.net) ms (g.N.Net.sent c.exchange.new.net) (g.N.Net.given c.exchange.new.net)
           before.passes.sends c.exchange.ensures.passes.sends before.passes.gives c.exchange.ensures.passes.gives before.right before.exact c.exchange.ensures.right;
+      later = later_then (g.N.Net.faults c.args.net.now) (g.N.Net.last_seed c.args.net.now) (g.N.Net.faults c.loop-exchange.net) (g.N.Net.last_seed c.loop-exchange.net) (g.N.Net.faults c.exchange.new.net) (g.N.Net.last_seed c.exchange.new.net) c.loop-exchange.invariant.later c.exchange.ensures.later;
       alone = λ none. absurd (no_copy waited.j ring.copies waited.is_copy.copy none);
     }
 
@@ -69,6 +71,10 @@ returns-in_err-exchange-in-Some-clause-passes g c =
     let lines : length ms ≡ ring.partitions * ring.copies = omega (arith, c.loop-exchange.auto.lines, c.requires.lines) in
     let copies : length us ≡ ring.partitions * ring.copies = omega (arith, c.loop-exchange.auto.copies, c.requires.copies) in
     passes_then ring c.args.epoch s0 g0 ts (g.N.Net.sent c.loop-exchange.net) (g.N.Net.given c.loop-exchange.net) us (g.N.Net.sent c.exchange.new.net) (g.N.Net.given c.exchange.new.net) c.exchange.new.copies copies before.passes c.exchange.ensures.passes
+
+pub returns-in_err-exchange-in-Some-clause-later : goal.returns-in_err-exchange-in-Some-clause-later
+returns-in_err-exchange-in-Some-clause-later g c =
+    later_then (g.N.Net.faults c.args.net.now) (g.N.Net.last_seed c.args.net.now) (g.N.Net.faults c.loop-exchange.net) (g.N.Net.last_seed c.loop-exchange.net) (g.N.Net.faults c.exchange.new.net) (g.N.Net.last_seed c.exchange.new.net) c.loop-exchange.invariant.later c.exchange.ensures.later
 
 pub returns-in_err-exchange-in-Some-clause-alone : goal.returns-in_err-exchange-in-Some-clause-alone
 returns-in_err-exchange-in-Some-clause-alone g c = let waited = c.in-Some.ensures.0 in λ none. absurd (no_copy waited.j c.args.ring.copies waited.is_copy.copy none)

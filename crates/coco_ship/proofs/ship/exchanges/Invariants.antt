@@ -1,6 +1,6 @@
 use Rattle.std.proofs.Common.{◌≡◌, ◌⊎◌, ℕ}
 use Rattle.coco_ship.specs.Exchanges.{AreAsked, AreExchanges}
-use Rattle.coco_ship.specs.Going.{HasAnswered, IsDoneBy, IsGoing, Passes}
+use Rattle.coco_ship.specs.Going.{HasAnswered, IsDoneBy, IsGoing, IsLater, Passes}
 use Rattle.coco_ship.specs.Shipping.{news}
 use Rattle.coco_ship.specs.Taking.{OfBoth}
 use Rattle.coco_ship.specs.There.{AddsRight, StaysExact}
@@ -15,5 +15,6 @@ invariant-loop-exchange g l = record {
   exchanges : AreExchanges l._exchange (AreAsked l.ring l.epoch l.lines) (news (g.N.Net.sent l.initial.net) (g.N.Net.sent l.net)) (g.N.Net.faults l.initial.net) (g.N.Net.faults l.net) ⊎ ((node : ℕ) → HasAnswered l.ring l.lines node);
   exact : StaysExact l.ring l.epoch l.pieces (g.N.Net.given l.initial.net) l.initial.lines (g.N.Net.given l.net) l.lines;
   right : AddsRight l.ring l.epoch l.pieces (g.N.Net.sent l.initial.net) (g.N.Net.given l.initial.net) l.initial.lines (g.N.Net.sent l.net) (g.N.Net.given l.net);
+  later : IsLater (g.N.Net.faults l.initial.net) (g.N.Net.last_seed l.initial.net) (g.N.Net.faults l.net) (g.N.Net.last_seed l.net);
   alone : l.ring.copies ≡ 0 → g.N.Net.sent l.net ≡ g.N.Net.sent l.initial.net;
 }

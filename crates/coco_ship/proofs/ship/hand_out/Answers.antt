@@ -13,6 +13,7 @@ loop-node-init g c = record {
   given = refl;
   sent = refl;
   faults = refl;
+  seed = refl;
 }
 
 apart : (p n : ℕ) → n + 1 ≤ p → p ≢ n
@@ -35,6 +36,7 @@ loop-node-preserved g c =
       given = c.take_all.ensures.given ∙ before.given;
       sent = c.take_all.ensures.sent ∙ before.sent;
       faults = c.take_all.ensures.faults ∙ before.faults;
+      seed = c.take_all.ensures.seed ∙ before.seed;
     }
 
 pub returns-in_err-letters-clause-tables : goal.returns-in_err-letters-clause-tables

@@ -66,3 +66,9 @@ returns-clause-right g c =
 pub returns-in_err-lines-clause-right : goal.returns-in_err-lines-clause-right
 returns-in_err-lines-clause-right g c =
     right_none_all c.args.ring c.args.epoch c.args.pieces.now c.args.copies.now (news (g.N.Net.given c.args.net.now) (g.N.Net.given c.args.net.now)) (g.N.Net.sent c.args.net.now)
+
+pub returns-clause-faults : goal.returns-clause-faults
+returns-clause-faults g c = c.exchanges.ensures.later.faults_rise
+
+pub returns-clause-seed : goal.returns-clause-seed
+returns-clause-seed g c = c.exchanges.ensures.later.seed_stays

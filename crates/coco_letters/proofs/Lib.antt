@@ -1,0 +1,4 @@
+pub mod SayingLemmas
+pub mod HearingLemmas
+pub mod WorldLemmas
+pub mod WaitingLemmas
