@@ -1,7 +1,6 @@
 pub mod BaseLemmas
 pub mod Holding
 pub mod KeepLemmas
-pub mod MapLists
 pub mod RunLemmas
 pub mod ServingLemmas
 pub mod StoreTexts

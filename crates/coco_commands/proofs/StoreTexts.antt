@@ -13,7 +13,7 @@ use Rattle.coco_recover.specs.Opening.{Has, HaveRows}
 use Rattle.coco_recover.specs.declared.opening.Opened.{Opened}
 use Rattle.coco_store.specs.Contents.{Contents, history_of, map_in}
 use Rattle.coco_commands.specs.Telling.{dump_in}
-use Rattle.coco_commands.proofs.MapLists.{AreLists, lists_make}
+use Rattle.coco_ckpt.proofs.MapLists.{AreLists, lists_make}
 
 module _ (c : Contents) (store : Opened) (has : Has None c store) where
   -- by the history's map, the Dones of the store are all of the history's

@@ -1,6 +1,8 @@
-//! The commands on a store that is there: requests are run on it, what it has is told, it is given a keep number.
+//! The commands on a store that is there: requests are run on it, what it has is told, it is given a keep number, it is
+//! made small.
 #![tactic(auto)]
 
+mod compacting;
 mod dumping;
 mod laws;
 mod migrating;
@@ -12,6 +14,7 @@ mod verifying;
 
 pub use coco_recover::{Opened, read_without, recover, recover_whole};
 pub use coco_serve::RunBounds;
+pub use compacting::compact;
 pub use dumping::dump;
 pub use laws::{a_layout_sets_the_keep_number, a_refused_store_is_not_run};
 pub use migrating::migrate;

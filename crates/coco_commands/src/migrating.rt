@@ -27,8 +27,8 @@ pub fn migrate<H: Host>(alloc: Global, host: &mut H, keep: u16) -> Ending
     ending_of_adding(add_layout(alloc, host, log, &store.layout, Some(keep), store.base_file))
 }
 
-// How a call ends whose layout was added so.
-fn ending_of_adding(added: Result<(), LogFault>) -> Ending
+/// How a call ends whose layout was added so.
+pub fn ending_of_adding(added: Result<(), LogFault>) -> Ending
     ensures { result ≡ ending_of_adding added }
 {
     match added {

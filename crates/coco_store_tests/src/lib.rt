@@ -3,6 +3,8 @@
 #![tactic(auto)]
 
 #[cfg(test)]
+mod compacts;
+#[cfg(test)]
 mod entries;
 #[cfg(test)]
 mod loads;

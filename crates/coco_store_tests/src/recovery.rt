@@ -33,6 +33,21 @@ const TWO_NODES: [u8; 73] = [
     2, 0, 0, 0, 3, 0, 0, 0, 0, 0, 0, 0, 0, 0, 0, 0, 0, 0,
 ];
 
+// put(5, 70) as id 1 in epoch 1, and epoch 3, which has no request.
+const TWO_COMMITS: [u8; 93] = [
+    b'C', b'O', b'C', b'O', b'L', b'O', b'G', 1, 1, 0, 0, 0, 61, 2, 0, 0, 0, 0, 0, 0, 0, 1, 0, 0,
+    0, 1, 0, 0, 0, 0, 0, 0, 0, 1, 0, 1, 0, 2, 1, 0, 0, 0, 0, 0, 0, 0, 5, 1, 0, 0, 0, 0, 0, 0, 0,
+    70, 0, 0, 0, 0, 0, 0, 0, 1, 0, 1, 0, 0, 0, 0, 0, 0, 0, 70, 1, 0, 0, 0, 13, 2, 0, 0, 0, 0, 0, 0,
+    0, 3, 0, 0, 0, 0, 0,
+];
+
+// What the node prepared for them.
+const TWO_PREPARED: [u8; 72] = [
+    b'C', b'O', b'C', b'O', b'L', b'O', b'G', 2, 1, 0, 0, 0, 40, 3, 0, 0, 0, 0, 0, 0, 0, 1, 0, 0,
+    0, 1, 0, 0, 0, 0, 0, 0, 0, 0, 0, 5, 0, 0, 0, 0, 0, 0, 0, 1, 1, 0, 0, 0, 0, 0, 0, 0, 70, 1, 0,
+    0, 0, 13, 3, 0, 0, 0, 0, 0, 0, 0, 3, 0, 0, 0, 0, 0,
+];
+
 // What is seen of an opened store: the number of its next epoch, how many replies it keeps, its row 5, how many nodes
 // its last layout has, and where that layout's body begins.
 type Seen = (u64, u64, Option<i64>, u8, u64);
@@ -147,6 +162,42 @@ fn stores_are_opened_with_their_last_layout_or_refused(rt: HostRuntime) -> Resul
             && is_opened(rt.alloc(), files, true, wanted)?;
         assert!(rt; is_well, "{name}");
     }
+    Ok(())
+}
+
+// Whether a base file is refused at the tag of its second entry, whatever follows that tag.
+fn is_refused_at_a_tag(alloc: Global, tag: u8) -> Result<bool, OutFault> {
+    let mut base = BASE;
+    base[52] = tag;
+    let mut host = host_with(alloc, &[(0, &TWO_LAYOUTS), (3, &base)])?;
+    let refused = OpenFault::NotAStore { file: 3, at: 52 };
+    Ok(opened(alloc, &mut host, false) == Err(refused))
+}
+
+#[test]
+fn a_later_entry_of_another_tag_is_bad_at_its_tag(rt: HostRuntime) -> Result<(), Fail> {
+    for tag in [4, 7] {
+        assert!(rt;
+            is_refused_at_a_tag(rt.alloc(), tag)?,
+            "a later entry of tag {tag}"
+        );
+    }
+    Ok(())
+}
+
+// Whether a store is opened with these committed epochs.
+fn has_epochs(alloc: Global, files: Files, epochs: &[u64]) -> Result<bool, OutFault> {
+    let mut host = host_with(alloc, files)?;
+    match recover(alloc, &mut host) {
+        Ok(store) => Ok(store.epochs.as_slice() == epochs && store.next_epoch == 4),
+        Err(_) => Ok(false),
+    }
+}
+
+#[test]
+fn committed_epochs_are_had_of_a_store(rt: HostRuntime) -> Result<(), Fail> {
+    let files: Files = &[(0, &LAYOUTS), (1, &TWO_COMMITS), (2, &TWO_PREPARED)];
+    assert!(rt; has_epochs(rt.alloc(), files, &[1, 3])?);
     Ok(())
 }
 

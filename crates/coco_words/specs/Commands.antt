@@ -3,7 +3,7 @@ use Rattle.std.specs.Prelude.{◌≡◌, ⊤, ◌<◌, ℕ, List, [], ◌∷◌,
 use Rattle.coco_types.specs.Limits.{most_attempts, most_batch_lines, most_keep, most_partitions, most_workers}
 use Rattle.coco_words.specs.Options.{Text, NumberOption, GivesNumbers, Refused, Taken}
 use Rattle.coco_words.specs.declared.Command.{Command}
-use Rattle.coco_words.specs.declared.Command.TheVariants.{Init, Run, Dump, Verify, Migrate}
+use Rattle.coco_words.specs.declared.Command.TheVariants.{Init, Run, Dump, Verify, Migrate, Compact}
 use Rattle.coco_words.specs.declared.Kind.{Kind}
 use Rattle.coco_words.specs.declared.Kind.TheVariants as kind
 
@@ -13,6 +13,7 @@ kind_of (Run run) = kind.Run
 kind_of Dump = kind.Dump
 kind_of Verify = kind.Verify
 kind_of (Migrate keep) = kind.Migrate
+kind_of Compact = kind.Compact
 
 -- the word that a command begins with
 abbrev pub name_of : Kind → Text
@@ -21,6 +22,7 @@ name_of kind.Run = codes "run"
 name_of kind.Dump = codes "dump"
 name_of kind.Verify = codes "verify"
 name_of kind.Migrate = codes "migrate"
+name_of kind.Compact = codes "compact"
 
 -- an option that needn't be given
 abbrev pub optional : Text → ℕ → ℕ → ℕ → NumberOption
@@ -37,6 +39,7 @@ options_for kind.Run = optional (codes "epoch") 100 1 most_batch_lines ∷ optio
 options_for kind.Dump = []
 options_for kind.Verify = []
 options_for kind.Migrate = wanted (codes "keep") 1 most_keep ∷ []
+options_for kind.Compact = []
 
 abbrev pub options_of : Command → List NumberOption
 options_of command = options_for (kind_of command)
@@ -48,6 +51,7 @@ numbers_of (Run run) = Some run.epoch ∷ Some run.workers ∷ Some run.attempts
 numbers_of Dump = []
 numbers_of Verify = []
 numbers_of (Migrate keep) = Some keep ∷ []
+numbers_of Compact = []
 
 -- the numbers go together: a copy stands on each other node at most
 abbrev pub Agree : Kind → List (Option ℕ) → Type 0

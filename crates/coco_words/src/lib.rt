@@ -40,6 +40,8 @@ pub enum Command {
     Migrate {
         keep: u16,
     },
+    /// Make the map and what is kept the base of new files.
+    Compact,
 }
 
 /// The options of `run`.
@@ -70,6 +72,7 @@ pub enum Kind {
     Dump,
     Verify,
     Migrate,
+    Compact,
 }
 
 /// The command that the words are: its name, and then its options.
@@ -101,6 +104,7 @@ fn kind_named(name: &str) -> Option<Kind>
         "dump" => Some(Kind::Dump),
         "verify" => Some(Kind::Verify),
         "migrate" => Some(Kind::Migrate),
+        "compact" => Some(Kind::Compact),
         _ => None,
     }
 }
@@ -121,6 +125,7 @@ fn command_with(kind: Kind, matches: &ArgMatches<'_>) -> Option<Command>
             let keep = number_of(matches, "keep", None, 1, MOST_KEEP as u64)?;
             Some(Command::Migrate { keep: keep as u16 })
         }
+        Kind::Compact => Some(Command::Compact),
     }
 }
 

@@ -61,6 +61,7 @@ fn parser_for<'a>(alloc: Global, kind: Kind) -> Result<Command<'a>, AllocError>
         Kind::Dump => Ok(none),
         Kind::Verify => Ok(none),
         Kind::Migrate => with_option(alloc, none, "keep"),
+        Kind::Compact => Ok(none),
     }
 }
 

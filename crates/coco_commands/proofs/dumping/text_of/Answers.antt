@@ -4,7 +4,7 @@ use Rattle.coco_types.specs.RowKey.{RowKey}
 use Rattle.coco_types.specs.declared.value.Value.{Value}
 use Rattle.coco_audit.specs.Maps.{joined, map_with}
 use Rattle.coco_audit.specs.Texts.{dump_text}
-use Rattle.coco_commands.proofs.MapLists.{AreLists}
+use Rattle.coco_ckpt.proofs.MapLists.{AreLists}
 use Rattle.coco_commands.proofs.StoreTexts.{text_of_lists}
 use Rattle.coco_commands.proofs.dumping.text_of.Goals as goal
 

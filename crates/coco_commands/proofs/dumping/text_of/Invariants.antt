@@ -1,4 +1,4 @@
-use Rattle.coco_commands.proofs.MapLists.{AreLists}
+use Rattle.coco_ckpt.proofs.MapLists.{AreLists}
 use Rattle.coco_commands.proofs.dumping.text_of.Given as goal
 
 -- there is a list of each shard so far

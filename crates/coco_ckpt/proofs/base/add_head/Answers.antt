@@ -1,0 +1,14 @@
+use Rattle.std.proofs.Common.{◌≡◌, List, [], ◌∷◌, ◌++◌, ℕ, sym, subst, refl}
+use Rattle.coco_append.proofs.GainLemmas.{on_ok}
+use Rattle.coco_log.specs.Drafts.{Drafts}
+use Rattle.coco_log.proofs.Changing.{changes_none}
+use Rattle.coco_store.specs.Entries.{Head, base_bytes}
+use Rattle.coco_ckpt.proofs.base.add_head.Goals as goal
+
+pub returns-in_err-put_head-clause-changes : goal.returns-in_err-put_head-clause-changes
+returns-in_err-put_head-clause-changes g c = changes_none g.H.Host.moment g.H.Host.observed g.H.Host.said g.H.Host.reads g.H.Host.may_leave g.met.H.Host.only_now (c.args.draft.now.file ∷ []) c.args.host.now
+
+pub returns-clause-drafts : goal.returns-clause-drafts
+returns-clause-drafts g c =
+    let is : c.as_slice.result.now ≡ base_bytes (Head c.args.head.now) = rw (c.as_slice.ensures.value, c.in_ok-put_head.ensures.ok, c.new-body.ensures.items) refl in
+    on_ok c.add_entry.result _ _ (λ adds bodies drafts. subst (λ (l : List ℕ). Drafts c.add_entry.new.draft (bodies ++ l ∷ []) (g.H.Host.reads c.add_entry.new.host)) is (adds bodies drafts)) c.add_entry.ensures.drafts

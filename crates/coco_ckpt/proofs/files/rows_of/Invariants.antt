@@ -1,0 +1,6 @@
+use Rattle.coco_ckpt.proofs.MapLists.{AreLists}
+use Rattle.coco_ckpt.proofs.files.rows_of.Given as goal
+
+-- there is a list of each shard so far
+abbrev pub invariant-loop-shard : goal.invariant-loop-shard
+invariant-loop-shard l = AreLists l.shards l.shard-index l.lists.items
