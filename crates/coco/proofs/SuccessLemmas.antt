@@ -6,7 +6,7 @@ use Rattle.std.proofs.lemmas.List.{append_cancel_left, length-append}
 use Rattle.coco_types.specs.Limits.{most_input_bytes}
 use Rattle.coco_types.specs.declared.call.Done.{Done}
 use Rattle.coco_types.specs.declared.call.Request.{Request}
-use Rattle.coco_append.specs.Gaining.{Gains, RestsOn}
+use Rattle.coco_append.specs.Gaining.{GainsAs, HasStore, RestsAs}
 use Rattle.coco_ast.specs.History.{History, IsSerial, RepliesAreRuns, epoch_dones, rows_after}
 use Rattle.coco_ast.specs.Keyed.{Rows}
 use Rattle.coco_ast.specs.Meaning.{run as run_of}
@@ -14,6 +14,7 @@ use Rattle.coco_ast.specs.Tree.{Procedures}
 use Rattle.coco_audit.specs.Differing.{IsFirstUnlike}
 use Rattle.coco_audit.specs.Texts.{serial_text}
 use Rattle.coco_audit.specs.declared.verify.NotSerial.{NotSerial}
+use Rattle.coco_ckpt.specs.Compacting.{HasCompacted}
 use Rattle.coco_ending.specs.declared.ending.Ending.{Ending}
 use Rattle.coco_ending.specs.declared.ending.Ending.TheVariants as ending
 use Rattle.coco_entry.specs.declared.layout.Layout.{Layout}
@@ -44,9 +45,9 @@ use Rattle.coco_store.specs.Refusals.{IsFirstRefusal, RefusedIsNone}
 use Rattle.coco_store.specs.Texts.{IsAcceptedText}
 use Rattle.coco_commands.specs.Telling.{IsVerdict, SaysText}
 use Rattle.coco_commands.specs.Serving.{Counts, epochs_of, HasCause, Outside, RunBounds, Served, Serves}
-use Rattle.coco_words.specs.declared.Command.TheVariants.{Dump, Init, Migrate, Run, Verify}
+use Rattle.coco_words.specs.declared.Command.TheVariants.{Compact, Dump, Init, Migrate, Run, Verify}
 use Rattle.coco.specs.Commands.{counts_of, ending_in, bounds_of}
-use Rattle.coco.specs.Success.{AllAreAnswered, DumpSucceeds, FewLinesHaveNumbers, HaveNumbers, InitSucceeds, DoneOrNoMemory, MigrateSucceeds, NoneRose, ReadsEmpty, RunSucceeds, VerifySucceeds}
+use Rattle.coco.specs.Success.{AllAreAnswered, CompactSucceeds, DumpSucceeds, FewLinesHaveNumbers, HaveNumbers, InitSucceeds, DoneOrNoMemory, MigrateSucceeds, NoneRose, ReadsEmpty, RunSucceeds, VerifySucceeds}
 
 -- ---- numbers
 
@@ -203,18 +204,25 @@ module _ {H : Type 0} (moment : H → ℕ) (observed : H → ℕ → Observation
       (said_or_memory tells.text tells.own how (said old) (said new) (counts_of before) (counts_of after) faultless.none_rose.stream tells.says)) does.1)
       (λ lacks. inr lacks.0) (faultless.obeyed.command Verify faultless.is)
 
-  kept_or_memory : (keep : ℕ) (c : Contents) (how : Ending) (before after : ℕ) (opened new : H) (added : Result (Unit {0}) LogFault) → how ≡ ending_of_adding added → ¬ (Rose before after)
-      → CountsFault added before after → Gains moment observed said reads may_leave added c (contents_keeping keep c) opened new
-      → DoneOrNoMemory how (RestsOn (contents_keeping keep c) (reads new) (may_leave new))
-  kept_or_memory keep c how before after opened new (Ok u) ends faultless cause gains = inl (ends, gains.ok)
-  kept_or_memory keep c how before after opened new (Err fault.Disk) ends faultless cause gains = absurd (faultless cause)
-  kept_or_memory keep c how before after opened new (Err fault.NoMemory) ends faultless cause gains = inr ends
-  kept_or_memory keep c how before after opened new (Err (fault.NotALog at)) ends faultless cause gains = absurd cause
+  added_or_memory : (Was Now : Files → Type 0) (how : Ending) (before after : ℕ) (opened new : H) (added : Result (Unit {0}) LogFault) → how ≡ ending_of_adding added → ¬ (Rose before after)
+      → CountsFault added before after → GainsAs moment observed said reads may_leave added Was Now opened new → DoneOrNoMemory how (RestsAs Now (reads new) (may_leave new))
+  added_or_memory Was Now how before after opened new (Ok u) ends faultless cause gains = inl (ends, gains.ok)
+  added_or_memory Was Now how before after opened new (Err fault.Disk) ends faultless cause gains = absurd (faultless cause)
+  added_or_memory Was Now how before after opened new (Err fault.NoMemory) ends faultless cause gains = inr ends
+  added_or_memory Was Now how before after opened new (Err (fault.NotALog at)) ends faultless cause gains = absurd cause
 
   pub migrate_succeeds : RefusedIsNone → MigrateSucceeds moment observed said reads may_leave
   migrate_succeeds refused keep how before after old new c faultless store =
       ⊎_elim
       (λ does. ⊎_elim
       (λ closed. inr (opened_or_memory IsFirstRefusal how (reads old) store.files before.disk_faults after.disk_faults store.are (λ file at is. refused store.files file at is c store.good.holds) faultless.none_rose.disk closed.cause))
-      (λ sets. kept_or_memory keep c how before.disk_faults after.disk_faults sets.opened new sets.added sets.ends faultless.none_rose.disk sets.cause (sets.gains store.files c store.are store.good)) does.1)
+      (λ sets. added_or_memory (HasStore c) (HasStore (contents_keeping keep c)) how before.disk_faults after.disk_faults sets.opened new sets.added sets.ends faultless.none_rose.disk sets.cause (sets.gains store.files c store.are store.good)) does.1)
       (λ lacks. inr lacks.0) (faultless.obeyed.command (Migrate keep) faultless.is)
+
+  pub compact_succeeds : RefusedIsNone → CompactSucceeds moment observed said reads may_leave
+  compact_succeeds refused how before after old new c faultless store =
+      ⊎_elim
+      (λ does. ⊎_elim
+      (λ closed. inr (opened_or_memory IsFirstRefusal how (reads old) store.files before.disk_faults after.disk_faults store.are (λ file at is. refused store.files file at is c store.good.holds) faultless.none_rose.disk closed.cause))
+      (λ makes. added_or_memory (HasStore c) (HasCompacted c) how before.disk_faults after.disk_faults makes.opened new makes.added makes.ends faultless.none_rose.disk makes.cause (makes.gains store.files c store.are store.good)) does.1)
+      (λ lacks. inr lacks.0) (faultless.obeyed.command Compact faultless.is)

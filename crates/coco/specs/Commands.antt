@@ -8,13 +8,14 @@ use Rattle.coco_init.specs.Counts.{CountsDisk, CountsReads}
 use Rattle.coco_init.specs.Initiating.{Initiates}
 use Rattle.coco_lines.specs.Reads.{Gives}
 use Rattle.coco_make.specs.NewStore.{new_layout}
+use Rattle.coco_commands.specs.Compacting.{Compacts}
 use Rattle.coco_commands.specs.Migrating.{Migrates}
 use Rattle.coco_commands.specs.Running.{RunsOn}
 use Rattle.coco_commands.specs.Telling.{Dumps, Verifies}
 use Rattle.coco_commands.specs.Serving.{Counts, Outside, RunBounds}
 use Rattle.coco_words.specs.Commands.{IsCommand, IsOnlyCommand}
 use Rattle.coco_words.specs.declared.Command.{Command}
-use Rattle.coco_words.specs.declared.Command.TheVariants.{Init, Run, Dump, Verify, Migrate}
+use Rattle.coco_words.specs.declared.Command.TheVariants.{Init, Run, Dump, Verify, Migrate, Compact}
 use Rattle.coco_words.specs.declared.RunOptions.{RunOptions}
 
 -- the ending of a call that succeeded, or that came to this one
@@ -58,12 +59,14 @@ module _ {H : Type 0} (moment : H → ℕ) (observed : H → ℕ → Observation
   Does Dump how before after old new = KeepsInput before after × Dumps moment observed said reads may_leave how (counts_of before) (counts_of after) old new
   Does Verify how before after old new = KeepsInput before after × Verifies moment observed said reads may_leave how (counts_of before) (counts_of after) old new
   Does (Migrate keep) how before after old new = KeepsInput before after × Migrates moment observed said reads may_leave keep how (counts_of before) (counts_of after) old new
+  Does Compact how before after old new = KeepsInput before after × Compacts moment observed said reads may_leave how (counts_of before) (counts_of after) old new
 
   -- nothing is done, for want of memory
   abbrev pub LacksMemory : Ending → Outside → Outside → H → H → Type 0
   LacksMemory how before after old new = (how ≡ ending.NoMemory) × (after ≡ before) × (new ≡ old)
 
-  -- words that are a command are obeyed; other words are a bad command line, or memory ran out
+  -- words that are a command are obeyed; other words are a bad command line, or memory ran out, and nothing is done
   pub record Obeys (words : List (List ℕ)) (how : Ending) (before after : Outside) (old new : H) : Type 0 where
     pub command : (command : Command) → IsCommand words command → Does command how before after old new ⊎ LacksMemory how before after old new
     pub only : NeedsCommand how ((command : Command) × IsOnlyCommand words command)
+    pub none : ((command : Command) → ¬ (IsCommand words command)) → (after ≡ before) × (new ≡ old)

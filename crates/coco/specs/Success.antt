@@ -2,13 +2,14 @@
 use Rattle.std.specs.Prelude.{◌≡◌, ◌⊎◌, ℕ, ◌+◌, ◌<◌, ◌≤◌, List, [], length, Option, Some, Ok}
 use Rattle.std.specs.Io.KnownBytes.{append_known}
 use Rattle.coco_types.specs.Limits.{epochs_end, most_input_bytes}
-use Rattle.coco_append.specs.Gaining.{RestsOn}
+use Rattle.coco_append.specs.Gaining.{RestsAs, RestsOn}
 use Rattle.coco_ast.specs.History.{epoch_dones}
 use Rattle.coco_ast.specs.Tree.{Procedures}
 use Rattle.coco_audit.specs.Texts.{serial_text}
 use Rattle.coco_host.specs.Files.{Files}
 use Rattle.coco_host.specs.Moments.{Observation}
 use Rattle.coco_io.specs.Counts.{Rose}
+use Rattle.coco_ckpt.specs.Compacting.{HasCompacted}
 use Rattle.coco_ending.specs.declared.ending.Ending.{Ending}
 use Rattle.coco_ending.specs.declared.ending.Ending.TheVariants as ending
 use Rattle.coco_init.specs.Initiating.{Initiates}
@@ -25,7 +26,7 @@ use Rattle.coco_commands.specs.Telling.{dump_in}
 use Rattle.coco_commands.specs.Serving.{AreUsedUp, manner_of, Outside, Progress, RunBounds, Serves}
 use Rattle.coco_words.specs.Commands.{IsCommand}
 use Rattle.coco_words.specs.declared.Command.{Command}
-use Rattle.coco_words.specs.declared.Command.TheVariants.{Init, Run, Dump, Verify, Migrate}
+use Rattle.coco_words.specs.declared.Command.TheVariants.{Init, Run, Dump, Verify, Migrate, Compact}
 use Rattle.coco_words.specs.declared.RunOptions.{RunOptions}
 use Rattle.coco.specs.Commands.{Obeys, bounds_of}
 
@@ -118,3 +119,8 @@ module _ {H : Type 0} (moment : H → ℕ) (observed : H → ℕ → Observation
   abbrev pub MigrateSucceeds : Type 0
   MigrateSucceeds = (keep : ℕ) (how : Ending) (before after : Outside) (old new : H) (c : Contents) → IsFaultless (Migrate keep) how before after old new → ReadsAs c (reads old)
       → DoneOrNoMemory how (RestsOn (contents_keeping keep c) (reads new) (may_leave new))
+
+  -- `compact` of a good store
+  abbrev pub CompactSucceeds : Type 0
+  CompactSucceeds = (how : Ending) (before after : Outside) (old new : H) (c : Contents) → IsFaultless Compact how before after old new → ReadsAs c (reads old)
+      → DoneOrNoMemory how (RestsAs (HasCompacted c) (reads new) (may_leave new))

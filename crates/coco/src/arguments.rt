@@ -1,18 +1,22 @@
 //! What the program's arguments ask for, and how a call ends where they can't be had.
-ghost use Rattle.std.specs.Prelude.{◌≡◌, ◌≢◌, drop, map, string_bytes};
+ghost use Rattle.std.specs.Prelude.{◌≡◌, ◌≢◌, codes, drop, map, string_bytes, MatchResult};
 ghost use Rattle.std.specs.IoError.{error_kind};
 ghost use Rattle.coco.specs.Arguments.{folder_in};
 
 use coco_ending::Ending;
 use std::io::{Error, ErrorKind};
 
-/// The name of the store's folder, which stands behind the program's own name: `.` where none does.
-pub fn folder_of(arguments: &[String]) -> &str
-    ensures { result.now ≡ folder_in (map string_bytes arguments.now) }
+/// The name of the store's folder, which stands behind the program's own name: `.` where none does, or where there are
+/// no arguments.
+pub fn folder_of(given: &Result<Vec<String>, Ending>) -> &str
+    ensures { MatchResult given.now (λ arguments. result.now ≡ folder_in (map string_bytes arguments.items)) (λ _. result.now ≡ codes ".") }
 {
-    match arguments.get(1) {
-        Some(folder) => folder.as_str(),
-        None => ".",
+    match given {
+        Ok(arguments) => match arguments.get(1) {
+            Some(folder) => folder.as_str(),
+            None => ".",
+        },
+        Err(_) => ".",
     }
 }
 

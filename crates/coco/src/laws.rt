@@ -1,6 +1,6 @@
 //! Which calls succeed.
 
-ghost use Rattle.coco.specs.Success.{DumpSucceeds, FewLinesHaveNumbers, InitSucceeds, MigrateSucceeds, RunSucceeds, VerifySucceeds};
+ghost use Rattle.coco.specs.Success.{CompactSucceeds, DumpSucceeds, FewLinesHaveNumbers, InitSucceeds, MigrateSucceeds, RunSucceeds, VerifySucceeds};
 
 use coco_commands::a_refused_store_is_not_run;
 use coco_host::Host;
@@ -9,13 +9,14 @@ use coco_store::a_refused_store_is_none;
 
 /// Where no count of faults rose, a command ends with status 0, or with 6 for want of memory: `run` on a good store of
 /// one node, by fewer than 2^62 bytes and with a number for each epoch, and then all lines are answered; `init` by an
-/// accepted text, where file 0 is empty; `dump`, `verify` and `migrate` on a good store.
+/// accepted text, where file 0 is empty; `dump`, `verify`, `migrate` and `compact` on a good store.
 pub fn commands_succeed<H: Host>()
     ensures run { RunSucceeds H.moment H.observed H.said H.reads H.may_leave }
     ensures init { InitSucceeds H.moment H.observed H.said H.reads H.may_leave }
     ensures dump { DumpSucceeds H.moment H.observed H.said H.reads H.may_leave }
     ensures verify { VerifySucceeds H.moment H.observed H.said H.reads H.may_leave }
     ensures migrate { MigrateSucceeds H.moment H.observed H.said H.reads H.may_leave }
+    ensures compact { CompactSucceeds H.moment H.observed H.said H.reads H.may_leave }
     ensures numbers { FewLinesHaveNumbers }
 {
     a_refused_store_is_none();

@@ -1,25 +1,34 @@
 //! The top call: words in, a status out.
 
-ghost use Rattle.std.specs.Prelude.{◌≡◌, ℕ, map, take};
-ghost use Rattle.std.specs.Io.KnownBytes.{append_known};
+ghost use Rattle.std.specs.Prelude.{◌≡◌, map};
 ghost use Rattle.std.specs.String.{string_bytes};
-ghost use Rattle.coco_ending.specs.Endings.{line_of, status_of};
 ghost use Rattle.coco_ending.specs.declared.ending.Ending.{Ending as CallEnding};
 ghost use Rattle.coco_words.specs.Commands.{numbers_of, options_of};
 ghost use Rattle.coco_words.specs.Options.{AreInRange};
 ghost use Rattle.coco.specs.Commands.{Does, Inits, Obeys, bounds_of};
+ghost use Rattle.coco.specs.Reporting.{IsReported};
 
-use coco_commands::{RunBounds, dump, migrate, run, verify};
+use coco_commands::{RunBounds, compact, dump, migrate, run, verify};
 use coco_ending::Ending;
 use coco_gate::Gate;
 use coco_host::Host;
 use coco_init::init;
 use coco_io::{Sink, Source};
+use coco_types::OutFault;
 use coco_words::{Command, RunOptions, WordsFault, words as command_of};
 use std::alloc::Global;
 use std::sync::Wait;
 use std::thread::Threads;
 use std::time::Clock;
+
+/// What a call leaves behind its ending.
+#[derive(Clone, Copy, Debug, PartialEq, Eq)]
+pub struct Reported {
+    /// The program's status.
+    pub status: u8,
+    /// Whether the line of the ending was written: its front alone, where the error stream failed or memory ran out.
+    pub line: Result<(), OutFault>,
+}
 
 /// Does what the words ask of the store in the host's files, and answers the program's status. A status other than 0
 /// has its line on the error stream, whose faults change nothing. Where several workers run, they pass the gate as an
@@ -32,27 +41,28 @@ pub fn coco<R: Threads + Wait + Clock + Sync, H: Host, I: Source, E: Sink, G: Ga
     input: &mut I,
     errs: &mut E,
     gate: &G,
-) -> u8
+) -> Reported
     // The status and the line on the error stream are those of one ending, in which the words were obeyed.
-    ensures obeys { (ending : CallEnding) × (result ≡ status_of ending)
+    ensures obeys { (ending : CallEnding) × IsReported ending result (E.contents errs.old) (E.contents errs.new) (E.faults errs.old) (E.faults errs.new)
         × Obeys H.moment H.observed H.said H.reads H.may_leave (map string_bytes words.now) ending
         (record { source = record { given = I.given input.old; left = I.remaining input.old; at_end = I.at_end input.old }; source_faults = I.faults input.old; say_faults = H.say_faults host.old; disk_faults = H.disk_faults host.old })
         (record { source = record { given = I.given input.new; left = I.remaining input.new; at_end = I.at_end input.new }; source_faults = I.faults input.new; say_faults = H.say_faults host.new; disk_faults = H.disk_faults host.new })
-        host.old host.new
-        × ((count : ℕ) × (E.contents errs.new ≡ append_known (E.contents errs.old) (take count (line_of ending)))) }
-    ensures untouched { result ≡ 1 → (host.new ≡ host.old) × (input.new ≡ input.old) }
+        host.old host.new }
+    ensures untouched { result.status ≡ 1 → (host.new ≡ host.old) × (input.new ≡ input.old) }
 {
     let ending = obey(rt, alloc, words, host, input, gate);
     report(alloc, &ending, errs)
 }
 
 /// Writes the line of an ending, or the front of it where that fails, and answers its status.
-pub fn report<E: Sink>(alloc: Global, ending: &Ending, errs: &mut E) -> u8
-    ensures status { result ≡ status_of ending.now }
-    ensures line { (count : ℕ) × (E.contents errs.new ≡ append_known (E.contents errs.old) (take count (line_of ending.now))) }
+pub fn report<E: Sink>(alloc: Global, ending: &Ending, errs: &mut E) -> Reported
+    ensures { IsReported ending.now result (E.contents errs.old) (E.contents errs.new) (E.faults errs.old) (E.faults errs.new) }
 {
-    let _ = ending.complain(alloc, errs);
-    ending.status()
+    let line = ending.complain(alloc, errs);
+    Reported {
+        status: ending.status(),
+        line,
+    }
 }
 
 // The same but for the error stream.
@@ -105,6 +115,7 @@ fn execute<R: Threads + Wait + Clock + Sync, H: Host, I: Source, G: Gate + Sync>
         Command::Dump => dump(alloc, host),
         Command::Verify => verify(alloc, host),
         Command::Migrate { keep } => migrate(alloc, host, keep),
+        Command::Compact => compact(alloc, host),
     }
 }
 

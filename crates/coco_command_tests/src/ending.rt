@@ -27,12 +27,17 @@ pub const CHECK: CheckError = CheckError {
     kind: CheckKind::NoReply,
 };
 
-const ROWS: [(Ending, u8, &str); 15] = [
+const ROWS: [(Ending, u8, &str); 19] = [
     (Ending::Finished, 0, ""),
     (Ending::BadCommandLine, 1, "coco: bad command line\n"),
     (Ending::ReadFault, 2, "coco: read fault\n"),
     (Ending::SayFault, 3, "coco: reply stream fault\n"),
     (Ending::DiskFault, 4, "coco: disk fault\n"),
+    (
+        Ending::Unreachable,
+        5,
+        "coco: nodes unreachable after four epochs\n",
+    ),
     (Ending::NoMemory, 6, "coco: out of memory\n"),
     (
         Ending::NotAStore { file: 1, at: 8 },
@@ -76,6 +81,25 @@ const ROWS: [(Ending, u8, &str); 15] = [
         },
         11,
         "coco: not serial at 4294967296\n",
+    ),
+    (
+        Ending::NoHolder { partition: 7 },
+        12,
+        "coco: partition 7 has no other holder\n",
+    ),
+    (
+        Ending::NoNode { node: 1, nodes: 3 },
+        13,
+        "coco: no node 1 of 3\n",
+    ),
+    (
+        Ending::NotWithin {
+            epoch: 4,
+            first: 0,
+            last: 3,
+        },
+        14,
+        "coco: epoch 4 is not in 0 to 3\n",
     ),
 ];
 

@@ -5,6 +5,8 @@
 #[cfg(test)]
 mod calls;
 #[cfg(test)]
+mod compact;
+#[cfg(test)]
 mod ending;
 #[cfg(test)]
 mod init;

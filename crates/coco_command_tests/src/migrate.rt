@@ -53,8 +53,8 @@ const ONE_BATCH: &str = r#"{"error":"old","line":1}
 {"epoch":2,"id":2,"ok":70,"time":1}
 "#;
 
-// Runs lines on the store, so many in a batch.
-fn run_lines<R: Threads + Wait + Clock + Sync>(
+/// Runs lines on the store, so many in a batch.
+pub fn run_lines<R: Threads + Wait + Clock + Sync>(
     rt: &R,
     alloc: Global,
     host: &mut MemoryHost,
@@ -84,8 +84,8 @@ fn new_store(alloc: Global, layouts: &[u8]) -> Result<MemoryHost, Fail> {
     Ok(host)
 }
 
-// The store of two epochs, without a keep number.
-fn worked_store<R: Threads + Wait + Clock + Sync>(
+/// The store of two epochs, without a keep number.
+pub fn worked_store<R: Threads + Wait + Clock + Sync>(
     rt: &R,
     alloc: Global,
 ) -> Result<MemoryHost, Fail> {

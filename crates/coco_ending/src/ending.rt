@@ -26,6 +26,8 @@ pub enum Ending {
     SayFault,
     /// A file of the store failed.
     DiskFault,
+    /// Four epochs in a row were given up, since nodes weren't reached.
+    Unreachable,
     NoMemory,
     /// A file is refused, first at this byte.
     NotAStore { file: u32, at: u64 },
@@ -37,6 +39,12 @@ pub enum Ending {
     AlreadyThere { bytes: u64 },
     /// The reply at this place, counted from 1, isn't that of a serial run.
     NotSerial { place: u64 },
+    /// No other node holds this partition.
+    NoHolder { partition: u8 },
+    /// Of so many nodes, counted from 0, there is none with this number.
+    NoNode { node: u8, nodes: u8 },
+    /// The epoch is none of those from the first to the last.
+    NotWithin { epoch: u64, first: u64, last: u64 },
 }
 
 impl Ending {
@@ -50,12 +58,16 @@ impl Ending {
             Ending::ReadFault => 2,
             Ending::SayFault => 3,
             Ending::DiskFault => 4,
+            Ending::Unreachable => 5,
             Ending::NoMemory => 6,
             Ending::NotAStore { .. } => 7,
             Ending::EpochsUsedUp => 8,
             Ending::Refused(_) => 9,
             Ending::AlreadyThere { .. } => 10,
             Ending::NotSerial { .. } => 11,
+            Ending::NoHolder { .. } => 12,
+            Ending::NoNode { .. } => 13,
+            Ending::NotWithin { .. } => 14,
         }
     }
 
@@ -69,6 +81,9 @@ impl Ending {
             Ending::ReadFault => String::from_str(alloc, "coco: read fault\n"),
             Ending::SayFault => String::from_str(alloc, "coco: reply stream fault\n"),
             Ending::DiskFault => String::from_str(alloc, "coco: disk fault\n"),
+            Ending::Unreachable => {
+                String::from_str(alloc, "coco: nodes unreachable after four epochs\n")
+            }
             Ending::NoMemory => String::from_str(alloc, OUT_OF_MEMORY),
             Ending::NotAStore { file, at } => {
                 format!(in alloc; "coco: not a store: file {file} at byte {at}\n")
@@ -79,6 +94,15 @@ impl Ending {
                 format!(in alloc; "coco: already there: file 0 has {bytes} bytes\n")
             }
             Ending::NotSerial { place } => format!(in alloc; "coco: not serial at {place}\n"),
+            Ending::NoHolder { partition } => {
+                format!(in alloc; "coco: partition {partition} has no other holder\n")
+            }
+            Ending::NoNode { node, nodes } => format!(in alloc;
+                "coco: no node {node} of {nodes}\n"
+            ),
+            Ending::NotWithin { epoch, first, last } => {
+                format!(in alloc; "coco: epoch {epoch} is not in {first} to {last}\n")
+            }
         }
     }
 

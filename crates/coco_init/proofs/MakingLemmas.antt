@@ -93,8 +93,12 @@ module _ {H : Type 0} (moment : H → ℕ) (observed : H → ℕ → Observation
     initiates (Err ending.BadCommandLine) layout text after tree first old new spent accepted read does = absurd does
     initiates (Err ending.ReadFault) layout text after tree first old new spent accepted read does = absurd does
     initiates (Err ending.SayFault) layout text after tree first old new spent accepted read does = absurd does
+    initiates (Err ending.Unreachable) layout text after tree first old new spent accepted read does = absurd does
     initiates (Err (ending.NotAStore file at)) layout text after tree first old new spent accepted read does = absurd does
     initiates (Err ending.EpochsUsedUp) layout text after tree first old new spent accepted read does = absurd does
     initiates (Err (ending.Refused e)) layout text after tree first old new spent accepted read does = absurd does
     initiates (Err (ending.AlreadyThere bytes)) layout text after tree first old new spent accepted read does = absurd does
     initiates (Err (ending.NotSerial place)) layout text after tree first old new spent accepted read does = absurd does
+    initiates (Err (ending.NoHolder partition)) layout text after tree first old new spent accepted read does = absurd does
+    initiates (Err (ending.NoNode node nodes)) layout text after tree first old new spent accepted read does = absurd does
+    initiates (Err (ending.NotWithin epoch least greatest)) layout text after tree first old new spent accepted read does = absurd does

@@ -1,5 +1,5 @@
-//! Tests of values, rows, bytes, kept Dones, streams and hosts, and of words, trees, lines and reports. There is nothing
-//! else here.
+//! Tests of values, rows, bytes, kept Dones, workloads, streams and hosts, and of words, trees, lines and reports. There
+//! is nothing else here.
 #![tactic(auto)]
 
 #[cfg(test)]
@@ -24,3 +24,5 @@ mod trees;
 mod types;
 #[cfg(test)]
 mod words;
+#[cfg(test)]
+mod workload;

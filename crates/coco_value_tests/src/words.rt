@@ -97,6 +97,7 @@ fn each_command_has_the_numbers_that_are_given_or_its_own(rt: HostRuntime) {
         ("verify", Command::Verify),
         ("migrate --keep 1", Command::Migrate { keep: 1 }),
         ("migrate --keep=1000", Command::Migrate { keep: 1_000 }),
+        ("compact", Command::Compact),
     ];
     for (line, command) in cases {
         assert!(rt; asked(rt.alloc(), line) == Ok(command), "{line}");

@@ -1,4 +1,4 @@
-use Rattle.coco.proofs.SuccessLemmas.{dump_succeeds, few_lines_have_numbers, init_succeeds, migrate_succeeds, run_succeeds, verify_succeeds}
+use Rattle.coco.proofs.SuccessLemmas.{compact_succeeds, dump_succeeds, few_lines_have_numbers, init_succeeds, migrate_succeeds, run_succeeds, verify_succeeds}
 use Rattle.coco.proofs.laws.commands_succeed.Goals as goal
 
 pub returns-clause-run : goal.returns-clause-run
@@ -15,6 +15,9 @@ returns-clause-verify g c = verify_succeeds g.H.Host.moment g.H.Host.observed g.
 
 pub returns-clause-migrate : goal.returns-clause-migrate
 returns-clause-migrate g c = migrate_succeeds g.H.Host.moment g.H.Host.observed g.H.Host.said g.H.Host.reads g.H.Host.may_leave c.a_refused_store_is_none.ensures.none
+
+pub returns-clause-compact : goal.returns-clause-compact
+returns-clause-compact g c = compact_succeeds g.H.Host.moment g.H.Host.observed g.H.Host.said g.H.Host.reads g.H.Host.may_leave c.a_refused_store_is_none.ensures.none
 
 pub returns-clause-numbers : goal.returns-clause-numbers
 returns-clause-numbers g c = few_lines_have_numbers

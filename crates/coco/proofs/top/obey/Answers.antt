@@ -1,4 +1,4 @@
-use Rattle.std.proofs.Common.{Err, inl, map, ap, sym, subst}
+use Rattle.std.proofs.Common.{Err, inl, refl, map, ap, sym, subst}
 use Rattle.std.specs.String.{string_bytes}
 use Rattle.coco_words.specs.Commands.{IsOnlyCommand}
 use Rattle.coco_words.specs.declared.Command.{Command}
@@ -16,7 +16,8 @@ returns-in-Ok-clause-obeys g c =
           inl (subst (λ (k : Command). Does g.H.Host.moment g.H.Host.observed g.H.Host.said g.H.Host.reads g.H.Host.may_leave k c.execute.result before after c.args.host.now c.execute.new.host)
           (sym (c.in-Ok.ensures.ok.only command is)) c.execute.ensures);
       only = needs c.execute.result ((command : Command) × IsOnlyCommand (map string_bytes c.args.words.now) command) (c.in-Ok.command, c.in-Ok.ensures.ok);
+      none = λ none. absurd (none c.in-Ok.command c.in-Ok.ensures.ok.is);
     }
 
 pub returns-in-Err-Usage-clause-obeys : goal.returns-in-Err-Usage-clause-obeys
-returns-in-Err-Usage-clause-obeys g c = record { command = λ command is. absurd (c.in-Err-Usage.ensures.usage (ap Err c.in-Err-Usage.field-0-is) command is); only = tt }
+returns-in-Err-Usage-clause-obeys g c = record { command = λ command is. absurd (c.in-Err-Usage.ensures.usage (ap Err c.in-Err-Usage.field-0-is) command is); only = tt; none = λ none. (refl, refl) }
