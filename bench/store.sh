@@ -1,6 +1,6 @@
 #!/usr/bin/env bash
 # Stores on real files, on a RAM disk and on a disk: bank transfers in epochs of 1, 100 and 1,000 lines, and bookings with
-# texts; then a store that keeps all those requests opened, verified and dumped; and the same transfers in SQLite, with a
+# texts; then a store that keeps all those requests opened, verified, dumped and compacted; and the same transfers in SQLite, with a
 # transaction for each epoch. Each figure is of the best of so many runs, each on a new store. One worker runs them on one
 # partition; bench/workers.sh measures several of both.
 # Words: how many lines, how many runs. COCO is the program, RAM and DISK are the folders; where a batch is synced for
@@ -59,6 +59,17 @@ told() {
     row "$1" "$lines" "$clock" "$processor" "$memory"
 }
 
+# small: what it takes to make the store of the last run small, and to open it then.
+small() {
+    local clock processor memory
+    : >"$ram/input"
+    read -r clock processor memory < <(measured "$runs" bash -c 'rm -rf "$2" && cp -r "$1" "$2"' - "$ram/store" "$ram/small" \
+        -- "$program" "$ram/small" compact)
+    row '  compact' "$lines" "$clock" "$processor" "$memory"
+    read -r clock processor memory < <(measured "$runs" -- "$program" "$ram/small" run)
+    row '  opening the compacted store' "$lines" "$clock" "$processor" "$memory"
+}
+
 few=${EPOCHS:-500}
 printf '%-34s %9s %10s %10s %9s\n' '' requests 'a second' 'us each' MiB
 moves "$lines" >"$ram/lines"
@@ -71,6 +82,7 @@ ran '  all once more' "$ram" bench/bank.coco 1000 "$lines"
 told '  opening' run
 told '  verify' verify
 told '  dump' dump
+small
 for epoch in 1 100 1000; do
     ran "transfers, disk, epochs of $epoch" "$disk" bench/bank.coco "$epoch" $((lines < few * epoch ? lines : few * epoch))
 done

@@ -126,4 +126,13 @@ on "$work/store" compact
 ends 'the last compact' 0
 on "$work/store" dump
 cmp -s "$work/said" "$work/dump" || wrong 'the dump after the last compact'
+
+# What a compaction leaves on the disk is freed, and the store is the same.
+bash examples/compact.sh "$program" "$work/store" >"$work/said" || wrong "the example: $(head -c 200 "$work/said")"
+on "$work/store" dump
+cmp -s "$work/said" "$work/dump" || wrong 'the dump after the example'
+[ "$(ls "$work/store" | wc -l)" = 4 ] || wrong "files after the example: $(ls "$work/store" | tr '\n' ' ')"
+bash examples/compact.sh "$program" "$work/store" 3 >"$work/said" || wrong "the example: $(head -c 200 "$work/said")"
+on "$work/store" verify
+ends 'verify after the example' 0
 ended ", after $kills kills"

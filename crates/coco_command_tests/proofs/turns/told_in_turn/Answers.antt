@@ -14,4 +14,4 @@ unfolding IsDistinct
 none_may k = record { fit = tt; distinct = tt; unkept = tt; above = none_above k.kept.floor; few = omega arith }
 
 pub turn-requires-clause-may : goal.turn-requires-clause-may
-turn-requires-clause-may g c = subst (MayTurn c.in_ok-cluster.cluster) (sym c.new.ensures) (none_may c.in_ok-cluster.cluster)
+turn-requires-clause-may g c κs within = subst (MayTurn c.in_ok-cluster.cluster) (sym c.new.ensures.items) (none_may c.in_ok-cluster.cluster)
