@@ -1,8 +1,8 @@
 -- Machines that were put behind locks.
 use Rattle.std.proofs.Common.{◌≡◌, ℕ, suc, List, [], ◌∷◌, length, refl, ap}
 use Rattle.std.specs.Global.{Vec}
+use Rattle.coco_desks.specs.Locking.{AreStarted}
 use Rattle.coco_journaled.specs.Passes.{Passing}
-use Rattle.coco_parallel.specs.Locking.{AreStarted}
 use Rattle.coco_seen.specs.Notes.{Lock}
 
 -- there is a lock for each

@@ -21,6 +21,8 @@ mod seen;
 #[cfg(test)]
 mod shard;
 #[cfg(test)]
+mod standing;
+#[cfg(test)]
 mod tail;
 #[cfg(test)]
 mod worker;

@@ -2,20 +2,20 @@
 
 ghost use Rattle.std.specs.Prelude.{◌≡◌, ◌<◌, ◌≤◌, length, map, nat_eq, vec_len, IfOk};
 ghost use Rattle.std.specs.List.{IsDistinct};
+ghost use Rattle.coco_desks.specs.Desks.{HasRoom};
 ghost use Rattle.coco_epoch.specs.Running.{FitAll};
-ghost use Rattle.coco_parallel.specs.Desks.{HasRoom};
 
 use crate::made::{Line, PUT, Work, answers, are_pieces, tables, three_shards, work_of};
 use coco_ast::Checked;
 use coco_copy::CopyTable;
+use coco_desks::locks::{EndedLocks, close_all, start_all};
+use coco_desks::rows::turn;
 use coco_gate::{Gate, HoldGate, OpenGate};
 use coco_journaled::Journal;
 use coco_net::{Lose, Net, QuietNet, ScriptNet};
 use coco_occ::{Transcript, Tried};
 use coco_parallel::epoch::{EpochDone, run_epoch};
-use coco_parallel::locks::{EndedLocks, close_all, start_all};
 use coco_parallel::rooms::Rooms;
-use coco_parallel::rows::turn;
 use coco_parallel::trace::Trace;
 use coco_shard::Shard;
 use coco_types::limits::MOST_BATCH_LINES;

@@ -1,19 +1,19 @@
 //! Worker 0 alone, in one attempt for each request, over three partitions with two copies each.
 
 ghost use Rattle.std.specs.Prelude.{◌≡◌, ◌<◌, length, vec_len, IfOk};
+ghost use Rattle.coco_desks.specs.Gains.{AreOf};
 ghost use Rattle.coco_epoch.specs.Running.{FitAll};
-ghost use Rattle.coco_worker.specs.Gains.{AreOf};
 
 use crate::made::{Line, PUT, are_pieces, tables, three_shards, work_of};
 use coco_ast::Checked;
 use coco_claim::{ClaimSeat, Claims};
 use coco_copy::CopyTable;
-use coco_gate::OpenGate;
+use coco_desks::desks::open;
+use coco_gate::{OpenGate, Passes};
 use coco_journaled::{Journaled, Pass};
 use coco_net::{Lose, Net, QuietNet, ScriptNet};
 use coco_occ::{Ended, Outcome, ScriptRooms, Tailed, Transcript, Tried, Why};
 use coco_packs::Packs;
-use coco_parallel::desks::open;
 use coco_shard::{Ask, Op, Shard};
 use coco_types::{AttemptId, Key, NoMemory, Pieces, Request};
 use coco_worker::{EpochConfig, Slot, Tail, work};
@@ -127,6 +127,7 @@ fn slot(
         transcript: Transcript::new(alloc),
         pieces: Pieces::new(alloc),
         tail: Tail::new(alloc),
+        passed: Passes::new(),
     }
 }
 

@@ -58,6 +58,12 @@ impl HoldGate {
 impl Gate for HoldGate {
     ghost passed = { λ _ _ _. Unit {0} };
 
+    ghost named = { λ _. 1 };
+
+    fn name(&self) -> u64 {
+        1
+    }
+
     fn pass(&self, worker: u32, point: u8) {
         if worker > 1 || point != 1 {
             return;

@@ -3,6 +3,8 @@
 
 pub mod gate;
 pub mod hold;
+pub mod passes;
 
 pub use gate::{Gate, OpenGate};
 pub use hold::HoldGate;
+pub use passes::{Passage, Passes};

@@ -4,14 +4,14 @@ use Rattle.std.specs.Global.{Vec}
 use Rattle.std.specs.List.{AllByRecursion, cons_option, flat_map, slice_get}
 use Rattle.coco_copy.specs.declared.ops.CopyAnswer.{CopyAnswer}
 use Rattle.coco_copy.specs.declared.ops.CopyAsk.{CopyAsk}
+use Rattle.coco_desks.specs.Gains.{done_by}
+use Rattle.coco_desks.specs.Rows.{column}
 use Rattle.coco_journaled.specs.declared.entry.Entry.{Entry}
 use Rattle.coco_journaled.specs.declared.entry.Placed.{Placed}
 use Rattle.coco_journaled.specs.Passes.{Passing, entry_of}
 use Rattle.coco_worker.specs.Copying.{asked}
-use Rattle.coco_worker.specs.Gains.{done_by}
 use Rattle.coco_worker.specs.Working.{copied}
 use Rattle.coco_parallel.specs.Copies.{CopiesAreOfCommits}
-use Rattle.coco_parallel.specs.Rows.{column}
 
 asked_calls : (number : ℕ) (calls : List (Placed CopyAsk CopyAnswer)) → map (λ (e : Entry CopyAsk CopyAnswer). e.ask) (map (entry_of number) calls) ≡ map asked calls
 asked_calls number [] = refl

@@ -15,27 +15,28 @@ use Rattle.coco_copy.specs.CopyState.{CopyState, begun}
 use Rattle.coco_copy.specs.Puts as puts
 use Rattle.coco_copy.specs.declared.ops.CopyAnswer.{CopyAnswer}
 use Rattle.coco_copy.specs.declared.ops.CopyAsk.{CopyAsk}
+use Rattle.coco_desks.specs.Desks.{AreBackBy, AreDealt}
+use Rattle.coco_desks.specs.Gains.{AreSame}
+use Rattle.coco_desks.specs.Rows.{column}
+use Rattle.coco_desks.proofs.DeskLemmas.{ClosedBy, back_count, bears, closed_by, dealt_pass, journals_count, machines_count, same_pass}
+use Rattle.coco_desks.proofs.RowLemmas.{some_at}
 use Rattle.coco_journaled.specs.declared.entry.Entry.{Entry}
 use Rattle.coco_journaled.specs.Passes.{HasPasses, entries_of, entry_of, new_pass}
 use Rattle.coco_order.specs.Execution.{Journal, Transcript}
 use Rattle.coco_seen.specs.Notes.{Lock}
 use Rattle.coco_shard.specs.RowState.{ShardState}
 use Rattle.coco_shard.specs.Table.{after_ask, answer_in}
-use Rattle.coco_worker.specs.Gains.{AreSame, ShardPass}
+use Rattle.coco_worker.specs.Gains.{ShardPass}
 use Rattle.coco_worker.specs.Working.{Job, scripts_of}
 use Rattle.coco_worker.specs.declared.slot.EpochConfig.{EpochConfig}
 use Rattle.coco_worker.specs.declared.slot.Slot.{Slot}
 use Rattle.coco_parallel.specs.Copies.{CopyPass, HasEntries}
-use Rattle.coco_parallel.specs.Desks.{AreBackBy, AreDealt}
-use Rattle.coco_parallel.specs.Rows.{column}
 use Rattle.coco_parallel.specs.Running.{IsDealt, IsRun, slots_of}
 use Rattle.coco_parallel.specs.Worked.{CopyJournal, HaveCommits, HaveWorked, PutsItsCommits, IsCopied, copy_passes_at, start_of, table_at}
 use Rattle.coco_parallel.specs.Working.{LeavesEach}
 use Rattle.coco_parallel.specs.declared.workers.Station.{Station}
 use Rattle.coco_parallel.proofs.CrewLemmas.{all_dealt, column_slots, column_tables, crew, crew_at, crew_count, map_slots, seats_of, shard_rows, table_rows, tables_count, tables_same}
 use Rattle.coco_parallel.proofs.CopyLemmas.{copies_are_of_commits, in_column, within_list}
-use Rattle.coco_parallel.proofs.DeskLemmas.{ClosedBy, back_count, bears, closed_by, dealt_pass, journals_count, machines_count, same_pass}
-use Rattle.coco_parallel.proofs.RowLemmas.{some_at}
 use Rattle.coco_parallel.proofs.RunLemmas.{runs_end}
 
 -- ---- done

@@ -8,22 +8,23 @@ use Rattle.coco_types.specs.declared.call.Request.{Request}
 use Rattle.coco_ast.specs.Tree.{Procedures}
 use Rattle.coco_claim.specs.Seats.{Drawer, Round, has_ended, new_seats}
 use Rattle.coco_copy.specs.CopyState.{CopyState}
+use Rattle.coco_desks.specs.Desks.{AreDealt}
+use Rattle.coco_desks.specs.Gains.{AreSame}
+use Rattle.coco_desks.specs.Rows.{column}
+use Rattle.coco_desks.proofs.DeskLemmas.{row_dealt}
+use Rattle.coco_desks.proofs.RowLemmas.{any_default, some_at}
 use Rattle.coco_seen.specs.Notes.{Lock}
 use Rattle.coco_shard.specs.RowState.{ShardState}
-use Rattle.coco_worker.specs.Gains.{AreSame, ShardPass}
+use Rattle.coco_worker.specs.Gains.{ShardPass}
 use Rattle.coco_worker.specs.declared.slot.EpochConfig.{EpochConfig}
 use Rattle.coco_worker.specs.declared.slot.Slot.{Slot}
 use Rattle.coco_parallel.specs.Copies.{CopyPass}
-use Rattle.coco_parallel.specs.Desks.{AreDealt}
 use Rattle.coco_parallel.specs.Ending.{passes_at}
-use Rattle.coco_parallel.specs.Rows.{column}
 use Rattle.coco_parallel.specs.Running.{IsDealt, slots_of}
 use Rattle.coco_parallel.specs.Stations.{station_of, stations_of}
 use Rattle.coco_parallel.specs.Worked.{copy_passes_at}
 use Rattle.coco_parallel.specs.Working.{IsManned, LeavesEach}
 use Rattle.coco_parallel.specs.declared.workers.Station.{Station}
-use Rattle.coco_parallel.proofs.DeskLemmas.{row_dealt}
-use Rattle.coco_parallel.proofs.RowLemmas.{any_default, some_at}
 use Rattle.coco_parallel.proofs.StationLemmas.{fresh_seats, seats_count, station_at, stations_count}
 
 abbrev pub shard_rows : List Station → List (Vec ShardPass)

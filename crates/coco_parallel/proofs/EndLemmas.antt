@@ -1,5 +1,5 @@
 -- What the workers tried and what the locks closed with is an execution.
-use Rattle.std.proofs.Common.{◌≡◌, ℕ, zero, suc, ◌+◌, ◌<◌, ◌%◌, nat_eq, List, [], ◌∷◌, ◌++◌, map, length, slice_index_or, refl, sym, ap, ◌∙◌, subst, arith}
+use Rattle.std.proofs.Common.{◌≡◌, ℕ, ◌+◌, ◌<◌, ◌%◌, nat_eq, List, [], ◌∷◌, ◌++◌, map, length, slice_index_or, refl, sym, ap, ◌∙◌, subst, arith}
 use Rattle.std.specs.List.{AllByRecursion, filter}
 use Rattle.std.proofs.lemmas.List.{length-append, length-map}
 use Rattle.std.proofs.lemmas.List.Elements.{filter-append, recursion_from_All}
@@ -9,10 +9,10 @@ use Rattle.coco_ast.proofs.Lists.{all_map, all_weaker}
 use Rattle.coco_ast.specs.Keyed.{value_at}
 use Rattle.coco_claim.specs.Numbers.{times}
 use Rattle.coco_claim.specs.Seats.{Drawer, times_drawn}
+use Rattle.coco_desks.proofs.StartingLemmas.{numbers_count}
 use Rattle.coco_epoch.specs.Shards.{shard_at}
 use Rattle.coco_order.specs.Execution.{AreOf, AreTries, AreWorkedOff, Execution, IsTried, Journal, Transcript, Tries, all_at_shard, concat, concat_tries, how_many_at, journal_of, of_pass, steps_of, transcript_of}
 use Rattle.coco_order.specs.Laws.{ClosedIsLawful}
-use Rattle.coco_seen.specs.Rules.{numbers}
 use Rattle.coco_shard.specs.Law.{Entry, IsLawful, law_row}
 use Rattle.coco_shard.specs.RowState.{ShardState, row_at, stable_at}
 use Rattle.coco_shard.specs.Table.{key_of}
@@ -29,10 +29,6 @@ worker_of slot = slot.worker
 
 abbrev transcript_in : Slot → Transcript
 transcript_in slot = slot.transcript
-
-pub numbers_count : (first count : ℕ) → length (numbers first count) ≡ count
-numbers_count first zero = refl
-numbers_count first (suc count) = ap suc (numbers_count (suc first) count)
 
 remainder : (n p : ℕ) → 0 < p → n % p < p
 remainder n p some = omega arith

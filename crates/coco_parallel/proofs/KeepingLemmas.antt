@@ -14,6 +14,10 @@ use Rattle.coco_copy.specs.declared.ops.CopyAnswer.{CopyAnswer}
 use Rattle.coco_copy.specs.declared.ops.CopyAnswer.TheVariants.{Applied, Older, OtherEpoch}
 use Rattle.coco_copy.specs.declared.ops.CopyAsk.{CopyAsk}
 use Rattle.coco_copy.specs.declared.ops.CopyAsk.TheVariants.{Put}
+use Rattle.coco_desks.specs.Desks.{AreBackBy, AreDealt}
+use Rattle.coco_desks.specs.Gains.{AreSame}
+use Rattle.coco_desks.proofs.DeskLemmas.{bears, closed_by, machines_count, written_back}
+use Rattle.coco_desks.proofs.RowLemmas.{any_default}
 use Rattle.coco_epoch.specs.Shards.{AreSettled, SettleOn, shard_at}
 use Rattle.coco_journaled.specs.Replay.{Replays, after}
 use Rattle.coco_order.specs.Execution.{Journal}
@@ -21,12 +25,9 @@ use Rattle.coco_order.specs.Laws.{ClosedIsLawful}
 use Rattle.coco_seen.specs.Notes.{Lock}
 use Rattle.coco_shard.specs.RowState.{IsSettled, RowState, ShardState, resting, stable_at}
 use Rattle.coco_shard.specs.Table.{after_ask, answer_in}
-use Rattle.coco_worker.specs.Gains.{AreSame, ShardPass}
+use Rattle.coco_worker.specs.Gains.{ShardPass}
 use Rattle.coco_parallel.specs.Copies.{CopyPass}
-use Rattle.coco_parallel.specs.Desks.{AreBackBy, AreDealt}
 use Rattle.coco_parallel.specs.Worked.{CopyJournal, KeepValues, begun_all, emptied, table_at}
-use Rattle.coco_parallel.proofs.DeskLemmas.{bears, closed_by, machines_count, written_back}
-use Rattle.coco_parallel.proofs.RowLemmas.{any_default}
 use Rattle.coco_parallel.proofs.OutcomeLemmas.{past_end, within_or_past}
 
 -- ---- shards

@@ -1,13 +1,9 @@
 mod SlotLemmas
-mod RowLemmas
-mod ClosingLemmas
-mod StartingLemmas
 mod RunLemmas
 mod CopyLemmas
 mod LockLemmas
 mod EndLemmas
 mod OutcomeLemmas
-mod DeskLemmas
 mod StationLemmas
 mod CrewLemmas
 mod CrewEndLemmas

@@ -9,23 +9,24 @@ use Rattle.coco_ast.specs.Tree.{Procedures}
 use Rattle.coco_claim.specs.Seats.{Drawer, Round, has_ended, new_seats, times_drawn}
 use Rattle.coco_copy.specs.CopyState.{CopyState}
 use Rattle.coco_copy.specs.Puts as puts
+use Rattle.coco_desks.specs.Desks.{AreBackBy, AreDealt}
+use Rattle.coco_desks.specs.Gains.{AreOf}
+use Rattle.coco_desks.proofs.DeskLemmas.{as_many_started, notes_back, rows_back}
 use Rattle.coco_epoch.specs.Shards.{AreSettled}
 use Rattle.coco_order.specs.Execution.{Journal, Transcript}
 use Rattle.coco_order.specs.Laws.{ClosedIsLawful}
 use Rattle.coco_seen.specs.Notes.{Lock}
 use Rattle.coco_shard.specs.RowState.{ShardState}
 use Rattle.coco_shard.specs.Table.{after_ask, answer_in}
-use Rattle.coco_worker.specs.Gains.{AreOf, ShardPass}
+use Rattle.coco_worker.specs.Gains.{ShardPass}
 use Rattle.coco_worker.specs.declared.slot.EpochConfig.{EpochConfig}
 use Rattle.coco_parallel.specs.Copies.{CopyPass}
-use Rattle.coco_parallel.specs.Desks.{AreBackBy, AreDealt}
 use Rattle.coco_parallel.specs.Stations.{stations_of}
 use Rattle.coco_parallel.specs.Worked.{CopyJournal, HaveWorked, KeepValues, emptied, start_of}
 use Rattle.coco_parallel.specs.Working.{IsManned, LeavesEach}
 use Rattle.coco_parallel.specs.declared.workers.Station.{Station}
 use Rattle.coco_parallel.proofs.CrewEndLemmas.{have_worked}
 use Rattle.coco_parallel.proofs.CrewLemmas.{all_manned, crew, crew_count, rows_count, rows_same, seats_ended, seats_of, seats_same, shard_rows, table_rows, tables_count, tables_same}
-use Rattle.coco_parallel.proofs.DeskLemmas.{as_many_started, notes_back, rows_back}
 use Rattle.coco_parallel.proofs.KeepingLemmas.{keep_maps, keep_values}
 
 module _ (workers : ℕ) (machines : List ShardState) (tables : List CopyState) (locks copy_locks : List Lock) (rows : List (Vec ShardPass)) (copy_rows : List (Vec CopyPass)) (claims : Round) (dealt : AreDealt workers machines locks rows)

@@ -7,6 +7,8 @@ use Rattle.std.proofs.lemmas.List.{append-nil, length-map}
 use Rattle.std.proofs.lemmas.List.Elements.{All-head, recursion_from_All}
 use Rattle.std.proofs.lemmas.Option.{same_Some, slice_get-map}
 use Rattle.coco_ast.proofs.Lists.{all_map}
+use Rattle.coco_desks.specs.Locking.{AreEnded, AreStarted, IsEnded, IsStarted}
+use Rattle.coco_desks.specs.Rows.{column}
 use Rattle.coco_epoch.specs.Shards.{shard_at}
 use Rattle.coco_journaled.specs.Passes.{HasPasses, new_pass}
 use Rattle.coco_journaled.specs.Replay.{Replays}
@@ -18,8 +20,6 @@ use Rattle.coco_shard.specs.Table.{after_ask, answer_in}
 use Rattle.coco_worker.specs.Gains.{ShardPass}
 use Rattle.coco_worker.specs.declared.slot.Slot.{Slot}
 use Rattle.coco_parallel.specs.Ending.{HasEnded, HasWorked, IsClosed, IsNew, Start, passes_at}
-use Rattle.coco_parallel.specs.Locking.{AreEnded, AreStarted, IsEnded, IsStarted}
-use Rattle.coco_parallel.specs.Rows.{column}
 use Rattle.coco_parallel.specs.Running.{IsDealt, IsRun, RunsEnd, slots_of}
 use Rattle.coco_parallel.specs.declared.workers.Station.{Station}
 use Rattle.coco_parallel.proofs.LockLemmas.{as_many_passes}

@@ -1,20 +1,22 @@
 -- What a worker's slot says of its transcript, of its passes, and of the requests that it worked off.
-use Rattle.std.proofs.Common.{◌≡◌, ℕ, suc, ◌<◌, ◌≤◌, Bool, true, false, cond, nat_eq, nat_lt, ◌==◌, List, [], ◌∷◌, ◌++◌, map, length, Option, None, Some, refl, sym, ap, ◌∙◌, subst, arith}
+use Rattle.std.proofs.Common.{◌≡◌, ℕ, suc, ◌<◌, ◌≤◌, Bool, true, false, cond, nat_eq, nat_lt, ◌==◌, List, [], ◌∷◌, ◌++◌, map, length, Some, refl, sym, ap, ◌∙◌, subst, arith}
 use Rattle.std.specs.Prelude.{sum_by}
 use Rattle.std.specs.List.{AllByRecursion, slice_get}
 use Rattle.std.specs.Option.{option_map}
 use Rattle.std.proofs.lemmas.Bool.{eqb-true, lt-ltb}
 use Rattle.std.proofs.lemmas.List.Sums.{length-filter, sum_by-cons}
-use Rattle.std.proofs.lemmas.Option.{slice_get-map, same_Some}
+use Rattle.std.proofs.lemmas.Option.{slice_get-map}
 use Rattle.coco_ast.proofs.Lists.{all_weaker}
 use Rattle.coco_claim.specs.Numbers.{times}
 use Rattle.coco_claim.specs.Seats.{Drawer}
+use Rattle.coco_desks.specs.Gains.{done_by, undone}
+use Rattle.coco_desks.proofs.DeskLemmas.{some_mapped}
 use Rattle.coco_epoch.specs.Shards.{shard_at}
 use Rattle.coco_journaled.specs.Passes.{new_pass}
 use Rattle.coco_occ.specs.declared.outcome.Tried.{Tried}
 use Rattle.coco_order.specs.Execution.{AreOf, IsTried, RiseByNumber, Tries, all_at_shard, how_many_at}
 use Rattle.coco_shard.specs.Law.{Entry}
-use Rattle.coco_worker.specs.Gains.{ShardPass, done_by, entered, undone}
+use Rattle.coco_worker.specs.Gains.{ShardPass, entered}
 use Rattle.coco_worker.specs.Trying.{AreNumbered}
 use Rattle.coco_worker.specs.Working.{IsTriedBy, Worked, places_among, places_of, scripts_of}
 use Rattle.coco_worker.specs.declared.slot.Slot.{Slot}
@@ -69,10 +71,6 @@ among_counted n place lt (x ∷ xs) =
         (λ t _. (let h : true ≡ false = sym (lt-ltb x n (subst (λ k. k < n) (sym (eqb-true x place t)) lt)) ∙ f in h)) (λ _ _. refl) refl
 
 -- ---- a pass
-
-pub some_mapped : {X Y : Type 0} (f : X → Y) (o : Option X) (y : Y) → option_map f o ≡ Some y → (x : X) × (o ≡ Some x) × (f x ≡ y)
-some_mapped f None y is = absurd cc
-some_mapped f (Some x) y is = (x, refl, same_Some (f x) y is)
 
 -- the worker's pass of a shard's lock, which made the steps of its scripts there
 pub record HasPass (s : Start) (shard : ℕ) (slot : Slot) : Type 0 where

@@ -10,6 +10,7 @@ use Rattle.coco_types.specs.declared.call.Request.{Request}
 use Rattle.coco_ast.specs.Keyed.{Rows}
 use Rattle.coco_ast.specs.Tree.{Procedures}
 use Rattle.coco_copy.specs.CopyState.{CopyState}
+use Rattle.coco_desks.proofs.StartingLemmas.{numbers_count}
 use Rattle.coco_epoch.specs.Running.{FitAll}
 use Rattle.coco_epoch.specs.Shards.{AreOfPartitions, AreSettled, HoldMap, KeepStable, SettleOn}
 use Rattle.coco_order.specs.Execution.{Journal, Transcript}
@@ -21,7 +22,6 @@ use Rattle.coco_parallel.specs.Ends.{EndsAreSerial, IsEnd, IsSmall, MayBeginTail
 use Rattle.coco_parallel.specs.Epochs.{IsWorkedEpoch, started_with, execution_with}
 use Rattle.coco_parallel.specs.Laws.{AtEachEnd, IsStart}
 use Rattle.coco_parallel.specs.Worked.{CopyJournal, HaveWorked, begun_all, emptied, start_of}
-use Rattle.coco_parallel.proofs.EndLemmas.{numbers_count}
 use Rattle.coco_parallel.proofs.KeepingLemmas.{emptied_begun, emptied_copied, settled_same}
 use Rattle.coco_parallel.proofs.OpeningLemmas.{hold_some_map}
 

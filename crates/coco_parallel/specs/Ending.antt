@@ -5,6 +5,7 @@ use Rattle.coco_types.specs.declared.call.Request.{Request}
 use Rattle.coco_ast.specs.Keyed.{Rows}
 use Rattle.coco_ast.specs.Tree.{Procedures}
 use Rattle.coco_claim.specs.Seats.{times_drawn}
+use Rattle.coco_desks.specs.Gains.{AreSame}
 use Rattle.coco_epoch.specs.Shards.{shard_at}
 use Rattle.coco_journaled.specs.Passes.{HasPasses, new_pass}
 use Rattle.coco_journaled.specs.Replay.{Replays}
@@ -13,7 +14,7 @@ use Rattle.coco_seen.specs.Notes.{TableId}
 use Rattle.coco_seen.specs.Rules.{numbers}
 use Rattle.coco_shard.specs.RowState.{ShardState}
 use Rattle.coco_shard.specs.Table.{after_ask, answer_in}
-use Rattle.coco_worker.specs.Gains.{AreSame, ShardPass}
+use Rattle.coco_worker.specs.Gains.{ShardPass}
 use Rattle.coco_worker.specs.Working.{Job, Worked, Works, WorksDrawn}
 use Rattle.coco_worker.specs.declared.slot.EpochConfig.{EpochConfig}
 use Rattle.coco_worker.specs.declared.slot.Slot.{Slot}

@@ -1,11 +1,8 @@
 pub mod Ending
 pub mod Laws
 pub mod Copies
-pub mod Rows
-pub mod Locking
 pub mod Working
 pub mod Running
-pub mod Desks
 pub mod Stations
 pub mod Worked
 pub mod Epochs

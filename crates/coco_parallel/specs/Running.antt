@@ -2,6 +2,8 @@
 use Rattle.std.specs.Prelude.{◌≡◌, ℕ, ◌<◌, List, [], map, length, slice_index_or, true}
 use Rattle.std.specs.Global.{Vec}
 use Rattle.coco_claim.specs.Seats.{times_drawn}
+use Rattle.coco_desks.specs.Locking.{AreEnded, AreStarted}
+use Rattle.coco_desks.specs.Rows.{column}
 use Rattle.coco_order.specs.Execution.{Journal}
 use Rattle.coco_seen.specs.Notes.{Lock}
 use Rattle.coco_shard.specs.RowState.{ShardState}
@@ -9,8 +11,6 @@ use Rattle.coco_shard.specs.Table.{after_ask, answer_in}
 use Rattle.coco_worker.specs.Gains.{ShardPass}
 use Rattle.coco_worker.specs.declared.slot.Slot.{Slot}
 use Rattle.coco_parallel.specs.Ending.{HasEnded, Start, passes_at}
-use Rattle.coco_parallel.specs.Locking.{AreEnded, AreStarted}
-use Rattle.coco_parallel.specs.Rows.{column}
 use Rattle.coco_parallel.specs.Working.{LeavesEach}
 use Rattle.coco_parallel.specs.declared.workers.Station.{Station}
 

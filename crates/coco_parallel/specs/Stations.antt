@@ -2,15 +2,15 @@
 use Rattle.std.specs.Prelude.{◌≡◌, ℕ, suc, ◌<◌, ◌^◌, false, List, [], ◌∷◌}
 use Rattle.std.specs.Global.{Vec}
 use Rattle.coco_claim.specs.Seats.{Drawer, Round, new_seats}
+use Rattle.coco_desks.specs.Desks.{HasRoom}
 use Rattle.coco_worker.specs.Gains.{ShardPass}
 use Rattle.coco_parallel.specs.Copies.{CopyPass}
-use Rattle.coco_parallel.specs.Desks.{HasRoom}
 use Rattle.coco_parallel.specs.declared.stations.Left.{Left}
 use Rattle.coco_parallel.specs.declared.workers.Station.{Station}
 
 -- a worker's station at which nothing is done yet
 abbrev pub station_of : ℕ → Vec ShardPass → Vec CopyPass → Drawer → Station
-station_of worker passes copy_passes seat = record { slot = record { worker = worker; passes = passes; copy_passes = copy_passes; seat = seat; rooms = tt; transcript = []; pieces = []; tail = [] }; is_done = false }
+station_of worker passes copy_passes seat = record { slot = record { worker = worker; passes = passes; copy_passes = copy_passes; seat = seat; rooms = tt; transcript = []; pieces = []; tail = []; passed = [] }; is_done = false }
 
 -- one for each worker, from this one on
 abbrev pub stations_of : ℕ → List (Vec ShardPass) → List (Vec CopyPass) → List Drawer → List Station

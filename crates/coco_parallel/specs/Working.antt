@@ -3,8 +3,8 @@ use Rattle.std.specs.Prelude.{◌≡◌, ℕ, ◌<◌, Bool, true, List, length,
 use Rattle.coco_types.specs.declared.call.Request.{Request}
 use Rattle.coco_ast.specs.Tree.{Procedures}
 use Rattle.coco_claim.specs.Seats.{Round}
+use Rattle.coco_desks.specs.Gains.{AreOf, AreSame}
 use Rattle.coco_seen.specs.Notes.{Lock}
-use Rattle.coco_worker.specs.Gains.{AreOf, AreSame}
 use Rattle.coco_worker.specs.Working.{Job, Worked, Works, WorksDrawn}
 use Rattle.coco_worker.specs.declared.slot.EpochConfig.{EpochConfig}
 use Rattle.coco_parallel.specs.declared.workers.Station.{Station}

@@ -1,14 +1,11 @@
 //! An epoch whose workers run side by side, and what it comes to.
 #![tactic(auto)]
 
-pub mod desks;
 mod ends;
 pub mod epoch;
 pub mod laws;
-pub mod locks;
 mod pieces;
 pub mod rooms;
-pub mod rows;
 pub mod side_by_side;
 pub mod stations;
 mod tail;

@@ -1,7 +1,7 @@
 //! The workers' stations: manned from rows of passes and seats, and dismissed.
 
 ghost use Rattle.std.specs.Prelude.{◌≡◌, ◌≤◌, ◌<◌, ◌^◌, [], All, map, true, vec_len, vec_capacity};
-ghost use Rattle.coco_parallel.specs.Desks.{HasRoom};
+ghost use Rattle.coco_desks.specs.Desks.{HasRoom};
 ghost use Rattle.coco_parallel.specs.Stations.{station_of, stations_of};
 ghost use Rattle.coco_parallel.specs.declared.workers.Station.{Station as Manned};
 
@@ -9,6 +9,7 @@ use crate::rooms::Rooms;
 use crate::workers::Station;
 use coco_claim::ClaimSeat;
 use coco_copy::CopyTable;
+use coco_gate::Passes;
 use coco_journaled::Pass;
 use coco_occ::{ScriptRooms, Transcript};
 use coco_shard::Shard;
@@ -98,6 +99,7 @@ fn station(
         transcript,
         pieces: Pieces::new(alloc),
         tail: Tail::new(alloc),
+        passed: Passes::new(),
     };
     Station {
         slot,
@@ -143,6 +145,7 @@ pub fn dismiss(
             transcript,
             pieces,
             tail: _,
+            passed: _,
         } = slot;
         rows.push_reserved(passes);
         copy_rows.push_reserved(copy_passes);

@@ -3,7 +3,7 @@
 ghost use Rattle.std.specs.Prelude.{◌≡◌, ◌*◌, ◌<◌, ◌≤◌, All, length};
 ghost use Rattle.std.specs.List.{AllByRecursion};
 ghost use Rattle.coco_ast.specs.Fitting.{Fits};
-ghost use Rattle.coco_worker.specs.Gains.{AreOf};
+ghost use Rattle.coco_desks.specs.Gains.{AreOf};
 ghost use Rattle.coco_worker.specs.Working.{Job};
 ghost use Rattle.coco_parallel.specs.Working.{IsManned, Leaves, LeavesEach};
 

@@ -10,12 +10,12 @@ use Rattle.coco_copy.specs.CopyState.{CopyState}
 use Rattle.coco_copy.specs.Puts.{after_ask, answer_in}
 use Rattle.coco_copy.specs.declared.ops.CopyAsk.{CopyAsk}
 use Rattle.coco_copy.specs.declared.ops.CopyAnswer.{CopyAnswer}
+use Rattle.coco_desks.specs.Gains.{AreSame, Gain}
+use Rattle.coco_desks.proofs.GainLemmas.{gain_as, gain_set, gain_then, stepped_calls}
 use Rattle.coco_journaled.specs.Passes.{Passing, Steps}
 use Rattle.coco_worker.specs.Copying.{asked, node_of, partition_of, put, puts_at}
-use Rattle.coco_worker.specs.Gains.{AreSame, Gain}
 use Rattle.coco_pieces.specs.Pieces.{writes_on}
 use Rattle.coco_worker.specs.declared.copies.WorkerCommit.{WorkerCommit}
-use Rattle.coco_worker.proofs.GainLemmas.{gain_as, gain_set, gain_then, stepped_calls}
 
 abbrev pub Carries : Type 0
 Carries = ℕ → ℕ → ℕ → ℕ → Bool

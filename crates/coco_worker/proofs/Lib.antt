@@ -1,4 +1,3 @@
-pub mod GainLemmas
 pub mod ScriptLemmas
 pub mod TryLemmas
 pub mod CopyLemmas

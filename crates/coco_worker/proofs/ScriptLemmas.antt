@@ -5,6 +5,8 @@ use Rattle.std.proofs.lemmas.List.{map-append}
 use Rattle.std.proofs.lemmas.List.Elements.{filter-append}
 use Rattle.std.proofs.lemmas.Bool.{eq-eqb, ne_eqb}
 use Rattle.coco_types.specs.declared.call.Write.{Write}
+use Rattle.coco_desks.specs.Gains.{AreSame}
+use Rattle.coco_desks.proofs.GainLemmas.{gain_as, gain_set, gain_then, stepped_calls}
 use Rattle.coco_journaled.specs.Passes.{Steps}
 use Rattle.coco_shard.specs.declared.ops.Ask.{Ask}
 use Rattle.coco_shard.specs.declared.ops.Answer.{Answer}
@@ -19,8 +21,7 @@ use Rattle.coco_occ.specs.declared.outcome.Outcome.{Outcome}
 use Rattle.coco_occ.specs.declared.script.Step.{Step}
 use Rattle.coco_occ.specs.declared.outcome.Tried.{Tried}
 use Rattle.coco_order.specs.Execution.{all_at_shard}
-use Rattle.coco_worker.specs.Gains.{AreSame, Make, ShardPass, entered}
-use Rattle.coco_worker.proofs.GainLemmas.{gain_as, gain_set, gain_then, stepped_calls}
+use Rattle.coco_worker.specs.Gains.{Make, ShardPass, entered}
 
 pub at_shard_append : (shard : ℕ) (xs ys : List Step) → at_shard shard (xs ++ ys) ≡ at_shard shard xs ++ at_shard shard ys
 at_shard_append shard xs ys =

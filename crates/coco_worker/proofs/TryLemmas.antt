@@ -1,13 +1,17 @@
 -- Scripts that a slot gains: from one stretch to the next, and the attempts at one request.
 use Rattle.std.proofs.Common.{◌≡◌, ℕ, suc, ◌+◌, ◌<◌, true, List, [], ◌∷◌, ◌++◌, length, Option, None, Some, refl, sym, ap, ◌∙◌, subst, arith, append_assoc}
-use Rattle.std.specs.List.{AllByRecursion, filter_map}
+use Rattle.std.specs.List.{AllByRecursion, filter_map, flat_map}
 use Rattle.std.proofs.lemmas.List.{append-nil, length-append}
+use Rattle.std.proofs.lemmas.List.Concat.{flat_map-append}
 use Rattle.std.proofs.lemmas.List.Elements.{filter_map-append}
 use Rattle.coco_types.specs.declared.call.AttemptId.{AttemptId}
 use Rattle.coco_types.specs.declared.call.Request.{Request}
 use Rattle.coco_types.specs.declared.call.Write.{Write}
 use Rattle.coco_ast.proofs.Lists.{all_append, all_weaker}
 use Rattle.coco_ast.specs.Tree.{Procedures}
+use Rattle.coco_desks.specs.Gains.{AreSame}
+use Rattle.coco_desks.proofs.GainLemmas.{gain_as, gain_none, gain_then}
+use Rattle.coco_gate.specs.declared.passes.Passage.{Passage}
 use Rattle.coco_occ.specs.Script.{IsScript}
 use Rattle.coco_occ.specs.Steps.{at_shard}
 use Rattle.coco_occ.specs.Trying.{Trying, Ready, Ended, has_ended}
@@ -16,10 +20,9 @@ use Rattle.coco_occ.specs.declared.outcome.Outcome.{Outcome}
 use Rattle.coco_occ.specs.declared.outcome.Tried.{Tried}
 use Rattle.coco_occ.specs.declared.script.Step.{Step}
 use Rattle.coco_order.specs.Execution.{all_at_shard, is_conflict}
-use Rattle.coco_worker.specs.Gains.{AreSame, Make, entered}
-use Rattle.coco_worker.specs.Trying.{Adds, AreNumbered, HasEnded, IsAt, IsOver, IsTriedAt, TriesOnce, TriesOnly, TriesOut, ends_of, time_of, unmade_of}
+use Rattle.coco_worker.specs.Gains.{Make, entered}
+use Rattle.coco_worker.specs.Trying.{Adds, AreNumbered, HasEnded, IsAt, IsOver, IsTriedAt, TriesOnce, TriesOnly, TriesOut, ends_of, points_behind, points_of, time_of, unmade_of}
 use Rattle.coco_worker.specs.declared.slot.Slot.{Slot}
-use Rattle.coco_worker.proofs.GainLemmas.{gain_as, gain_none, gain_then}
 use Rattle.coco_worker.proofs.ScriptLemmas.{all_at_shard_append}
 
 -- ---- the scripts that a slot gains
@@ -54,6 +57,18 @@ adds_weaker P Q a b ts weaker adds = record {
   whole = all_weaker P Q weaker ts adds.whole;
   numbered = adds.numbered;
 }
+
+-- ---- the points that it passes
+
+pub gated_more : (gate worker : ℕ) (ts us : List Tried) (ps qs : List Passage) (t : Tried) (outcome : Outcome) → t.outcome ≡ outcome → us ≡ ts ++ t ∷ []
+    → qs ≡ (ps ++ record { gate = gate; worker = worker; point = 1 } ∷ []) ++ points_behind gate worker outcome → ps ≡ flat_map (points_of gate worker) ts → qs ≡ flat_map (points_of gate worker) us
+gated_more gate worker ts us ps qs t outcome is more passed was =
+    passed ∙ append_assoc ps (record { gate = gate; worker = worker; point = 1 } ∷ []) (points_behind gate worker outcome)
+    ∙ ap (λ (o : Outcome). ps ++ record { gate = gate; worker = worker; point = 1 } ∷ points_behind gate worker o) (sym is)
+    ∙ ap (λ (xs : List Passage). xs ++ points_of gate worker t) was
+    ∙ ap (λ (xs : List Passage). flat_map (points_of gate worker) ts ++ xs) (sym (append-nil (points_of gate worker t)))
+    ∙ sym (flat_map-append (points_of gate worker) ts (t ∷ []))
+    ∙ ap (flat_map (points_of gate worker)) (sym more)
 
 -- ---- one attempt at a request
 
@@ -110,7 +125,7 @@ pub same_worker : (a b : Slot) → TriesOnly a b → b.worker ≡ a.worker
 same_worker a b tries = ap (λ (s : Slot). s.worker) tries
 
 pub only_then : (a b c : Slot) → TriesOnly a b → TriesOnly b c → TriesOnly a c
-only_then a b c first next = next ∙ ap (λ (s : Slot). record s { passes = c.passes; transcript = c.transcript }) first
+only_then a b c first next = next ∙ ap (λ (s : Slot). record s { passes = c.passes; transcript = c.transcript; passed = c.passed }) first
 
 -- one that conflicted more
 pub so_far_more : (procs : Procedures) (request : Request) (place partitions attempts left fewer : ℕ) (a b c : Slot) (ends more : List Unmade) (room : Option Trying) (outcome : Outcome) → AreSame a.passes.items b.passes.items → b.worker ≡ a.worker

@@ -12,23 +12,21 @@ use Rattle.coco_types.specs.declared.call.Write.{Write}
 use Rattle.coco_ast.proofs.Lists.{all_append}
 use Rattle.coco_ast.specs.Tree.{Procedures}
 use Rattle.coco_claim.specs.Seats.{Draws, Drawer, Round, has_ended}
+use Rattle.coco_desks.specs.Gains.{AreSame, Gain}
+use Rattle.coco_desks.proofs.GainLemmas.{gain_as, gain_none, gain_then}
 use Rattle.coco_occ.specs.Trying.{Trying}
 use Rattle.coco_occ.specs.declared.outcome.Ended.{Ended as Unmade}
-use Rattle.coco_occ.specs.declared.outcome.Outcome.{Outcome}
-use Rattle.coco_occ.specs.declared.outcome.Outcome.TheVariants.{Committed, Conflict, OverTime}
 use Rattle.coco_occ.specs.declared.outcome.Tailed.{Tailed}
 use Rattle.coco_occ.specs.declared.outcome.Tried.{Tried}
 use Rattle.coco_order.specs.Execution.{Tries, all_tries, all_at_shard, concat_tries}
-use Rattle.coco_order.specs.Outcome.{is_commit}
 use Rattle.coco_worker.specs.Copying.{asked, puts_at}
-use Rattle.coco_worker.specs.Gains.{AreSame, Gain, Make, ShardPass}
+use Rattle.coco_worker.specs.Gains.{Make, ShardPass}
 use Rattle.coco_pieces.specs.Pieces.{request_pieces}
-use Rattle.coco_worker.specs.Trying.{Adds, IsAt, IsTriedAt, TriesOnly, TriesOut, ends_of, time_of}
-use Rattle.coco_worker.specs.Working.{Job, IsWhole, IsTriedBy, Worked, IsGated, IsWorkedOff, Works, WorksDrawn, commit_at, copied, copies_at, pieces_at, pieces_of, places_among, places_of, scripts_of, tail_of, tailed}
+use Rattle.coco_worker.specs.Trying.{Adds, IsAt, IsTriedAt, TriesOnly, TriesOut, ends_of}
+use Rattle.coco_worker.specs.Working.{Job, IsWhole, IsTriedBy, Worked, IsWorkedOff, Works, WorksDrawn, commit_at, copied, copies_at, pieces_at, pieces_of, places_among, places_of, scripts_of, tail_of, tailed}
 use Rattle.coco_worker.specs.declared.slot.EpochConfig.{EpochConfig}
 use Rattle.coco_worker.specs.declared.slot.Slot.{Slot}
 use Rattle.coco_worker.proofs.CopyLemmas.{CopyPass}
-use Rattle.coco_worker.proofs.GainLemmas.{gain_as, gain_none, gain_then}
 use Rattle.coco_worker.proofs.TryLemmas.{adds_none, adds_then, adds_weaker}
 
 -- the job of a worker, by what it was handed
@@ -134,18 +132,16 @@ module _ (j : Job) (request : Request) (place : ℕ) (a b c : Slot) (ends : List
 -- ---- the draws
 
 -- what was worked off so far: the requests at the numbers that the seat drew
-pub record WorksSoFar (j : Job) (passed : ℕ → Type 0) (before after : Slot) : Type 0 where
+pub record WorksSoFar (j : Job) (before after : Slot) : Type 0 where
   pub worked : List Worked
   pub works : Works j before after worked
-  pub gated : AllByRecursion (IsGated passed) worked
   pub drawn : after.seat ≡ record before.seat { drawn = before.seat.drawn ++ places_of worked }
   pub below : AllByRecursion (λ x. x < length j.requests) (places_of worked)
 
-pub works_so_none : (j : Job) (passed : ℕ → Type 0) (s : Slot) → WorksSoFar j passed s s
-works_so_none j passed s = record {
+pub works_so_none : (j : Job) (s : Slot) → WorksSoFar j s s
+works_so_none j s = record {
   worked = [];
   works = works_none j s;
-  gated = tt;
   drawn = ap (λ (xs : List ℕ). record s.seat { drawn = xs }) (sym (append-nil s.seat.drawn));
   below = tt;
 }
@@ -180,13 +176,12 @@ redrawn_first j b c seat ws works = record {
 }
 
 -- one request more, that the seat drew
-pub works_so_more : (j : Job) (passed : ℕ → Type 0) (a b c : Slot) (seat : Drawer) (w : Worked) (place : ℕ) → AreSame a.passes.items b.passes.items → AreSame a.copy_passes.items b.copy_passes.items
-    → WorksSoFar j passed a b → seat ≡ record b.seat { drawn = b.seat.drawn ++ place ∷ [] } → place < length j.requests → w.tries.place ≡ place → Works j (record b { seat = seat }) c (w ∷ []) → IsGated passed w → c.seat ≡ seat
-    → WorksSoFar j passed a c
-works_so_more j passed a b c seat w place same same_copies so draws below at works gated kept = record {
+pub works_so_more : (j : Job) (a b c : Slot) (seat : Drawer) (w : Worked) (place : ℕ) → AreSame a.passes.items b.passes.items → AreSame a.copy_passes.items b.copy_passes.items
+    → WorksSoFar j a b → seat ≡ record b.seat { drawn = b.seat.drawn ++ place ∷ [] } → place < length j.requests → w.tries.place ≡ place → Works j (record b { seat = seat }) c (w ∷ []) → c.seat ≡ seat
+    → WorksSoFar j a c
+works_so_more j a b c seat w place same same_copies so draws below at works kept = record {
   worked = so.worked ++ w ∷ [];
   works = works_then j a b c so.worked (w ∷ []) same same_copies so.works (redrawn_first j b c seat (w ∷ []) works);
-  gated = all_append (IsGated passed) so.worked (w ∷ []) so.gated (gated, tt);
   drawn = kept ∙ draws ∙ ap (λ (d : Drawer). record d { drawn = d.drawn ++ place ∷ [] }) so.drawn
       ∙ ap (λ (xs : List ℕ). record a.seat { drawn = xs }) (append_assoc a.seat.drawn (places_of so.worked) (place ∷ []) ∙ ap (λ (xs : List ℕ). a.seat.drawn ++ xs) places);
   below = subst (AllByRecursion (λ x. x < length j.requests)) places (all_append (λ x. x < length j.requests) (places_of so.worked) (place ∷ []) so.below (below, tt));
@@ -227,9 +222,9 @@ pub same_claims : (old seat new : Drawer) (x : ℕ) (claims : Round) → new ≡
 same_claims old seat new x claims kept draws is = ap (λ (d : Drawer). d.claims) (kept ∙ draws) ∙ is
 
 -- the draw that ends it
-pub works_drawn : (j : Job) (passed : ℕ → Type 0) (a b : Slot) (seat : Drawer) (so : WorksSoFar j passed a b) → b.seat.claims.n ≡ length j.requests → MatchBool (has_ended b.seat) (seat ≡ b.seat) (Draws b.seat seat) → has_ended seat ≡ true
+pub works_drawn : (j : Job) (a b : Slot) (seat : Drawer) (so : WorksSoFar j a b) → b.seat.claims.n ≡ length j.requests → MatchBool (has_ended b.seat) (seat ≡ b.seat) (Draws b.seat seat) → has_ended seat ≡ true
     → WorksDrawn j a (record b { seat = seat }) so.worked
-works_drawn j passed a b seat so count draws ended = by_end (has_ended b.seat) refl draws
+works_drawn j a b seat so count draws ended = by_end (has_ended b.seat) refl draws
   where
     n : ℕ
     n = length j.requests
@@ -280,15 +275,9 @@ lands_tail j request place a b c writes ends tries others = record {
   copies = subst (λ (ps : List CopyPass). Gain asked a.copy_passes.items ps (λ _. [])) (sym (ap (λ (s : Slot). s.copy_passes.items) (others ∙ ap (λ (s : Slot). record s { tail = b.tail ++ record { id = request.id; ends = ends } ∷ [] }) tries))) (gain_none asked a.copy_passes.items);
 }
 
--- one without a time is no commit
-pub no_commit : (outcome : Outcome) → None ≡ time_of outcome → is_commit outcome ≡ true → ⊥
-no_commit (Committed time reply) none is = let h : None ≡ Some time = none in cc
-no_commit (Conflict why) none is = let h : false ≡ true = is in cc
-no_commit OverTime none is = let h : false ≡ true = is in cc
-
--- the request at a place is worked off, by a worker who passed these gates
-abbrev pub WorkedAt : Job → ℕ → Slot → Slot → (ℕ → Type 0) → Type 0
-WorkedAt j place a d passed = (w : Worked) × (w.tries.place ≡ place) × Works j a d (w ∷ []) × IsGated passed w
+-- the request at a place is worked off
+abbrev pub WorkedAt : Job → ℕ → Slot → Slot → Type 0
+WorkedAt j place a d = (w : Worked) × (w.tries.place ≡ place) × Works j a d (w ∷ [])
 
 -- what a step that may fail says, by what it ensures twice where it didn't
 pub by_both : {X E A B C : Type 0} (r : Result X E) → OnOk r A → OnOk r B → (A → B → C) → OnOk r C

@@ -1,11 +1,12 @@
 -- The attempts of a worker at one request.
-use Rattle.std.specs.Prelude.{◌≡◌, ⊤, ℕ, suc, true, List, [], ◌∷◌, ◌++◌, length, Option, None, Some}
-use Rattle.std.specs.List.{filter_map, AllByRecursion}
+use Rattle.std.specs.Prelude.{◌≡◌, ⊤, ℕ, suc, true, List, [], ◌∷◌, ◌++◌, length, Option, None, Some, if◌then◌else◌}
+use Rattle.std.specs.List.{filter_map, flat_map, AllByRecursion}
 use Rattle.coco_types.specs.declared.call.AttemptId.{AttemptId}
 use Rattle.coco_types.specs.declared.call.Call.{Call}
 use Rattle.coco_types.specs.declared.call.Request.{Request}
 use Rattle.coco_types.specs.declared.call.Write.{Write}
 use Rattle.coco_ast.specs.Tree.{Procedures}
+use Rattle.coco_gate.specs.declared.passes.Passage.{Passage}
 use Rattle.coco_occ.specs.Script.{IsScript}
 use Rattle.coco_occ.specs.Trying.{Trying, Ready, Ended, has_ended}
 use Rattle.coco_occ.specs.declared.outcome.Ended.{Ended as Unmade}
@@ -14,6 +15,7 @@ use Rattle.coco_occ.specs.declared.outcome.Outcome.{Outcome}
 use Rattle.coco_occ.specs.declared.outcome.Outcome.TheVariants.{Committed, Conflict, OverTime}
 use Rattle.coco_occ.specs.declared.outcome.Tried.{Tried}
 use Rattle.coco_order.specs.Execution.{Tries, AreTries, all_tries, all_at_shard}
+use Rattle.coco_order.specs.Outcome.{is_commit}
 use Rattle.coco_worker.specs.Gains.{Make}
 use Rattle.coco_worker.specs.declared.slot.Slot.{Slot}
 
@@ -73,11 +75,25 @@ pub record Adds (P : Tried → Type 0) (before after : Slot) (ts : List Tried) :
   pub whole : AllByRecursion P ts
   pub numbered : AreNumbered (length before.transcript) ts
 
+-- ---- the gate
+
+-- the point that an attempt has passed once it has ended so
+abbrev pub points_behind : ℕ → ℕ → Outcome → List Passage
+points_behind gate worker outcome = if is_commit outcome then record { gate = gate; worker = worker; point = 2 } ∷ [] else []
+
+-- the points of an attempt: 1 where it begins, and 2 where it has committed
+abbrev pub points_of : ℕ → ℕ → Tried → List Passage
+points_of gate worker t = record { gate = gate; worker = worker; point = 1 } ∷ points_behind gate worker t.outcome
+
+-- the worker has passed the points of each attempt in its transcript, one after another, and no others
+abbrev pub IsGated : ℕ → Slot → Type 0
+IsGated gate s = s.passed ≡ flat_map (points_of gate s.worker) s.transcript
+
 -- ---- one attempt
 
--- nothing of the slot has changed but its transcript and what its passes of shards did
+-- nothing of the slot has changed but its transcript, what its passes of shards did, and which points it passed
 abbrev pub TriesOnly : Slot → Slot → Type 0
-TriesOnly before after = after ≡ record before { passes = after.passes; transcript = after.transcript }
+TriesOnly before after = after ≡ record before { passes = after.passes; transcript = after.transcript; passed = after.passed }
 
 -- One script more at the request, with this outcome, whose attempt the room still has.
 pub record TriesOnce (procs : Procedures) (request : Request) (place partitions : ℕ) (before after : Slot) (room : Option Trying) (outcome : Outcome) : Type 0 where

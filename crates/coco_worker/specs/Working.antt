@@ -7,14 +7,13 @@ use Rattle.coco_types.specs.declared.call.Write.{Write}
 use Rattle.coco_ast.specs.Tree.{Procedures}
 use Rattle.coco_claim.specs.Seats.{Drawer, has_ended}
 use Rattle.coco_copy.specs.declared.ops.CopyAsk.{CopyAsk}
+use Rattle.coco_desks.specs.Gains.{Gain}
 use Rattle.coco_occ.specs.Script.{IsScript}
 use Rattle.coco_occ.specs.declared.outcome.Ended.{Ended as Unmade}
 use Rattle.coco_occ.specs.declared.outcome.Tailed.{Tailed}
 use Rattle.coco_occ.specs.declared.outcome.Tried.{Tried}
 use Rattle.coco_order.specs.Execution.{Tries, AreTries, all_tries, concat_tries}
-use Rattle.coco_order.specs.Outcome.{is_commit}
 use Rattle.coco_worker.specs.Copying.{asked, puts_at}
-use Rattle.coco_worker.specs.Gains.{Gain}
 use Rattle.coco_pieces.specs.Pieces.{request_pieces}
 use Rattle.coco_worker.specs.Trying.{Adds, ends_of, time_of}
 use Rattle.coco_worker.specs.declared.copies.WorkerCommit.{WorkerCommit}
@@ -102,11 +101,6 @@ pub record Works (j : Job) (before after : Slot) (ws : List Worked) : Type 0 whe
   pub pieces : after.pieces ≡ before.pieces ++ flat_map (pieces_of j) ws
   pub tail : after.tail ≡ before.tail ++ flat_map tail_of ws
   pub copies : Gain asked before.copy_passes.items after.copy_passes.items (λ table. flat_map (copied j table) ws)
-
--- the gate was passed at each beginning of an attempt, and at each commit
-pub record IsGated (passed : ℕ → Type 0) (w : Worked) : Type 0 where
-  pub began : passed 1
-  pub committed : is_commit w.tries.last.outcome ≡ true → passed 2
 
 -- ---- draws
 

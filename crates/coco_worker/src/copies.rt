@@ -1,8 +1,8 @@
 //! What a commit brings to the copies at once, where the net carries it.
 
 ghost use Rattle.std.specs.Prelude.{◌≡◌, ◌*◌, ◌<◌, ◌≤◌, [], ◌∷◌, length, OnOk};
+ghost use Rattle.coco_desks.specs.Gains.{AreOf, AreSame, Gain};
 ghost use Rattle.coco_worker.specs.Copying.{asked, put, puts_at};
-ghost use Rattle.coco_worker.specs.Gains.{AreOf, AreSame, Gain};
 
 use crate::slot::EpochConfig;
 use coco_copy::{CopyAsk, CopyTable};

@@ -2,6 +2,7 @@
 
 use coco_claim::ClaimSeat;
 use coco_copy::CopyTable;
+use coco_gate::Passes;
 use coco_journaled::Pass;
 use coco_occ::{ScriptRooms, Tailed, Transcript};
 use coco_shard::Shard;
@@ -23,7 +24,7 @@ pub struct EpochConfig {
 pub type Tail = Sequence<Tailed>;
 
 /// One worker: a pass of each shard and of each copy table, the seat that it draws by, rooms for its scripts, and what
-/// it did.
+/// it did. Contracts alone see which points it passed.
 #[derive(Drop)]
 pub struct Slot {
     pub worker: u32,
@@ -34,4 +35,5 @@ pub struct Slot {
     pub transcript: Transcript,
     pub pieces: Pieces,
     pub tail: Tail,
+    pub passed: Passes,
 }

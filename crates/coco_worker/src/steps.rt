@@ -2,13 +2,14 @@
 
 ghost use Rattle.std.specs.Prelude.{◌≡◌, ℕ, ◌<◌, [], ◌∷◌, true, List, length, OnOk};
 ghost use Rattle.coco_types.specs.declared.call.Write.{Write as Written};
+ghost use Rattle.coco_desks.specs.Gains.{AreOf, AreSame};
 ghost use Rattle.coco_shard.specs.declared.ops.Ask.{Ask as Asked};
 ghost use Rattle.coco_shard.specs.declared.ops.Answer.{Answer as Answered};
 ghost use Rattle.coco_occ.specs.Script.{IsScript};
 ghost use Rattle.coco_occ.specs.Steps.{at_shard};
 ghost use Rattle.coco_occ.specs.Trying.{Ready, Waits, Ended, answered, has_ended, IsSound};
 ghost use Rattle.coco_occ.specs.declared.outcome.Outcome.{Outcome as End};
-ghost use Rattle.coco_worker.specs.Gains.{AreOf, AreSame, Make};
+ghost use Rattle.coco_worker.specs.Gains.{Make};
 
 use coco_ast::Checked;
 use coco_journaled::{Journaled, Pass};

@@ -1,14 +1,14 @@
 //! The attempts at one request, one after another until one commits or no more are allowed.
 
-ghost use Rattle.std.specs.Prelude.{◌≡◌, ◌<◌, ◌≤◌, [], length, IfOk, OnOk};
+ghost use Rattle.std.specs.Prelude.{◌≡◌, ◌<◌, ◌≤◌, [], ◌++◌, length, IfOk, OnOk};
 ghost use Rattle.coco_ast.specs.Fitting.{Fits};
-ghost use Rattle.coco_worker.specs.Gains.{AreOf, AreSame};
-ghost use Rattle.coco_worker.specs.Trying.{IsOver, IsReady, TriesOnce, TriesOut, TriesOnly};
+ghost use Rattle.coco_desks.specs.Gains.{AreOf, AreSame};
+ghost use Rattle.coco_worker.specs.Trying.{IsGated, IsOver, IsReady, TriesOnce, TriesOut, TriesOnly, points_behind};
 
 use crate::slot::Slot;
 use crate::steps::run_attempt;
 use coco_ast::Checked;
-use coco_gate::Gate;
+use coco_gate::{Gate, Passes};
 use coco_journaled::Journaled;
 use coco_occ::{Attempt, Ended, Ends, Outcome, PackedOutcome, Script, Tried};
 use coco_shard::Shard;
@@ -18,7 +18,8 @@ use std::alloc::Global;
 use std::sync::Wait;
 
 /// Tries a request at a place until an attempt commits or no more are allowed, and adds their scripts to the slot's
-/// transcript and the ends of those that didn't commit to the others. The answer is the time of the commit, whose
+/// transcript and the ends of those that didn't commit to the others. The worker passes point 1 of the gate with each
+/// attempt, and point 2 behind a commit. The answer is the time of the commit, whose
 /// attempt stays in the room, or none.
 pub fn try_until<G: Gate>(
     rt: &impl Wait,
@@ -42,7 +43,7 @@ pub fn try_until<G: Gate>(
     requires empty { ends.old ≡ [] }
     ensures same { AreSame slot.old.passes.items slot.new.passes.items }
     ensures others { TriesOnly slot.old slot.new }
-    ensures began { OnOk result (G.passed gate.now slot.old.worker 1) }
+    ensures gated { OnOk result (IsGated (G.named gate.now) slot.old → IsGated (G.named gate.now) slot.new) }
     ensures tried { IfOk result (TriesOut procs.now request.now place (length shards.now) attempts slot.old slot.new ends.new room.new) }
 {
     let mut left = attempts;
@@ -82,7 +83,7 @@ fn try_once<G: Gate>(
     requires over { IsOver room.old }
     ensures same { AreSame slot.old.passes.items slot.new.passes.items }
     ensures others { TriesOnly slot.old slot.new }
-    ensures began { OnOk result (G.passed gate.now slot.old.worker 1) }
+    ensures gated { OnOk result (IsGated (G.named gate.now) slot.old → IsGated (G.named gate.now) slot.new) }
     ensures tried { IfOk result (TriesOnce procs.now request.now place (length shards.now) slot.old slot.new room.new) }
 {
     let by = AttemptId {
@@ -90,7 +91,7 @@ fn try_once<G: Gate>(
         number: slot.transcript.len() as u64,
     };
     make_ready(alloc, room, procs, request, by, shards.len() as u8)?;
-    gate.pass(slot.worker, 1);
+    slot.passed.pass(gate, slot.worker, 1);
     let Some(attempt) = room else { unreachable!() };
     let passes = slot.passes.as_mut_slice();
     run_attempt(rt, procs, shards, passes, attempt)?;
@@ -98,7 +99,17 @@ fn try_once<G: Gate>(
     let outcome = attempt.outcome();
     let entry = tried(alloc, place, by, script, &outcome)?;
     slot.transcript.push(entry)?;
+    pass_behind(&mut slot.passed, gate, slot.worker, &outcome);
     Ok(outcome)
+}
+
+// Has the worker pass point 2 behind an attempt that has committed.
+fn pass_behind<G: Gate>(passed: &mut Passes, gate: &G, worker: u32, outcome: &Outcome)
+    ensures { passed.new ≡ passed.old ++ points_behind (G.named gate.now) worker outcome.now }
+{
+    if let Outcome::Committed { .. } = outcome {
+        passed.pass(gate, worker, 2);
+    }
 }
 
 fn tried(

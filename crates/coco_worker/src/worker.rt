@@ -4,12 +4,12 @@ ghost use Rattle.std.specs.Prelude.{◌≡◌, ◌*◌, ◌<◌, ◌≤◌, [], 
 ghost use Rattle.std.specs.List.{AllByRecursion};
 ghost use Rattle.coco_types.specs.declared.call.Write.{Write as Written};
 ghost use Rattle.coco_ast.specs.Fitting.{Fits};
+ghost use Rattle.coco_desks.specs.Gains.{AreOf, AreSame, Gain};
 ghost use Rattle.coco_occ.specs.declared.outcome.Outcome.{Outcome as End};
 ghost use Rattle.coco_worker.specs.Copying.{asked, puts_at};
-ghost use Rattle.coco_worker.specs.Gains.{AreOf, AreSame, Gain};
 ghost use Rattle.coco_pieces.specs.Pieces.{request_pieces};
-ghost use Rattle.coco_worker.specs.Trying.{HasEnded, IsOver};
-ghost use Rattle.coco_worker.specs.Working.{Job, Worked, Works, WorksDrawn, IsGated};
+ghost use Rattle.coco_worker.specs.Trying.{HasEnded, IsGated, IsOver};
+ghost use Rattle.coco_worker.specs.Working.{Job, Worked, Works, WorksDrawn};
 
 use crate::copies::{WorkerCommit, deliver};
 use crate::slot::{EpochConfig, Slot};
@@ -60,7 +60,8 @@ pub fn work<G: Gate, N: Net>(
     ensures worker { slot.new.worker ≡ slot.old.worker }
     ensures worked { OnOk result (
         let job : Job = record { procs = procs.now; requests = requests.now; partitions = length shards.now; worker = slot.old.worker; config = config; carries = N.carries net.now } in
-        (ws : List Worked) × Works job slot.old slot.new ws × WorksDrawn job slot.old slot.new ws × AllByRecursion (IsGated (G.passed gate.now slot.old.worker)) ws) }
+        (ws : List Worked) × Works job slot.old slot.new ws × WorksDrawn job slot.old slot.new ws) }
+    ensures gated { OnOk result (IsGated (G.named gate.now) slot.old → IsGated (G.named gate.now) slot.new) }
 {
     let mut room = None;
     while let Some(place) = claims.next(&mut slot.seat) {
@@ -103,7 +104,8 @@ fn work_off<G: Gate, N: Net>(
     ensures over { OnOk result (IsOver room.new) }
     ensures worked { OnOk result (
         let job : Job = record { procs = procs.now; requests = requests.now; partitions = length shards.now; worker = slot.old.worker; config = config; carries = N.carries net.now } in
-        (w : Worked) × (w.tries.place ≡ place) × Works job slot.old slot.new (w ∷ []) × IsGated (G.passed gate.now slot.old.worker) w) }
+        (w : Worked) × (w.tries.place ≡ place) × Works job slot.old slot.new (w ∷ [])) }
+    ensures gated { OnOk result (IsGated (G.named gate.now) slot.old → IsGated (G.named gate.now) slot.new) }
 {
     let request = &requests[place as usize];
     let mut ends = Ends::new(alloc);
@@ -112,7 +114,6 @@ fn work_off<G: Gate, N: Net>(
         rt, alloc, procs, shards, request, place, attempts, gate, room, slot, &mut ends,
     )? {
         Some(time) => {
-            gate.pass(slot.worker, 2);
             let commit = WorkerCommit {
                 config,
                 partitions: shards.len() as u8,

@@ -1,10 +1,10 @@
 use Rattle.std.proofs.Common.{◌≡◌, List, [], ◌∷◌, All, length, refl, sym, ap, ◌∙◌, subst, arith}
 use Rattle.std.specs.Global.{Vec}
 use Rattle.std.proofs.lemmas.List.Elements.{All-map}
+use Rattle.coco_desks.specs.Locking.{AreBack, AreStarted, IsBack, IsStarted}
 use Rattle.coco_journaled.specs.Passes.{Passing, new_pass}
 use Rattle.coco_seen.specs.Notes.{Lock}
 use Rattle.coco_seen.specs.Rules.{numbers}
-use Rattle.coco_parallel.specs.Locking.{AreBack, AreStarted, IsBack, IsStarted}
 use Rattle.coco_epoch_tests.proofs.StartedLemmas.{as_many_locks}
 use Rattle.coco_epoch_tests.proofs.parallel.come_back.Goals as goal
 

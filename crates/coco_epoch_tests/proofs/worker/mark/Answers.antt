@@ -1,6 +1,6 @@
 use Rattle.std.proofs.Common.{sym, ap, ◌∙◌, arith}
+use Rattle.coco_desks.proofs.GainLemmas.{lock_at}
 use Rattle.coco_seen.specs.Notes.{Lock}
-use Rattle.coco_worker.proofs.GainLemmas.{lock_at}
 use Rattle.coco_epoch_tests.proofs.worker.mark.Goals as goal
 
 pub step-requires : goal.step-requires

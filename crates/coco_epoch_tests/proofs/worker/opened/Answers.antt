@@ -2,13 +2,13 @@ use Rattle.std.proofs.Common.{◌≡◌, ℕ, List, [], ◌∷◌, ◌++◌, map
 use Rattle.std.specs.Global.{Vec}
 use Rattle.std.specs.List.{cons_option, slice_get}
 use Rattle.std.proofs.lemmas.List.{length-append}
+use Rattle.coco_desks.specs.Desks.{AreDealt}
+use Rattle.coco_desks.specs.Gains.{AreOf}
+use Rattle.coco_desks.specs.Locking.{AreStarted}
+use Rattle.coco_desks.specs.Rows.{column}
 use Rattle.coco_journaled.specs.Passes.{Passing, new_pass}
-use Rattle.coco_parallel.specs.Desks.{AreDealt}
-use Rattle.coco_parallel.specs.Locking.{AreStarted}
-use Rattle.coco_parallel.specs.Rows.{column}
 use Rattle.coco_seen.specs.Notes.{Lock, TableId}
 use Rattle.coco_seen.specs.Rules.{numbers}
-use Rattle.coco_worker.specs.Gains.{AreOf}
 use Rattle.coco_epoch_tests.proofs.StartedLemmas.{as_many_locks}
 use Rattle.coco_epoch_tests.proofs.worker.opened.Goals as goal
 

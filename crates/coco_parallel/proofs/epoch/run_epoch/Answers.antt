@@ -3,6 +3,7 @@ use Rattle.std.specs.FinMap.{empty}
 use Rattle.std.proofs.lemmas.List.{length-map}
 use Rattle.coco_ast.specs.Keyed.{Rows}
 use Rattle.coco_copy.specs.CopyState.{CopyState, begun}
+use Rattle.coco_desks.proofs.DeskLemmas.{written_back}
 use Rattle.coco_order.specs.Execution.{Journal, Transcript, concat}
 use Rattle.coco_order.specs.Outcome.{AreOnce}
 use Rattle.coco_epoch.specs.SerialEpoch.{IsSerialEpoch}
@@ -15,7 +16,6 @@ use Rattle.coco_parallel.specs.Tails.{tail_from}
 use Rattle.coco_parallel.specs.Traces.{Traced}
 use Rattle.coco_parallel.specs.Worked.{HaveCommits, start_of}
 use Rattle.coco_parallel.proofs.TraceLemmas.{none_behind, whole_commits, whole_trace}
-use Rattle.coco_parallel.proofs.DeskLemmas.{written_back}
 use Rattle.coco_parallel.proofs.WholeLemmas.{as_many_transcripts, copies_back, may_begin, shards_back, whole_epoch}
 use Rattle.coco_parallel.proofs.epoch.run_epoch.Goals as goal
 

@@ -1,9 +1,9 @@
 use Rattle.std.proofs.Common.{◌≡◌, refl, sym, ◌∙◌, subst, arith}
 use Rattle.std.proofs.lemmas.List.Elements.{All-from_recursion}
+use Rattle.coco_desks.specs.Desks.{AreBackBy}
+use Rattle.coco_desks.proofs.DeskLemmas.{as_many_started, noted_locks, row_dealt}
 use Rattle.coco_seen.specs.Notes.{Lock}
 use Rattle.coco_shard.specs.Table.{after_ask, answer_in}
-use Rattle.coco_parallel.specs.Desks.{AreBackBy}
-use Rattle.coco_parallel.proofs.DeskLemmas.{as_many_started, noted_locks, row_dealt}
 use Rattle.coco_parallel.proofs.KeepingLemmas.{keep_values}
 use Rattle.coco_parallel.proofs.side_by_side.close_unused.Goals as goal
 

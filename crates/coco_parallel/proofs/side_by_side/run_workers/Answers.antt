@@ -2,8 +2,8 @@ use Rattle.std.proofs.Common.{◌≡◌, ℕ, ◌≤◌, ◌*◌, length, drop, 
 use Rattle.std.proofs.lemmas.List.{length-map}
 use Rattle.coco_copy.specs.CopyState.{CopyState, begun}
 use Rattle.coco_types.specs.declared.limits.TheConstants.{MOST_PARTITIONS}
+use Rattle.coco_desks.proofs.DeskLemmas.{as_many_started}
 use Rattle.coco_parallel.specs.Worked.{HaveWorked, emptied, start_of}
-use Rattle.coco_parallel.proofs.DeskLemmas.{as_many_started}
 use Rattle.coco_parallel.proofs.KeepingLemmas.{begun_back, emptied_begun, same_values, settled_same}
 use Rattle.coco_parallel.proofs.side_by_side.run_workers.Goals as goal
 

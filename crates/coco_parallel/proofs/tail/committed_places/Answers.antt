@@ -1,7 +1,7 @@
 use Rattle.std.proofs.Common.{take, drop, length, false, ◌||◌, slice_index_or, sym, ap, ◌∙◌, arith}
+use Rattle.coco_desks.proofs.DeskLemmas.{written_back}
 use Rattle.coco_order.specs.Execution.{concat}
 use Rattle.coco_parallel.specs.Ends.{has_commit}
-use Rattle.coco_parallel.proofs.DeskLemmas.{written_back}
 use Rattle.coco_parallel.proofs.EndsLemmas.{commit_append, concat_more}
 use Rattle.coco_parallel.proofs.tail.committed_places.Goals as goal
 

@@ -1,9 +1,9 @@
 use Rattle.std.proofs.Common.{◌++◌, [], List, take, drop, length, slice_index_or, sym, ap, ◌∙◌, arith}
+use Rattle.coco_desks.proofs.DeskLemmas.{written_back}
 use Rattle.coco_occ.specs.declared.outcome.Ended.{Ended}
 use Rattle.coco_occ.specs.declared.outcome.Tried.{Tried}
 use Rattle.coco_order.specs.Execution.{concat}
 use Rattle.coco_parallel.specs.Ends.{ends_at}
-use Rattle.coco_parallel.proofs.DeskLemmas.{written_back}
 use Rattle.coco_parallel.proofs.EndsLemmas.{concat_more}
 use Rattle.coco_parallel.proofs.ToldLemmas.{ends_append}
 use Rattle.coco_parallel.proofs.tail.ends_by_place.Goals as goal

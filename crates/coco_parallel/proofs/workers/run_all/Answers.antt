@@ -27,7 +27,7 @@ for_each_mut-requires-sync-F g c κs within =
     (record { mir = named 10; lft = κs.1.1.1.1.1.1.1.1.1.1.0 }) (record { mir = named 11; lft = κs.1.1.1.1.1.1.1.1.1.1.1.0 })
     (record { mir = named 12; lft = κs.1.1.1.1.1.1.1.1.1.1.1.1.0 }) (record { mir = named 13; lft = κs.1.1.1.1.1.1.1.1.1.1.1.1.1.0 })
     (record { mir = named 14; lft = κs.1.1.1.1.1.1.1.1.1.1.1.1.1.1.0 }) (record { mir = named 15; lft = κs.1.1.1.1.1.1.1.1.1.1.1.1.1.1.1.0 }) in
-    let name = lts.name-13 g.row.R g.row.G g.row.N g.R.laws g.G.laws g.N.laws g.R.Threads-dict g.R.Wait-dict g.G.Gate-dict g.N.Net-dict in
+    let name = lts.name-15 g.row.R g.row.G g.row.N g.R.laws g.G.laws g.N.laws g.R.Threads-dict g.R.Wait-dict g.G.Gate-dict g.N.Net-dict in
     let all : AllSync (shape (type_at name lent)).fields = (
       search (sendable, c.type_bounds.sync-R) depth 20,
       (

@@ -1,10 +1,10 @@
 use Rattle.std.proofs.Common.{[], List, take, refl, sym, ◌∙◌, subst, arith}
 use Rattle.std.proofs.lemmas.List.{take_all}
 use Rattle.coco_types.specs.declared.call.Write.{Write}
+use Rattle.coco_desks.specs.Gains.{Gain}
+use Rattle.coco_desks.proofs.GainLemmas.{gain_as, gain_none, still_of}
 use Rattle.coco_worker.specs.Copying.{asked, puts_at}
-use Rattle.coco_worker.specs.Gains.{Gain}
 use Rattle.coco_worker.proofs.CopyLemmas.{delivered_more, puts_none}
-use Rattle.coco_worker.proofs.GainLemmas.{gain_as, gain_none, still_of}
 use Rattle.coco_worker.proofs.copies.deliver.Goals as goal
 
 pub put_write-requires-clause-locks : goal.put_write-requires-clause-locks

@@ -1,6 +1,6 @@
 use Rattle.std.proofs.Common.{take}
+use Rattle.coco_desks.specs.Gains.{AreSame, Gain}
 use Rattle.coco_worker.specs.Copying.{asked, puts_at}
-use Rattle.coco_worker.specs.Gains.{AreSame, Gain}
 use Rattle.coco_worker.proofs.copies.deliver.Given as goal
 
 -- the first writes are delivered

@@ -1,11 +1,11 @@
 use Rattle.std.proofs.Common.{◌≡◌, ℕ, ◌+◌, ◌*◌, ◌<◌, ◌%◌, [], ◌∷◌, List, length, map, refl, sym, ap, ◌∙◌, subst, arith, slice_index_or}
 use Rattle.coco_copy.specs.Puts.{after_ask, answer_in}
 use Rattle.coco_copy.specs.declared.ops.CopyAsk.{CopyAsk}
+use Rattle.coco_desks.specs.Gains.{Gain, undone}
+use Rattle.coco_desks.proofs.GainLemmas.{as_many, gain_as, gain_none, lock_here, same_looked, same_set, same_stepped, still_of}
 use Rattle.coco_journaled.specs.Passes.{Steps}
 use Rattle.coco_worker.specs.Copying.{asked, put}
-use Rattle.coco_worker.specs.Gains.{Gain, undone}
 use Rattle.coco_worker.proofs.CopyLemmas.{CopyPass, below_none, carried_to, copied_skip, copied_step, puts_below, row_at, table_at, table_within}
-use Rattle.coco_worker.proofs.GainLemmas.{as_many, gain_as, gain_none, lock_here, same_looked, same_set, same_stepped, still_of}
 use Rattle.coco_worker.proofs.copies.put_write.Goals as goal
 use Rattle.coco_worker.proofs.copies.put_write.Goals.{then-carries+in_ok-step, else-carries}
 

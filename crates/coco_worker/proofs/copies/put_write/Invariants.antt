@@ -1,6 +1,6 @@
 use Rattle.std.proofs.Common.{[], ◌∷◌}
+use Rattle.coco_desks.specs.Gains.{AreSame, Gain}
 use Rattle.coco_worker.specs.Copying.{asked}
-use Rattle.coco_worker.specs.Gains.{AreSame, Gain}
 use Rattle.coco_worker.proofs.CopyLemmas.{puts_below}
 use Rattle.coco_worker.proofs.copies.put_write.Given as goal
 

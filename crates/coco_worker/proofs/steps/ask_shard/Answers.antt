@@ -1,9 +1,9 @@
 use Rattle.std.proofs.Common.{◌≡◌, ℕ, arith, slice_index_or}
+use Rattle.coco_desks.proofs.GainLemmas.{as_many, lock_here, same_looked, same_set, same_stepped}
 use Rattle.coco_shard.specs.Table.{after_ask, answer_in}
 use Rattle.coco_shard.specs.declared.ops.Answer.{Answer}
 use Rattle.coco_occ.specs.Trying.{Waits}
 use Rattle.coco_occ.proofs.OneTurn.{one_ask}
-use Rattle.coco_worker.proofs.GainLemmas.{as_many, lock_here, same_looked, same_set, same_stepped}
 use Rattle.coco_worker.proofs.ScriptLemmas.{by_ok, made_step}
 use Rattle.coco_worker.proofs.steps.ask_shard.Goals as goal
 

@@ -1,9 +1,9 @@
 use Rattle.std.proofs.Common.{◌∷◌, [], List, sym, ap, ◌∙◌, subst}
+use Rattle.coco_desks.proofs.GainLemmas.{still_of}
 use Rattle.coco_occ.specs.Steps.{at_shard}
 use Rattle.coco_occ.specs.Trying.{Trying}
 use Rattle.coco_occ.specs.declared.script.Step.{Step}
 use Rattle.coco_worker.specs.Gains.{Make}
-use Rattle.coco_worker.proofs.GainLemmas.{still_of}
 use Rattle.coco_worker.proofs.ScriptLemmas.{below_shards, ended_script, made_on, moved_left, same_script, took_left, took_script}
 use Rattle.coco_worker.proofs.steps.run_attempt.Goals as goal
 

@@ -1,7 +1,8 @@
 use Rattle.std.proofs.Common.{◌≡◌}
+use Rattle.coco_desks.specs.Gains.{AreSame}
 use Rattle.coco_occ.specs.Steps.{at_shard}
 use Rattle.coco_occ.specs.Trying.{Ready}
-use Rattle.coco_worker.specs.Gains.{AreSame, Make}
+use Rattle.coco_worker.specs.Gains.{Make}
 use Rattle.coco_worker.proofs.steps.run_attempt.Given as goal
 
 -- the attempt is ready, and the passes made just what it asked

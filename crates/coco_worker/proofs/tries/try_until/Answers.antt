@@ -1,10 +1,10 @@
 use Rattle.std.proofs.Common.{length, refl, sym, ◌∙◌, subst, arith}
 use Rattle.std.proofs.lemmas.Bool.{false≢true}
 use Rattle.std.proofs.lemmas.List.{append-nil}
+use Rattle.coco_desks.proofs.GainLemmas.{still_of}
 use Rattle.coco_occ.specs.declared.outcome.Outcome.{Outcome}
 use Rattle.coco_occ.specs.declared.outcome.Outcome.TheVariants.{Committed, Conflict, OverTime}
 use Rattle.coco_worker.specs.Trying.{TriesOnce}
-use Rattle.coco_worker.proofs.GainLemmas.{still_of}
 use Rattle.coco_worker.proofs.TryLemmas.{only_then, over_once_ended, same_worker, so_far_more, so_far_none, tries_out}
 use Rattle.coco_worker.proofs.tries.try_until.Goals as goal
 
@@ -17,6 +17,7 @@ attempts-init g c = record {
   same = refl;
   others = refl;
   over = c.requires.over;
+  gated = λ is. is;
   so_far = so_far_none c.args.procs.now c.args.request.now c.args.place (length c.args.shards.now) c.args.attempts c.args.slot.now c.args.ends.now c.requires.empty;
 }
 
@@ -51,7 +52,17 @@ attempts-preserved g c =
       same = c.try_once.ensures.same ∙ before.same;
       others = only_then c.args.slot.now c.attempts.slot c.try_once.new.slot before.others c.try_once.ensures.others;
       over = over_once_ended c.try_once.new.room c.in_ok-outcome.outcome tried.writes tried.ended;
+      gated = λ is. c.in_ok-outcome.ensures.gated (before.gated is);
       so_far = so_far_more c.args.procs.now c.args.request.now c.args.place (length c.args.shards.now) c.args.attempts c.attempts.left _ c.args.slot.now c.attempts.slot c.try_once.new.slot c.attempts.ends c.push.new.self c.try_once.new.room (Conflict c.in-Conflict.why)
           before.same (same_worker c.args.slot.now c.attempts.slot before.others) before.so_far
           (subst (TriesOnce c.args.procs.now c.args.request.now c.args.place (length c.args.shards.now) c.attempts.slot c.try_once.new.slot c.try_once.new.room) c.in-Conflict.is tried) refl c.in_ok-push-in-Conflict.ensures.ok (omega arith);
     }
+
+pub returns-in-Committed-clause-gated : goal.returns-in-Committed-clause-gated
+returns-in-Committed-clause-gated g c = λ is. c.in_ok-outcome.ensures.gated (c.attempts.invariant.gated is)
+
+pub returns-in-OverTime-clause-gated : goal.returns-in-OverTime-clause-gated
+returns-in-OverTime-clause-gated g c = λ is. c.in_ok-outcome.ensures.gated (c.attempts.invariant.gated is)
+
+pub returns-then-left-eq0-clause-gated : goal.returns-then-left-eq0-clause-gated
+returns-then-left-eq0-clause-gated g c = λ is. c.in_ok-outcome.ensures.gated (c.attempts.invariant.gated is)

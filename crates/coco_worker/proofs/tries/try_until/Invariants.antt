@@ -1,7 +1,7 @@
 use Rattle.std.proofs.Common.{◌<◌}
 use Rattle.std.specs.Prelude.{length}
-use Rattle.coco_worker.specs.Gains.{AreSame}
-use Rattle.coco_worker.specs.Trying.{IsOver, TriesOnly}
+use Rattle.coco_desks.specs.Gains.{AreSame}
+use Rattle.coco_worker.specs.Trying.{IsGated, IsOver, TriesOnly}
 use Rattle.coco_worker.proofs.TryLemmas.{SoFar}
 use Rattle.coco_worker.proofs.tries.try_until.Given as goal
 
@@ -12,6 +12,7 @@ invariant-attempts g l = record {
   same : AreSame l.fn.slot.passes.items l.slot.passes.items;
   others : TriesOnly l.fn.slot l.slot;
   over : IsOver l.room;
+  gated : IsGated (g.G.Gate.named l.gate) l.fn.slot → IsGated (g.G.Gate.named l.gate) l.slot;
   so_far : SoFar l.procs l.request l.place (length l.shards) l.attempts l.left l.fn.slot l.slot l.ends;
 }
 

@@ -1,8 +1,8 @@
 use Rattle.std.proofs.Common.{◌≡◌, ℕ, ◌<◌, ◌∷◌, [], ◌++◌, List, length, refl, sym, ap, ◌∙◌, subst}
 use Rattle.coco_claim.specs.Seats.{Drawer, Round}
-use Rattle.coco_worker.specs.Working.{Job, Worked, Works, IsGated}
+use Rattle.coco_desks.proofs.GainLemmas.{still_of}
+use Rattle.coco_worker.specs.Working.{Job, Worked, Works}
 use Rattle.coco_worker.specs.declared.slot.Slot.{Slot}
-use Rattle.coco_worker.proofs.GainLemmas.{still_of}
 use Rattle.coco_worker.proofs.WorkLemmas.{drew, same_claims, the_job, works_drawn, works_redrawn, works_so_more, works_so_none}
 use Rattle.coco_worker.proofs.worker.work.Goals as goal
 
@@ -15,7 +15,8 @@ loop-place-init g c =
       worker = refl;
       seat = c.requires.seat;
       over = tt;
-      so_far = works_so_none job (g.G.Gate.passed c.args.gate.now c.args.slot.now.worker) c.args.slot.now;
+      gated = λ is. is;
+      so_far = works_so_none job c.args.slot.now;
     }
 
 pub work_off-requires-clause-locks : goal.work_off-requires-clause-locks
@@ -33,7 +34,6 @@ loop-place-preserved g c =
     let seat : Drawer = c.next.new.seat in
     let place : ℕ = c.in-Some.place in
     let job : ℕ → Job = λ w. the_job c.args.procs.now c.args.requests.now (length c.args.shards.now) w c.args.config (g.N.Net.carries c.args.net.now) in
-    let passed : ℕ → ℕ → Type 0 = g.G.Gate.passed c.args.gate.now in
     let worked = c.in_ok-work_off.ensures.worked in
     let one : List Worked = worked.0 ∷ [] in
     let draws : seat ≡ record b.seat { drawn = b.seat.drawn ++ place ∷ [] } = drew b.seat seat place c.in-Some.ensures.seat c.in-Some.ensures.some.1 in
@@ -44,8 +44,9 @@ loop-place-preserved g c =
       worker = c.work_off.ensures.worker ∙ before.worker;
       seat = same_claims b.seat seat d.seat place c.args.claims.now c.work_off.ensures.seat draws before.seat;
       over = c.in_ok-work_off.ensures.over;
-      so_far = works_so_more (job a.worker) (passed a.worker) a b d seat worked.0 place before.same before.same_copies before.so_far draws below worked.1
-          (subst (λ (w : ℕ). Works (job w) (record b { seat = seat }) d one) before.worker worked.2) (subst (λ (w : ℕ). IsGated (passed w) worked.0) before.worker worked.3) c.work_off.ensures.seat;
+      gated = λ is. c.in_ok-work_off.ensures.gated (before.gated is);
+      so_far = works_so_more (job a.worker) a b d seat worked.0 place before.same before.same_copies before.so_far draws below worked.1
+          (subst (λ (w : ℕ). Works (job w) (record b { seat = seat }) d one) before.worker worked.2) c.work_off.ensures.seat;
     }
 
 pub returns-clause-worked : goal.returns-clause-worked
@@ -55,10 +56,11 @@ returns-clause-worked g c =
     let a : Slot = c.args.slot.now in
     let b : Slot = c.loop-place.slot in
     let seat : Drawer = c.next.new.seat in
-    let job : Job = the_job c.args.procs.now c.args.requests.now (length c.args.shards.now) a.worker c.args.config (g.N.Net.carries c.args.net.now) in
-    let passed : ℕ → Type 0 = g.G.Gate.passed c.args.gate.now a.worker in (
+    let job : Job = the_job c.args.procs.now c.args.requests.now (length c.args.shards.now) a.worker c.args.config (g.N.Net.carries c.args.net.now) in (
       so.worked,
       works_redrawn job a b seat so.worked so.works,
-      works_drawn job passed a b seat so (ap (λ (r : Round). r.n) before.seat ∙ c.requires.numbers) c.in_default.ensures.seat (sym c.in_default.ensures.none),
-      so.gated,
+      works_drawn job a b seat so (ap (λ (r : Round). r.n) before.seat ∙ c.requires.numbers) c.in_default.ensures.seat (sym c.in_default.ensures.none),
     )
+
+pub returns-clause-gated : goal.returns-clause-gated
+returns-clause-gated g c = c.loop-place.invariant.gated

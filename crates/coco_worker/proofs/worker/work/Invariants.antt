@@ -1,6 +1,6 @@
 use Rattle.std.proofs.Common.{◌≡◌, ◌-◌, length}
-use Rattle.coco_worker.specs.Gains.{AreSame}
-use Rattle.coco_worker.specs.Trying.{IsOver}
+use Rattle.coco_desks.specs.Gains.{AreSame}
+use Rattle.coco_worker.specs.Trying.{IsGated, IsOver}
 use Rattle.coco_worker.proofs.WorkLemmas.{WorksSoFar, the_job}
 use Rattle.coco_worker.proofs.worker.work.Given as goal
 
@@ -12,7 +12,8 @@ invariant-loop-place g l = record {
   worker : l.slot.worker ≡ l.initial.slot.worker;
   seat : l.slot.seat.claims ≡ l.claims;
   over : IsOver l.room;
-  so_far : WorksSoFar (the_job l.procs l.requests (length l.shards) l.initial.slot.worker l.config (g.N.Net.carries l.net)) (g.G.Gate.passed l.gate l.initial.slot.worker) l.initial.slot l.slot;
+  gated : IsGated (g.G.Gate.named l.gate) l.initial.slot → IsGated (g.G.Gate.named l.gate) l.slot;
+  so_far : WorksSoFar (the_job l.procs l.requests (length l.shards) l.initial.slot.worker l.config (g.N.Net.carries l.net)) l.initial.slot l.slot;
 }
 
 abbrev pub decreases-loop-place : goal.decreases-loop-place

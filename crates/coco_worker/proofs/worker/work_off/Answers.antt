@@ -1,12 +1,12 @@
-use Rattle.std.proofs.Common.{◌≡◌, ℕ, length, None, Some, refl, subst}
+use Rattle.std.proofs.Common.{◌≡◌, ℕ, length, None, Some, refl, sym, subst}
 use Rattle.std.specs.List.{slice_get}
 use Rattle.coco_types.specs.declared.call.Request.{Request}
+use Rattle.coco_desks.specs.Gains.{Gain}
 use Rattle.coco_worker.specs.Copying.{asked, puts_at}
-use Rattle.coco_worker.specs.Gains.{Gain}
-use Rattle.coco_worker.specs.Trying.{TriesOut}
+use Rattle.coco_worker.specs.Trying.{IsGated, TriesOut}
 use Rattle.coco_worker.specs.Working.{Job, commit_at}
 use Rattle.coco_worker.specs.declared.slot.Slot.{Slot}
-use Rattle.coco_worker.proofs.WorkLemmas.{WorkedAt, by_both, lands_commit, lands_tail, no_commit, placed_at, tail_more, the_job, worked_by, works_one}
+use Rattle.coco_worker.proofs.WorkLemmas.{WorkedAt, by_both, lands_commit, lands_tail, placed_at, tail_more, the_job, worked_by, works_one}
 use Rattle.coco_worker.proofs.ScriptLemmas.{by_ok}
 use Rattle.coco_worker.proofs.TryLemmas.{same_worker}
 use Rattle.coco_worker.proofs.worker.work_off.Goals as goal
@@ -24,17 +24,13 @@ returns-in-Some-clause-worked g c =
     let out : TriesOut j.procs request place j.partitions j.config.attempts a b c.try_until.new.ends c.try_until.new.room (Some time) =
     subst (TriesOut j.procs request place j.partitions j.config.attempts a b c.try_until.new.ends c.try_until.new.room) c.in-Some.is c.in_ok-time.ensures.tried in
     let worker : b.worker ≡ a.worker = same_worker a b c.in_ok-time.ensures.others in
-    by_both {C = WorkedAt j place a d (g.G.Gate.passed c.args.gate.now a.worker)} c.keep.result c.keep.ensures.pieces c.keep.ensures.copied
+    by_both {C = WorkedAt j place a d} c.keep.result c.keep.ensures.pieces c.keep.ensures.copied
     (λ pieces copied. (
       worked_by j request place a b d c.try_until.new.ends c.try_until.new.room (Some time) placed refl out,
       out.at,
       works_one j request place a b d c.try_until.new.ends c.try_until.new.room (Some time) placed refl out
           (lands_commit j request place time a b d out.writes c.try_until.new.ends c.in_ok-time.ensures.others c.keep.ensures.others (pieces out.tries.last.outcome out.writes out.ended)
           (subst (λ (w : ℕ). Gain asked b.copy_passes.items d.copy_passes.items (λ table. puts_at j.carries (record (commit_at j place time) { worker = w }) table out.writes)) worker (copied out.tries.last.outcome out.writes out.ended))),
-      record {
-        began = c.in_ok-time.ensures.began;
-        committed = λ _. subst (λ (w : ℕ). g.G.Gate.passed c.args.gate.now w 2) worker c.pass.ensures;
-      },
     ))
 
 pub returns-in-None-clause-worked : goal.returns-in-None-clause-worked
@@ -48,14 +44,18 @@ returns-in-None-clause-worked g c =
     let placed : slice_get j.requests place ≡ Some request = placed_at j.requests place request c.requires.there c.index-requests-place.is in
     let out : TriesOut j.procs request place j.partitions j.config.attempts a b c.try_until.new.ends c.try_until.new.room None =
     subst (TriesOut j.procs request place j.partitions j.config.attempts a b c.try_until.new.ends c.try_until.new.room) c.in-None.is c.in_ok-time.ensures.tried in
-    by_ok {B = WorkedAt j place a d (g.G.Gate.passed c.args.gate.now a.worker)} c.push.result c.push.ensures.ok
+    by_ok {B = WorkedAt j place a d} c.push.result c.push.ensures.ok
     (λ pushed. (
       worked_by j request place a b d c.try_until.new.ends c.try_until.new.room None placed refl out,
       out.at,
       works_one j request place a b d c.try_until.new.ends c.try_until.new.room None placed refl out
           (lands_tail j request place a b d out.writes c.try_until.new.ends c.in_ok-time.ensures.others (tail_more b c.push.new.self request c.try_until.new.ends pushed)),
-      record {
-        began = c.in_ok-time.ensures.began;
-        committed = λ is. absurd (no_commit out.tries.last.outcome out.time_is is);
-      },
     ))
+
+pub returns-in-Some-clause-gated : goal.returns-in-Some-clause-gated
+returns-in-Some-clause-gated g c = by_ok {B = IsGated (g.G.Gate.named c.args.gate.now) c.args.slot.now → IsGated (g.G.Gate.named c.args.gate.now) c.keep.new.slot} c.keep.result c.keep.ensures.pieces
+    (λ _ is. subst (IsGated (g.G.Gate.named c.args.gate.now)) (sym c.keep.ensures.others) (c.in_ok-time.ensures.gated is))
+
+pub returns-in-None-clause-gated : goal.returns-in-None-clause-gated
+returns-in-None-clause-gated g c = by_ok {B = IsGated (g.G.Gate.named c.args.gate.now) c.args.slot.now → IsGated (g.G.Gate.named c.args.gate.now) (record c.try_until.new.slot { tail = c.push.new.self })} c.push.result c.push.ensures.ok
+    (λ _. c.in_ok-time.ensures.gated)

@@ -1,0 +1,5 @@
+pub mod GainLemmas
+pub mod RowLemmas
+mod ClosingLemmas
+pub mod StartingLemmas
+pub mod DeskLemmas

@@ -1,0 +1,4 @@
+pub mod Gains
+pub mod Rows
+pub mod Locking
+pub mod Desks
