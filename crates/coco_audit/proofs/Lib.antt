@@ -1,6 +1,5 @@
 pub mod Between
 pub mod Fitting
-pub mod LentMaps
 pub mod LineLemmas
 pub mod Replies
 pub mod Tokens

@@ -1,3 +1,2 @@
 pub mod Differing
-pub mod Maps
 pub mod Texts

@@ -7,13 +7,13 @@ ghost use Rattle.json.specs.Tree.{json_tokens};
 ghost use Rattle.serde_json.specs.Data.{array};
 ghost use Rattle.serde_json.specs.Written.{outline};
 ghost use Rattle.coco_lines.specs.Texts.{reply_key, reply_json};
-ghost use Rattle.coco_audit.specs.Maps.{joined, lent_map, map_with};
+ghost use Rattle.coco_load.specs.RowMaps.{joined, lent_map, map_with};
 ghost use Rattle.coco_audit.specs.Texts.{args_json, dump_done_json, dump_row_json, dump_done_text, dump_row_text, dump_text, proc_name, table_name};
 
-use crate::merge::{LentMap, merged};
 use crate::writing::{ended, put_answer, put_count, put_reply, put_text, put_value, writer_over};
 use coco_ast::Checked;
 use coco_kept::Kept;
+use coco_load::{LentMap, merged};
 use coco_types::{Args, Done, KeptReply, Key, MapRows, NoMemory, Value};
 use json::Writer;
 use std::alloc::{AllocError, Global};

@@ -2,10 +2,8 @@
 #![tactic(auto)]
 
 pub mod dump;
-mod merge;
 pub mod verify;
 mod writing;
 
 pub use dump::{dump_of, write_dump_done, write_dump_row};
-pub use merge::{LentMap, merged};
 pub use verify::{NotSerial, verify_of, write_not_serial, write_serial};

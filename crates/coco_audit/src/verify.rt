@@ -5,7 +5,7 @@ ghost use Rattle.json.specs.Token.{key};
 ghost use Rattle.json.specs.Tree.{json_tokens};
 ghost use Rattle.serde_json.specs.Written.{outline};
 ghost use Rattle.coco_ast.specs.History.{RepliesAreRuns};
-ghost use Rattle.coco_audit.specs.Maps.{map_with};
+ghost use Rattle.coco_load.specs.RowMaps.{map_with};
 ghost use Rattle.coco_audit.specs.Differing.{AllFit, IsFirstUnlike};
 ghost use Rattle.coco_audit.specs.Texts.{reply_object, not_serial_json, not_serial_text, serial_text};
 

@@ -13,6 +13,7 @@ use Rattle.coco_append.proofs.PastLemmas.{store_besides}
 use Rattle.coco_entry.specs.declared.layout.Layout.{Layout}
 use Rattle.coco_entry.specs.declared.layout.LayoutEntry.{LayoutEntry}
 use Rattle.coco_entry.specs.Layouts.{IsLayout, is_named}
+use Rattle.coco_lines.specs.Alike.{NoLineTells}
 use Rattle.coco_log.specs.Changes.{SameBesides}
 use Rattle.coco_log.specs.Drafts.{HasLog, KeepsLog}
 use Rattle.coco_log.specs.Grammar.{IsLog}
@@ -90,15 +91,20 @@ module _ (store : Opened) (sound : IsSoundStore store) (c : Contents) (has : Has
     pub is_from : IsCompactedFrom c (compacted_with entry entries_in c) epoch
     is_from = law files c epoch entry entries_in good is_next is limits its_layout its_base
 
-    pub compaction : ((ps : Procedures) (h : History) (n : ℕ) → StayAlike ps h (compacted ps n h)) → IsCompaction c (compacted_with entry entries_in c)
-    compaction alike = record {
+    stay_alike : ((ps : Procedures) (h : History) (n : ℕ) → StayAlike ps h (compacted ps n h)) → StayAlike c.setting.tree (history_of c) (history_of (compacted_with entry entries_in c))
+    stay_alike alike = subst (λ (h : History). StayAlike c.setting.tree (history_of c) h) (sym is_from.history) (alike c.setting.tree (history_of c) epoch)
+
+    pub compaction : ((ps : Procedures) (h : History) (n : ℕ) → StayAlike ps h (compacted ps n h)) → ((ps : Procedures) (g h : History) → StayAlike ps g h → NoLineTells ps g h)
+        → IsCompaction c (compacted_with entry entries_in c)
+    compaction alike unseen = record {
       epoch = epoch;
       greatest = is_next;
       layout = its_layout;
       base = its_base;
       is = refl;
       history = is_from.history;
-      alike = subst (λ (h : History). StayAlike c.setting.tree (history_of c) h) (sym is_from.history) (alike c.setting.tree (history_of c) epoch);
+      alike = stay_alike alike;
+      unseen = unseen c.setting.tree (history_of c) (history_of (compacted_with entry entries_in c)) (stay_alike alike);
     }
 
 -- files that a layout doesn't name may change

@@ -8,8 +8,8 @@ use Rattle.std.specs.Map.{keys_of}
 use Rattle.std.proofs.lemmas.List.{length-map}
 use Rattle.coco_types.specs.RowKey.{RowKey, key_cmp}
 use Rattle.coco_types.specs.declared.value.Value.{Value}
-use Rattle.coco_audit.specs.Maps.{lent_map}
-use Rattle.coco_audit.proofs.LentMaps.{lent_entries}
+use Rattle.coco_load.specs.RowMaps.{lent_map}
+use Rattle.coco_load.proofs.LentMaps.{lent_entries}
 
 abbrev pub shown : List (RowKey × Bor Value) → List (RowKey × Value)
 shown es = map (λ e. (e.0, e.1.now)) es

@@ -16,7 +16,7 @@ use Rattle.coco_types.proofs.Keys.{is_key, key_itself, key_swap, one_key}
 use Rattle.coco_ast.specs.Keyed.{Rows, put_over, value_at}
 use Rattle.coco_ast.proofs.Lists.{all_append, all_weaker}
 use Rattle.coco_shard.specs.RowState.{ListsRows, RowState, ShardState, resting, stable_at, value_at as version_at}
-use Rattle.coco_audit.specs.Maps.{as_write, joined, map_with}
+use Rattle.coco_load.specs.RowMaps.{as_write, joined, map_with}
 use Rattle.coco_recover.specs.Opening.{ShardsHold, shard_in}
 
 -- ---- rows of one map

@@ -7,6 +7,7 @@ use Rattle.coco_types.specs.declared.call.Done.{Done}
 use Rattle.coco_types.specs.declared.value.Value.{Value}
 use Rattle.coco_host.specs.Files.{Files}
 use Rattle.coco_ast.specs.History.{StayAlike, compacted, floor, kept}
+use Rattle.coco_lines.specs.Alike.{NoLineTells}
 use Rattle.coco_entry.specs.declared.base.TheConstants.{MOST_ITEMS}
 use Rattle.coco_entry.specs.declared.layout.LayoutEntry.{LayoutEntry}
 use Rattle.coco_load.specs.Epochs.{IsNextOf}
@@ -74,6 +75,7 @@ pub record IsCompaction (c d : Contents) : Type 0 where
   pub is : d ≡ compacted_with d.setting.entry d.base c
   pub history : history_of d ≡ compacted c.setting.tree epoch (history_of c)
   pub alike : StayAlike c.setting.tree (history_of c) (history_of d)
+  pub unseen : NoLineTells c.setting.tree (history_of c) (history_of d)
 
 -- files that are a good store of what such contents are compacted to
 abbrev pub HasCompacted : Contents → Files → Type 0

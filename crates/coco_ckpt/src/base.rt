@@ -3,7 +3,7 @@
 ghost use Rattle.std.specs.Prelude.{◌≡◌, ℕ, List, [], ◌∷◌, ◌++◌, OnOk};
 ghost use Rattle.std.specs.FinMap.{entries};
 ghost use Rattle.coco_ast.specs.History.{IsRising};
-ghost use Rattle.coco_audit.specs.Maps.{lent_map};
+ghost use Rattle.coco_load.specs.RowMaps.{lent_map};
 ghost use Rattle.coco_log.specs.Changes.{ChangesOnly};
 ghost use Rattle.coco_log.specs.Drafts.{Drafts};
 ghost use Rattle.coco_log.specs.Faults.{CountsFault};
@@ -12,10 +12,10 @@ ghost use Rattle.coco_ckpt.specs.Writing.{DraftsBase, HasBase, HasItems};
 
 use crate::dones::write_dones;
 use crate::rows::write_rows;
-use coco_audit::LentMap;
 use coco_entry::{BaseHead, put_head};
 use coco_host::Host;
 use coco_kept::Kept;
+use coco_load::LentMap;
 use coco_log::{Draft, LogFault, MOST_ENTRY_BYTES};
 use coco_store::kinds::BASE;
 use std::alloc::Global;

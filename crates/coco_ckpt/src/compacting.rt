@@ -16,6 +16,7 @@ use coco_append::add_layout;
 use coco_ast::laws::compacted_alike;
 use coco_entry::LayoutEntry;
 use coco_host::Host;
+use coco_lines::laws::alike_lines;
 use coco_log::LogFault;
 use coco_recover::Opened;
 use std::alloc::Global;
@@ -36,6 +37,7 @@ pub fn compact_store<H: Host>(alloc: Global, host: &mut H, store: Opened) -> Res
     // The laws by which the new files are a store like the old one; the calls do nothing.
     a_compacted_store_is_good();
     compacted_alike();
+    alike_lines();
     let Opened {
         layout,
         kept,

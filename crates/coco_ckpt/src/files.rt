@@ -4,7 +4,7 @@ ghost use Rattle.std.specs.Prelude.{◌≡◌, ℕ, ◌<◌, false, ◌∷◌, [
 ghost use Rattle.std.specs.FinMap.{entries};
 ghost use Rattle.coco_ast.specs.History.{IsRising};
 ghost use Rattle.coco_ast.specs.Keyed.{Rows};
-ghost use Rattle.coco_audit.specs.Maps.{joined, lent_map, map_with};
+ghost use Rattle.coco_load.specs.RowMaps.{joined, lent_map, map_with};
 ghost use Rattle.coco_entry.specs.Layouts.{HasFields, is_named};
 ghost use Rattle.coco_log.specs.Changes.{ChangesOnly};
 ghost use Rattle.coco_log.specs.Faults.{CountsFault};
@@ -12,10 +12,10 @@ ghost use Rattle.coco_recover.specs.Opening.{ShardsHold};
 ghost use Rattle.coco_ckpt.specs.Writing.{HasBase, HasEmptyLogs};
 
 use crate::base::write_base;
-use coco_audit::{LentMap, merged};
 use coco_entry::Layout;
 use coco_host::Host;
 use coco_kept::Kept;
+use coco_load::{LentMap, merged};
 use coco_log::LogFault;
 use coco_make::make_empty_logs;
 use coco_shard::Shard;

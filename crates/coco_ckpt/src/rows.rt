@@ -4,7 +4,7 @@ ghost use Rattle.std.specs.Prelude.{◌≡◌, ℕ, ◌<◌, None, List, [], ◌
 ghost use Rattle.std.specs.FinMap.{entries};
 ghost use Rattle.coco_types.specs.RowKey.{RowKey};
 ghost use Rattle.coco_types.specs.declared.value.Value.{Value};
-ghost use Rattle.coco_audit.specs.Maps.{lent_map};
+ghost use Rattle.coco_load.specs.RowMaps.{lent_map};
 ghost use Rattle.coco_bytes.specs.Lists.{FitInTurn};
 ghost use Rattle.coco_entry.specs.Bases.{AreItems, BaseRowRises};
 ghost use Rattle.coco_entry.specs.declared.base.TheConstants.{MOST_ITEMS};
@@ -15,9 +15,9 @@ ghost use Rattle.coco_store.specs.Entries.{IsBaseEntry, Values, base_bytes};
 ghost use Rattle.coco_ckpt.specs.Writing.{HasAdded, HasPut};
 
 use crate::base::add_entry;
-use coco_audit::LentMap;
 use coco_entry::{MOST_ITEMS, put_base_rows};
 use coco_host::Host;
+use coco_load::LentMap;
 use coco_log::{Draft, LogFault};
 use coco_types::{Key, Value};
 use std::alloc::Global;

@@ -1,5 +1,6 @@
 //! The Dones whose replies are kept.
-ghost use Rattle.std.specs.Prelude.{◌≡◌, ◌+◌, ◌<◌, ◌≤◌, ◌↔◌, ℕ, List, Option, [], ◌∷◌, ◌++◌, not, length, slice_get, None, Some, IfSome, IsTrue, OnOk};
+ghost use Rattle.std.specs.Prelude.{◌≡◌, ◌+◌, ◌<◌, ◌≤◌, ◌↔◌, ℕ, List, Option, [], ◌∷◌, ◌++◌, not, length, nat_le, slice_get, None, Some, IfSome, IsTrue, OnOk};
+ghost use Rattle.std.specs.List.{prefix_len};
 ghost use Rattle.std.specs.Iterator.Runs.{YieldsRefsInOrder};
 ghost use Rattle.std.specs.VecDeque.Iter.{deque_iter_rest, deque_iter_steps};
 ghost use Rattle.std.specs.Option.{option_copied};
@@ -116,6 +117,13 @@ impl Kept {
             Some(last) => last.epoch,
             None => 0,
         }
+    }
+
+    /// How many Dones, from the first on, are of the epochs up to this one.
+    pub fn count_until(&self, epoch: u64) -> u64
+        ensures { result ≡ prefix_len (λ d. nat_le d.epoch epoch) self.now.dones }
+    {
+        self.iter().take_while(|done| done.epoch <= epoch).count() as u64
     }
 
     /// The Done of an id, if it is held. It takes no memory.

@@ -1,3 +1,4 @@
+pub mod AlikeLemmas
 pub mod ClassLemmas
 pub mod CutLemmas
 pub mod FitLemmas

@@ -87,7 +87,7 @@ read_is procs line r h = h
 
 -- ---- ids among requests
 
-abbrev has : ℕ → List Request → Bool
+abbrev pub has : ℕ → List Request → Bool
 has id rs = list_any (λ (q : Request). nat_eq id q.id) rs
 
 has_left : (id : ℕ) (xs ys : List Request) → has id xs ≡ true → has id (xs ++ ys) ≡ true
@@ -161,21 +161,21 @@ has_filter : (id : ℕ) (p : Done → Bool) (ds : List Done) → has id (map req
 has_filter id p [] h = h
 has_filter id p (d ∷ ds) h = passed id d ds (filter p ds) (p d) (has_filter id p ds) h
 
-has_more : (id : ℕ) (xs ys : List Done) → has id (map request_of xs) ≡ true → has id (map request_of (xs ++ ys)) ≡ true
+pub has_more : (id : ℕ) (xs ys : List Done) → has id (map request_of xs) ≡ true → has id (map request_of (xs ++ ys)) ≡ true
 has_more id xs ys h = ap (has id) (map-append request_of xs ys) ∙ has_left id (map request_of xs) (map request_of ys) h
 
-has_later : (id : ℕ) (xs ys : List Done) → has id (map request_of ys) ≡ true → has id (map request_of (xs ++ ys)) ≡ true
+pub has_later : (id : ℕ) (xs ys : List Done) → has id (map request_of ys) ≡ true → has id (map request_of (xs ++ ys)) ≡ true
 has_later id xs ys h = ap (has id) (map-append request_of xs ys) ∙ has_right id (map request_of xs) (map request_of ys) h
 
 -- ---- a batch
 
 -- what a history has beside the one that it grew from
-record Adds (h : History) (rs : List Request) (g : History) : Type 0 where
+pub record Adds (h : History) (rs : List Request) (g : History) : Type 0 where
   pub more : List Done
   pub dones : all_dones g ≡ all_dones h ++ more
   pub have : (id : ℕ) → has id rs ≡ true → has id (map request_of more) ≡ true
 
-adds : (h : History) (rs : List Request) (g : History) → GrowsBy h rs g → Adds h rs g
+pub adds : (h : History) (rs : List Request) (g : History) → GrowsBy h rs g → Adds h rs g
 adds h [] g same = record { more = []; dones = ap all_dones same ∙ sym (append-nil (all_dones h)); have = λ id e. e }
 adds h (r ∷ rs) g grows = record {
   more = grows.0.dones;
@@ -195,7 +195,7 @@ reply_of procs k line (New r) ds is known new =
     let d = done_by r.id ds (new r.id (ap (λ b. b || false) (nat_eq_equiv.refl r.id))) in
     record { request = r; reads = read_is procs line r n.0; id_is = refl; done = d.0; found = d.1 }
 
-replies_of : (procs : Procedures) (k : Known) (lines : List Line) (cs : List Class) (ds : List Done) → AreClasses procs k lines cs → ((id : ℕ) → has id k.requests ≡ true → has id (map request_of ds) ≡ true)
+pub replies_of : (procs : Procedures) (k : Known) (lines : List Line) (cs : List Class) (ds : List Done) → AreClasses procs k lines cs → ((id : ℕ) → has id k.requests ≡ true → has id (map request_of ds) ≡ true)
     → ((id : ℕ) → has id (new_of cs) ≡ true → has id (map request_of ds) ≡ true) → HaveReplies procs ds lines cs
 replies_of procs k [] cs ds are known new = are
 replies_of procs k (line ∷ lines) [] ds are known new = absurd are
@@ -215,7 +215,7 @@ batch_replies procs h b cs g grows =
 
 -- ---- Dones stay
 
-found_still : (id : ℕ) (xs ys : List Done) (d : Done) → done_of id xs ≡ Some d → done_of id (xs ++ ys) ≡ Some d
+pub found_still : (id : ℕ) (xs ys : List Done) (d : Done) → done_of id xs ≡ Some d → done_of id (xs ++ ys) ≡ Some d
 found_still id xs ys d found = done_of-append id xs ys ∙ ap (λ o. option_or o (done_of id ys)) found
 
 reply_stays : (procs : Procedures) (xs ys : List Done) (line : Line) (c : Class) → MatchOption (replied_id c) ⊤ (HasReply procs xs line) → MatchOption (replied_id c) ⊤ (HasReply procs (xs ++ ys) line)

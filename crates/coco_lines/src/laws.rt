@@ -1,8 +1,9 @@
 //! What holds of classes, growth and answers, whatever the program does.
 
 ghost use Rattle.std.specs.Prelude.{◌≡◌, ◌++◌, ℕ, List, length, take};
-ghost use Rattle.coco_ast.specs.History.{History, IsOrdered, all_dones};
+ghost use Rattle.coco_ast.specs.History.{History, IsOrdered, StayAlike, all_dones};
 ghost use Rattle.coco_ast.specs.Tree.{Procedures};
+ghost use Rattle.coco_lines.specs.Alike.{NoLineTells};
 ghost use Rattle.coco_lines.specs.Answers.{answers_in};
 ghost use Rattle.coco_lines.specs.Batches.{AreBatches, Batch, joined};
 ghost use Rattle.coco_lines.specs.Growing.{GrowsByBatches};
@@ -38,4 +39,10 @@ pub fn one_reply()
         → IsOrdered before → GrowsByBatches procs before batches cs after → IsOrdered after }
     ensures replies { (procs : Procedures) (before : History) (batches : List Batch) (cs : List (List LineClass)) (after : History)
         → GrowsByBatches procs before batches cs after → HaveReplies procs (all_dones after) (joined batches) (joined cs) }
+{}
+
+/// No line tells two histories apart that are alike for answers and stay so: after each list of epochs that follows both,
+/// lines have the same classes, and a batch that they grow by with the same epochs has the same answers.
+pub fn alike_lines()
+    ensures { (procs : Procedures) (g h : History) → StayAlike procs g h → NoLineTells procs g h }
 {}

@@ -2,4 +2,5 @@ pub mod Epochs
 pub mod Keeping
 pub mod Laws
 pub mod Reading
+pub mod RowMaps
 pub mod Tables

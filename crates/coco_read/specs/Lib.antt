@@ -1,3 +1,4 @@
 pub mod Counting
 pub mod EntryRules
 pub mod Faults
+pub mod Messages

@@ -5,19 +5,38 @@ ghost use Rattle.coco_read.specs.Faults.{fault_of};
 
 use coco_log::LogFault;
 use coco_types::NoMemory;
-use thiserror::Error;
+use std::error::Error;
+use std::fmt;
 
 /// Why files weren't opened as a store.
-#[derive(Clone, Copy, Debug, PartialEq, Eq, Error)]
+#[derive(Clone, Copy, Debug, PartialEq, Eq)]
 pub enum OpenFault {
-    #[error("the disk failed")]
+    /// The host failed.
     Disk,
     /// They are no store: this file is refused first, from this byte on.
-    #[error("file {file} is no part of a store at byte {at}")]
     NotAStore { file: u32, at: u64 },
-    #[error("out of memory")]
     NoMemory,
 }
+
+impl fmt::Display for OpenFault {
+    ghost use Rattle.std.specs.Prelude.{Some};
+    ghost use Rattle.coco_read.specs.Messages.{fault_text};
+
+    ghost output = { λ x. Some (fault_text x) };
+
+    fn fmt<W: fmt::Write>(&self, f: &mut fmt::Formatter<W>) -> fmt::Result {
+        match self {
+            OpenFault::Disk => f.write_str("the disk failed"),
+            OpenFault::NotAStore { file, at } => write!(
+                f,
+                "file {file} is no part of a store at byte {at}"
+            ),
+            OpenFault::NoMemory => f.write_str("out of memory"),
+        }
+    }
+}
+
+impl Error for OpenFault {}
 
 impl From<NoMemory> for OpenFault {
     ghost from_gives = { λ _ e. e ≡ fault.NoMemory };

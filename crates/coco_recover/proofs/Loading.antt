@@ -1,5 +1,5 @@
 -- What is loaded while the entries of nodes are read.
-use Rattle.std.proofs.Common.{◌≡◌, ◌≢◌, ℕ, zero, suc, Bool, true, false, not, cond, nat_eq, List, [], ◌∷◌, ◌++◌, length, refl, sym, ap, subst, ◌∙◌, append_assoc, append-nil, arith}
+use Rattle.std.proofs.Common.{◌≡◌, ◌≢◌, ℕ, zero, suc, Bool, true, false, not, cond, nat_eq, List, [], ◌∷◌, ◌++◌, length, map, max, refl, sym, ap, subst, ◌∙◌, append_assoc, append-nil, arith}
 use Rattle.std.specs.Prelude.{IsTrue, ◌↔◌}
 use Rattle.std.specs.List.{flat_map}
 use Rattle.std.specs.Set.{is_member}
@@ -23,7 +23,7 @@ use Rattle.coco_shard.specs.RowState.{ShardState}
 use Rattle.coco_store.specs.Rules.{HavePrepared, IsNextPrepared, Setting, base_of, commit_epochs, prepared_epochs}
 use Rattle.coco_recover.specs.Bases.{Basis, entries_of}
 use Rattle.coco_recover.specs.Commits.{AreCommitted}
-use Rattle.coco_recover.specs.Nodes.{AreTaken, HoldsNodes, IsLoaded, NodeBasis, entries_at}
+use Rattle.coco_recover.specs.Nodes.{AreTaken, HoldsNodes, IsLoaded, NodeBasis, entries_at, greatest_of, greatest_prepared}
 use Rattle.coco_recover.specs.declared.commits.Committed.{Committed}
 use Rattle.coco_recover.specs.declared.nodes.Loaded.{Loaded}
 
@@ -126,6 +126,23 @@ taken_goes_on law b taken more e rules after old new is_committed is was longer 
   is_node = same ∙ was.is_node;
   holds = node_goes_on law b taken e old new is was.holds is_committed judged.2 load number;
 })
+
+-- ---- the greatest epoch that a node prepared
+
+greatest_push : (n : ℕ) (xs : List ℕ) (x : ℕ) → greatest_of n (xs ++ x ∷ []) ≡ max (greatest_of n xs) x
+greatest_push n [] x = refl
+greatest_push n (y ∷ xs) x = greatest_push (max n y) xs x
+
+-- with one entry more
+pub greatest_goes_on : (taken more : List Prepared) (e : Prepared) (old new : ℕ) → old ≡ greatest_prepared taken → more ≡ taken ++ e ∷ [] → new ≡ max old e.epoch → new ≡ greatest_prepared more
+greatest_goes_on taken more e old new was longer is =
+    is ∙ ap (λ n. max n e.epoch) was ∙ sym (ap greatest_prepared longer ∙ ap (greatest_of 0) (map-append (λ (p : Prepared). p.epoch) taken (e ∷ [])) ∙ greatest_push 0 (prepared_epochs taken) e.epoch)
+
+-- with one node more
+pub node_prepared : (nodes more : List (List Prepared)) (entries : List Prepared) (old new : List ℕ) (n : ℕ) → old ≡ map greatest_prepared nodes → more ≡ nodes ++ entries ∷ [] → n ≡ greatest_prepared entries
+    → new ≡ old ++ n ∷ [] → new ≡ map greatest_prepared more
+node_prepared nodes more entries old new n was longer greatest is =
+    is ∙ ap (λ l. l ++ n ∷ []) was ∙ ap (λ m. map greatest_prepared nodes ++ m ∷ []) greatest ∙ sym (ap (map greatest_prepared) longer ∙ map-append greatest_prepared nodes (entries ∷ []))
 
 -- ---- what lacks
 

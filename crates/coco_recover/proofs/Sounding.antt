@@ -1,10 +1,12 @@
 -- What holds of an opened store on every host.
-use Rattle.std.proofs.Common.{◌≡◌, ℕ, suc, ◌<◌, ◌≤◌, Bool, true, false, ◌||◌, nat_eq, List, [], ◌∷◌, ◌++◌, length, refl, sym, subst, ◌∙◌, arith}
+use Rattle.std.proofs.Common.{◌≡◌, ℕ, suc, ◌<◌, ◌≤◌, Bool, true, false, ◌||◌, nat_eq, List, [], ◌∷◌, ◌++◌, length, map, max, Global, refl, sym, ap, subst, ◌∙◌, arith}
 use Rattle.std.specs.List.{AllByRecursion, flat_map}
 use Rattle.std.specs.Set.{is_member}
+use Rattle.std.specs.declared.vec.Vec.{Vec}
 use Rattle.std.proofs.lemmas.Bool.{eqb-true}
+use Rattle.std.proofs.lemmas.List.{length-map}
 use Rattle.coco_types.specs.Limits.{epochs_end}
-use Rattle.coco_ast.proofs.Lists.{all_append, all_left, all_map}
+use Rattle.coco_ast.proofs.Lists.{all_append, all_left, all_map, all_right}
 use Rattle.coco_entry.specs.declared.commit.Commit.{Commit}
 use Rattle.coco_entry.specs.declared.prepared.Prepared.{Prepared}
 use Rattle.coco_load.specs.Epochs.{IsNextTo}
@@ -17,7 +19,7 @@ use Rattle.coco_store.proofs.Naming.{names_apart}
 use Rattle.coco_recover.specs.Bases.{IsBased, entries_of}
 use Rattle.coco_recover.specs.Commits.{AreCommitted}
 use Rattle.coco_recover.specs.Layouts.{IsGoodLast, setting_of}
-use Rattle.coco_recover.specs.Nodes.{entries_at, nodes_of}
+use Rattle.coco_recover.specs.Nodes.{entries_at, greatest_of, greatest_prepared, nodes_of}
 use Rattle.coco_recover.specs.Opening.{AreLogs, IsSoundStore, IsTabled}
 use Rattle.coco_recover.specs.Steps.{AreRead}
 use Rattle.coco_recover.specs.declared.base.Based.{Based}
@@ -72,11 +74,28 @@ epochs_below last committed loaded count good are all each =
 next_below : (epochs : List ℕ) (next : ℕ) → IsNextTo epochs next → AllByRecursion IsBelowEnd epochs → next ≤ epochs_end
 next_below epochs next is all = let below : is.greatest < epochs_end = member_of IsBelowEnd epochs is.greatest all is.one in omega (arith, is.next, below)
 
+-- ---- what each node prepared
+
+below_either : (m x n : ℕ) → m < n → x < n → max m x < n
+below_either m x n first second = omega arith
+
+greatest_below : (n m : ℕ) (xs : List ℕ) → m < n → AllByRecursion (λ x. x < n) xs → greatest_of m xs < n
+greatest_below n m [] first all = first
+greatest_below n m (x ∷ xs) first all = greatest_below n (max m x) xs (below_either m x n first all.0) all.1
+
+nodes_below : (n : ℕ) (nodes : List (List Prepared)) → 0 < n → AllByRecursion (λ e. e < n) (flat_map prepared_epochs nodes) → AllByRecursion (λ e. e < n) (map greatest_prepared nodes)
+nodes_below n [] some all = tt
+nodes_below n (entries ∷ nodes) some all = (
+  greatest_below n 0 (prepared_epochs entries) some (all_left (λ e. e < n) (prepared_epochs entries) (flat_map prepared_epochs nodes) all),
+  nodes_below n nodes some (all_right (λ e. e < n) (prepared_epochs entries) (flat_map prepared_epochs nodes) all),
+)
+
 -- ---- the store
 
-module _ (of_base : BaseDonesFollow) (of_commits : CommittedDonesFollow) (last : LastLayout) (committed : Committed) (loaded : Loaded) (based : Based) (logs : Logs)
+module _ (of_base : BaseDonesFollow) (of_commits : CommittedDonesFollow) (last : LastLayout) (committed : Committed) (loaded : Loaded) (based : Based) (logs : Logs) (prepared : Vec ℕ Global)
     (good : IsGoodLast last) (are : AreCommitted (setting_of last) committed) (read : AreRead last committed loaded logs.nodes.items last.entry.layout.nodes)
-    (rows : IsBased (setting_of last) based) (root : IsFresh logs.root 0 layouts_kind) (chief : IsFresh logs.chief last.entry.layout.chief_file commits_kind) where
+    (rows : IsBased (setting_of last) based) (root : IsFresh logs.root 0 layouts_kind) (chief : IsFresh logs.chief last.entry.layout.chief_file commits_kind)
+    (greatest : prepared.items ≡ map greatest_prepared (nodes_of loaded)) where
   are_logs : AreLogs last.entry.layout logs
   are_logs = record {
     root = root;
@@ -86,7 +105,7 @@ module _ (of_base : BaseDonesFollow) (of_commits : CommittedDonesFollow) (last :
     apart = λ n less same. (names_apart last.entry good.is).node-chief n less (sym chief.in_file ∙ same ∙ (read.fresh logs.root n less).in_file);
   }
 
-  pub is_sound : IsSoundStore (opened_of last committed loaded based logs)
+  pub is_sound : IsSoundStore (opened_of last committed loaded based logs prepared)
   is_sound =
       let s = setting_of last in
       let base = (base_of s (entries_of committed.base.items)).rows in
@@ -94,6 +113,8 @@ module _ (of_base : BaseDonesFollow) (of_commits : CommittedDonesFollow) (last :
       let entries = entries_at (nodes_of loaded) in
       let next = read.are.next in
       let above = all_left (λ (e : ℕ). e < loaded.next) (last.entry.layout.base_epoch ∷ epochs) (flat_map prepared_epochs (nodes_of loaded)) next.above in
+      let behind = all_right (λ (e : ℕ). e < loaded.next) (last.entry.layout.base_epoch ∷ epochs) (flat_map prepared_epochs (nodes_of loaded)) next.above in
+      let first : 0 < loaded.next = omega (arith, next.next) in
       record {
         is = good.is;
         limits = good.limits;
@@ -109,7 +130,9 @@ module _ (of_base : BaseDonesFollow) (of_commits : CommittedDonesFollow) (last :
         rises = are.rises;
         below = subst (AllByRecursion (λ (e : ℕ). e < loaded.next)) (sym are.remembered.epochs) above.1;
         keeps = keeps_below of_base of_commits s committed are.remembered loaded.next above.0 above.1;
-        first = omega (arith, next.next);
+        each_node = ap (length {A = ℕ}) greatest ∙ length-map (nodes_of loaded) greatest_prepared ∙ read.nodes;
+        prepared_below = subst (AllByRecursion (λ (e : ℕ). e < loaded.next)) (sym greatest) (nodes_below loaded.next (nodes_of loaded) first behind);
+        first = first;
         end = next_below (last.entry.layout.base_epoch ∷ epochs ++ flat_map prepared_epochs (nodes_of loaded)) loaded.next next
             (epochs_below last committed loaded last.entry.layout.nodes good are read.nodes read.each);
         early = good.early;

@@ -1,5 +1,5 @@
 -- The rules of a node's file, and what is remembered of its entries.
-use Rattle.std.specs.Prelude.{◌≡◌, ℕ, ◌<◌, List, [], ◌∷◌, ◌++◌, length, map, slice_index_or}
+use Rattle.std.specs.Prelude.{◌≡◌, ℕ, ◌<◌, List, [], ◌∷◌, ◌++◌, length, map, max, slice_index_or}
 use Rattle.std.specs.List.{flat_map}
 use Rattle.coco_entry.specs.Rows.{IsPrepared, prepared_bytes, prepared_in}
 use Rattle.coco_entry.specs.declared.commit.Commit.{Commit}
@@ -51,6 +51,17 @@ pub record HoldsNodes (b : Basis) (commits : List Commit) (nodes : List (List Pr
 -- so it is behind what was committed, once the nodes that it has are read
 abbrev pub IsLoaded : Setting → Committed → Loaded → Type 0
 IsLoaded s committed loaded = HoldsNodes (basis_of_committed s committed) committed.commits.items (nodes_of loaded) loaded
+
+-- ---- what a node prepared
+
+-- the greatest of these numbers and one more
+abbrev pub greatest_of : ℕ → List ℕ → ℕ
+greatest_of n [] = n
+greatest_of n (x ∷ xs) = greatest_of (max n x) xs
+
+-- the greatest epoch of a node's entries, 0 without one
+abbrev pub greatest_prepared : List Prepared → ℕ
+greatest_prepared entries = greatest_of 0 (prepared_epochs entries)
 
 -- ---- while a node is read
 

@@ -1,6 +1,6 @@
 -- What is had of an opened store: what its files hold, by logs that stand in them.
-use Rattle.std.specs.Prelude.{◌≡◌, ◌≢◌, ℕ, ◌%◌, ◌<◌, ◌≤◌, nat_eq, List, length, Option, None, slice_index, slice_index_or, IsSome}
-use Rattle.std.specs.List.{AllByRecursion, filter, flat_map, slice_get}
+use Rattle.std.specs.Prelude.{◌≡◌, ◌≢◌, ℕ, ◌%◌, ◌<◌, ◌≤◌, nat_eq, List, length, map, Option, None, slice_index, slice_index_or, IsSome}
+use Rattle.std.specs.List.{AllByRecursion, filter, flat_map, range_with_len, slice_get}
 use Rattle.std.specs.FinMap.{empty}
 use Rattle.std.specs.Option.{unwrap_or}
 use Rattle.coco_types.specs.RowKey.{RowKey}
@@ -28,6 +28,7 @@ use Rattle.coco_store.specs.Placement.{IsHeldBy}
 use Rattle.coco_store.specs.Rules.{IsWithinLimits, base_values, commit_epochs}
 use Rattle.coco_store.specs.Texts.{IsAcceptedText}
 use Rattle.coco_recover.specs.Layouts.{place_behind}
+use Rattle.coco_recover.specs.Nodes.{greatest_prepared}
 use Rattle.coco_recover.specs.declared.opening.Logs.{Logs}
 use Rattle.coco_recover.specs.declared.opening.Opened.{Opened}
 
@@ -62,6 +63,7 @@ pub record Has (keep : Option ℕ) (c : Contents) (store : Opened) : Type 0 wher
   pub procs : store.procs ≡ c.setting.tree
   pub dones : store.kept.dones ≡ kept (with_keep keep (history_of c))
   pub floor : store.kept.floor ≡ floor (with_keep keep (history_of c))
+  pub prepared : store.prepared.items ≡ map (λ n. greatest_prepared (c.prepared n)) (range_with_len 0 c.setting.entry.layout.nodes)
   pub tables : HoldMaps c.setting.entry.layout (maps_of c) store.shards.items store.copies.items
   pub map : HaveRows c → HoldMap c.setting.entry.layout (map_in c) store.shards.items store.copies.items
   pub primaries : HaveRows c → ShardsHold (map_in c) store.shards.items
@@ -115,7 +117,7 @@ pub record AreKeptBelow (procs : Procedures) (kept : Keeping) (epoch : ℕ) : Ty
 abbrev pub IsTabled : Procedures → RowKey → Type 0
 IsTabled procs key = key.table < length procs.tables
 
--- the layout is good, each table holds a map of its partition, the shards hold one map together, each row's table is there, the committed epochs rise, and the next epoch's number is above them and those of the kept Dones
+-- the layout is good, each table holds a map of its partition, the shards hold one map together, each row's table is there, the committed epochs rise, and the next epoch's number is above them, above what each node prepared, and above those of the kept Dones
 pub record IsSoundStore (store : Opened) : Type 0 where
   pub is : IsLayout (entry_in store)
   pub limits : IsWithinLimits (entry_in store)
@@ -128,6 +130,8 @@ pub record IsSoundStore (store : Opened) : Type 0 where
   pub base_tabled : AllByRecursion (λ r. IsTabled store.procs r.0) (flat_map (λ rows. rows) store.base.items)
   pub rises : RisesAbove store.layout.base_epoch store.epochs.items
   pub below : AllByRecursion (λ e. e < store.next_epoch) store.epochs.items
+  pub each_node : length store.prepared.items ≡ store.layout.nodes
+  pub prepared_below : AllByRecursion (λ e. e < store.next_epoch) store.prepared.items
   pub keeps : AreKeptBelow store.procs store.kept store.next_epoch
   pub first : 0 < store.next_epoch
   pub end : store.next_epoch ≤ epochs_end

@@ -1,6 +1,6 @@
 //! A store's files, read one after another.
 
-ghost use Rattle.std.specs.Prelude.{◌≡◌, ℕ, ◌<◌, ◌∷◌, ◌++◌, [], Some, Err, IfOk, IfSome, List, OnOk};
+ghost use Rattle.std.specs.Prelude.{◌≡◌, ℕ, ◌<◌, ◌∷◌, ◌++◌, [], Some, Err, IfOk, IfSome, List, OnOk, map};
 ghost use Rattle.coco_host.specs.Files.{Files};
 ghost use Rattle.coco_entry.specs.declared.prepared.Prepared.{Prepared as PreparedEntry};
 ghost use Rattle.coco_load.specs.Tables.{HoldMap};
@@ -14,7 +14,7 @@ ghost use Rattle.coco_store.specs.Rules.{base_of};
 ghost use Rattle.coco_recover.specs.Bases.{IsBased, IsHistoryOfBase, basis_of, entries_of};
 ghost use Rattle.coco_recover.specs.Commits.{AreCommitted, basis_of_committed};
 ghost use Rattle.coco_recover.specs.Layouts.{IsGoodLast, setting_of};
-ghost use Rattle.coco_recover.specs.Nodes.{IsLoaded, IsNode, node_basis_of, nodes_of};
+ghost use Rattle.coco_recover.specs.Nodes.{IsLoaded, IsNode, greatest_prepared, node_basis_of, nodes_of};
 ghost use Rattle.coco_recover.specs.Steps.{AreHeld, AreRead, HoldsCommitted, HoldsEntries, HoldsLast, HoldsParts, IsLeft, IsRead};
 ghost use Rattle.coco_recover.specs.Without.{IsHistoryRefusal};
 
@@ -115,7 +115,7 @@ pub(crate) fn read_commits<H: Host>(
     Ok((reading.into_committed()?, log))
 }
 
-/// What is loaded with the next node, and the node's log.
+/// What is loaded with the next node, the node's log, and the greatest epoch that it prepared.
 pub(crate) fn read_node<H: Host>(
     alloc: Global,
     host: &mut H,
@@ -123,12 +123,13 @@ pub(crate) fn read_node<H: Host>(
     committed: &Committed,
     node: u8,
     loaded: Loaded,
-) -> Result<(Loaded, Log), OpenFault>
+) -> Result<(Loaded, Log, u64), OpenFault>
     requires good { IsGoodLast last.now }
     requires node { IsNode (node_basis_of last.now committed.now loaded node) committed.now }
     requires loaded { IsLoaded (setting_of last.now) committed.now loaded }
     ensures ok { IfOk result (λ read. (entries : List PreparedEntry) × IsRead last.now committed.now node loaded read.0 entries
-        × ((files : Files) → H.reads host.old ≡ Some files → HoldsEntries files last.now committed.now node entries × IsOpened read.1 files (H.may_leave host.new))) }
+        × ((files : Files) → H.reads host.old ≡ Some files → HoldsEntries files last.now committed.now node entries × IsOpened read.1 files (H.may_leave host.new))
+        × (read.2 ≡ greatest_prepared entries)) }
     ensures log { IfOk result (λ read. IsFresh read.1 (file_of (setting_of last.now) node) prepared_kind) }
     ensures refused { (file at : ℕ) (files : Files) → result ≡ Err (fault.NotAStore file at) → H.reads host.old ≡ Some files
         → (file ≡ file_of (setting_of last.now) node) × IsFirst (IsNodeRefused (setting_of last.now) committed.now.commits.items node (files file)) at }
@@ -139,7 +140,8 @@ pub(crate) fn read_node<H: Host>(
     let file = last.entry.layout.node_files.as_slice()[usize::from(node)];
     let mut reading = NodeReading::new(last, committed, node, loaded);
     let log = read_file(alloc, host, file, PREPARED, &mut reading)?;
-    Ok((reading.into_loaded()?, log))
+    let (loaded, greatest) = reading.into_loaded()?;
+    Ok((loaded, log, greatest))
 }
 
 fn add_log(logs: &mut Vec<Log>, log: Log) -> Result<(), NoMemory>
@@ -149,20 +151,28 @@ fn add_log(logs: &mut Vec<Log>, log: Log) -> Result<(), NoMemory>
     Ok(())
 }
 
-/// What is loaded with all nodes, each in turn, and their logs.
+fn add_epoch(prepared: &mut Vec<u64>, epoch: u64) -> Result<(), NoMemory>
+    ensures { OnOk result (prepared.new.items ≡ prepared.old.items ++ epoch ∷ []) }
+{
+    prepared.push(epoch)?;
+    Ok(())
+}
+
+/// What is loaded with all nodes, each in turn, their logs, and the greatest epoch that each prepared.
 pub(crate) fn read_nodes<H: Host>(
     alloc: Global,
     host: &mut H,
     last: &LastLayout,
     committed: &Committed,
     tables: Tables,
-) -> Result<(Loaded, Vec<Log>), OpenFault>
+) -> Result<(Loaded, Vec<Log>, Vec<u64>), OpenFault>
     requires good { IsGoodLast last.now }
     requires committed { AreCommitted (setting_of last.now) committed.now }
     requires base { HoldMap last.now.entry.layout (base_of (setting_of last.now) (entries_of committed.now.base.items)).rows tables.shards.items tables.copies.items }
     ensures read { IfOk result (λ read. AreRead last.now committed.now read.0 read.1.items last.now.entry.layout.nodes) }
     ensures ok { IfOk result (λ read. (files : Files) → H.reads host.old ≡ Some files
         → AreHeld files (H.may_leave host.new) last.now committed.now (nodes_of read.0) read.1.items last.now.entry.layout.nodes) }
+    ensures prepared { IfOk result (λ read. read.2.items ≡ map greatest_prepared (nodes_of read.0)) }
     ensures refused { (file at : ℕ) (files : Files) → result ≡ Err (fault.NotAStore file at) → H.reads host.old ≡ Some files → HoldsLast files last.now
         → HoldsParts files last.now committed.now.base.items → HoldsCommitted files last.now committed.now → IsFirstRefusal files file at }
     ensures only { IsOnlyRead H.moment H.observed H.said H.reads H.may_leave host.old host.new }
@@ -171,10 +181,12 @@ pub(crate) fn read_nodes<H: Host>(
 {
     let mut loaded = Loaded::new(committed, tables);
     let mut logs = Vec::new(alloc);
+    let mut prepared = Vec::new(alloc);
     for node in 0..last.entry.layout.nodes {
-        let (more, log) = read_node(alloc, host, last, committed, node, loaded)?;
+        let (more, log, greatest) = read_node(alloc, host, last, committed, node, loaded)?;
         loaded = more;
         add_log(&mut logs, log)?;
+        add_epoch(&mut prepared, greatest)?;
     }
-    Ok((loaded, logs))
+    Ok((loaded, logs, prepared))
 }

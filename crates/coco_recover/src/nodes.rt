@@ -10,7 +10,7 @@ ghost use Rattle.coco_store.specs.Rules.{EachBehind, IsNextPrepared, Setting, ba
 ghost use Rattle.coco_recover.specs.Bases.{entries_of};
 ghost use Rattle.coco_recover.specs.Commits.{AreCommitted};
 ghost use Rattle.coco_recover.specs.Layouts.{setting_of};
-ghost use Rattle.coco_recover.specs.Nodes.{HoldsNodes, IsLoaded, IsNode, node_basis_of, nodes_of};
+ghost use Rattle.coco_recover.specs.Nodes.{HoldsNodes, IsLoaded, IsNode, greatest_prepared, node_basis_of, nodes_of};
 
 use crate::commits::Committed;
 use crate::layouts::LastLayout;
@@ -44,6 +44,8 @@ pub struct NodeReading<'a> {
     rules: NodeRules<'a>,
     loaded: Loaded,
     taken: Told<Prepared>,
+    /// The greatest epoch of the entries, 0 without one.
+    greatest: u64,
     /// Whether an entry was refused, or memory ran out.
     is_spent: bool,
 }
@@ -60,12 +62,13 @@ impl<'a> Model for NodeReading<'a> {
 
     ghost coded = { Prim.hlevel (codes, procedures_code) };
 
-    ghost use Rattle.coco_recover.specs.Nodes.{AreTaken, IsNode, node_basis_of};
+    ghost use Rattle.coco_recover.specs.Nodes.{AreTaken, IsNode, greatest_prepared, node_basis_of};
 
     ghost view = { λ r. record { under = node_basis_of r.last.now r.committed.now r.loaded r.node; taken = if r.is_spent then [] else r.taken.items } };
 
     ghost invariant = { λ r. IsNode (node_basis_of r.last.now r.committed.now r.loaded r.node) r.committed.now
-        × (r.is_spent ≡ false → AreTaken (node_basis_of r.last.now r.committed.now r.loaded r.node) r.taken.items r.rules r.loaded) };
+        × (r.is_spent ≡ false → AreTaken (node_basis_of r.last.now r.committed.now r.loaded r.node) r.taken.items r.rules r.loaded)
+        × (r.is_spent ≡ false → r.greatest ≡ greatest_prepared r.taken.items) };
 }
 
 impl Loaded {
@@ -126,14 +129,17 @@ impl<'a> NodeReading<'a> {
             rules: NodeRules::new(&last.entry.layout, node, committed.epochs.as_slice()),
             loaded,
             taken: Told::new(),
+            greatest: 0,
             is_spent: false,
         }
     }
 
-    /// What is loaded with this node, if each entry was taken. It takes no memory.
-    pub fn into_loaded(self) -> Result<Loaded, NoMemory>
-        ensures loaded { IfOk result (λ loaded. HoldsNodes self.entry.under.basis self.entry.under.commits (nodes_of loaded) loaded) }
-        ensures nodes { IfOk result (λ loaded. nodes_of loaded ≡ self.entry.under.nodes ++ self.entry.taken ∷ []) }
+    /// What is loaded with this node, and the greatest epoch that it prepared, if each entry was taken. It takes no
+    /// memory.
+    pub fn into_loaded(self) -> Result<(Loaded, u64), NoMemory>
+        ensures loaded { IfOk result (λ read. HoldsNodes self.entry.under.basis self.entry.under.commits (nodes_of read.0) read.0) }
+        ensures nodes { IfOk result (λ read. nodes_of read.0 ≡ self.entry.under.nodes ++ self.entry.taken ∷ []) }
+        ensures greatest { IfOk result (λ read. read.1 ≡ greatest_prepared self.entry.taken) }
         ensures each { OnOk result (EachBehind (IsNextPrepared self.entry.under.basis.setting self.entry.under.node) [] self.entry.taken) }
         ensures err { OnErr result (self.entry.taken ≡ []) }
     {
@@ -143,10 +149,11 @@ impl<'a> NodeReading<'a> {
         let NodeReading {
             mut loaded,
             taken,
+            greatest,
             ..
         } = self;
         loaded.nodes.add(slice::from_ref(&taken));
-        Ok(loaded)
+        Ok((loaded, greatest))
     }
 }
 
@@ -188,6 +195,7 @@ impl<'a> Rules for NodeReading<'a> {
         )?;
         tables_follow_the_files();
         self.loaded.next = next_epoch(self.loaded.next, prepared.epoch);
+        self.greatest = self.greatest.max(prepared.epoch);
         self.taken.add(slice::from_ref(&prepared));
         self.is_spent = false;
         Ok(None)

@@ -50,6 +50,8 @@ pub struct Opened {
     pub next_epoch: u64,
     /// The numbers of the committed epochs, rising.
     pub epochs: Vec<u64>,
+    /// The greatest epoch that each node prepared, 0 for none.
+    pub prepared: Vec<u64>,
     pub keep: Option<u16>,
     /// The rows of the base, entry by entry.
     pub base: Vec<MapRows>,
@@ -134,7 +136,7 @@ fn open_behind<H: Host>(
         rows,
     } = read_base(alloc, host, &last, keep)?;
     let (committed, chief) = read_commits(alloc, host, &last, history)?;
-    let (loaded, nodes) = read_nodes(alloc, host, &last, &committed, tables)?;
+    let (loaded, nodes, prepared) = read_nodes(alloc, host, &last, &committed, tables)?;
     let LastLayout {
         entry,
         procs,
@@ -155,6 +157,7 @@ fn open_behind<H: Host>(
         logs: Logs { root, chief, nodes },
         next_epoch: loaded.next,
         epochs: committed.epochs,
+        prepared,
         keep,
         base: rows,
         base_file,

@@ -161,7 +161,7 @@ fn read_other<H: Host>(
     if node == left_out {
         return Ok((passed(loaded), None));
     }
-    let (loaded, log) = read_node(alloc, host, last, committed, node, loaded)?;
+    let (loaded, log, _greatest) = read_node(alloc, host, last, committed, node, loaded)?;
     Ok((loaded, Some(log)))
 }
 

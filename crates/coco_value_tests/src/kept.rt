@@ -83,30 +83,41 @@ fn are_held(alloc: Global, kept: &Kept, ids: &[u64]) -> Result<bool, NoMemory> {
 
 #[test]
 fn the_last_epochs_are_kept(rt: HostRuntime) -> Result<(), Fail> {
-    // A keep number, Dones as (id, epoch), and then which are held, and the floor.
-    let cases: [(u16, &[(u64, u64)], &[u64], Option<u64>); 6] = [
-        (1, &[(1, 1)], &[1], None),
-        (1, &[(1, 1), (2, 2)], &[2], Some(1)),
-        (1, &[(1, 1), (2, 2), (3, 3)], &[3], Some(2)),
-        (2, &[(9, 1), (4, 1), (2, 1), (12, 5)], &[9, 4, 2, 12], None),
+    // A keep number, Dones as (id, epoch), and then which are held, the floor, and how many are of epochs up to 2.
+    let cases: [(u16, &[(u64, u64)], &[u64], Option<u64>, u64); 6] = [
+        (1, &[(1, 1)], &[1], None, 1),
+        (1, &[(1, 1), (2, 2)], &[2], Some(1), 1),
+        (1, &[(1, 1), (2, 2), (3, 3)], &[3], Some(2), 0),
+        (
+            2,
+            &[(9, 1), (4, 1), (2, 1), (12, 5)],
+            &[9, 4, 2, 12],
+            None,
+            3,
+        ),
         (
             2,
             &[(9, 1), (4, 1), (12, 5), (20, 6), (15, 6)],
             &[12, 20, 15],
             Some(9),
+            0,
         ),
         (
             3,
             &[(8, 1), (9, 2), (10, 2), (11, 3), (12, 9)],
             &[9, 10, 11, 12],
             Some(8),
+            2,
         ),
     ];
-    for (number, dones, ids, floor) in cases {
+    for (number, dones, ids, floor, early) in cases {
         let mut kept = Kept::new(rt.alloc(), Some(number.max(1)), None);
         let are_new = keep_all(rt.alloc(), &mut kept, dones, None)?;
         assert!(rt;
-            are_new && kept.floor() == floor && are_held(rt.alloc(), &kept, ids)?,
+            are_new
+                && kept.floor() == floor
+                && kept.count_until(2) == early
+                && are_held(rt.alloc(), &kept, ids)?,
             "{number}"
         );
     }

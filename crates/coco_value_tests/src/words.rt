@@ -45,6 +45,12 @@ migrate --keep 0
 migrate --keep 1001
 migrate --keep 1 --keep 1
 migrate 1
+compact 1
+rebuild
+rebuild --node 8
+rebuild --node -1
+rebuild --node 0 --node 0
+rebuild 0
 ";
 
 // The words of a line, which stand between single spaces.
@@ -98,6 +104,8 @@ fn each_command_has_the_numbers_that_are_given_or_its_own(rt: HostRuntime) {
         ("migrate --keep 1", Command::Migrate { keep: 1 }),
         ("migrate --keep=1000", Command::Migrate { keep: 1_000 }),
         ("compact", Command::Compact),
+        ("rebuild --node 0", Command::Rebuild { node: 0 }),
+        ("rebuild --node=07", Command::Rebuild { node: 7 }),
     ];
     for (line, command) in cases {
         assert!(rt; asked(rt.alloc(), line) == Ok(command), "{line}");

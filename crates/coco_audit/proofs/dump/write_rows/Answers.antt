@@ -5,7 +5,7 @@ use Rattle.std.specs.List.Sorted.{IsStrictlySortedBy}
 use Rattle.std.specs.Map.{keys_of}
 use Rattle.coco_types.specs.RowKey.{key_cmp}
 use Rattle.coco_audit.specs.Texts.{dump_row_text}
-use Rattle.coco_audit.proofs.LentMaps.{lent_entries}
+use Rattle.coco_load.proofs.LentMaps.{lent_entries}
 use Rattle.coco_audit.proofs.dump.write_rows.Goals as goal
 
 pub returns : goal.returns

@@ -1,6 +1,6 @@
 use Rattle.std.proofs.Common.{◌≡◌, drop, map}
 use Rattle.coco_ast.specs.Keyed.{put_over}
-use Rattle.coco_audit.specs.Maps.{as_write, map_with}
+use Rattle.coco_load.specs.RowMaps.{as_write, map_with}
 use Rattle.coco_audit.proofs.verify.executor_on.Given as goal
 
 -- the other rows come over those that are there

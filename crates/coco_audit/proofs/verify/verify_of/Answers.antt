@@ -1,7 +1,7 @@
 use Rattle.std.proofs.Common.{refl, sym, ◌∙◌}
 use Rattle.coco_types.specs.declared.call.Done.{Done}
 use Rattle.coco_ast.specs.Fitting.{Fits}
-use Rattle.coco_audit.specs.Maps.{map_with}
+use Rattle.coco_load.specs.RowMaps.{map_with}
 use Rattle.coco_audit.proofs.Between.{all_between}
 use Rattle.coco_audit.proofs.Replies.{ran_none, ran_one_more, first_unlike}
 use Rattle.coco_audit.proofs.verify.verify_of.Goals as goal

@@ -1,4 +1,4 @@
-use Rattle.coco_audit.specs.Maps.{map_with}
+use Rattle.coco_load.specs.RowMaps.{map_with}
 use Rattle.coco_audit.proofs.Replies.{RanTo}
 use Rattle.coco_audit.proofs.verify.verify_of.Given as goal
 

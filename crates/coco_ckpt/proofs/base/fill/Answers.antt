@@ -6,7 +6,7 @@ use Rattle.coco_types.specs.RowKey.{key_cmp}
 use Rattle.coco_append.proofs.GainLemmas.{on_ok}
 use Rattle.coco_log.specs.Changes.{ChangesOnly}
 use Rattle.coco_log.proofs.Changing.{changes_then}
-use Rattle.coco_audit.specs.Maps.{lent_map}
+use Rattle.coco_load.specs.RowMaps.{lent_map}
 use Rattle.coco_entry.specs.declared.base.BaseHead.{BaseHead}
 use Rattle.coco_ckpt.specs.Writing.{DraftsBase}
 use Rattle.coco_ckpt.proofs.Lent.{lent_count}

@@ -69,11 +69,7 @@ returns-in_err-write_files-clause-gains g c d has rests =
 
 pub returns-in_err-write_files-clause-files : goal.returns-in_err-write_files-clause-files
 returns-in_err-write_files-clause-files g c =
-    let M = g.H.Host.moment in
-    let O = g.H.Host.observed in
-    let S = g.H.Host.said in
     let R = g.H.Host.reads in
-    let L = g.H.Host.may_leave in
     let store = c.args.store in
     let sound = c.requires.sound in
     let old = entry_in store in
@@ -89,10 +85,6 @@ returns-in_err-write_files-clause-files g c =
 
 pub returns-in_err-write_files-clause-crash : goal.returns-in_err-write_files-clause-crash
 returns-in_err-write_files-clause-crash g c =
-    let M = g.H.Host.moment in
-    let O = g.H.Host.observed in
-    let S = g.H.Host.said in
-    let R = g.H.Host.reads in
     let L = g.H.Host.may_leave in
     let store = c.args.store in
     let sound = c.requires.sound in
@@ -109,9 +101,6 @@ returns-in_err-write_files-clause-crash g c =
 
 pub add_layout-requires-clause-stands : goal.add_layout-requires-clause-stands
 add_layout-requires-clause-stands g c =
-    let M = g.H.Host.moment in
-    let O = g.H.Host.observed in
-    let S = g.H.Host.said in
     let R = g.H.Host.reads in
     let L = g.H.Host.may_leave in
     let store = c.args.store in
@@ -134,13 +123,8 @@ add_layout-requires-clause-text g c =
     let sound = c.requires.sound in
     let old = entry_in store in
     let entry = c.in_ok-entry.entry in
-    let base = c.in_ok-entry.base in
     let end : store.next_epoch - 1 < epochs_end = omega (arith, sound.first, sound.end) in
     let compact = c.in_ok-entry.ensures.compact in
-    let is_base = c.in_ok-entry.ensures.base in
-    let named = base ∷ entry.layout.chief_file ∷ entry.layout.node_files in
-    let first = c.args.host.now in
-    let mid = c.write_files.new.host in
     let short = sound.procs.short in
     omega (arith, short, ap length (same_text old sound.is sound.limits entry (store.next_epoch - 1) end compact))
 
@@ -177,18 +161,14 @@ returns-clause-gains g c d has rests =
     let past = rests_past M O S R L named (HasStore d) still first mid rests c.write_files.ensures.changes in
     let ready = ready_rests d entry made.entries base is_base (R mid) (L mid) (g.met.H.Host.reads_left mid) past made.log made.are into.base c.in_ok-write_files.ensures.empty in
     let gains = c.add_layout.ensures.gains d after into.switches refl ready in
-    let small = compaction store sound d has rests.files rests.good entry compact is limits law at_epoch made.entries made.is c.compacted_alike.ensures in
+    let small = compaction store sound d has rests.files rests.good entry compact is limits law at_epoch made.entries made.is c.compacted_alike.ensures c.alike_lines.ensures in
     gained_past M O S R L named (HasStore d) still first mid rests c.write_files.ensures.changes c.add_layout.result (HasCompacted d) new
     (gains_weaker M O S R L c.add_layout.result (HasLogsOf (L mid)) (HasStore after) (HasStore d) (HasCompacted d) mid new
     (such_of_logs (HasStore d) (L mid) (still_logged d) past.left) (λ image now. (after, small, now)) gains)
 
 pub returns-clause-files : goal.returns-clause-files
 returns-clause-files g c =
-    let M = g.H.Host.moment in
-    let O = g.H.Host.observed in
-    let S = g.H.Host.said in
     let R = g.H.Host.reads in
-    let L = g.H.Host.may_leave in
     let store = c.args.store in
     let sound = c.requires.sound in
     let old = entry_in store in
@@ -206,10 +186,6 @@ returns-clause-files g c =
 
 pub returns-clause-crash : goal.returns-clause-crash
 returns-clause-crash g c =
-    let M = g.H.Host.moment in
-    let O = g.H.Host.observed in
-    let S = g.H.Host.said in
-    let R = g.H.Host.reads in
     let L = g.H.Host.may_leave in
     let store = c.args.store in
     let sound = c.requires.sound in

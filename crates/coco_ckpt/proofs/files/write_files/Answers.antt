@@ -3,7 +3,7 @@ use Rattle.std.specs.FinMap.{entries}
 use Rattle.coco_types.specs.RowKey.{RowKey}
 use Rattle.coco_types.specs.declared.value.Value.{Value}
 use Rattle.coco_ast.specs.Keyed.{Rows}
-use Rattle.coco_audit.specs.Maps.{joined, lent_map, map_with}
+use Rattle.coco_load.specs.RowMaps.{joined, lent_map, map_with}
 use Rattle.coco_append.proofs.GainLemmas.{on_ok}
 use Rattle.coco_log.proofs.Changing.{changes_none}
 use Rattle.coco_ckpt.specs.Writing.{HasBase}

@@ -4,8 +4,8 @@ use Rattle.std.specs.List.Sorted.{IsStrictlySortedBy}
 use Rattle.std.specs.Map.{keys_of}
 use Rattle.coco_types.specs.RowKey.{RowKey, key_cmp}
 use Rattle.coco_types.specs.declared.value.Value.{Value}
-use Rattle.coco_audit.specs.Maps.{lent_map}
-use Rattle.coco_audit.proofs.LentMaps.{lent_entries}
+use Rattle.coco_load.specs.RowMaps.{lent_map}
+use Rattle.coco_load.proofs.LentMaps.{lent_entries}
 use Rattle.coco_append.proofs.GainLemmas.{on_ok}
 use Rattle.coco_bytes.specs.Lists.{FitInTurn}
 use Rattle.coco_entry.specs.Bases.{BaseRowRises}

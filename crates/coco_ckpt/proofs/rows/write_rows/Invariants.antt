@@ -1,6 +1,6 @@
 use Rattle.std.proofs.Common.{◌≡◌, ℕ, ◌<◌, List, [], ◌∷◌, ◌++◌, length, map}
 use Rattle.std.specs.FinMap.{entries}
-use Rattle.coco_audit.specs.Maps.{lent_map}
+use Rattle.coco_load.specs.RowMaps.{lent_map}
 use Rattle.coco_entry.specs.declared.base.TheConstants.{MOST_ITEMS}
 use Rattle.coco_log.specs.Changes.{ChangesOnly}
 use Rattle.coco_log.specs.Drafts.{Drafts}

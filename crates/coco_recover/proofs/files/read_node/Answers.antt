@@ -35,7 +35,7 @@ returns-clause-ok g c =
     let under = c.new-reading.result.under in
     let may = g.H.Host.may_leave c.read_file.new.host in
     let entries = c.read_file.new.rules.taken in
-    let loaded = c.in_ok-into_loaded.field-0 in
+    let loaded = c.in_ok-loaded.loaded in
     let log = c.in_ok-log.log in
     let fresh = c.in_ok-log.ensures.log in
     let number = get_or c.as_slice.result.now c.from.result 0 in
@@ -43,16 +43,17 @@ returns-clause-ok g c =
     let begun : under ≡ b = ap (λ r. r.under) c.new-reading.ensures in
     let set : c.read_file.new.rules.under ≡ b = c.in_ok-log.ensures.setting ∙ begun in
     let each : EachBehind (IsNextPrepared s c.args.node) [] entries =
-    subst (λ (b : NodeBasis). EachBehind (IsNextPrepared b.basis.setting b.node) [] entries) set c.in_ok-into_loaded.ensures.each in (
+    subst (λ (b : NodeBasis). EachBehind (IsNextPrepared b.basis.setting b.node) [] entries) set c.in_ok-loaded.ensures.each in (
       entries,
       record {
-        loaded = subst (λ (b : NodeBasis). HoldsNodes b.basis b.commits (nodes_of loaded) loaded) set c.in_ok-into_loaded.ensures.loaded;
+        loaded = subst (λ (b : NodeBasis). HoldsNodes b.basis b.commits (nodes_of loaded) loaded) set c.in_ok-loaded.ensures.loaded;
         each = each;
-        more = c.in_ok-into_loaded.ensures.nodes ∙ ap (λ b. b.nodes ++ entries ∷ []) set;
+        more = c.in_ok-loaded.ensures.nodes ∙ ap (λ b. b.nodes ++ entries ∷ []) set;
       },
       λ files told.
           let read = c.in_ok-log.ensures.ok files told in
           let file = subst (λ (f : ℕ). IsFile (node_rules b) prepared_kind entries (files f)) stands
           (subst (λ (b : NodeBasis). IsFile (node_rules b) prepared_kind entries (files number)) begun (file_is (node_rules under) entries log files may number prepared_kind fresh read)) in
           (holds_entries files last committed b entries refl each file, is_opened (node_rules under) entries log files may number prepared_kind fresh read),
+      c.in_ok-loaded.ensures.greatest,
     )

@@ -6,6 +6,7 @@ use Rattle.coco_store.specs.Refusals.{IsFirstRefusal}
 use Rattle.coco_recover.specs.Nodes.{nodes_of}
 use Rattle.coco_recover.specs.Steps.{AreHeld}
 use Rattle.coco_recover.proofs.Held.{refused_node}
+use Rattle.coco_recover.proofs.Loading.{node_prepared}
 use Rattle.coco_recover.proofs.Reading.{node_held, node_read}
 use Rattle.coco_recover.proofs.files.read_nodes.Goals as goal
 
@@ -28,6 +29,7 @@ loop-node-preserved g c =
           let found = more.2 files (was.only.same ∙ told) in
           node_held last committed files (g.H.Host.may_leave c.loop-node.host) (g.H.Host.may_leave c.read_node.new.host) (nodes_of old) (nodes_of c.in_ok-more.more) more.0 logs c.add_log.new.logs.items
           c.in_ok-more.log n (was.held files told) next.read.crash was.read.nodes was.read.as_many found.0 found.1 more.1.more c.in_ok-add_log.ensures;
+      prepared = node_prepared (nodes_of old) (nodes_of c.in_ok-more.more) more.0 c.loop-node.prepared.items c.add_epoch.new.prepared.items c.in_ok-more.greatest was.prepared more.1.more more.3 c.in_ok-add_epoch.ensures;
     }
 
 pub returns-in_err-more-clause-refused : goal.returns-in_err-more-clause-refused

@@ -1,7 +1,7 @@
-use Rattle.std.proofs.Common.{◌≡◌, Some}
+use Rattle.std.proofs.Common.{◌≡◌, Some, map}
 use Rattle.coco_host.specs.Files.{Files}
 use Rattle.coco_log.specs.LogState.{IsOnlyRead}
-use Rattle.coco_recover.specs.Nodes.{nodes_of}
+use Rattle.coco_recover.specs.Nodes.{greatest_prepared, nodes_of}
 use Rattle.coco_recover.specs.Steps.{AreHeld, AreRead}
 use Rattle.coco_recover.proofs.files.read_nodes.Given as goal
 
@@ -12,4 +12,5 @@ invariant-loop-node g l = record {
   counts : g.H.Host.disk_faults l.host ≡ g.H.Host.disk_faults l.initial.host;
   stream : g.H.Host.say_faults l.host ≡ g.H.Host.say_faults l.initial.host;
   held : (files : Files) → g.H.Host.reads l.initial.host ≡ Some files → AreHeld files (g.H.Host.may_leave l.host) l.last l.committed (nodes_of l.loaded) l.logs.items l.node;
+  prepared : l.prepared.items ≡ map greatest_prepared (nodes_of l.loaded);
 }

@@ -60,14 +60,14 @@ returns-clause-ok g c files told held =
     let logs : Logs = record { root = c.args.root; chief = c.in_ok-committed.chief; nodes = c.in_ok-loaded.nodes } in
     let holds = store_held files last c.in_ok-committed.committed (nodes_of c.in_ok-loaded.loaded) held parts (committed.ok files behind).0 (loaded.ok files (committed.read.same ∙ behind)).each in
     is_opening c.tables_follow_the_files.ensures.all c.tables_follow_the_files.ensures.map c.kept_dones_follow_the_files.ensures.history last c.in_ok-committed.committed c.in_ok-loaded.loaded
-    c.in_ok-history.field-0 logs c.args.keep committed.committed (ap (λ b. b.keep) committed.basis ∙ based.keep) loaded.read.are loaded.read.nodes based.based one_base
+    c.in_ok-history.field-0 logs c.in_ok-loaded.prepared c.args.keep committed.committed (ap (λ b. b.keep) committed.basis ∙ based.keep) loaded.read.are loaded.read.nodes based.based one_base loaded.prepared
     c.files_hold_one_store.ensures.store held.earlier files held.place holds
 
 pub returns-clause-sound : goal.returns-clause-sound
 returns-clause-sound g c =
     is_sound c.kept_dones_follow_the_files.ensures.base c.kept_dones_follow_the_files.ensures.committed c.args.last c.in_ok-committed.committed c.in_ok-loaded.loaded c.in_ok-history.field-0
-    (record { root = c.args.root; chief = c.in_ok-committed.chief; nodes = c.in_ok-loaded.nodes })
-    c.requires.good c.in_ok-committed.ensures.committed c.in_ok-loaded.ensures.read c.in_ok-history.ensures.based c.requires.root c.in_ok-committed.ensures.log
+    (record { root = c.args.root; chief = c.in_ok-committed.chief; nodes = c.in_ok-loaded.nodes }) c.in_ok-loaded.prepared
+    c.requires.good c.in_ok-committed.ensures.committed c.in_ok-loaded.ensures.read c.in_ok-history.ensures.based c.requires.root c.in_ok-committed.ensures.log c.in_ok-loaded.ensures.prepared
 
 pub returns-clause-few : goal.returns-clause-few
 returns-clause-few g c is =

@@ -18,4 +18,5 @@ invariant_of-result c =
         is_node = c.new.ensures.node;
         holds = begun;
       }),
+      λ _. rw c.new-2.ensures refl,
     )

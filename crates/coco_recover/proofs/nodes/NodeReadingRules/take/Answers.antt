@@ -2,7 +2,7 @@ use Rattle.std.proofs.Common.{refl}
 use Rattle.coco_recover.specs.Layouts.{setting_of}
 use Rattle.coco_recover.specs.Nodes.{node_basis_of, node_rules}
 use Rattle.coco_recover.proofs.Judged.{broken, unread}
-use Rattle.coco_recover.proofs.Loading.{taken_goes_on}
+use Rattle.coco_recover.proofs.Loading.{greatest_goes_on, taken_goes_on}
 use Rattle.coco_recover.proofs.Places.{prepared_keeps, prepared_place}
 use Rattle.coco_recover.proofs.Within.{prepared_fault}
 use Rattle.coco_recover.proofs.nodes.NodeReadingRules.take.Goals as goal
@@ -38,6 +38,7 @@ invariant_of-self-2 c =
       λ _. taken_goes_on c.tables_follow_the_files.ensures.nodes b r.taken.items c.add.new.self.items c.in-Ok.prepared r.rules c.next.new.self r.loaded _
           c.in-Ok-next.is_committed c.self.invariant.0.next taken (cc (c.add.ensures, c.from_ref.ensures.value)) c.in-Ok-next.ensures.node judged
           (λ base epochs entries. c.in_ok-load.ensures b.basis.setting base epochs entries refl) c.next_epoch-self-inside.ensures,
+      λ _. greatest_goes_on r.taken.items c.add.new.self.items c.in-Ok.prepared r.greatest c.max-self-inside.result (c.self.invariant.2 c.if-self.false) (cc (c.add.ensures, c.from_ref.ensures.value)) c.max-self-inside.ensures,
     )
 
 pub returns-clause-takes : goal.returns-clause-takes

@@ -1,7 +1,7 @@
 use Rattle.std.proofs.Common.{◌≡◌, drop, map}
 use Rattle.coco_ast.specs.Keyed.{put_over}
-use Rattle.coco_audit.specs.Maps.{as_write, joined, lent_map, map_with}
-use Rattle.coco_audit.proofs.merge.merged.Given as goal
+use Rattle.coco_load.specs.RowMaps.{as_write, joined, lent_map, map_with}
+use Rattle.coco_load.proofs.merge.merged.Given as goal
 
 -- the rows of the other lists come over those that are there
 abbrev pub invariant-loop-list : goal.invariant-loop-list

@@ -20,7 +20,7 @@ use Rattle.coco_types.specs.declared.value.Value.{Value}
 use Rattle.coco_types.proofs.Keys.{is_key, keys_exact, keys_total}
 use Rattle.coco_types.proofs.KeyMaps.{value_in, one_put}
 use Rattle.coco_ast.specs.Keyed.{Rows, put_over, write_at}
-use Rattle.coco_audit.specs.Maps.{as_write, joined, lent_map}
+use Rattle.coco_load.specs.RowMaps.{as_write, joined, lent_map}
 
 -- ---- rows put over a map
 

@@ -2,9 +2,9 @@ use Rattle.std.proofs.Common.{List, map, sym, ap, ◌∙◌}
 use Rattle.coco_types.specs.RowKey.{RowKey}
 use Rattle.coco_types.specs.declared.value.Value.{Value}
 use Rattle.coco_ast.specs.Keyed.{put_over}
-use Rattle.coco_audit.specs.Maps.{as_write, lent_map}
-use Rattle.coco_audit.proofs.LentMaps.{put_list}
-use Rattle.coco_audit.proofs.merge.merged.Goals as goal
+use Rattle.coco_load.specs.RowMaps.{as_write, lent_map}
+use Rattle.coco_load.proofs.LentMaps.{put_list}
+use Rattle.coco_load.proofs.merge.merged.Goals as goal
 
 pub loop-list-preserved : goal.loop-list-preserved
 loop-list-preserved c =

@@ -1,7 +1,7 @@
 use Rattle.std.proofs.Common.{sym, ◌∙◌}
-use Rattle.coco_audit.specs.Maps.{lent_map}
-use Rattle.coco_audit.proofs.LentMaps.{put_row, lent_put}
-use Rattle.coco_audit.proofs.merge.merge.Goals as goal
+use Rattle.coco_load.specs.RowMaps.{lent_map}
+use Rattle.coco_load.proofs.LentMaps.{put_row, lent_put}
+use Rattle.coco_load.proofs.merge.merge.Goals as goal
 
 pub loop-key-preserved : goal.loop-key-preserved
 loop-key-preserved c =

@@ -1,7 +1,7 @@
 use Rattle.std.proofs.Common.{◌≡◌, drop, map}
 use Rattle.coco_ast.specs.Keyed.{put_over}
-use Rattle.coco_audit.specs.Maps.{as_write, lent_map}
-use Rattle.coco_audit.proofs.merge.merge.Given as goal
+use Rattle.coco_load.specs.RowMaps.{as_write, lent_map}
+use Rattle.coco_load.proofs.merge.merge.Given as goal
 
 -- the other rows come over those that are there
 abbrev pub invariant-loop-key : goal.invariant-loop-key

@@ -2,7 +2,7 @@
 
 ghost use Rattle.std.specs.Prelude.{◌≡◌, map, IfOk, OnOk};
 ghost use Rattle.coco_ast.specs.Keyed.{put_over};
-ghost use Rattle.coco_audit.specs.Maps.{as_write, joined, lent_map, map_with};
+ghost use Rattle.coco_load.specs.RowMaps.{as_write, joined, lent_map, map_with};
 
 use coco_types::{Key, MapRows, Value};
 use std::alloc::{AllocError, Global};
