@@ -1,5 +1,5 @@
 -- A command whose faults have no cause is done, or memory ran out.
-use Rattle.std.proofs.Common.{◌≡◌, ◌⊎◌, ⊎_elim, inl, inr, ℕ, ◌+◌, ◌<◌, ◌≤◌, List, [], ◌∷◌, ◌++◌, length, Option, Some, Result, Ok, Err, refl, sym, ap, subst, ◌∙◌, arith}
+use Rattle.std.proofs.Common.{◌≡◌, ◌⊎◌, ⊎_elim, inl, inr, ℕ, ◌+◌, ◌<◌, ◌≤◌, List, [], ◌∷◌, ◌++◌, length, Option, Some, Result, Ok, Err, refl, sym, ap, subst, ◌∙◌, arith, true≢false}
 use Rattle.std.specs.Io.KnownBytes.{append_known}
 use Rattle.std.specs.Option.{IfSome}
 use Rattle.std.proofs.lemmas.List.{append_cancel_left, length-append}
@@ -33,8 +33,14 @@ use Rattle.coco_log.specs.Faults.{CountsFault}
 use Rattle.coco_log.specs.declared.fault.LogFault.{LogFault}
 use Rattle.coco_log.specs.declared.fault.LogFault.TheVariants as fault
 use Rattle.coco_make.specs.NewStore.{new_layout}
+use Rattle.coco_rebuild.specs.Answers.{AnswersFor, CountsRebuild, IsLeftAlone, MakesAgain}
+use Rattle.coco_rebuild.specs.Rebuilding.{HasRebuilt}
+use Rattle.coco_rebuild.specs.declared.fault.RebuildFault.{RebuildFault}
+use Rattle.coco_rebuild.specs.declared.fault.RebuildFault.TheVariants as rebuilding
+use Rattle.coco_recover.specs.Without.{IsGoodBut}
 use Rattle.coco_commands.specs.Keeping.{contents_keeping}
 use Rattle.coco_commands.specs.Migrating.{ending_of_adding}
+use Rattle.coco_commands.specs.Rebuilding.{ending_of_rebuilding}
 use Rattle.coco_commands.specs.Opening.{FailsToOpen, IsRefusedInRun, RefusedIsNotRun}
 use Rattle.coco_commands.specs.Running.{Opens, ending_of_run}
 use Rattle.coco_lines.proofs.ClassLemmas.{classes_length}
@@ -45,9 +51,9 @@ use Rattle.coco_store.specs.Refusals.{IsFirstRefusal, RefusedIsNone}
 use Rattle.coco_store.specs.Texts.{IsAcceptedText}
 use Rattle.coco_commands.specs.Telling.{IsVerdict, SaysText}
 use Rattle.coco_commands.specs.Serving.{Counts, epochs_of, HasCause, Outside, RunBounds, Served, Serves}
-use Rattle.coco_words.specs.declared.Command.TheVariants.{Compact, Dump, Init, Migrate, Run, Verify}
+use Rattle.coco_words.specs.declared.Command.TheVariants.{Compact, Dump, Init, Migrate, Rebuild, Run, Verify}
 use Rattle.coco.specs.Commands.{counts_of, ending_in, bounds_of}
-use Rattle.coco.specs.Success.{AllAreAnswered, CompactSucceeds, DumpSucceeds, FewLinesHaveNumbers, HaveNumbers, InitSucceeds, DoneOrNoMemory, MigrateSucceeds, NoneRose, ReadsEmpty, RunSucceeds, VerifySucceeds}
+use Rattle.coco.specs.Success.{AllAreAnswered, CompactSucceeds, DumpSucceeds, FewLinesHaveNumbers, HaveNumbers, InitSucceeds, DoneOrNoMemory, MigrateSucceeds, NoneRose, ReadsEmpty, ReadsWithout, RebuildSucceeds, RunSucceeds, VerifySucceeds}
 
 -- ---- numbers
 
@@ -226,3 +232,23 @@ module _ {H : Type 0} (moment : H → ℕ) (observed : H → ℕ → Observation
       (λ closed. inr (opened_or_memory IsFirstRefusal how (reads old) store.files before.disk_faults after.disk_faults store.are (λ file at is. refused store.files file at is c store.good.holds) faultless.none_rose.disk closed.cause))
       (λ makes. added_or_memory (HasStore c) (HasCompacted c) how before.disk_faults after.disk_faults makes.opened new makes.added makes.ends faultless.none_rose.disk makes.cause (makes.gains store.files c store.are store.good)) does.1)
       (λ lacks. inr lacks.0) (faultless.obeyed.command Compact faultless.is)
+
+  rebuilt_or_memory : (node : ℕ) (c : Contents) (how : Ending) (before after : ℕ) (old new : H) (result : Result (Unit {0}) RebuildFault) → how ≡ ending_of_rebuilding node result
+      → ¬ (Rose before after) → CountsRebuild result before after → (store : ReadsWithout node c (reads old)) → AnswersFor node c.setting.entry.layout result
+      → IsLeftAlone moment observed said reads may_leave result old new ⊎ MakesAgain moment observed said reads may_leave node result old new
+      → DoneOrNoMemory how (RestsAs (HasRebuilt node c) (reads new) (may_leave new))
+  rebuilt_or_memory node c how before after old new (Ok u) ends faultless cause store answers seen =
+      inl (ends, ⊎_elim (λ left. absurd (true≢false (sym left.failed))) (λ makes. (makes.gains store.files c store.are store.good).ok) seen)
+  rebuilt_or_memory node c how before after old new (Err rebuilding.Disk) ends faultless cause store answers seen = absurd (faultless cause)
+  rebuilt_or_memory node c how before after old new (Err (rebuilding.NotAStore file at)) ends faultless cause store answers seen = absurd answers
+  rebuilt_or_memory node c how before after old new (Err (rebuilding.NoNode nodes)) ends faultless cause store answers seen =
+      (let less = store.there in let far = answers.0 in absurd (omega (arith, less, far)))
+  rebuilt_or_memory node c how before after old new (Err (rebuilding.NoHolder p)) ends faultless cause store answers seen = absurd (store.held p answers.1.refused)
+  rebuilt_or_memory node c how before after old new (Err rebuilding.NoMemory) ends faultless cause store answers seen = inr ends
+
+  pub rebuild_succeeds : RebuildSucceeds moment observed said reads may_leave
+  rebuild_succeeds node how before after old new c faultless store =
+      ⊎_elim
+      (λ does. (let is = does.1 in
+      rebuilt_or_memory node c how before.disk_faults after.disk_faults old new is.result is.ends faultless.none_rose.disk is.cause store (is.answers store.files c store.are store.good.holds) is.seen))
+      (λ lacks. inr lacks.0) (faultless.obeyed.command (Rebuild node) faultless.is)

@@ -10,12 +10,13 @@ use Rattle.coco_lines.specs.Reads.{Gives}
 use Rattle.coco_make.specs.NewStore.{new_layout}
 use Rattle.coco_commands.specs.Compacting.{Compacts}
 use Rattle.coco_commands.specs.Migrating.{Migrates}
+use Rattle.coco_commands.specs.Rebuilding.{Rebuilds}
 use Rattle.coco_commands.specs.Running.{RunsOn}
 use Rattle.coco_commands.specs.Telling.{Dumps, Verifies}
 use Rattle.coco_commands.specs.Serving.{Counts, Outside, RunBounds}
 use Rattle.coco_words.specs.Commands.{IsCommand, IsOnlyCommand}
 use Rattle.coco_words.specs.declared.Command.{Command}
-use Rattle.coco_words.specs.declared.Command.TheVariants.{Init, Run, Dump, Verify, Migrate, Compact}
+use Rattle.coco_words.specs.declared.Command.TheVariants.{Init, Run, Dump, Verify, Migrate, Compact, Rebuild}
 use Rattle.coco_words.specs.declared.RunOptions.{RunOptions}
 
 -- the ending of a call that succeeded, or that came to this one
@@ -60,6 +61,7 @@ module _ {H : Type 0} (moment : H → ℕ) (observed : H → ℕ → Observation
   Does Verify how before after old new = KeepsInput before after × Verifies moment observed said reads may_leave how (counts_of before) (counts_of after) old new
   Does (Migrate keep) how before after old new = KeepsInput before after × Migrates moment observed said reads may_leave keep how (counts_of before) (counts_of after) old new
   Does Compact how before after old new = KeepsInput before after × Compacts moment observed said reads may_leave how (counts_of before) (counts_of after) old new
+  Does (Rebuild node) how before after old new = KeepsInput before after × Rebuilds moment observed said reads may_leave node how (counts_of before) (counts_of after) old new
 
   -- nothing is done, for want of memory
   abbrev pub LacksMemory : Ending → Outside → Outside → H → H → Type 0

@@ -20,13 +20,15 @@ use Rattle.coco_log.specs.LogState.{IsOnlyRead}
 use Rattle.coco_make.specs.NewStore.{new_layout}
 use Rattle.coco_commands.specs.Keeping.{contents_keeping}
 use Rattle.coco_commands.specs.Served as served
+use Rattle.coco_rebuild.specs.Rebuilding.{HasRebuilt, IsHeldAlone}
+use Rattle.coco_recover.specs.Without.{IsGoodBut}
 use Rattle.coco_store.specs.Contents.{Contents, IsGoodStore, history_of}
 use Rattle.coco_store.specs.Texts.{IsAcceptedText}
 use Rattle.coco_commands.specs.Telling.{dump_in}
 use Rattle.coco_commands.specs.Serving.{AreUsedUp, manner_of, Outside, Progress, RunBounds, Serves}
 use Rattle.coco_words.specs.Commands.{IsCommand}
 use Rattle.coco_words.specs.declared.Command.{Command}
-use Rattle.coco_words.specs.declared.Command.TheVariants.{Init, Run, Dump, Verify, Migrate, Compact}
+use Rattle.coco_words.specs.declared.Command.TheVariants.{Init, Run, Dump, Verify, Migrate, Compact, Rebuild}
 use Rattle.coco_words.specs.declared.RunOptions.{RunOptions}
 use Rattle.coco.specs.Commands.{Obeys, bounds_of}
 
@@ -43,6 +45,14 @@ pub record ReadsAs (c : Contents) (reads : Option Files) : Type 0 where
   pub files : Files
   pub are : reads ≡ Some files
   pub good : IsGoodStore files c
+
+-- the files read as a store with these contents that is good but for this node's file; there is such a node, and it holds no partition alone
+pub record ReadsWithout (node : ℕ) (c : Contents) (reads : Option Files) : Type 0 where
+  pub files : Files
+  pub are : reads ≡ Some files
+  pub good : IsGoodBut node files c
+  pub there : node < c.setting.entry.layout.nodes
+  pub held : (p : ℕ) → ¬ (IsHeldAlone c.setting.entry.layout node p)
 
 -- the files hold no store yet: the first one is empty
 pub record ReadsEmpty (reads : Option Files) : Type 0 where
@@ -124,3 +134,8 @@ module _ {H : Type 0} (moment : H → ℕ) (observed : H → ℕ → Observation
   abbrev pub CompactSucceeds : Type 0
   CompactSucceeds = (how : Ending) (before after : Outside) (old new : H) (c : Contents) → IsFaultless Compact how before after old new → ReadsAs c (reads old)
       → DoneOrNoMemory how (RestsAs (HasCompacted c) (reads new) (may_leave new))
+
+  -- `rebuild` of a node that is there, of a store that is good but for its file, where each of its partitions has another holder
+  abbrev pub RebuildSucceeds : Type 0
+  RebuildSucceeds = (node : ℕ) (how : Ending) (before after : Outside) (old new : H) (c : Contents) → IsFaultless (Rebuild node) how before after old new → ReadsWithout node c (reads old)
+      → DoneOrNoMemory how (RestsAs (HasRebuilt node c) (reads new) (may_leave new))

@@ -8,7 +8,7 @@ ghost use Rattle.coco_words.specs.Options.{AreInRange};
 ghost use Rattle.coco.specs.Commands.{Does, Inits, Obeys, bounds_of};
 ghost use Rattle.coco.specs.Reporting.{IsReported};
 
-use coco_commands::{RunBounds, compact, dump, migrate, run, verify};
+use coco_commands::{RunBounds, compact, dump, migrate, rebuild, run, verify};
 use coco_ending::Ending;
 use coco_gate::Gate;
 use coco_host::Host;
@@ -116,6 +116,7 @@ fn execute<R: Threads + Wait + Clock + Sync, H: Host, I: Source, G: Gate + Sync>
         Command::Verify => verify(alloc, host),
         Command::Migrate { keep } => migrate(alloc, host, keep),
         Command::Compact => compact(alloc, host),
+        Command::Rebuild { node } => rebuild(alloc, host, node),
     }
 }
 

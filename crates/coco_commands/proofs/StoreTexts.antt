@@ -6,7 +6,7 @@ use Rattle.coco_types.specs.declared.value.Value.{Value}
 use Rattle.coco_ast.specs.History.{all_dones}
 use Rattle.coco_ast.specs.Keyed.{Rows}
 use Rattle.coco_ast.specs.Tree.{Procedures}
-use Rattle.coco_audit.specs.Maps.{joined, map_with}
+use Rattle.coco_load.specs.RowMaps.{joined, map_with}
 use Rattle.coco_audit.specs.Texts.{dump_text}
 use Rattle.coco_kept.proofs.KeepLemmas.{kept_all}
 use Rattle.coco_recover.specs.Opening.{Has, HaveRows}

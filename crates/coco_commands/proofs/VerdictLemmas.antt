@@ -10,7 +10,7 @@ use Rattle.coco_ast.specs.History.{IsSerial, RepliesAreRuns, all_dones, epoch_do
 use Rattle.coco_ast.specs.Keyed.{Rows}
 use Rattle.coco_ast.specs.Tree.{Procedures}
 use Rattle.coco_audit.specs.Differing.{IsFirstUnlike}
-use Rattle.coco_audit.specs.Maps.{map_with}
+use Rattle.coco_load.specs.RowMaps.{map_with}
 use Rattle.coco_audit.specs.Texts.{not_serial_text, serial_text}
 use Rattle.coco_audit.specs.declared.verify.NotSerial.{NotSerial}
 use Rattle.coco_ending.specs.declared.ending.Ending.{Ending}

@@ -1,5 +1,5 @@
 //! The commands on a store that is there: requests are run on it, what it has is told, it is given a keep number, it is
-//! made small.
+//! made small, a lost file of it is made again.
 #![tactic(auto)]
 
 mod compacting;
@@ -8,6 +8,7 @@ mod laws;
 mod migrating;
 mod open;
 mod opening;
+mod rebuilding;
 mod running;
 mod saying;
 mod verifying;
@@ -20,5 +21,6 @@ pub use laws::{a_layout_sets_the_keep_number, a_refused_store_is_not_run};
 pub use migrating::migrate;
 pub use open::cluster_of;
 pub use opening::{ending_of_opening, open_cluster};
+pub use rebuilding::rebuild;
 pub use running::run;
 pub use verifying::verify;

@@ -1,7 +1,6 @@
 //! The command `verify`.
 
-ghost use Rattle.std.specs.Prelude.{◌≡◌, nat_le, flat_map, None, IfOk};
-ghost use Rattle.std.specs.List.{prefix_len};
+ghost use Rattle.std.specs.Prelude.{◌≡◌, flat_map, None, IfOk};
 ghost use Rattle.coco_audit.specs.Texts.{not_serial_text, serial_text};
 ghost use Rattle.coco_recover.specs.Opening.{Has, IsSoundStore};
 ghost use Rattle.coco_store.specs.Contents.{Contents, Holds};
@@ -13,7 +12,6 @@ use crate::saying::say_text;
 use coco_audit::{NotSerial, verify_of, write_not_serial, write_serial};
 use coco_ending::Ending;
 use coco_host::Host;
-use coco_kept::Kept;
 use coco_recover::{Opened, recover_whole};
 use coco_types::{MapRows, NoMemory};
 use std::alloc::Global;
@@ -47,7 +45,8 @@ fn verdict_of(alloc: Global, store: &Opened) -> Result<Verdict, NoMemory>
     ensures verdict { IfOk result (λ verdict. (files : Files) (c : Contents) → Holds files c → Has None c store.now → IsVerdict c verdict.text.items verdict.ending) }
 {
     let base = joined(alloc, store.base.as_slice())?;
-    let first = kept_until(&store.kept, store.layout.base_epoch);
+    // Those of the base.
+    let first = store.kept.count_until(store.layout.base_epoch);
     match verify_of(alloc, &store.procs, &base, &store.kept, first) {
         Ok(None) => serial_verdict(alloc, store.kept.len() - first),
         Ok(Some(found)) => not_serial_verdict(alloc, &found),
@@ -88,11 +87,4 @@ fn joined(alloc: Global, lists: &[MapRows]) -> Result<MapRows, NoMemory>
         rows.extend_from_slice(list.as_slice())?;
     }
     Ok(MapRows::from_vec(rows))
-}
-
-// How many of the kept Dones, from the first on, are of the epochs up to this one: those of the base.
-fn kept_until(kept: &Kept, epoch: u64) -> u64
-    ensures { result ≡ prefix_len (λ d. nat_le d.epoch epoch) kept.now.dones }
-{
-    kept.iter().take_while(|done| done.epoch <= epoch).count() as u64
 }

@@ -7,6 +7,8 @@ mod compacts;
 #[cfg(test)]
 mod entries;
 #[cfg(test)]
+mod epochs;
+#[cfg(test)]
 mod loads;
 #[cfg(test)]
 mod logs;
@@ -14,5 +16,7 @@ mod logs;
 mod made;
 #[cfg(test)]
 mod makes;
+#[cfg(test)]
+mod rebuilds;
 #[cfg(test)]
 mod recovery;

@@ -3,6 +3,7 @@
 ghost use Rattle.std.specs.Prelude.{◌≡◌, ◌<◌, IfOk, OnOk};
 ghost use Rattle.coco_load.specs.Tables.{AreTables, IsRing};
 
+use crate::made::number;
 use coco_entry::{Layout, Row};
 use coco_load::*;
 use coco_types::{Key, NoMemory, Packed, Sequence, Value};
@@ -66,13 +67,6 @@ fn load(tables: &mut Tables, layout: &Layout, node: u8) -> Result<(), NoMemory>
         row(2, Packed::none()),
     ];
     tables.load_prepared(layout, node, &rows)
-}
-
-fn number(value: Option<Value>) -> Option<i64> {
-    match value {
-        Some(Value::Int(number)) => Some(number),
-        _ => None,
-    }
 }
 
 // What the shard and the copy of its partition have at a row.

@@ -1,30 +1,15 @@
 //! The worked stores of one node, opened from their bytes.
 
-use crate::made::{COMMITS, LAYOUTS, NO_COMMITS, NONE_PREPARED, PREPARED, host_with};
+use crate::made::{
+    BASE, COMMITS, Files, LAYOUTS, NO_COMMITS, NONE_PREPARED, PREPARED, TWO_COMMITS, TWO_LAYOUTS,
+    TWO_PREPARED, host_with, number,
+};
 use coco_host::MemoryHost;
 use coco_read::OpenFault;
 use coco_recover::{Opened, read_without, recover, recover_whole};
-use coco_types::{Key, OutFault, Value};
+use coco_types::{Key, OutFault};
 use std::alloc::Global;
 use std::test::Fail;
-
-// The layout of the worked store, and behind it one from epoch 2 on with a base in file 3.
-const TWO_LAYOUTS: [u8; 75] = [
-    b'C', b'O', b'C', b'O', b'L', b'O', b'G', 0, 1, 0, 0, 0, 25, 1, 1, 1, 1, 0, 0, 0, 0, 1, 0, 0,
-    0, 2, 0, 0, 0, 0, 0, 0, 0, 0, 0, 0, 0, 0, 1, 0, 0, 0, 31, 1, 3, 1, 1, 0, 0, 0, 0, 4, 0, 0, 0,
-    5, 0, 0, 0, 0, 0, 0, 0, 2, 0, 0, 0, 0, 0, 0, 0, 0, 0, 3, 0,
-];
-
-// The base: put(5, 70) as id 1, get(5) as id 2, and the row.
-const BASE: [u8; 190] = [
-    b'C', b'O', b'C', b'O', b'L', b'O', b'G', 3, 1, 0, 0, 0, 34, 4, 0, 0, 0, 0, 0, 0, 0, 2, 0, 0,
-    0, 0, 0, 0, 0, 0, 0, 0, 0, 0, 0, 0, 0, 0, 2, 0, 0, 0, 0, 0, 0, 0, 1, 1, 0, 0, 0, 108, 5, 0, 0,
-    0, 2, 0, 0, 0, 0, 0, 0, 0, 1, 0, 0, 0, 0, 0, 0, 0, 1, 0, 1, 0, 2, 1, 0, 0, 0, 0, 0, 0, 0, 5, 1,
-    0, 0, 0, 0, 0, 0, 0, 70, 0, 0, 0, 0, 0, 0, 0, 1, 0, 1, 0, 0, 0, 0, 0, 0, 0, 70, 0, 0, 0, 0, 0,
-    0, 0, 2, 0, 0, 0, 0, 0, 0, 0, 2, 0, 0, 0, 1, 1, 0, 0, 0, 0, 0, 0, 0, 5, 0, 0, 0, 0, 0, 0, 0, 1,
-    0, 1, 0, 0, 0, 0, 0, 0, 0, 70, 1, 0, 0, 0, 24, 6, 0, 0, 0, 1, 0, 0, 0, 0, 0, 0, 0, 0, 0, 5, 1,
-    0, 0, 0, 0, 0, 0, 0, 70, 0,
-];
 
 // The layout of one node, and behind it one of two nodes and no copies.
 const TWO_NODES: [u8; 73] = [
@@ -33,31 +18,9 @@ const TWO_NODES: [u8; 73] = [
     2, 0, 0, 0, 3, 0, 0, 0, 0, 0, 0, 0, 0, 0, 0, 0, 0, 0,
 ];
 
-// put(5, 70) as id 1 in epoch 1, and epoch 3, which has no request.
-const TWO_COMMITS: [u8; 93] = [
-    b'C', b'O', b'C', b'O', b'L', b'O', b'G', 1, 1, 0, 0, 0, 61, 2, 0, 0, 0, 0, 0, 0, 0, 1, 0, 0,
-    0, 1, 0, 0, 0, 0, 0, 0, 0, 1, 0, 1, 0, 2, 1, 0, 0, 0, 0, 0, 0, 0, 5, 1, 0, 0, 0, 0, 0, 0, 0,
-    70, 0, 0, 0, 0, 0, 0, 0, 1, 0, 1, 0, 0, 0, 0, 0, 0, 0, 70, 1, 0, 0, 0, 13, 2, 0, 0, 0, 0, 0, 0,
-    0, 3, 0, 0, 0, 0, 0,
-];
-
-// What the node prepared for them.
-const TWO_PREPARED: [u8; 72] = [
-    b'C', b'O', b'C', b'O', b'L', b'O', b'G', 2, 1, 0, 0, 0, 40, 3, 0, 0, 0, 0, 0, 0, 0, 1, 0, 0,
-    0, 1, 0, 0, 0, 0, 0, 0, 0, 0, 0, 5, 0, 0, 0, 0, 0, 0, 0, 1, 1, 0, 0, 0, 0, 0, 0, 0, 70, 1, 0,
-    0, 0, 13, 3, 0, 0, 0, 0, 0, 0, 0, 3, 0, 0, 0, 0, 0,
-];
-
 // What is seen of an opened store: the number of its next epoch, how many replies it keeps, its row 5, how many nodes
 // its last layout has, and where that layout's body begins.
 type Seen = (u64, u64, Option<i64>, u8, u64);
-
-fn number(value: Option<Value>) -> Option<i64> {
-    match value {
-        Some(Value::Int(number)) => Some(number),
-        _ => None,
-    }
-}
 
 fn seen(store: &Opened) -> Seen {
     let five = Key { table: 0, row: 5 };
@@ -86,8 +49,6 @@ fn opened(alloc: Global, host: &mut MemoryHost, is_whole: bool) -> Result<Seen, 
         Err(fault) => Err(fault),
     }
 }
-
-type Files = &'static [(u32, &'static [u8])];
 
 // Of the store that is refused the node lacks the entry of the committed epoch, which is found at its last gate.
 const STORES: [(&str, Files, Result<Seen, OpenFault>); 7] = [
@@ -185,19 +146,60 @@ fn a_later_entry_of_another_tag_is_bad_at_its_tag(rt: HostRuntime) -> Result<(),
     Ok(())
 }
 
-// Whether a store is opened with these committed epochs.
-fn has_epochs(alloc: Global, files: Files, epochs: &[u64]) -> Result<bool, OutFault> {
+// Files with the committed epochs, the greatest that each node prepared, and the next one.
+const EPOCHS: [(Files, &'static [u64], &'static [u64], u64); 3] = [
+    (
+        &[(0, &LAYOUTS), (1, &TWO_COMMITS), (2, &TWO_PREPARED)],
+        &[1, 3],
+        &[3],
+        4,
+    ),
+    (
+        &[(0, &LAYOUTS), (1, &NO_COMMITS), (2, &TWO_PREPARED)],
+        &[],
+        &[3],
+        4,
+    ),
+    (
+        &[
+            (0, &TWO_NODES),
+            (1, &NO_COMMITS),
+            (2, &PREPARED),
+            (3, &NONE_PREPARED),
+        ],
+        &[],
+        &[1, 0],
+        2,
+    ),
+];
+
+// Whether a store is opened with these committed epochs, these that its nodes prepared, and this next one.
+fn has_epochs(
+    alloc: Global,
+    files: Files,
+    epochs: &[u64],
+    prepared: &[u64],
+    next: u64,
+) -> Result<bool, OutFault> {
     let mut host = host_with(alloc, files)?;
     match recover(alloc, &mut host) {
-        Ok(store) => Ok(store.epochs.as_slice() == epochs && store.next_epoch == 4),
+        Ok(store) => Ok(
+            store.epochs.as_slice() == epochs
+                && store.prepared.as_slice() == prepared
+                && store.next_epoch == next,
+        ),
         Err(_) => Ok(false),
     }
 }
 
 #[test]
-fn committed_epochs_are_had_of_a_store(rt: HostRuntime) -> Result<(), Fail> {
-    let files: Files = &[(0, &LAYOUTS), (1, &TWO_COMMITS), (2, &TWO_PREPARED)];
-    assert!(rt; has_epochs(rt.alloc(), files, &[1, 3])?);
+fn epochs_are_had_of_a_store(rt: HostRuntime) -> Result<(), Fail> {
+    for (files, epochs, prepared, next) in EPOCHS {
+        assert!(rt;
+            has_epochs(rt.alloc(), files, epochs, prepared, next)?,
+            "{next}"
+        );
+    }
     Ok(())
 }
 

@@ -1,9 +1,9 @@
 -- The commands of the program.
-use Rattle.std.specs.Prelude.{◌≡◌, ⊤, ◌<◌, ℕ, List, [], ◌∷◌, Option, Some, codes}
-use Rattle.coco_types.specs.Limits.{most_attempts, most_batch_lines, most_keep, most_partitions, most_workers}
+use Rattle.std.specs.Prelude.{◌≡◌, ⊤, ◌<◌, ◌-◌, ℕ, List, [], ◌∷◌, Option, Some, codes}
+use Rattle.coco_types.specs.Limits.{most_attempts, most_batch_lines, most_keep, most_nodes, most_partitions, most_workers}
 use Rattle.coco_words.specs.Options.{Text, NumberOption, GivesNumbers, Refused, Taken}
 use Rattle.coco_words.specs.declared.Command.{Command}
-use Rattle.coco_words.specs.declared.Command.TheVariants.{Init, Run, Dump, Verify, Migrate, Compact}
+use Rattle.coco_words.specs.declared.Command.TheVariants.{Init, Run, Dump, Verify, Migrate, Compact, Rebuild}
 use Rattle.coco_words.specs.declared.Kind.{Kind}
 use Rattle.coco_words.specs.declared.Kind.TheVariants as kind
 
@@ -14,6 +14,7 @@ kind_of Dump = kind.Dump
 kind_of Verify = kind.Verify
 kind_of (Migrate keep) = kind.Migrate
 kind_of Compact = kind.Compact
+kind_of (Rebuild node) = kind.Rebuild
 
 -- the word that a command begins with
 abbrev pub name_of : Kind → Text
@@ -23,6 +24,7 @@ name_of kind.Dump = codes "dump"
 name_of kind.Verify = codes "verify"
 name_of kind.Migrate = codes "migrate"
 name_of kind.Compact = codes "compact"
+name_of kind.Rebuild = codes "rebuild"
 
 -- an option that needn't be given
 abbrev pub optional : Text → ℕ → ℕ → ℕ → NumberOption
@@ -40,6 +42,7 @@ options_for kind.Dump = []
 options_for kind.Verify = []
 options_for kind.Migrate = wanted (codes "keep") 1 most_keep ∷ []
 options_for kind.Compact = []
+options_for kind.Rebuild = wanted (codes "node") 0 (most_nodes - 1) ∷ []
 
 abbrev pub options_of : Command → List NumberOption
 options_of command = options_for (kind_of command)
@@ -52,6 +55,7 @@ numbers_of Dump = []
 numbers_of Verify = []
 numbers_of (Migrate keep) = Some keep ∷ []
 numbers_of Compact = []
+numbers_of (Rebuild node) = Some node ∷ []
 
 -- the numbers go together: a copy stands on each other node at most
 abbrev pub Agree : Kind → List (Option ℕ) → Type 0

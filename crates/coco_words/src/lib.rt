@@ -13,7 +13,7 @@ ghost use Rattle.coco_words.specs.declared.Command.{Command as Asked};
 
 use clap::ArgMatches;
 use coco_types::limits::{
-    MOST_ATTEMPTS, MOST_BATCH_LINES, MOST_KEEP, MOST_PARTITIONS, MOST_WORKERS,
+    MOST_ATTEMPTS, MOST_BATCH_LINES, MOST_KEEP, MOST_NODES, MOST_PARTITIONS, MOST_WORKERS,
 };
 use numbers::number_of;
 use reading::options_in;
@@ -42,6 +42,10 @@ pub enum Command {
     },
     /// Make the map and what is kept the base of new files.
     Compact,
+    /// Make the file of a node again, 0 to 7.
+    Rebuild {
+        node: u8,
+    },
 }
 
 /// The options of `run`.
@@ -73,6 +77,7 @@ pub enum Kind {
     Verify,
     Migrate,
     Compact,
+    Rebuild,
 }
 
 /// The command that the words are: its name, and then its options.
@@ -105,6 +110,7 @@ fn kind_named(name: &str) -> Option<Kind>
         "verify" => Some(Kind::Verify),
         "migrate" => Some(Kind::Migrate),
         "compact" => Some(Kind::Compact),
+        "rebuild" => Some(Kind::Rebuild),
         _ => None,
     }
 }
@@ -126,6 +132,10 @@ fn command_with(kind: Kind, matches: &ArgMatches<'_>) -> Option<Command>
             Some(Command::Migrate { keep: keep as u16 })
         }
         Kind::Compact => Some(Command::Compact),
+        Kind::Rebuild => {
+            let node = number_of(matches, "node", None, 0, MOST_NODES as u64 - 1)?;
+            Some(Command::Rebuild { node: node as u8 })
+        }
     }
 }
 

@@ -62,6 +62,7 @@ fn parser_for<'a>(alloc: Global, kind: Kind) -> Result<Command<'a>, AllocError>
         Kind::Verify => Ok(none),
         Kind::Migrate => with_option(alloc, none, "keep"),
         Kind::Compact => Ok(none),
+        Kind::Rebuild => with_option(alloc, none, "node"),
     }
 }
 

@@ -2,7 +2,7 @@ use Rattle.std.proofs.Common.{◌≡◌, ℕ, List, length, arith, ap, subst, �
 use Rattle.std.proofs.lemmas.Result.{IfOk-weaker}
 use Rattle.coco_types.specs.RowKey.{RowKey}
 use Rattle.coco_types.specs.declared.value.Value.{Value}
-use Rattle.coco_audit.specs.Maps.{joined, map_with}
+use Rattle.coco_load.specs.RowMaps.{joined, map_with}
 use Rattle.coco_audit.specs.Texts.{dump_text}
 use Rattle.coco_ckpt.proofs.MapLists.{AreLists}
 use Rattle.coco_commands.proofs.StoreTexts.{text_of_lists}

@@ -13,20 +13,20 @@ if_ok (Ok x) P Q is then = then x is
 if_ok (Err e) P Q is then = tt
 
 pub verify_of-requires : goal.verify_of-requires
-verify_of-requires c = all_drop (λ (d : Done). Fits c.args.store.now.procs d.call) c.kept_until-first.result c.args.store.now.kept.dones c.requires.keeps.fit
+verify_of-requires c = all_drop (λ (d : Done). Fits c.args.store.now.procs d.call) c.count_until-first.result c.args.store.now.kept.dones c.requires.keeps.fit
 
 pub overflow_sub-len : goal.overflow_sub-len
 overflow_sub-len c =
     let least = prefix_len-le-length (λ (d : Done). nat_le d.epoch c.args.store.now.layout.base_epoch) c.args.store.now.kept.dones in
-    omega (arith, least, c.kept_until-first.ensures, c.len.ensures.len)
+    omega (arith, least, c.count_until-first.ensures, c.len.ensures.len)
 
 pub returns-in-Ok-None-clause-verdict : goal.returns-in-Ok-None-clause-verdict
 returns-in-Ok-None-clause-verdict c = if_ok c.serial_verdict.result _ _ c.serial_verdict.ensures (λ v is files d holds has.
     let runs = rw c.in-Ok-None.field-0-is at c.in-Ok-None.ensures.serial in
-    serial_told files d holds c.args.store.now has c.kept_until-first.result c.kept_until-first.ensures c.in_ok-base.base (c.in_ok-base.ensures ∙ ap (flat_map (λ list. list)) c.as_slice.ensures.value) v.ending v.text.items _ is.0 is.1
-    (ap (λ n. n - c.kept_until-first.result) c.len.ensures.len) runs)
+    serial_told files d holds c.args.store.now has c.count_until-first.result c.count_until-first.ensures c.in_ok-base.base (c.in_ok-base.ensures ∙ ap (flat_map (λ list. list)) c.as_slice.ensures.value) v.ending v.text.items _ is.0 is.1
+    (ap (λ n. n - c.count_until-first.result) c.len.ensures.len) runs)
 
 pub returns-in-Ok-Some-clause-verdict : goal.returns-in-Ok-Some-clause-verdict
 returns-in-Ok-Some-clause-verdict c = if_ok c.not_serial_verdict.result _ _ c.not_serial_verdict.ensures (λ v is files d holds has.
     let unlike = rw c.in-Ok-Some.field-0-is at c.in-Ok-Some.ensures.unlike in
-    unlike_told files d holds c.args.store.now has c.kept_until-first.result c.kept_until-first.ensures c.in_ok-base.base (c.in_ok-base.ensures ∙ ap (flat_map (λ list. list)) c.as_slice.ensures.value) v.ending v.text.items c.in-Ok-Some.found is.0 is.1 unlike)
+    unlike_told files d holds c.args.store.now has c.count_until-first.result c.count_until-first.ensures c.in_ok-base.base (c.in_ok-base.ensures ∙ ap (flat_map (λ list. list)) c.as_slice.ensures.value) v.ending v.text.items c.in-Ok-Some.found is.0 is.1 unlike)

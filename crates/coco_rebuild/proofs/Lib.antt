@@ -1,0 +1,15 @@
+mod Alone
+mod Answering
+mod Epochs
+mod Getting
+mod Goodness
+mod Grouping
+mod Holders
+mod Interleaving
+mod NewNode
+mod Reading
+mod Rebuilds
+mod Rebuilt
+mod Sourcing
+mod Steps
+mod Taking
