@@ -1,0 +1,5 @@
+mod EpochLemmas
+mod FrozenLemmas
+mod NewestLemmas
+mod ReadingLemmas
+mod ReplayLemmas

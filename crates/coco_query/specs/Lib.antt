@@ -1,0 +1,5 @@
+pub mod Frozen
+pub mod Packed
+pub mod Reading
+pub mod Replaying
+pub mod Tables
