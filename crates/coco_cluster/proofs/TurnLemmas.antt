@@ -40,7 +40,8 @@ use Rattle.coco_worker.specs.declared.slot.EpochConfig.{EpochConfig}
 use Rattle.coco_cluster.specs.Standing.{ClusterState, IsSound, KeepsBelow, StandsAt}
 use Rattle.coco_cluster.specs.Storing.{AreEntries, IsOneOf, MayStore, ShowsOneOf, Stores, commit_of, prepared_of, with_epoch, with_rows}
 use Rattle.coco_parallel.specs.Traces.{IsTraceOf, Traced}
-use Rattle.coco_cluster.specs.Turning.{Grown, HasRoom, HasTurned, IsStoreOf, MayTurn, MayWork, RanOn, ShowsStore, Turns, beginning_at, beginning_on, without_trace}
+use Rattle.coco_work.specs.Working.{MayWork}
+use Rattle.coco_cluster.specs.Turning.{Grown, HasRoom, HasTurned, IsStoreOf, MayTurn, RanOn, ShowsStore, Turns, beginning_at, beginning_on, without_trace}
 use Rattle.coco_cluster.specs.declared.fault.TurnFault.{TurnFault}
 use Rattle.coco_cluster.proofs.BehindLemmas.{behind_epoch, behind_later, behind_rows}
 use Rattle.coco_cluster.proofs.KeepLemmas.{as_many, floor_now, keeps_on, kept_now, may_follow, same_kept}
@@ -134,7 +135,6 @@ may_work k seen requests workers attempts config is unspent sound may some_worke
   workers = some_workers;
   attempts = some_attempts;
   nodes = omega arith;
-  alone = refl;
 })
 
 -- and its epoch was ended

@@ -1,6 +1,5 @@
 pub mod Faults
 pub mod Messages
-pub mod Pacing
 pub mod Standing
 pub mod StateCode
 pub mod Storing

@@ -1,7 +1,7 @@
 -- What a turn makes of the store, and what is seen of it meanwhile.
 use Rattle.std.specs.Prelude.{◌≡◌, ◌⊎◌, ℕ, ◌+◌, ◌<◌, ◌≤◌, Bool, List, [], ◌++◌, map, length, Option, None, Some, Result, OnOk, nat_eq}
 use Rattle.std.specs.List.{AllByRecursion, IsDistinct}
-use Rattle.coco_types.specs.Limits.{most_batch_lines, most_partitions}
+use Rattle.coco_types.specs.Limits.{most_batch_lines}
 use Rattle.coco_types.specs.declared.call.Done.{Done}
 use Rattle.coco_types.specs.declared.call.Piece.{Piece}
 use Rattle.coco_types.specs.declared.call.Request.{Request}
@@ -15,18 +15,15 @@ use Rattle.coco_ast.specs.Keyed.{Rows}
 use Rattle.coco_ast.specs.Tree.{Procedures}
 use Rattle.coco_commits.specs.EpochEntries.{HasRoomFor}
 use Rattle.coco_entry.specs.declared.prepared.Row.{Row}
-use Rattle.coco_epoch.specs.Running.{FitAll}
-use Rattle.coco_epoch.specs.SerialEpoch.{IsSerialEpoch}
 use Rattle.coco_epoch.specs.Shards.{HoldMap}
 use Rattle.coco_order.specs.Execution.{Beginning}
-use Rattle.coco_parallel.specs.Epochs.{beginning_with}
 use Rattle.coco_prepared.specs.LastWrites.{AreLastWrites}
 use Rattle.coco_shard.specs.RowState.{ShardState}
 use Rattle.coco_store.specs.Contents.{Contents, IsGoodStore, history_of, map_in}
 use Rattle.coco_store.specs.Rules.{Setting}
-use Rattle.coco_worker.specs.declared.slot.EpochConfig.{EpochConfig}
 use Rattle.coco_cluster.specs.Standing.{ClusterState, IsBehindAll, StandsAt}
 use Rattle.coco_cluster.specs.Writing.{WritesLogs}
+use Rattle.coco_work.specs.Working.{HasWorked}
 use Rattle.coco_parallel.specs.Traces.{IsTraceOf, Traced}
 use Rattle.coco_cluster.specs.declared.fault.TurnFault.{TurnFault}
 
@@ -41,29 +38,6 @@ pub record MayTurn (k : ClusterState) (requests : List Request) : Type 0 where
 -- there is room for their Dones in a store without a keep number
 abbrev pub HasRoom : Contents → List Request → Type 0
 HasRoom c requests = HasRoomFor c.setting.entry.keep (length (all_dones (history_of c)) + length requests)
-
--- workers who are told this may run requests on shards: these hold a map between two epochs, the requests fit, and each has an id of its own
-pub record MayWork (procs : Procedures) (requests : List Request) (config : EpochConfig) (shards : List ShardState) : Type 0 where
-  pub some : 0 < length shards
-  pub most : length shards ≤ most_partitions
-  pub holds : (m : Rows) × HoldMap m shards
-  pub fit : FitAll procs requests
-  pub few : length requests ≤ most_batch_lines
-  pub distinct : IsDistinct nat_eq (map (λ (r : Request). r.id) requests)
-  pub workers : 0 < config.workers
-  pub attempts : 0 < config.attempts
-  pub nodes : 0 < config.nodes
-  pub alone : config.copies ≡ 0
-
--- the Dones and pieces of an epoch that workers ran on shards, and what they left of how they ran it
-pub record HasWorked (b : Beginning) (epoch : ℕ) (shards : List ShardState) (dones : List Done) (pieces : List Piece) (trace : Traced) : Type 0 where
-  pub serial : IsSerialEpoch b.procs b.requests epoch b.opening shards dones pieces
-  pub traced : IsTraceOf b epoch dones trace
-
--- whatever map the shards held, an epoch of these requests was run from it, as they have it behind that
-abbrev pub HaveWorked : Procedures → List Request → EpochConfig → List ShardState → List ShardState → List Done → List Piece → Traced → Type 0
-HaveWorked procs requests config before after dones pieces trace =
-    (m : Rows) → HoldMap m before → HasWorked (beginning_with procs m requests before config) config.epoch after dones pieces trace
 
 -- an epoch with the rows of its prepared entry
 pub record RanOn (b : Beginning) (epoch : ℕ) (held : List Bool) (shards : List ShardState) (dones : List Done) (rows : List Row) (trace : Traced) : Type 0 where

@@ -12,7 +12,7 @@ ghost use Rattle.coco_cluster.specs.Turning.{HasRoom, HasTurned, IsUntouched, Ma
 ghost use Rattle.coco_cluster.specs.declared.fault.TurnFault.TheVariants as fault;
 
 use crate::TurnFault;
-use crate::epoch::{EpochRoom, Ran, end_epoch, on_one_node, run_epoch};
+use crate::epoch::{Ran, end_epoch, on_one_node, run_epoch};
 use crate::storing::store_epoch;
 use coco_ast::Checked;
 use coco_commits::{a_run_is_the_next_commit, a_run_may_be_prepared};
@@ -25,6 +25,7 @@ use coco_parallel::trace::Trace;
 use coco_shard::Shard;
 use coco_types::Request;
 use coco_types::limits::EPOCHS_END;
+use coco_work::EpochRoom;
 use std::alloc::Global;
 use std::marker::Model;
 use std::sync::Wait;

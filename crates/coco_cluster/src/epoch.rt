@@ -1,5 +1,5 @@
 //! The requests of a turn, run on the shards in hand, and the end of their epoch.
-ghost use Rattle.std.specs.Prelude.{◌≡◌, ◌<◌, ◌≤◌, ◌++◌, ◌^◌, ℕ, List, Option, None, length, IfOk, OnErr};
+ghost use Rattle.std.specs.Prelude.{◌≡◌, ◌<◌, ◌≤◌, ◌++◌, ◌^◌, ℕ, List, Option, length, IfOk, OnErr};
 ghost use Rattle.coco_types.specs.declared.call.Done.{Done};
 ghost use Rattle.coco_ast.specs.Keyed.{Rows};
 ghost use Rattle.coco_epoch.specs.Shards.{AreOfPartitions, HaveNewest, HoldMap};
@@ -8,9 +8,10 @@ ghost use Rattle.coco_kept.specs.Keeping.{HoldsKept};
 ghost use Rattle.coco_load.specs.Keeping.{MayFollow};
 ghost use Rattle.coco_parallel.specs.Epochs.{beginning_with};
 ghost use Rattle.coco_prepared.specs.LastWrites.{AreLastWrites};
-ghost use Rattle.coco_cluster.specs.Pacing.{HasTimed, OthersAreIdle, busy_of, started_of};
 ghost use Rattle.coco_parallel.specs.Traces.{traced};
-ghost use Rattle.coco_cluster.specs.Turning.{HaveWorked, MayWork, RanOn};
+ghost use Rattle.coco_work.specs.Pacing.{HasTimed, OthersAreIdle, started_of};
+ghost use Rattle.coco_work.specs.Working.{HaveWorked, MayWork};
+ghost use Rattle.coco_cluster.specs.Turning.{RanOn};
 
 use coco_ast::Checked;
 use coco_entry::Row;
@@ -19,18 +20,16 @@ use coco_gate::Gate;
 use coco_kept::Kept;
 use coco_load::{add_dones, make_room};
 use coco_net::QuietNet;
-use coco_pace::Pace;
-use coco_parallel::rooms::Rooms;
 use coco_parallel::trace::Trace;
 use coco_prepared::prepared_rows;
 use coco_shard::Shard;
-use coco_types::{Dones, NoMemory, Pieces, Request};
+use coco_types::{Dones, NoMemory, Request};
+use coco_work::EpochRoom;
 use coco_worker::EpochConfig;
 use std::alloc::Global;
-use std::mem;
 use std::sync::Wait;
 use std::thread::Threads;
-use std::time::{Clock, Instant};
+use std::time::Clock;
 
 /// What an epoch came to, what a node that holds some partitions writes of it, and what its workers left of how they
 /// ran it.
@@ -39,54 +38,6 @@ pub struct Ran {
     pub dones: Dones,
     pub rows: Vec<Row>,
     pub trace: Trace,
-}
-
-// What workers came to in an epoch: its Dones in the order of commit, and what they wrote, in that order; and what they
-// left of how they ran it.
-#[derive(Drop)]
-struct Worked {
-    dones: Dones,
-    pieces: Pieces,
-    trace: Trace,
-}
-
-/// What goes from epoch to epoch: the room of the workers' locks and transcripts, and how long one and all of them took.
-#[derive(Drop)]
-pub struct EpochRoom {
-    rooms: Rooms,
-    pace: Pace,
-}
-
-impl EpochRoom {
-    /// Nothing has run, and there is no room. It takes no memory.
-    pub fn new(alloc: Global) -> EpochRoom {
-        EpochRoom {
-            rooms: Rooms::new(alloc),
-            pace: Pace::new(),
-        }
-    }
-
-    /// Keeps what an epoch left, which is read, as room for those to come.
-    pub fn keep(&mut self, alloc: Global, trace: &mut Option<Trace>)
-        ensures { trace.new ≡ None }
-    {
-        if let Some(trace) = trace.take() {
-            self.rooms.keep(trace, Vec::new(alloc));
-        }
-    }
-
-    // Takes in how long so many workers took for an epoch that began then, where that is known. A clock that can't be
-    // read tells nothing.
-    fn keep_time<C: Clock>(&mut self, clock: &C, began: Option<Instant>, workers: u8, requests: u32)
-        ensures pace { HasTimed workers requests self.old.pace self.new.pace }
-    {
-        let Some(began) = began else {
-            return;
-        };
-        if let Ok(time) = began.elapsed(clock) {
-            self.pace.took(workers, requests, time);
-        }
-    }
 }
 
 /// What the workers of an epoch are told at a store of one node, which has no copies. All may be started.
@@ -118,7 +69,8 @@ pub fn run_epoch<R: Threads + Wait + Clock + Sync, G: Gate + Sync>(
     config: EpochConfig,
     gate: &G,
 ) -> Result<Ran, NoMemory>
-    requires { MayWork procs.now requests.items config shards.old.items }
+    requires may { MayWork procs.now requests.items config shards.old.items }
+    requires alone { config.copies ≡ 0 }
     ensures ran { IfOk result (λ ran. (m : Rows) → HoldMap m shards.old.items → RanOn (beginning_with procs.now m requests.items shards.old.items config) config.epoch held.now shards.new.items ran.dones ran.rows.items (traced ran.trace)) }
     ensures count { length shards.new.items ≡ length shards.old.items }
     ensures err { OnErr result (shards.new.items ≡ shards.old.items) }
@@ -141,7 +93,7 @@ fn made_ready(
     alloc: Global,
     kept: &mut Kept,
     held: &[bool],
-    worked: Worked,
+    worked: coco_work::Ran,
 ) -> Result<Ran, NoMemory>
     ensures rows { IfOk result (λ ran. AreLastWrites held.now worked.pieces ran.rows.items) }
     ensures few { IfOk result (λ ran. length ran.rows.items < 2 ^ 32) }
@@ -149,7 +101,7 @@ fn made_ready(
     ensures room { IfOk result (λ ran. length ran.dones ≤ kept.new.room) }
     ensures kept { kept.new ≡ record kept.old { room = kept.new.room } }
 {
-    let Worked {
+    let coco_work::Ran {
         dones,
         pieces,
         trace,
@@ -159,8 +111,8 @@ fn made_ready(
     Ok(Ran { dones, rows, trace })
 }
 
-// What workers came to in an epoch. Only those are started who find a request to draw, and of them one alone where that
-// goes faster. Out of memory, the shards are as they were handed in.
+// What workers came to in an epoch without copies, which a net has nothing to do with. Out of memory, the shards are as
+// they were handed in.
 fn work<R: Threads + Wait + Clock + Sync, G: Gate + Sync>(
     rt: &R,
     alloc: Global,
@@ -170,82 +122,29 @@ fn work<R: Threads + Wait + Clock + Sync, G: Gate + Sync>(
     requests: Vec<Request>,
     config: EpochConfig,
     gate: &G,
-) -> Result<Worked, NoMemory>
-    requires { MayWork procs.now requests.items config shards.old.items }
+) -> Result<coco_work::Ran, NoMemory>
+    requires may { MayWork procs.now requests.items config shards.old.items }
+    requires alone { config.copies ≡ 0 }
     ensures worked { IfOk result (λ w. HaveWorked procs.now requests.items config shards.old.items shards.new.items w.dones w.pieces (traced w.trace)) }
     ensures count { length shards.new.items ≡ length shards.old.items }
     ensures err { OnErr result (shards.new.items ≡ shards.old.items) }
     ensures pace { HasTimed (started_of room.old.pace config.workers (length requests.items)) (length requests.items) room.old.pace room.new.pace }
     ensures idle { IfOk result (λ w. OthersAreIdle (started_of room.old.pace config.workers (length requests.items)) w.trace.transcripts.items) }
 {
-    let count = requests.len() as u32;
-    let busy = busy_workers(config.workers, count);
-    let started = room.pace.workers(busy, count);
-    let began = if busy > 1 {
-        Instant::now(rt).ok()
-    } else {
-        None
-    };
-    let rooms = &mut room.rooms;
-    let config = EpochConfig { started, ..config };
-    let worked = work_by(rt, alloc, rooms, shards, procs, requests, config, gate)?;
-    room.keep_time(rt, began, started, count);
-    Ok(worked)
-}
-
-// How many workers find a request to draw, of whom there is one at least.
-fn busy_workers(workers: u8, requests: u32) -> u8
-    ensures { result ≡ busy_of workers requests }
-{
-    u32::from(workers).min(requests).max(1) as u8
-}
-
-// What workers came to, of whom those run who are started. Their locks begin with these rooms. Out of memory, the shards
-// are as they were handed in.
-fn work_by<R: Threads + Wait + Sync, G: Gate + Sync>(
-    rt: &R,
-    alloc: Global,
-    rooms: &mut Rooms,
-    shards: &mut Vec<Shard>,
-    procs: &Checked,
-    mut requests: Vec<Request>,
-    config: EpochConfig,
-    gate: &G,
-) -> Result<Worked, NoMemory>
-    requires may { MayWork procs.now requests.items config shards.old.items }
-    requires started { 0 < config.started }
-    requires allowed { config.started ≤ config.workers }
-    ensures worked { IfOk result (λ w. HaveWorked procs.now requests.items config shards.old.items shards.new.items w.dones w.pieces (traced w.trace)) }
-    ensures count { length shards.new.items ≡ length shards.old.items }
-    ensures err { OnErr result (shards.new.items ≡ shards.old.items) }
-    ensures idle { IfOk result (λ w. OthersAreIdle config.started w.trace.transcripts.items) }
-{
-    let in_hand = mem::replace(shards, Vec::new(alloc));
-    match coco_parallel::epoch::run_epoch(
+    let mut copies = Vec::new(alloc);
+    let net = QuietNet::new(alloc);
+    coco_work::run(
         rt,
         alloc,
-        in_hand,
-        Vec::new(alloc),
+        room,
+        shards,
+        &mut copies,
         procs,
-        requests.as_mut_slice(),
+        requests,
         config,
         gate,
-        &QuietNet::new(alloc),
-        rooms,
-    ) {
-        Ok(done) => {
-            *shards = done.shards;
-            Ok(Worked {
-                dones: done.dones,
-                pieces: done.pieces,
-                trace: done.trace,
-            })
-        }
-        Err(refused) => {
-            *shards = refused.shards;
-            Err(NoMemory)
-        }
-    }
+        &net,
+    )
 }
 
 /// Ends an epoch that is committed: the shards are promoted, and its Dones are kept. It takes no memory.

@@ -7,7 +7,8 @@ use Rattle.coco_order.specs.Execution.{Beginning}
 use Rattle.coco_prepared.specs.LastWrites.{AreLastWrites}
 use Rattle.coco_shard.specs.RowState.{ShardState}
 use Rattle.coco_parallel.specs.Traces.{Traced}
-use Rattle.coco_cluster.specs.Turning.{HasWorked, RanOn}
+use Rattle.coco_work.specs.Working.{HasWorked}
+use Rattle.coco_cluster.specs.Turning.{RanOn}
 use Rattle.coco_cluster.proofs.MapLemmas.{always_err, given_back}
 use Rattle.coco_cluster.proofs.epoch.run_epoch.Goals as goal
 
@@ -21,8 +22,8 @@ ran_on b epoch held shards dones pieces given rows trace worked same last = reco
 
 pub returns-then-is_err-clause-err : goal.returns-then-is_err-clause-err
 returns-then-is_err-clause-err g c =
-    let m = c.requires.holds.0 in
-    let worked = c.in_ok-worked.ensures.worked m c.requires.holds.1 in
+    let m = c.requires.may.holds.0 in
+    let worked = c.in_ok-worked.ensures.worked m c.requires.may.holds.1 in
     let back = with_items_is c.work.new.shards c.revert_all.new.shards (c.revert_all.auto.shards ∙ c.deref_mut.ensures.len) in
-    always_err c.made_ready-ran.result _ (back ∙ given_back m c.args.shards.now.items c.work.new.shards.items c.deref_mut.result.now c.revert_all.new.shards c.requires.holds.1 c.work.ensures.count
+    always_err c.made_ready-ran.result _ (back ∙ given_back m c.args.shards.now.items c.work.new.shards.items c.deref_mut.result.now c.revert_all.new.shards c.requires.may.holds.1 c.work.ensures.count
     worked.serial.partitions worked.serial.stable c.deref_mut.ensures.value c.revert_all.auto.shards (c.revert_all.ensures.holds m))

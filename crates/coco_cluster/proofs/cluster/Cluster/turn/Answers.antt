@@ -7,8 +7,8 @@ use Rattle.coco_cluster.specs.contracts.cluster.Cluster.{the_view}
 use Rattle.coco_cluster.proofs.TurnLemmas.{entries, failed, few_then, follow, has_ended, has_run, may_work, reverts, sound_then, succeeded, turned_from}
 use Rattle.coco_cluster.proofs.cluster.Cluster.turn.Goals as goal
 
-pub run_epoch-requires-after_bounds : goal.run_epoch-requires-after_bounds
-run_epoch-requires-after_bounds g c _ _ =
+pub run_epoch-requires-clause-may : goal.run_epoch-requires-clause-may
+run_epoch-requires-clause-may g c _ _ =
     may_work (the_view c.self.inside) c.args.self.now c.args.requests.items c.args.workers c.args.attempts c.on_one_node-config.result c.self.view_is c.requires.unspent c.self.invariant c.requires.may c.requires.workers c.requires.attempts
     c.on_one_node-config.ensures
 

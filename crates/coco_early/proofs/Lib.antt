@@ -1,0 +1,9 @@
+mod Members
+mod RunLemmas
+mod InstallLemmas
+mod OneWrite
+mod PieceLemmas
+mod ShipLemmas
+mod LastLemmas
+mod PutLemmas
+mod EarlyLemmas
