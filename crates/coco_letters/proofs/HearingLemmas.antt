@@ -1,5 +1,5 @@
 -- What places hear in letters, and what they do then.
-use Rattle.std.proofs.Common.{◌≡◌, ℕ, ◌<◌, true, List, [], ◌++◌, length, get_or, Option, Some, None, Result, Ok, Err, sym, ap, subst, ◌∙◌, append-nil}
+use Rattle.std.proofs.Common.{◌≡◌, inl, inr, ℕ, ◌<◌, true, List, [], ◌++◌, length, get_or, Option, Some, None, Result, Ok, Err, sym, ap, subst, ◌∙◌, append-nil}
 use Rattle.std.specs.Prelude.{IfSome, OnOk}
 use Rattle.std.specs.List.{Contains}
 use Rattle.std.proofs.Math.ListN.{set}
@@ -15,7 +15,7 @@ use Rattle.coco_chief.specs.Chief.{Chief}
 use Rattle.coco_chief.specs.Table.{handled}
 use Rattle.coco_letters.specs.declared.hearing.Phase.{Phase}
 use Rattle.coco_letters.specs.Saying.{posted, posts_of, AreToSay, IsToSay}
-use Rattle.coco_letters.specs.Turns.{is_awaited, AreFresh, ChiefHears, Counts, Hears, IsFrom, Takes}
+use Rattle.coco_letters.specs.Turns.{is_awaited, AreFresh, ChiefHears, Counts, Hears, IsFrom, NodeAsks, NodeTurns, Takes}
 use Rattle.coco_letters.proofs.SayingLemmas.{node_says, same_message}
 
 none_some : {X : Type 0} (x : X) → ◌≡◌ {A = Option X} None (Some x) → ⊥
@@ -57,11 +57,31 @@ module _ (n : ℕ) (m : Message) (cores : List Node) (core new : Node) (actions 
     sent_is = sent_is ∙ ap (λ (some : List Action). sent ++ posts_of n some) same;
   }
 
+-- the same of a turn that it takes of itself
+pub turns_by : (n : ℕ) (turn : Node → nodes.Turn) (cores : List Node) (core new : Node) (actions said : List Action) → core ≡ get_or cores n core → ◌≡◌ {A = nodes.Turn} (actions, new) (turn (get_or cores n core)) → said ≡ actions
+    → (sent sent_new : List Posted) → n < length cores → sent_new ≡ sent ++ posts_of n said → NodeTurns n turn cores sent (set cores n new) sent_new
+turns_by n turn cores core new actions said here is same sent sent_new within sent_is =
+    let turned : ◌≡◌ {A = nodes.Turn} (actions, new) (turn core) = is ∙ ap turn (sym here) in
+    record {
+      core = core;
+      there = slice_get-get_or cores n core within ∙ ap (λ (x : Node). Some x) (sym here);
+      cores_are = ap (λ (t : nodes.Turn). set cores n t.1) turned;
+      sent_is = sent_is ∙ ap (λ (some : List Action). sent ++ posts_of n some) (same ∙ ap (λ (t : nodes.Turn). t.0) turned);
+    }
+
+pub asks_by : (n : ℕ) (cores : List Node) (core : Node) (said : List Action) → core ≡ get_or cores n core → said ≡ nodes.asks core → (sent sent_new : List Posted) → n < length cores → sent_new ≡ sent ++ posts_of n said → NodeAsks n cores sent sent_new
+asks_by n cores core said here is sent sent_new within sent_is = record {
+  core = core;
+  there = slice_get-get_or cores n core within ∙ ap (λ (x : Node). Some x) (sym here);
+  sent_is = sent_is ∙ ap (λ (some : List Action). sent ++ posts_of n some) is;
+}
+
 pub hears_takes : (phase : Phase) (e n : ℕ) (letter : Letter) (m : Message) (cores : List Node) (sent : List Posted) (cores_new : List Node) (sent_new : List Posted) (actions : List Action)
     → IsFrom 8 letter m → is_awaited phase e m ≡ true → Takes n m cores sent cores_new sent_new actions → Hears phase e n letter cores sent cores_new sent_new actions
 hears_takes phase e n letter m cores sent cores_new sent_new actions from awaited takes = record {
   takes = λ k from_k _. subst (λ (x : Message). Takes n x cores sent cores_new sent_new actions) (same_heard 8 letter m k from from_k) takes;
   drops = λ none. absurd (none m from awaited);
+  either = inl (m, from, awaited);
 }
 
 pub hears_drops : (phase : Phase) (e n : ℕ) (letter : Letter) (cores : List Node) (sent : List Posted) (cores_new : List Node) (sent_new : List Posted) (actions : List Action)
@@ -70,6 +90,7 @@ pub hears_drops : (phase : Phase) (e n : ℕ) (letter : Letter) (cores : List No
 hears_drops phase e n letter cores sent cores_new sent_new actions none cores_stay sent_stays nothing = record {
   takes = λ m from awaited. absurd (none_some m (none m from awaited));
   drops = λ _. (cores_stay, sent_stays, nothing);
+  either = inr (λ m from awaited. none_some m (none m from awaited));
 }
 
 pub chief_takes : (letter : Letter) (m : Message) (chief : Chief) (sent : List Posted) (chief_new : Chief) (sent_new : List Posted)
@@ -78,6 +99,7 @@ pub chief_takes : (letter : Letter) (m : Message) (chief : Chief) (sent : List P
 chief_takes letter m chief sent chief_new sent_new from chief_is sent_is = record {
   takes = λ k from_k. subst (λ (x : Message). (chief_new ≡ (handled letter.from x chief).1) × (sent_new ≡ sent ++ posts_of 8 (handled letter.from x chief).0)) (same_heard letter.from letter m k from from_k) (chief_is, sent_is);
   drops = λ none. absurd (none m from);
+  either = inl (m, from, from.say.commit);
 }
 
 pub chief_drops : (letter : Letter) (chief : Chief) (sent : List Posted) (chief_new : Chief) (sent_new : List Posted)
@@ -86,6 +108,7 @@ pub chief_drops : (letter : Letter) (chief : Chief) (sent : List Posted) (chief_
 chief_drops letter chief sent chief_new sent_new none chief_stays sent_stays = record {
   takes = λ m from. absurd (none_some m (none m from));
   drops = λ _. (chief_stays, sent_stays);
+  either = inr (λ m from _. none_some m (none m from));
 }
 
 -- nothing was sent

@@ -1,6 +1,6 @@
 -- Messages that places say, and the letters that they are.
 use Rattle.std.proofs.Common.{◌≡◌, ◌⊎◌, inl, inr, ℕ, zero, suc, ◌+◌, ◌<◌, ◌≤◌, ◌^◌, Bool, true, false, eqb, ltb, List, [], ◌∷◌, ◌++◌, length, take, drop, get_or, Result, Ok, Err, refl, sym, ap, subst, ◌∙◌, arith, append_assoc, append-nil}
-use Rattle.std.specs.Prelude.{◌&&◌, ◌||◌, if◌then◌else◌, slice_set}
+use Rattle.std.specs.Prelude.{◌&&◌, ◌||◌, if◌then◌else◌, slice_index_or, slice_set}
 use Rattle.std.specs.List.{list_all, Contains}
 use Rattle.std.proofs.lemmas.Bool.{and_parts, eqb-true, ltb-true}
 use Rattle.std.proofs.lemmas.List.{take_more, take_all, take-append-drop}
@@ -11,7 +11,7 @@ use Rattle.coco_msg.specs.declared.message.Message.TheVariants.{Ship, Total, Mis
 use Rattle.coco_msg.specs.Bytes.{bytes_of, epoch_of, HasBytes, IsMessage}
 use Rattle.coco_msg.proofs.MessageLemmas.{message_again}
 use Rattle.coco_net.specs.declared.letter.Posted.{Posted}
-use Rattle.coco_node.specs.Node.{Node, is_committed}
+use Rattle.coco_node.specs.Node.{Node, is_committed, is_unknown}
 use Rattle.coco_node.specs.Table as nodes
 use Rattle.coco_chief.specs.Chief.{Chief}
 use Rattle.coco_chief.specs.Table as chiefs
@@ -150,11 +150,26 @@ pub node_says : (from : ℕ) (m : Message) (core : Node) → IsToSay m → AreTo
 node_says from m core say =
     by_test (λ (turn : nodes.Turn). AreToSay turn.0) (eqb from 8 && ltb 0 (epoch_of m)) _ _ (λ _. message_says m core (epoch_fits m say)) (λ _. tt)
 
+pub asks_says : (core : Node) → core.durable < 2 ^ 64 → AreToSay (nodes.asks core)
+asks_says core fits =
+    by_test AreToSay (ltb 0 core.durable && is_unknown core.decision) (Send 8 (Query core.durable) ∷ []) [] (λ _. (omega arith, record { is = fits; commit = refl }, tt)) (λ _. tt)
+
 -- ---- what the coordinator says
 
 pub each_says : (n : ℕ) (m : Message) → n ≤ 8 → IsToSay m → AreToSay (chiefs.to_each n m)
 each_says zero m le say = tt
 each_says (suc n) m le say = say_append (chiefs.to_each n m) (Send n m ∷ []) (each_says n m (omega arith) say) (omega arith, say, tt)
+
+pub unfinished_says : (n : ℕ) (finished : List Bool) (m : Message) → n ≤ 8 → IsToSay m → AreToSay (chiefs.to_unfinished n finished m)
+unfinished_says zero finished m le say = tt
+unfinished_says (suc n) finished m le say =
+    say_append (chiefs.to_unfinished n finished m) (if slice_index_or finished n false then [] else Send n m ∷ []) (unfinished_says n finished m (omega arith) say)
+    (by_test AreToSay (slice_index_or finished n false) [] (Send n m ∷ []) (λ _. tt) (λ _. (omega arith, say, tt)))
+
+pub reminds_says : (core : Chief) → core.nodes ≤ 8 → core.last < 2 ^ 64 → AreToSay (chiefs.reminds core)
+reminds_says core few fits =
+    by_test AreToSay (eqb core.last 0) [] (chiefs.to_unfinished core.nodes core.finished (Commit core.last)) (λ _. tt)
+    (λ _. unfinished_says core.nodes core.finished (Commit core.last) few (record { is = fits; commit = refl }))
 
 counts_says : (voted : List Bool) (core : Chief) → AreToSay (chiefs.counts voted core).0
 counts_says voted core = by_test (λ (turn : chiefs.Turn). AreToSay turn.0) (list_all (λ counted. counted) voted) _ _ (λ _. tt) (λ _. tt)

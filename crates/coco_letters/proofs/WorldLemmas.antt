@@ -1,5 +1,5 @@
 -- Worlds of scenes: what letters and stops do to them, and one way behind another.
-use Rattle.std.proofs.Common.{◌≡◌, ◌⊎◌, inl, inr, ℕ, zero, suc, ◌+◌, ◌<◌, ◌≤◌, max, Bool, true, false, eqb, List, [], ◌∷◌, ◌++◌, length, get_or, Option, Some, None, refl, sym, ap, subst, ◌∙◌, arith}
+use Rattle.std.proofs.Common.{◌≡◌, ◌⊎◌, inl, inr, ℕ, zero, suc, ◌+◌, ◌^◌, ◌<◌, ◌≤◌, max, Bool, true, false, eqb, List, [], ◌∷◌, ◌++◌, length, get_or, Option, Some, None, refl, sym, ap, subst, ◌∙◌, arith}
 use Rattle.std.specs.Prelude.{if◌then◌else◌, slice_set}
 use Rattle.std.specs.List.{slice_get, AllByRecursion, Contains}
 use Rattle.std.proofs.Math.ListN.{set, length-set}
@@ -10,20 +10,22 @@ use Rattle.std.proofs.lemmas.Option.{get_or_from_slice_get, same_Some, slice_get
 use Rattle.coco_msg.specs.declared.action.Action.{Action}
 use Rattle.coco_msg.specs.declared.action.Action.TheVariants.{Send, Force, Promote, Revert}
 use Rattle.coco_msg.specs.declared.message.Message.{Message}
+use Rattle.coco_msg.specs.declared.message.Message.TheVariants.{Abort, Commit, Prepare}
 use Rattle.coco_msg.specs.Bytes.{bytes_of}
 use Rattle.coco_net.specs.declared.letter.Posted.{Posted}
 use Rattle.coco_node.specs.Node.{Node, greatest, restarted}
 use Rattle.coco_node.specs.Table as nodes
 use Rattle.coco_chief.specs.Chief.{Chief}
 use Rattle.coco_chief.specs.Table as chiefs
+use Rattle.coco_chief.specs.declared.machine.Phase.TheVariants.{Rest, Forcing}
 use Rattle.coco_world.specs.World.{World, Letter, Among, put, sent}
-use Rattle.coco_world.specs.Steps.{Event, NodeTakes, ChiefTakes, NodeForces, ChiefForces, Begins, Aborts, Stops, Asks, Reminds, Crashes, CanRun, happens, run}
+use Rattle.coco_world.specs.Steps.{Event, NodeTakes, ChiefTakes, NodeForces, ChiefForces, Begins, Aborts, Stops, Asks, Reminds, Crashes, CanRun, IsAbove, after_chief, after_node, happens, run}
 use Rattle.coco_world.proofs.NodeTurns.{handled_holds}
 use Rattle.coco_world.proofs.Tools.{put_both, put_one, Among-append, Among-right}
 use Rattle.coco_letters.specs.Saying.{posted, posts_of, AreToSay, IsToSay}
-use Rattle.coco_letters.specs.Turns.{Takes}
-use Rattle.coco_letters.specs.Worlds.{Arrives, Goes, GoesOn, GoesOnStopped, IsOnlySaid, IsSaid, IsWorld, Prepares, SameEntries, Scene, StopIsTold}
-use Rattle.coco_letters.proofs.SayingLemmas.{chief_says, node_says, same_message}
+use Rattle.coco_letters.specs.Turns.{ChiefTurns, IsForcing, NodeAsks, NodeTurns, Takes}
+use Rattle.coco_letters.specs.Worlds.{Arrives, Commits, Goes, GoesBetween, GoesOn, GoesOnAbove, GoesOnStopped, GoesOnWith, IsOnlySaid, IsSaid, IsWorld, Prepares, SameEntries, Scene, Starts, StopIsTold}
+use Rattle.coco_letters.proofs.SayingLemmas.{asks_says, chief_says, each_says, node_says, reminds_says, same_message, vote_says}
 
 -- ---- elements
 
@@ -175,6 +177,147 @@ chief_goes from m cores chief chief_new before after few say there chief_is sent
       made = record { prepared = refl; commits = refl; begun = refl };
     }
 
+-- ---- turns that the coordinator takes of itself
+
+-- its core and its letters are the world's behind a turn
+module _ (turn : chiefs.Turn) (cores : List Node) (chief chief_new : Chief) (before after : List Posted) (all : AreToSay turn.0) (turns : ChiefTurns turn before chief_new after) (w : World) where
+  chief_world : IsWorld w (record { cores = cores; chief = chief; sent = before }) → IsWorld (after_chief w turn) (record { cores = cores; chief = chief_new; sent = after })
+  chief_world is = record {
+    count = is.count;
+    nodes = is.nodes;
+    chief_is = sym turns.chief_is;
+    told = told_more 8 turn.0 before after w.letters all turns.sent_is is.told;
+    durable = is.durable;
+  }
+
+  chief_only : IsOnlySaid w before → IsOnlySaid (after_chief w turn) after
+  chief_only only = only_more 8 turn.0 before after w.letters all turns.sent_is only
+
+-- a world in which other entries are durable, or other epochs begun, has the same cores and letters
+chief_like : (w : World) (commits begun : List ℕ) (a : Scene) → IsWorld w a → IsWorld (record w { commits = commits; begun = begun }) a
+chief_like w commits begun a is = record { count = is.count; nodes = is.nodes; chief_is = is.chief_is; told = is.told; durable = is.durable }
+
+module _ (cores : List Node) (chief chief_new : Chief) (before after : List Posted) (few : chief.nodes ≤ 8) where
+  pub begin_goes : (e : ℕ) → e < 2 ^ 64 → 0 < e → chief.phase ≡ Rest → ChiefTurns (chiefs.begun e chief) before chief_new after
+      → GoesOnAbove e (record { cores = cores; chief = chief; sent = before }) (record { cores = cores; chief = chief_new; sent = after })
+  begin_goes e fits some rest turns counts w is above =
+      let turn : chiefs.Turn = chiefs.begun e w.chief in
+      let here : ChiefTurns turn before chief_new after = subst (λ (c : Chief). ChiefTurns (chiefs.begun e c) before chief_new after) (sym is.chief_is) turns in
+      let nodes_few : w.chief.nodes ≤ 8 = subst (λ (c : Chief). c.nodes ≤ 8) (sym is.chief_is) few in
+      let all : AreToSay turn.0 = each_says w.chief.nodes (Prepare e) nodes_few (record { is = fits; commit = refl }) in
+      let begun : World = record w { begun = e ∷ w.begun } in
+      record {
+        after = happens w (Begins e);
+        goes = record { events = Begins e ∷ []; can = ((ap (λ (c : Chief). c.phase) is.chief_is ∙ rest, some, above), tt); to = refl; told = (tt, tt); rises = none_told counts };
+        is = chief_world turn cores chief chief_new before after all here begun (chief_like w w.commits (e ∷ w.begun) (record { cores = cores; chief = chief; sent = before }) is);
+        only = chief_only turn cores chief chief_new before after all here begun;
+        made = record { prepared = refl; commits = refl; begun = refl };
+      }
+
+  pub commit_goes : (e : ℕ) → e < 2 ^ 64 → chief.phase ≡ Forcing → chief.current ≡ e → ChiefTurns (chiefs.forced e chief) before chief_new after
+      → GoesOnWith (Commits e) (record { cores = cores; chief = chief; sent = before }) (record { cores = cores; chief = chief_new; sent = after })
+  commit_goes e fits forcing current turns counts w is =
+      let now : w.chief.current ≡ e = ap (λ (c : Chief). c.current) is.chief_is ∙ current in
+      let turn : chiefs.Turn = chiefs.forced w.chief.current w.chief in
+      let here : ChiefTurns turn before chief_new after =
+      subst (λ (k : ℕ). ChiefTurns (chiefs.forced k w.chief) before chief_new after) (sym now) (subst (λ (c : Chief). ChiefTurns (chiefs.forced e c) before chief_new after) (sym is.chief_is) turns) in
+      let nodes_few : w.chief.nodes ≤ 8 = subst (λ (c : Chief). c.nodes ≤ 8) (sym is.chief_is) few in
+      let all : AreToSay turn.0 = each_says w.chief.nodes (Commit w.chief.current) nodes_few (record { is = (let fit : w.chief.current < 2 ^ 64 = omega (arith, now, fits) in fit); commit = refl }) in
+      let committed : World = record w { commits = w.chief.current ∷ w.commits } in
+      record {
+        after = happens w ChiefForces;
+        goes = record { events = ChiefForces ∷ []; can = (ap (λ (c : Chief). c.phase) is.chief_is ∙ forcing, tt); to = refl; told = (tt, tt); rises = none_told counts };
+        is = chief_world turn cores chief chief_new before after all here committed (chief_like w (w.chief.current ∷ w.commits) w.begun (record { cores = cores; chief = chief; sent = before }) is);
+        only = chief_only turn cores chief chief_new before after all here committed;
+        made = record { prepared = refl; commits = ap (λ (k : ℕ). k ∷ w.commits) now; begun = refl };
+      }
+
+  pub abort_goes : chief.current < 2 ^ 64 → chiefs.is_open chief.phase ≡ true → ChiefTurns (chiefs.aborted chief) before chief_new after
+      → GoesOn (record { cores = cores; chief = chief; sent = before }) (record { cores = cores; chief = chief_new; sent = after })
+  abort_goes fits undecided turns counts w is =
+      let turn : chiefs.Turn = chiefs.aborted w.chief in
+      let here : ChiefTurns turn before chief_new after = subst (λ (c : Chief). ChiefTurns (chiefs.aborted c) before chief_new after) (sym is.chief_is) turns in
+      let nodes_few : w.chief.nodes ≤ 8 = subst (λ (c : Chief). c.nodes ≤ 8) (sym is.chief_is) few in
+      let fit : w.chief.current < 2 ^ 64 = subst (λ (c : Chief). c.current < 2 ^ 64) (sym is.chief_is) fits in
+      let all : AreToSay turn.0 = each_says w.chief.nodes (Abort w.chief.current) nodes_few (record { is = fit; commit = refl }) in
+      record {
+        after = happens w Aborts;
+        goes = record { events = Aborts ∷ []; can = (ap (λ (c : Chief). chiefs.is_open c.phase) is.chief_is ∙ undecided, tt); to = refl; told = (tt, tt); rises = none_told counts };
+        is = chief_world turn cores chief chief_new before after all here w is;
+        only = chief_only turn cores chief chief_new before after all here w;
+        made = record { prepared = refl; commits = refl; begun = refl };
+      }
+
+  pub remind_goes : chief.last < 2 ^ 64 → ChiefTurns (chiefs.reminds chief, chief) before chief_new after
+      → GoesOn (record { cores = cores; chief = chief; sent = before }) (record { cores = cores; chief = chief_new; sent = after })
+  remind_goes fits turns counts w is =
+      let turn : chiefs.Turn = (chiefs.reminds w.chief, w.chief) in
+      let here : ChiefTurns turn before chief_new after = subst (λ (c : Chief). ChiefTurns (chiefs.reminds c, c) before chief_new after) (sym is.chief_is) turns in
+      let nodes_few : w.chief.nodes ≤ 8 = subst (λ (c : Chief). c.nodes ≤ 8) (sym is.chief_is) few in
+      let fit : w.chief.last < 2 ^ 64 = subst (λ (c : Chief). c.last < 2 ^ 64) (sym is.chief_is) fits in
+      let all : AreToSay turn.0 = reminds_says w.chief nodes_few fit in
+      record {
+        after = happens w Reminds;
+        goes = record { events = Reminds ∷ []; can = (tt, tt); to = refl; told = (tt, tt); rises = none_told counts };
+        is = chief_world turn cores chief chief_new before after all here w is;
+        only = chief_only turn cores chief chief_new before after all here w;
+        made = record { prepared = refl; commits = refl; begun = refl };
+      }
+
+-- ---- and a node
+
+pub force_goes : (n e : ℕ) (cores cores_new : List Node) (chief : Chief) (before after : List Posted) → n < length cores → e < 2 ^ 64 → IsForcing e n cores → NodeTurns n (nodes.forced e) cores before cores_new after
+    → GoesOnWith (Prepares n e) (record { cores = cores; chief = chief; sent = before }) (record { cores = cores_new; chief = chief; sent = after })
+force_goes n e cores cores_new chief before after within fits forces turns counts w is =
+    let lt : n < w.count = omega (arith, is.count, within) in
+    let forcer : forces.core ≡ w.cores n = same_Some forces.core (w.cores n) (sym forces.there ∙ is.nodes n lt) in
+    let core : turns.core ≡ w.cores n = same_Some turns.core (w.cores n) (sym turns.there ∙ is.nodes n lt) in
+    let forced : (w.cores n).forcing ≡ e = ap (λ (c : Node). c.forcing) (sym forcer) ∙ forces.forcing in
+    let older : greatest (w.prepared n) < e = subst (λ (c : Node). c.durable < e → greatest (w.prepared n) < e) (sym forcer) (λ less. omega (arith, is.durable n lt, less)) forces.newer in
+    let f : ℕ = (w.cores n).forcing in
+    let turn : nodes.Turn = nodes.forced f (w.cores n) in
+    let cores_are : cores_new ≡ set cores n turn.1 = turns.cores_are ∙ ap (λ (c : Node). set cores n (nodes.forced e c).1) core ∙ ap (λ (k : ℕ). set cores n (nodes.forced k (w.cores n)).1) (sym forced) in
+    let sent_is : after ≡ before ++ posts_of n turn.0 = turns.sent_is ∙ ap (λ (k : ℕ). before ++ posts_of n (nodes.votes true k ∷ [])) (sym forced) in
+    let all : AreToSay turn.0 = vote_says true f (let fit : f < 2 ^ 64 = omega (arith, forced, fits) in fit) in
+    let epochs : List ℕ = f ∷ w.prepared n in
+    let newest : f ≡ greatest epochs = omega (arith, forced, older) in
+    record {
+      after = happens w (NodeForces n);
+      goes = record { events = NodeForces n ∷ []; can = ((lt, (let some : 0 < f = omega (arith, forced, forces.some) in some)), tt); to = refl; told = (tt, tt); rises = none_told counts };
+      is = record {
+        count = is.count ∙ sym (ap length cores_are ∙ length-set cores n turn.1);
+        nodes = λ k less. ap (λ (cs : List Node). slice_get cs k) cores_are ∙ core_put cores w.cores n turn.1 (λ j h. is.nodes j (omega (arith, is.count, h))) k (omega (arith, is.count, less));
+        chief_is = is.chief_is;
+        told = told_more n turn.0 before after w.letters all sent_is is.told;
+        durable = put_both (λ (k : ℕ) (c : Node) (es : List ℕ). k < w.count → c.durable ≡ greatest es) w.cores w.prepared n turn.1 epochs is.durable (λ less. newest);
+      };
+      only = only_more n turn.0 before after w.letters all sent_is;
+      made = record { prepared = ap (λ (k : ℕ). put w.prepared n (k ∷ w.prepared n)) forced; commits = refl; begun = refl };
+    }
+
+pub ask_goes : (n : ℕ) (cores : List Node) (core : Node) (chief : Chief) (before after : List Posted) → n < length cores → slice_get cores n ≡ Some core → core.durable < 2 ^ 64 → NodeAsks n cores before after
+    → GoesOn (record { cores = cores; chief = chief; sent = before }) (record { cores = cores; chief = chief; sent = after })
+ask_goes n cores core chief before after within there fits asks counts w is =
+    let lt : n < w.count = omega (arith, is.count, within) in
+    let here : core ≡ w.cores n = same_Some core (w.cores n) (sym there ∙ is.nodes n lt) in
+    let asker : asks.core ≡ w.cores n = same_Some asks.core (w.cores n) (sym asks.there ∙ is.nodes n lt) in
+    let said : List Action = nodes.asks (w.cores n) in
+    let sent_is : after ≡ before ++ posts_of n said = asks.sent_is ∙ ap (λ (c : Node). before ++ posts_of n (nodes.asks c)) asker in
+    let all : AreToSay said = asks_says (w.cores n) (subst (λ (c : Node). c.durable < 2 ^ 64) here fits) in
+    record {
+      after = happens w (Asks n);
+      goes = record { events = Asks n ∷ []; can = (lt, tt); to = refl; told = (tt, tt); rises = none_told counts };
+      is = record {
+        count = is.count;
+        nodes = put_one (λ (k : ℕ) (c : Node). k < w.count → slice_get cores k ≡ Some c) w.cores n (w.cores n) is.nodes (is.nodes n);
+        chief_is = is.chief_is;
+        told = told_more n said before after w.letters all sent_is is.told;
+        durable = put_one (λ (k : ℕ) (c : Node). k < w.count → c.durable ≡ greatest (w.prepared k)) w.cores n (w.cores n) is.durable (is.durable n);
+      };
+      only = only_more n said before after w.letters all sent_is;
+      made = record { prepared = refl; commits = refl; begun = refl };
+    }
+
 -- a letter is sent once more
 pub again_goes : (from to : ℕ) (m : Message) (cores : List Node) (chief : Chief) (before after : List Posted) → IsToSay m → Contains before (posted from to m) → after ≡ before ++ posted from to m ∷ []
     → GoesOn (record { cores = cores; chief = chief; sent = before }) (record { cores = cores; chief = chief; sent = after })
@@ -310,3 +453,34 @@ goes_on_then a b c first next counts w is =
       only = λ only. two.only (one.only only);
       made = record { prepared = two.made.prepared ∙ one.made.prepared; commits = two.made.commits ∙ one.made.commits; begun = two.made.begun ∙ one.made.begun };
     }
+
+-- ---- between counts of stops
+
+module _ (M N O : World → World → Type 0) (joins : (w v u : World) → M w v → N v u → O w u) where
+  pub between_then : (i j k : ℕ → ℕ) (a b c : Scene) → GoesBetween i j M a b → GoesBetween j k N b c → GoesBetween i k O a c
+  between_then i j k a b c first next w is =
+      let one : Arrives i j M a b w = first w is in
+      let two : Arrives j k N b c one.after = next one.after one.is in
+      record {
+        after = two.after;
+        goes = goes_then i j k w one.after two.after one.goes two.goes;
+        is = two.is;
+        only = λ only. two.only (one.only only);
+        made = joins w one.after two.after one.made two.made;
+      }
+
+pub between_on : (M N : World → World → Type 0) (i j : ℕ → ℕ) (a b : Scene) → ((w v : World) → IsWorld w a → M w v → N w v) → ((n : ℕ) → n < 8 → i n ≤ j n) → GoesOnWith M a b → GoesBetween i j N a b
+between_on M N i j a b wider rises goes w is =
+    let one : Arrives i i M a b w = goes i w is in
+    record {
+      after = one.after;
+      goes = goes_then i i j w one.after one.after one.goes (record { events = []; can = tt; to = refl; told = tt; rises = rises });
+      is = one.is;
+      only = one.only;
+      made = wider w one.after is one.made;
+    }
+
+pub between_stopped : (M N : World → World → Type 0) (n : ℕ) (i j : ℕ → ℕ) (a b : Scene) → ((w v : World) → IsWorld w a → M w v → N w v) → n < 8 → ((k : ℕ) → k < 8 → i k ≤ j k) → i n < j n → GoesOnStopped n M a b → GoesBetween i j N a b
+between_stopped M N n i j a b wider eight rises rose goes w is =
+    let one : Arrives i j M a b w = goes i j w eight rises rose is in
+    record { after = one.after; goes = one.goes; is = one.is; only = one.only; made = wider w one.after is one.made }

@@ -6,7 +6,7 @@ use Rattle.coco_net.specs.declared.letter.Posted.{Posted}
 use Rattle.coco_node.specs.Node.{Node, greatest}
 use Rattle.coco_chief.specs.Chief.{Chief}
 use Rattle.coco_world.specs.World.{World, Letter, Among, put, began_anew}
-use Rattle.coco_world.specs.Steps.{Event, NodeTakes, ChiefTakes, NodeForces, ChiefForces, Begins, Aborts, Stops, Asks, Reminds, Crashes, AreGood, CanRun, run}
+use Rattle.coco_world.specs.Steps.{Event, NodeTakes, ChiefTakes, NodeForces, ChiefForces, Begins, Aborts, Stops, Asks, Reminds, Crashes, AreGood, CanRun, IsAbove, run}
 use Rattle.coco_letters.specs.Saying.{posted, IsToSay}
 
 -- the cores of the nodes and of the coordinator, and the letters that were sent
@@ -74,13 +74,37 @@ pub record Prepares (n epoch : ℕ) (w after : World) : Type 0 where
   pub commits : after.commits ≡ w.commits
   pub begun : after.begun ≡ w.begun
 
--- each world of a scene becomes one of another, with no stop and no entry
+-- the coordinator's entry of this epoch has become durable, and nothing else
+pub record Commits (epoch : ℕ) (w after : World) : Type 0 where
+  pub prepared : after.prepared ≡ w.prepared
+  pub commits : after.commits ≡ epoch ∷ w.commits
+  pub begun : after.begun ≡ w.begun
+
+-- this epoch was begun, and nothing has become durable
+pub record Starts (epoch : ℕ) (w after : World) : Type 0 where
+  pub prepared : after.prepared ≡ w.prepared
+  pub commits : after.commits ≡ w.commits
+  pub begun : after.begun ≡ epoch ∷ w.begun
+
+-- each world of a scene becomes one of another, with no stop
+abbrev pub GoesOnWith : (World → World → Type 0) → Scene → Scene → Type 0
+GoesOnWith Made a b = (counts : ℕ → ℕ) (w : World) → IsWorld w a → Arrives counts counts Made a b w
+
+-- and with no entry
 abbrev pub GoesOn : Scene → Scene → Type 0
-GoesOn a b = (counts : ℕ → ℕ) (w : World) → IsWorld w a → Arrives counts counts SameEntries a b w
+GoesOn = GoesOnWith SameEntries
+
+-- each in which this epoch is above all does, and it is begun
+abbrev pub GoesOnAbove : ℕ → Scene → Scene → Type 0
+GoesOnAbove epoch a b = (counts : ℕ → ℕ) (w : World) → IsWorld w a → IsAbove w epoch → Arrives counts counts (Starts epoch) a b w
 
 -- and with a stop of a node, which the counts tell
 abbrev pub GoesOnStopped : ℕ → (World → World → Type 0) → Scene → Scene → Type 0
 GoesOnStopped n Made a b = (old new : ℕ → ℕ) (w : World) → n < 8 → ((k : ℕ) → k < 8 → old k ≤ new k) → old n < new n → IsWorld w a → Arrives old new Made a b w
+
+-- between these counts of the nodes' stops
+abbrev pub GoesBetween : (ℕ → ℕ) → (ℕ → ℕ) → (World → World → Type 0) → Scene → Scene → Type 0
+GoesBetween old new Made a b = (w : World) → IsWorld w a → Arrives old new Made a b w
 
 -- a world that good entries lead to
 pub record IsReached (w : World) : Type 0 where

@@ -6,9 +6,11 @@ mod hearing;
 pub mod laws;
 mod nodes;
 mod sending;
+mod voter;
 
-pub use chief::chief_hears;
+pub use chief::{chief_aborts, chief_begins, chief_forced, chief_hears, chief_reminds};
 pub use hearing::hear;
 pub use laws::{waiting_letters_were_sent, ways_follow_one_another};
-pub use nodes::{Heard, node_finishes, node_gives_up, node_votes, restart};
+pub use nodes::{Heard, node_asks, node_finishes, node_forced, node_gives_up, node_votes, restart};
 pub use sending::{resend, send_actions};
+pub use voter::Voter;

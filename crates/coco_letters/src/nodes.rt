@@ -1,15 +1,16 @@
-//! What a node does at the letters of a phase.
+//! What a node does at the letters of a phase, and of itself.
 
 ghost use Rattle.std.specs.Prelude.{◌≡◌, ◌<◌, ◌≤◌, ℕ, List, [], ◌∷◌, Some, Contains, length, slice_set, IfOk, OnOk, OnErr};
 ghost use Rattle.std.specs.List.{slice_get};
 ghost use Rattle.coco_msg.specs.declared.action.Action.{Action as Asked};
 ghost use Rattle.coco_node.specs.Node.{restarted, Node as NodeState};
+ghost use Rattle.coco_node.specs.Table.{forced};
 ghost use Rattle.coco_chief.specs.Chief.{Chief as ChiefState};
 ghost use Rattle.coco_net.specs.declared.letter.Posted.{Posted as Sent};
 ghost use Rattle.coco_letters.specs.declared.hearing.Phase.TheVariants.{Voting, Finishing, GivingUp};
 ghost use Rattle.coco_letters.specs.Saying.{IsToSay};
-ghost use Rattle.coco_letters.specs.Turns.{heard_of, promotes, AreFresh, Counts, Hears, Takes};
-ghost use Rattle.coco_letters.specs.Worlds.{GoesOn, GoesOnStopped, Prepares, SameEntries};
+ghost use Rattle.coco_letters.specs.Turns.{heard_of, promotes, AreFresh, Counts, Hears, IsForcing, NodeAsks, NodeTurns, Takes};
+ghost use Rattle.coco_letters.specs.Worlds.{GoesOn, GoesOnStopped, GoesOnWith, Prepares, SameEntries};
 
 use crate::hearing::{Phase, hear_awaited};
 use crate::sending::send_actions;
@@ -161,6 +162,48 @@ pub fn node_gives_up<N: Net>(
 {
     let _actions = node_hears(alloc, net, cores, node, Phase::GivingUp, epoch, letter)?;
     Ok(())
+}
+
+/// The entry that a node forces is durable, and its vote goes out.
+pub fn node_forced<N: Net>(
+    alloc: Global,
+    net: &mut N,
+    cores: &mut [NodeCore],
+    node: u8,
+    epoch: u64,
+) -> Result<(), NoMemory>
+    requires few { length cores.old ≤ 8 }
+    requires node { node < length cores.old }
+    requires forcing { IsForcing epoch node cores.old }
+    ensures turns { OnOk result (NodeTurns node (forced epoch) cores.old (N.sent net.old) cores.new (N.sent net.new)) }
+    ensures world { OnOk result ((chief : ChiefState) → GoesOnWith (Prepares node epoch) (record { cores = cores.old; chief = chief; sent = N.sent net.old }) (record { cores = cores.new; chief = chief; sent = N.sent net.new })) }
+    ensures fresh { OnOk result (AreFresh (N.sent net.old) (N.fresh net.old) (N.sent net.new) (N.fresh net.new)) }
+    ensures waiting { (p : ℕ) → N.waiting net.new p ≡ N.waiting net.old p }
+    ensures counts { Counts (N.given net.old) (N.faults net.old) (N.last_seed net.old) (N.given net.new) (N.faults net.new) (N.last_seed net.new) }
+{
+    let actions = cores[node as usize].forced(alloc, epoch)?;
+    send_actions(alloc, net, node, &actions)
+}
+
+/// A node asks what became of its newest durable epoch, where it doesn't know.
+pub fn node_asks<N: Net>(
+    alloc: Global,
+    net: &mut N,
+    cores: &[NodeCore],
+    node: u8,
+) -> Result<(), NoMemory>
+    requires few { length cores.now ≤ 8 }
+    requires node { node < length cores.now }
+    ensures asks { OnOk result (NodeAsks node cores.now (N.sent net.old) (N.sent net.new)) }
+    ensures world { OnOk result ((chief : ChiefState) → GoesOn (record { cores = cores.now; chief = chief; sent = N.sent net.old }) (record { cores = cores.now; chief = chief; sent = N.sent net.new })) }
+    ensures fresh { OnOk result (AreFresh (N.sent net.old) (N.fresh net.old) (N.sent net.new) (N.fresh net.new)) }
+    ensures waiting { (p : ℕ) → N.waiting net.new p ≡ N.waiting net.old p }
+    ensures counts { Counts (N.given net.old) (N.faults net.old) (N.last_seed net.old) (N.given net.new) (N.faults net.new) (N.last_seed net.new) }
+{
+    let core = &cores[node as usize];
+    let _durable = core.durable();
+    let actions = core.ask(alloc)?;
+    send_actions(alloc, net, node, &actions)
 }
 
 /// A node that has stopped begins anew, with this as the greatest epoch of its entries: that of its core, or the one

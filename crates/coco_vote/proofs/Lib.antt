@@ -1,0 +1,5 @@
+pub mod PreparingLemmas
+pub mod PlaceLemmas
+pub mod StepLemmas
+pub mod PowerLemmas
+pub mod TakingLemmas

@@ -1,0 +1,5 @@
+pub mod Preparing
+pub mod Steps
+pub mod Asking
+pub mod Voting
+pub mod Taking

@@ -1,0 +1,146 @@
+//! What a node does with the letters that wait at it while it votes.
+
+ghost use Rattle.std.specs.Prelude.{◌≡◌, ◌≢◌, ◌⊎◌, ℕ, ◌<◌, ◌≤◌, Bool, true, false, List, [], ◌∷◌, Some, Contains, length, IfOk, OnOk};
+ghost use Rattle.coco_msg.specs.declared.message.Message.TheVariants.{Prepare as Asks};
+ghost use Rattle.coco_node.specs.declared.machine.TheConstants.{COORDINATOR as Chiefs};
+ghost use Rattle.coco_chief.specs.Chief.{Chief as ChiefState};
+ghost use Rattle.coco_letters.specs.Turns.{AreFresh, AreSent, Counts, IsFrom};
+ghost use Rattle.coco_letters.specs.Worlds.{GoesBetween, GoesOn, SameEntries};
+ghost use Rattle.coco_log.specs.Faults.{CountsFault};
+ghost use Rattle.coco_log.specs.LogState.{LogState};
+ghost use Rattle.coco_store.specs.Contents.{Contents};
+ghost use Rattle.coco_append.specs.Gaining.{IsNodeLog, Stands};
+ghost use Rattle.coco_vote.specs.Asking.{IsLater, TellsStops};
+ghost use Rattle.coco_vote.specs.Preparing.{have_durable, Ballot, MayForce, RestsVoted, Votes};
+ghost use Rattle.coco_vote.specs.Steps.{EndsVote, HasNewest, Marks};
+ghost use Rattle.coco_vote.specs.Taking.{vote_of, AreTold, AreVoting, CountsStops, HeardSo, IsMarked, UnlessLost};
+ghost use Rattle.coco_vote.specs.Voting.{PreparesOnly};
+ghost use Rattle.coco_vote.specs.declared.step.Stops.TheVariants.{Never as NoStop};
+
+use crate::forcing::{end_vote, force_and_vote};
+use crate::{Step, Stops};
+use coco_host::Host;
+use coco_letters::{Heard, Voter, node_votes};
+use coco_log::LogFault;
+use coco_net::{Letter, Net};
+use coco_node::NodeCore;
+use coco_power::Power;
+use coco_types::{NoMemory, Piece};
+use std::alloc::Global;
+
+// A node that votes hears a letter that waited at it.
+fn hear_vote<N: Net>(
+    alloc: Global,
+    net: &mut N,
+    cores: &mut [NodeCore],
+    node: u8,
+    epoch: u64,
+    letter: &Letter,
+) -> Result<Heard, NoMemory>
+    requires few { length cores.old ≤ 8 }
+    requires node { node < length cores.old }
+    requires some { 0 < epoch }
+    requires sent { Contains (N.sent net.old) (record { to = node; letter = letter.now }) }
+    requires voting { AreVoting epoch cores.old }
+    ensures heard { IfOk result (λ heard. HeardSo heard node epoch letter.now cores.old (N.sent net.old) cores.new (N.sent net.new)) }
+    ensures world { OnOk result ((chief : ChiefState) → GoesOn (record { cores = cores.old; chief = chief; sent = N.sent net.old }) (record { cores = cores.new; chief = chief; sent = N.sent net.new })) }
+    ensures fresh { OnOk result (AreFresh (N.sent net.old) (N.fresh net.old) (N.sent net.new) (N.fresh net.new)) }
+    ensures waiting { (p : ℕ) → N.waiting net.new p ≡ N.waiting net.old p }
+    ensures counts { Counts (N.given net.old) (N.faults net.old) (N.last_seed net.old) (N.given net.new) (N.faults net.new) (N.last_seed net.new) }
+{
+    node_votes(alloc, net, cores, node, epoch, letter)
+}
+
+// A node that has given its vote again is asked for a stop behind it, where it wasn't yet.
+fn vote_again<N: Net, P: Power>(
+    alloc: Global,
+    net: &mut N,
+    power: &mut P,
+    cores: &mut [NodeCore],
+    voter: &mut Voter,
+    node: u8,
+    epoch: u64,
+) -> Result<Step, NoMemory>
+    requires few { length cores.old ≤ 8 }
+    requires node { node < length cores.old }
+    requires some { 0 < epoch }
+    requires newest { HasNewest epoch node cores.old }
+    ensures ends { IfOk result (λ step. EndsVote step node epoch cores.old (N.sent net.old) cores.new (N.sent net.new)) }
+    ensures world { OnOk result ((chief : ChiefState) → GoesBetween (P.stopped power.old) (P.stopped power.new) SameEntries (record { cores = cores.old; chief = chief; sent = N.sent net.old }) (record { cores = cores.new; chief = chief; sent = N.sent net.new })) }
+    ensures marks { IfOk result (λ step. Marks step voter.old voter.new) }
+    ensures log { voter.new.log ≡ voter.old.log }
+    ensures held { voter.new.held ≡ voter.old.held }
+    ensures later { IsLater P.stops_seen P.early_stops P.stopped P.begun P.asked power.old power.new }
+    ensures stops { IfOk result (λ step. TellsStops step (P.stops_seen power.old) (P.early_stops power.old) (P.stops_seen power.new) (P.early_stops power.new)) }
+    ensures asked { IsMarked node voter.old (P.asked power.old) → P.asked power.new node 5 ≡ true }
+    ensures fresh { OnOk result (AreFresh (N.sent net.old) (N.fresh net.old) (N.sent net.new) (N.fresh net.new)) }
+    ensures waiting { (p : ℕ) → N.waiting net.new p ≡ N.waiting net.old p }
+    ensures counts { Counts (N.given net.old) (N.faults net.old) (N.last_seed net.old) (N.given net.new) (N.faults net.new) (N.last_seed net.new) }
+{
+    if voter.asked_after_vote {
+        return Ok(Step::Voted);
+    }
+    end_vote(alloc, net, power, cores, voter, node, epoch)
+}
+
+// What a node that votes does with a letter that waited at it.
+fn take_letter<H: Host, N: Net, P: Power>(
+    host: &mut H,
+    net: &mut N,
+    power: &mut P,
+    cores: &mut [NodeCore],
+    voter: &mut Voter,
+    node: u8,
+    epoch: u64,
+    pieces: &[Piece],
+    body: &mut Vec<u8>,
+    letter: &Letter,
+) -> Result<Stops, LogFault>
+    requires few { length cores.old ≤ 8 }
+    requires node { node < length cores.old }
+    requires some { 0 < epoch }
+    requires sent { Contains (N.sent net.old) (record { to = node; letter = letter.now }) }
+    requires voting { AreVoting epoch cores.old }
+    requires marked { IsMarked node voter.old (P.asked power.old) }
+    requires unspent { voter.old.log.spent ≡ false }
+    requires stands { Stands voter.old.log (H.reads host.old) (H.may_leave host.old) }
+    ensures voting { IfOk result (λ stops. UnlessLost stops (AreVoting epoch cores.new)) }
+    ensures told { OnOk result (AreTold epoch cores.old (N.sent net.old) (P.asked power.old) → AreTold epoch cores.new (N.sent net.new) (P.asked power.new)) }
+    ensures marked { OnOk result (IsMarked node voter.new (P.asked power.new)) }
+    ensures held { voter.new.held ≡ voter.old.held }
+    // Asked for its vote, a node that doesn't stop gives it.
+    ensures votes { IfOk result (λ stops. IsFrom Chiefs letter.now (Asks epoch) → stops ≡ NoStop → Contains (N.fresh net.new) (vote_of node epoch true)) }
+    // The files.
+    ensures files { (c : Contents) (hold : ℕ → List Bool) → let b : Ballot = record { epoch = epoch; pieces = pieces.now; held = hold } in
+        hold node ≡ voter.old.held.items → MayForce c b → node < c.setting.entry.layout.nodes → IsNodeLog c node voter.old.log
+        → RestsVoted c b (have_durable epoch cores.old) (H.reads host.old) (H.may_leave host.old)
+        → Votes H.moment H.observed H.said H.reads H.may_leave result c b (have_durable epoch cores.new) host.old host.new }
+    ensures stands { OnOk result (Stands voter.new.log (H.reads host.new) (H.may_leave host.new)) }
+    ensures unspent { OnOk result (voter.new.log.spent ≡ false) }
+    ensures log { (voter.new.log.file ≡ voter.old.log.file) × (voter.new.log.kind ≡ voter.old.log.kind) }
+    ensures others { (other : LogState) → other.file ≢ voter.old.log.file → Stands other (H.reads host.old) (H.may_leave host.old) → Stands other (H.reads host.new) (H.may_leave host.new) }
+    ensures said { H.said host.new ≡ H.said host.old }
+    ensures disk { CountsFault result (H.disk_faults host.old) (H.disk_faults host.new) }
+    ensures stream { H.say_faults host.new ≡ H.say_faults host.old }
+    // The world.
+    ensures world { OnOk result ((chief : ChiefState) → GoesBetween (P.stopped power.old) (P.stopped power.new) (PreparesOnly epoch) (record { cores = cores.old; chief = chief; sent = N.sent net.old }) (record { cores = cores.new; chief = chief; sent = N.sent net.new })) }
+    // The counts.
+    ensures later { IsLater P.stops_seen P.early_stops P.stopped P.begun P.asked power.old power.new }
+    ensures stops { IfOk result (λ stops. CountsStops stops (P.stops_seen power.old) (P.early_stops power.old) (P.stops_seen power.new) (P.early_stops power.new)) }
+    ensures fresh { OnOk result (AreFresh (N.sent net.old) (N.fresh net.old) (N.sent net.new) (N.fresh net.new)) }
+    ensures waiting { (p : ℕ) → N.waiting net.new p ≡ N.waiting net.old p }
+    ensures counts { Counts (N.given net.old) (N.faults net.old) (N.last_seed net.old) (N.given net.new) (N.faults net.new) (N.last_seed net.new) }
+{
+    let alloc = *body.allocator();
+    match hear_vote(alloc, net, cores, node, epoch, letter)? {
+        Heard::Nothing => Ok(Stops::Never),
+        Heard::Voted => {
+            let step = vote_again(alloc, net, power, cores, voter, node, epoch)?;
+            Ok(step.stops())
+        }
+        Heard::Forces { epoch: _ } => {
+            let step = force_and_vote(host, net, power, cores, voter, node, epoch, pieces, body)?;
+            Ok(step.stops())
+        }
+    }
+}
