@@ -94,6 +94,12 @@ run examples/builtin/requests.jsonl
 expect 'no command' 1 'coco: bad command line'
 run examples/builtin/requests.jsonl run --epoch 1025
 expect 'an epoch of 1,025 lines' 1 'coco: bad command line'
+run examples/builtin/requests.jsonl run --epoch 0
+expect 'an epoch of no line' 1 'coco: bad command line'
+"$program" "$work/store" run --epoch 0 <examples/builtin/requests.jsonl >"$work/said" 2>/dev/full
+status=$?
+: >"$work/errors"
+expect 'an epoch of no line, and an error stream that is full' 1 ''
 run examples/builtin/requests.jsonl run --
 expect 'no word behind two hyphens' 1 'coco: bad command line'
 run /dev/null dump --epoch 1

@@ -137,6 +137,38 @@ IN
 {"epoch":1,"id":1,"ok":70,"time":1}
 OUT
 
+# Lines of which each is refused by itself, in one batch with two that a procedure refuses.
+answers 'hostile lines' 20 3< <(
+    printf '\n{\n\xff\n%s\n' "$(head -c 200 /dev/zero | tr '\0' '[')"
+    cat <<'IN'
+[]
+{"args":[],"call":"get","id":-1}
+{"args":[5],"call":"get","id":1,"x":0}
+{"args":[],"call":"zzz","id":1}
+{"args":[1],"call":"put","id":1}
+{"args":[1.5],"call":"get","id":1}
+{"args":[[1]],"call":"get","id":1}
+{"args":[1,2],"call":"put","id":1,"snapshot":true}
+{"args":[-1],"call":"get","id":1}
+{"args":["a"],"call":"get","id":2}
+IN
+) 4<<'OUT'
+{"error":"json","line":1}
+{"error":"json","line":2}
+{"error":"json","line":3}
+{"error":"json","line":4}
+{"error":"shape","line":5}
+{"error":"shape","line":6}
+{"error":"shape","line":7}
+{"error":"name","line":8}
+{"error":"args","line":9}
+{"error":"args","line":10}
+{"error":"args","line":11}
+{"error":"snapshot","line":12}
+{"epoch":1,"id":1,"refused":"bad row","time":1}
+{"epoch":1,"id":2,"refused":"kind","time":1}
+OUT
+
 answers 'a procedure refuses with its own number' 1 bench/bank.coco 3<<'IN' 4<<'OUT'
 {"args":[1,100],"call":"open","id":1}
 {"args":[2,0],"call":"open","id":2}
