@@ -5,9 +5,10 @@ use Rattle.std.specs.Option.{option_map}
 use Rattle.coco_types.specs.declared.call.Piece.{Piece}
 use Rattle.coco_host.specs.Files.{Files}
 use Rattle.coco_host.specs.Moments.{Observation, SeesOnly}
-use Rattle.coco_entry.specs.Rows.{IsPrepared}
+use Rattle.coco_entry.specs.Rows.{prepared_bytes, IsPrepared}
 use Rattle.coco_entry.specs.declared.prepared.Prepared.{Prepared}
 use Rattle.coco_entry.specs.declared.prepared.Row.{Row}
+use Rattle.coco_log.specs.LogState.{LogState, with_entry}
 use Rattle.coco_node.specs.Node.{Node}
 use Rattle.coco_store.specs.Contents.{Contents, IsGoodStore}
 use Rattle.coco_store.specs.Laws.{MayPrepare}
@@ -33,6 +34,12 @@ pub record HasPrepared (b : Ballot) (n : ℕ) (before after : List Prepared) : T
   pub rows : List Row
   pub last : AreLastWrites (b.held n) b.pieces rows
   pub entry : after ≡ before ++ prepared_of b.epoch rows ∷ []
+
+-- a log has gained that entry
+pub record AddsEntry (epoch : ℕ) (pieces : List Piece) (held : List Bool) (log log_new : LogState) : Type 0 where
+  pub rows : List Row
+  pub last : AreLastWrites held pieces rows
+  pub added : log_new ≡ with_entry log (prepared_bytes (prepared_of epoch rows))
 
 -- contents become others, since just these nodes have prepared the epoch
 pub record HavePrepared (c : Contents) (b : Ballot) (has : ℕ → Bool) (d : Contents) : Type 0 where

@@ -16,7 +16,7 @@ ghost use Rattle.coco_log.specs.LogState.{LogState};
 ghost use Rattle.coco_store.specs.Contents.{Contents};
 ghost use Rattle.coco_append.specs.Gaining.{IsNodeLog, Stands};
 ghost use Rattle.coco_vote.specs.Asking.{AreAsked, IsLater, TellsStops};
-ghost use Rattle.coco_vote.specs.Preparing.{have_durable, Ballot, MayForce, RestsVoted, Votes};
+ghost use Rattle.coco_vote.specs.Preparing.{have_durable, AddsEntry, Ballot, MayForce, RestsVoted, Votes};
 ghost use Rattle.coco_vote.specs.Steps.{is_early, EndsVote, HasNewest, Marks, Steps};
 ghost use Rattle.coco_vote.specs.Voting.{PreparesOnly};
 
@@ -48,6 +48,7 @@ fn prepare_entry<H: Host>(
         → Votes H.moment H.observed H.said H.reads H.may_leave result c b (put has n true) host.old host.new }
     ensures stands { OnOk result (Stands log.new (H.reads host.new) (H.may_leave host.new)) }
     ensures unspent { OnOk result (log.new.spent ≡ false) }
+    ensures entry { OnOk result (AddsEntry epoch pieces.now held.now log.old log.new) }
     ensures log { (log.new.file ≡ log.old.file) × (log.new.kind ≡ log.old.kind) }
     ensures others { (other : LogState) → other.file ≢ log.old.file → Stands other (H.reads host.old) (H.may_leave host.old) → Stands other (H.reads host.new) (H.may_leave host.new) }
     ensures said { H.said host.new ≡ H.said host.old }
@@ -178,8 +179,8 @@ fn vote<N: Net, P: Power>(
     end_vote(alloc, net, power, cores, voter, node, epoch)
 }
 
-/// A node that was asked for its vote forces the entry of the epoch, and then votes. It may stop before its entry, before
-/// its vote and behind it. Of each that it is asked for a stop up to the first at which it does.
+/// A node that was asked for its vote forces the entry of the epoch, and then votes. It is asked for a stop before its
+/// entry, before its vote and behind it, up to the first at which it stops.
 pub fn force_and_vote<H: Host, N: Net, P: Power>(
     host: &mut H,
     net: &mut N,
@@ -199,6 +200,8 @@ pub fn force_and_vote<H: Host, N: Net, P: Power>(
     ensures steps { IfOk result (λ step. Steps step node epoch cores.old (N.sent net.old) cores.new (N.sent net.new)) }
     ensures marks { IfOk result (λ step. Marks step voter.old voter.new) }
     ensures held { voter.new.held ≡ voter.old.held }
+    // Nothing is sent before the entry, whatever the answer.
+    ensures behind { (N.sent net.new ≡ N.sent net.old) ⊎ AddsEntry epoch pieces.now voter.old.held.items voter.old.log voter.new.log }
     // The files.
     ensures files { (c : Contents) (hold : ℕ → List Bool) → let b : Ballot = record { epoch = epoch; pieces = pieces.now; held = hold } in
         hold node ≡ voter.old.held.items → MayForce c b → node < c.setting.entry.layout.nodes → IsNodeLog c node voter.old.log

@@ -1,9 +1,10 @@
-use Rattle.std.proofs.Common.{◌≡◌, ◌<◌, ℕ, Bool, List, Some, [], ◌∷◌, ap, arith, false, lit<, lit≤, refl, sym, true, ◌∙◌}
+use Rattle.std.proofs.Common.{◌≡◌, ◌<◌, ℕ, Bool, List, Some, [], ◌∷◌, ap, arith, false, inl, inr, lit<, lit≤, refl, subst, sym, true, ◌∙◌}
 use Rattle.std.proofs.lemmas.Bool.{eq-eqb}
 use Rattle.std.proofs.lemmas.Result.{err_from_is_err_and}
+use Rattle.coco_log.specs.LogState.{LogState}
 use Rattle.coco_node.specs.Node.{restarted, Node}
 use Rattle.coco_world.specs.World.{put}
-use Rattle.coco_vote.specs.Preparing.{have_durable, Ballot, RestsVoted}
+use Rattle.coco_vote.specs.Preparing.{have_durable, AddsEntry, Ballot, RestsVoted}
 use Rattle.coco_vote.specs.Voting.{PreparesOnly}
 use Rattle.coco_vote.proofs.PlaceLemmas.{has_older, have_same}
 use Rattle.coco_vote.proofs.PowerLemmas.{asked_here}
@@ -71,3 +72,19 @@ pub returns-clause-world : goal.returns-clause-world
 returns-clause-world g c =
     λ chief. between_later (g.P.Power.stopped c.args.power.now) (g.P.Power.stopped c.stops.new.self) (λ n lt. (c.if-stops.ensures.stopped n lt).0) (g.P.Power.stopped c.vote.new.power) c.args.epoch
     (record { cores = c.args.cores.now; chief = chief; sent = g.N.Net.sent c.args.net.now }) (record { cores = c.vote.new.cores; chief = chief; sent = g.N.Net.sent c.vote.new.net }) (c.in_ok-vote.ensures.world chief)
+
+pub returns-then-stops-clause-behind : goal.returns-then-stops-clause-behind
+returns-then-stops-clause-behind g c = inl refl
+
+pub returns-in_err-prepare_entry-clause-behind : goal.returns-in_err-prepare_entry-clause-behind
+returns-in_err-prepare_entry-clause-behind g c = inl refl
+
+pub returns-in_err-vote-clause-behind : goal.returns-in_err-vote-clause-behind
+returns-in_err-vote-clause-behind g c =
+    inr (subst (λ (log : LogState). AddsEntry c.args.epoch c.args.pieces.now c.args.voter.now.held.items c.args.voter.now.log log) (sym c.vote.ensures.log)
+    (subst (λ (held : List Bool). AddsEntry c.args.epoch c.args.pieces.now held c.args.voter.now.log c.prepare_entry.new.log) c.as_slice-held.ensures.value c.in_ok-prepare_entry.ensures.entry))
+
+pub returns-clause-behind : goal.returns-clause-behind
+returns-clause-behind g c =
+    inr (subst (λ (log : LogState). AddsEntry c.args.epoch c.args.pieces.now c.args.voter.now.held.items c.args.voter.now.log log) (sym c.vote.ensures.log)
+    (subst (λ (held : List Bool). AddsEntry c.args.epoch c.args.pieces.now held c.args.voter.now.log c.prepare_entry.new.log) c.as_slice-held.ensures.value c.in_ok-prepare_entry.ensures.entry))

@@ -1,5 +1,5 @@
 use Rattle.std.proofs.Common.{◌≡◌, ℕ, Bool, true, List, subst, sym}
-use Rattle.std.proofs.lemmas.Result.{err_from_is_err_and}
+use Rattle.std.proofs.lemmas.Result.{err_from_is_err_and, on_ok_weaker}
 use Rattle.coco_entry.specs.Rows.{prepared_bytes}
 use Rattle.coco_entry.specs.declared.prepared.Row.{Row}
 use Rattle.coco_prepared.specs.LastWrites.{AreLastWrites}
@@ -26,3 +26,13 @@ returns-clause-files g c k hold has n same may node log not rests =
 
 pub returns-clause-log : goal.returns-clause-log
 returns-clause-log g c = stays_in_file c.add_prepared.result c.args.log.now c.add_prepared.new.log (prepared_bytes (prepared_of c.args.epoch c.as_slice.result.now)) (c.add_prepared.new.host ≡ c.args.host.now) c.add_prepared.ensures.log c.add_prepared.ensures.err
+
+pub returns-clause-entry : goal.returns-clause-entry
+returns-clause-entry g c =
+    on_ok_weaker c.add_prepared.result
+    (λ added. record {
+      rows = c.as_slice.result.now;
+      last = subst (AreLastWrites c.args.held.now c.args.pieces.now) (sym c.as_slice.ensures.value) c.in_ok-rows.ensures.rows;
+      added = added;
+    })
+    c.add_prepared.ensures.log
