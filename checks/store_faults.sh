@@ -1,6 +1,6 @@
 #!/usr/bin/env bash
-# Faults around a store in a real folder: a folder that can't be written, another program on it, a second `init`, a late
-# one, answers that nobody takes. Each ends in its status and its line, and loses and doubles nothing.
+# Faults around a store in a real folder: a folder that can't be written, another program on it, another reader, a
+# second `init`, a late one, answers that nobody takes. Each ends in its status and its line, and loses and doubles nothing.
 . "$(dirname "$0")/store.bash"
 prepare
 
@@ -16,10 +16,18 @@ read_only() {
     cp "$program" "$work/program"
     chmod a+rx "$work" "$work/program"
     chmod -R a=rX "$work/shut"
-    for command in run dump verify 'migrate --keep 1'; do
+    for command in run compact 'migrate --keep 1' 'rebuild --node 0'; do
         "${user[@]}" "$work/program" "$work/shut" $command <"$work/lines" >"$work/said" 2>"$work/errors"
         status=$?
         ends "$command in a read-only folder" 4 'coco: disk fault'
+    done
+    for command in dump verify; do
+        on "$work/calm" $command
+        mv "$work/said" "$work/wanted_here"
+        "${user[@]}" "$work/program" "$work/shut" $command </dev/null >"$work/said" 2>"$work/errors"
+        status=$?
+        ends "$command in a read-only folder" 0
+        cmp "$work/said" "$work/wanted_here" || wrong "$command in a read-only folder says something else"
     done
     diff -r "$work/shut" "$work/calm" || wrong 'a read-only folder has changed'
     chmod -R u+w "$work/shut"
@@ -50,6 +58,21 @@ second_program() {
     exec 3>&-
     wait "$first" || wrong 'the first of two programs'
     whole "$work/held"
+}
+
+# Several may read a store at once, and nobody writes it meanwhile.
+second_reader() {
+    local store=$work/calm
+    for command in dump verify; do
+        flock -n -s "$store" "$program" "$store" $command >"$work/said" 2>"$work/errors"
+        status=$?
+        ends "$command beside a reader" 0
+    done
+    for command in run compact 'migrate --keep 1'; do
+        flock -n -s "$store" "$program" "$store" $command <"$work/lines" >"$work/said" 2>"$work/errors"
+        status=$?
+        ends "$command beside a reader" 4 'coco: disk fault'
+    done
 }
 
 second_init() {
@@ -95,6 +118,7 @@ closed_answers() {
 
 read_only
 second_program
+second_reader
 second_init
 late_init
 closed_answers

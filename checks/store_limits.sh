@@ -9,7 +9,6 @@ within() {
     local option=$1 most=$2
     shift 2
     (
-        trap '' XFSZ
         ulimit "$option" "$most"
         exec "$program" "$@" <"$input" 2>&1
     ) | cat >"$work/both"

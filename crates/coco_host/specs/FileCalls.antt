@@ -1,13 +1,15 @@
 -- What came of the calls on a folder's files, and which of them stand behind an answer.
 use Rattle.std.specs.Prelude.{◌≡◌, ◌⊎◌, ℕ, ◌+◌, ◌<◌, Bool, true, List, [], ◌∷◌, ◌++◌, length, slice_index_or, All, Contains, Result, Ok, Err, Option, Some, None, if◌then◌else◌, ◌==◌}
 use Rattle.std.specs.declared.io.Error.{Error}
+use Rattle.coco_host.specs.declared.files.Purpose.{Purpose}
 use Rattle.coco_host.specs.declared.opened.Opened.{Opened}
 use Rattle.coco_host.specs.declared.opened.FileCall.{FileCall}
 use Rattle.coco_host.specs.declared.opened.FileCall.TheVariants.{Absent, Ended, Synced, Entered}
 
--- a folder: its name, its open files, and what came of the calls on them
+-- a folder: its name, what it is wanted for, its open files, and what came of the calls on them
 pub record FolderState : Type 0 where
   pub name : List ℕ
+  pub purpose : Purpose
   pub files : List Opened
   pub calls : List FileCall
 

@@ -3,7 +3,9 @@ ghost use Rattle.std.specs.Prelude.{◌≡◌, ◌+◌, ◌<◌, ◌≤◌, [], 
 ghost use Rattle.coco_types.specs.Limits.{files_end};
 ghost use Rattle.coco_host.specs.FileCalls.{Finds, IsReadBy, IsSyncedBy, Makes, Notes};
 ghost use Rattle.coco_host.specs.declared.opened.FileCall.TheVariants.{Entered};
+ghost use Rattle.coco_host.specs.declared.files.Purpose.TheVariants.{Writing};
 
+use crate::limit::most_file_bytes;
 use crate::opened::{FileCall, Opened, place_of, sync_all};
 use coco_io::told::Told;
 use coco_types::limits::FILES_END;
@@ -13,15 +15,26 @@ use std::marker::Model;
 use std::os::fd::AsRawFd;
 use std::os::unix::fs::{FileExt, MetadataExt};
 
+/// What a folder's files are wanted for.
+#[derive(Clone, Copy, Debug, PartialEq, Eq)]
+pub enum Purpose {
+    /// To be read alone, by others too.
+    Reading,
+    /// To be read and written, by nobody else.
+    Writing,
+}
+
 /// A folder of the machine and its open files. The folder is locked from the first use of a file on, or
-/// from the moment that it is made. A folder that another program makes in between, or in its place, is
-/// left alone.
+/// from the moment that it is made: against all others where it is written, and else against those that write. A
+/// folder that another program makes in between, or in its place, is left alone.
 #[derive(Drop)]
 pub struct Folder {
     rt: HostRuntime,
     name: String,
+    purpose: Purpose,
     held: Option<File>,
     was_absent: bool,
+    most_file_bytes: u64,
     files: Vec<Opened>,
     calls: Told<FileCall>,
 }
@@ -32,21 +45,23 @@ impl Model for Folder {
 
     ghost Value = { FolderState };
 
-    ghost view = { λ f. record { name = string_bytes f.name; files = f.files.items; calls = f.calls.items } };
+    ghost view = { λ f. record { name = string_bytes f.name; purpose = f.purpose; files = f.files.items; calls = f.calls.items } };
 
     ghost invariant = { λ f. HaveEntered f.calls.items f.files.items };
 }
 
 impl Folder {
     /// The folder of this name. Nothing is opened yet.
-    pub fn new(rt: HostRuntime, name: String) -> Folder
-        ensures { result ≡ record { name = string_bytes name; files = []; calls = [] } }
+    pub fn new(rt: HostRuntime, name: String, purpose: Purpose) -> Folder
+        ensures { result ≡ record { name = string_bytes name; purpose = purpose; files = []; calls = [] } }
     {
         Folder {
             rt,
             name,
+            purpose,
             held: None,
             was_absent: false,
+            most_file_bytes: FILES_END,
             files: Vec::new(rt.alloc()),
             calls: Told::new(),
         }
@@ -75,8 +90,12 @@ impl Folder {
 
     /// Writes the whole piece into a file, which is made where it isn't there.
     pub fn write_at(&mut self, number: u32, at: u64, from: &[u8]) -> io::Result<()>
-        ensures { OnOk result (at + length from.now < FILES_END) }
+        ensures end { OnOk result (at + length from.now < FILES_END) }
+        ensures purpose { OnOk result (self.old.purpose ≡ Writing) }
     {
+        if self.purpose == Purpose::Reading {
+            return Err(ErrorKind::PermissionDenied.into());
+        }
         if at >= FILES_END || FILES_END - at <= from.len() as u64 {
             return Err(ErrorKind::InvalidInput.into());
         }
@@ -84,6 +103,9 @@ impl Folder {
             Some(place) => place,
             None => self.make(number)?,
         };
+        if self.most_file_bytes < at + from.len() as u64 {
+            return Err(ErrorKind::FileTooLarge.into());
+        }
         self.files[place].file.write_all_at(from, at)
     }
 
@@ -116,7 +138,7 @@ impl Folder {
         let path = format!(in self.rt.alloc(); "{}/{number}.coco", self.name.as_str())?;
         match OpenOptions::new()
             .read(true)
-            .write(true)
+            .write(self.purpose == Purpose::Writing)
             .open(&self.rt, path.as_str())
         {
             Ok(file) => Ok(Some(self.keep(number, file)?)),
@@ -174,7 +196,13 @@ impl Folder {
         ensures { self.new ≡ self.old }
     {
         let folder = above_streams(folder)?;
-        folder.try_lock()?;
+        match self.purpose {
+            Purpose::Reading => folder.try_lock_shared()?,
+            Purpose::Writing => {
+                folder.try_lock()?;
+                self.most_file_bytes = most_file_bytes(self.rt)?.unwrap_or(FILES_END);
+            }
+        }
         self.held = Some(folder);
         Ok(())
     }

@@ -7,7 +7,7 @@ ghost use Rattle.coco_host.specs.Moments.{IsUntold};
 ghost use Rattle.coco_types.specs.Limits.{files_end};
 
 use crate::Host;
-use crate::files::Folder;
+use crate::files::{Folder, Purpose};
 use crate::memory::raised;
 use coco_io::stream::SteadyWrite;
 use coco_io::{Sink, WriterSink};
@@ -24,15 +24,22 @@ pub struct FolderHost<W> {
 }
 
 impl<W: SteadyWrite + Drop> FolderHost<W> {
-    /// The host over the folder of this name, which says its replies to this writer.
-    pub fn new(rt: HostRuntime, folder: &str, replies: W) -> Result<FolderHost<W>, NoMemory>
+    /// The host over the folder of this name, which says its replies to this writer. Where the folder is only to be
+    /// read, each write fails.
+    pub fn new(
+        rt: HostRuntime,
+        folder: &str,
+        purpose: Purpose,
+        replies: W,
+    ) -> Result<FolderHost<W>, NoMemory>
         ensures folder { IfOk result (λ host. host.folder.name ≡ folder.now) }
+        ensures purpose { IfOk result (λ host. host.folder.purpose ≡ purpose) }
         ensures said { IfOk result (λ host. ⟦<FolderHost<W> as Host>⟧.said host ≡ W.contents replies) }
         ensures say_faults { IfOk result (λ host. ⟦<FolderHost<W> as Host>⟧.say_faults host ≡ 0) }
         ensures disk_faults { IfOk result (λ host. ⟦<FolderHost<W> as Host>⟧.disk_faults host ≡ 0) }
     {
         Ok(FolderHost {
-            folder: Folder::new(rt, String::from_str(rt.alloc(), folder)?),
+            folder: Folder::new(rt, String::from_str(rt.alloc(), folder)?, purpose),
             replies: WriterSink::over(replies),
             disk_faults: 0,
         })

@@ -8,10 +8,12 @@ pub mod folder;
 pub mod fuse;
 mod held;
 pub mod host;
+mod limit;
 pub mod memory;
 mod opened;
 mod recorded;
 
+pub use files::Purpose;
 pub use folder::FolderHost;
 pub use fuse::FuseHost;
 pub use host::{Host, say_all};

@@ -1,7 +1,7 @@
 //! Hosts say pieces however they are cut, and keep files.
 ghost use Rattle.std.specs.Prelude.{◌<◌};
 
-use coco_host::{FolderHost, FuseHost, Host, MemoryHost, say_all};
+use coco_host::{FolderHost, FuseHost, Host, MemoryHost, Purpose, say_all};
 use coco_types::{Failed, NoMemory, OutFault};
 use std::alloc::Global;
 use std::fs;
@@ -101,7 +101,11 @@ fn a_listed_call_fails(rt: HostRuntime) -> Result<(), Fail> {
 type Folder = FolderHost<Stdout>;
 
 fn folder(rt: HostRuntime, name: &str) -> Result<Folder, NoMemory> {
-    FolderHost::new(rt, name, rt.stdout())
+    FolderHost::new(rt, name, Purpose::Writing, rt.stdout())
+}
+
+fn shelf(rt: HostRuntime, name: &str) -> Result<Folder, NoMemory> {
+    FolderHost::new(rt, name, Purpose::Reading, rt.stdout())
 }
 
 #[test]
@@ -133,6 +137,28 @@ fn a_folder_keeps_files_and_is_one_hosts_alone(rt: HostRuntime) -> Result<(), Fa
     let is_well = is_kept(&mut host) && has_failed(&host, 0, 1) && is_shut_out(rt)?;
     fs::remove_dir_all(&rt, "a_store")?;
     assert!(rt; is_well);
+    Ok(())
+}
+
+// Whether two hosts that only read have what a folder keeps, write nothing into it, and leave no other to write there.
+fn is_read_by_two(rt: HostRuntime, name: &str) -> Result<bool, NoMemory> {
+    let mut first = shelf(rt, name)?;
+    let mut second = shelf(rt, name)?;
+    let is_read = does(&mut first, &Reads(0, 0, b"letters"))
+        && does(&mut second, &Reads(0, 0, b"letters"));
+    let is_refused = does_all(&mut second, &LATE, false) && has_failed(&second, 0, 2);
+    let mut writer = folder(rt, name)?;
+    Ok(is_read && is_refused && has_failed(&first, 0, 0) && writer.len(0) == Err(Failed))
+}
+
+#[test]
+fn a_folder_is_read_by_several_hosts_and_written_by_none_of_them(
+    rt: HostRuntime,
+) -> Result<(), Fail> {
+    let is_there = is_filled(rt, "a_shelf")?;
+    let is_well = is_read_by_two(rt, "a_shelf")? && is_filled(rt, "a_shelf")?;
+    fs::remove_dir_all(&rt, "a_shelf")?;
+    assert!(rt; is_there && is_well);
     Ok(())
 }
 

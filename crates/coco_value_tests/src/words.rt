@@ -51,6 +51,16 @@ rebuild --node 8
 rebuild --node -1
 rebuild --node 0 --node 0
 rebuild 0
+query
+query 0
+query --at
+query --readers 2
+query --at 1099511627776
+query --at -1
+query --at 0 --at 0
+query --at 0 --readers 0
+query --at 0 --readers 17
+query --at 0 --epoch 1
 ";
 
 // The words of a line, which stand between single spaces.
@@ -86,6 +96,10 @@ fn run(epoch: u32, workers: u8, attempts: u8) -> Command {
     })
 }
 
+fn query(at: u64, readers: u8) -> Command {
+    Command::Query { at, readers }
+}
+
 #[test]
 fn each_command_has_the_numbers_that_are_given_or_its_own(rt: HostRuntime) {
     let cases = [
@@ -106,6 +120,9 @@ fn each_command_has_the_numbers_that_are_given_or_its_own(rt: HostRuntime) {
         ("compact", Command::Compact),
         ("rebuild --node 0", Command::Rebuild { node: 0 }),
         ("rebuild --node=07", Command::Rebuild { node: 7 }),
+        ("query --at 0", query(0, 1)),
+        ("query --at 1099511627775", query(1_099_511_627_775, 1)),
+        ("query --readers=16 --at=03", query(3, 16)),
     ];
     for (line, command) in cases {
         assert!(rt; asked(rt.alloc(), line) == Ok(command), "{line}");
