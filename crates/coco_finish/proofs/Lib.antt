@@ -1,2 +1,6 @@
 pub mod TableLemmas
 pub mod HearLemmas
+pub mod FinishLemmas
+pub mod LoopLemmas
+pub mod ExchangeLemmas
+pub mod StoppingLemmas

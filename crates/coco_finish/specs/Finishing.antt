@@ -1,5 +1,5 @@
 -- What nodes do that are to finish a committed epoch.
-use Rattle.std.specs.Prelude.{◌≡◌, ◌≢◌, ◌⊎◌, ℕ, ◌≤◌, Bool, true, false, List, [], ◌∷◌, ◌++◌, Some, Contains, slice_set, slice_index_or}
+use Rattle.std.specs.Prelude.{◌≡◌, ◌≢◌, ◌⊎◌, ℕ, ◌≤◌, Bool, true, false, List, [], ◌∷◌, ◌++◌, Some, All, Contains, slice_set, slice_index_or}
 use Rattle.std.specs.List.{slice_get}
 use Rattle.coco_ast.specs.Keyed.{Rows}
 use Rattle.coco_msg.specs.declared.message.Message.{Message}
@@ -12,7 +12,7 @@ use Rattle.coco_node.specs.Node.{Node}
 use Rattle.coco_letters.specs.declared.hearing.Phase.TheVariants.{Finishing}
 use Rattle.coco_letters.specs.Saying.{posted}
 use Rattle.coco_letters.specs.Turns.{is_awaited, IsFrom}
-use Rattle.coco_standing.specs.Standing.{AreCounted, NodePromotes, OthersStay, TablesStand}
+use Rattle.coco_standing.specs.Standing.{AreCounted, NodeIsFrom, NodePromotes, OthersStay, TablesStand}
 use Rattle.coco_finish.specs.declared.tables.NodeTables.{NodeTables}
 
 -- ---- tables
@@ -97,3 +97,35 @@ FinishesSo false epoch n letter cores sent cores_new sent_new =
 -- no node that is behind is told to have finished
 abbrev pub AreTold : ℕ → List Posted → List Bool → Type 0
 AreTold epoch sent behind = (n : ℕ) → Contains sent (finished_of n epoch) → is_behind behind n ≡ false
+
+-- a letter that is sent while an epoch is finished: a node says that it has finished, or the coordinator says something
+abbrev pub IsOfFinish : ℕ → Posted → Type 0
+IsOfFinish epoch p = (p.letter.from ≡ COORDINATOR) ⊎ ((n : ℕ) × (p ≡ finished_of n epoch))
+
+-- only such letters are sent
+pub record SaysOnly (epoch : ℕ) (sent sent_new : List Posted) : Type 0 where
+  pub posts : List Posted
+  pub sent_is : sent_new ≡ sent ++ posts
+  pub only : All (IsOfFinish epoch) posts
+
+-- ---- all nodes
+
+-- nothing has changed of a node
+pub record Stays (k : ℕ) (cores cores_new : List Node) (old new : NodeTables) : Type 0 where
+  pub core : slice_get cores_new k ≡ slice_get cores k
+  pub tables : NodeIsFrom old.layout k old.shards.items old.copies.items new.shards.items new.copies.items
+  pub behind : is_behind new.behind.items k ≡ is_behind old.behind.items k
+
+-- or it has heard for the first time that its newest epoch is committed, and its tables are promoted
+pub record Promotes (epoch k : ℕ) (cores cores_new : List Node) (old new : NodeTables) : Type 0 where
+  pub core : Node
+  pub there : slice_get cores k ≡ Some core
+  pub yet : HasYetToHear epoch core
+  pub heard : slice_get cores_new k ≡ Some (record core { decision = Committed })
+  pub tables : NodePromotes old.layout k old.shards.items old.copies.items new.shards.items new.copies.items
+  pub behind : is_behind new.behind.items k ≡ false
+
+-- so it is with each
+pub record Finish (epoch : ℕ) (cores cores_new : List Node) (old new : NodeTables) : Type 0 where
+  pub layout : new.layout ≡ old.layout
+  pub nodes : (k : ℕ) → Stays k cores cores_new old new ⊎ Promotes epoch k cores cores_new old new

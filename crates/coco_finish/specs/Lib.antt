@@ -1,1 +1,3 @@
 pub mod Finishing
+pub mod Exchanges
+pub mod Stopping

@@ -1,11 +1,12 @@
 //! What a node does with a letter that waits at it while it finishes an epoch.
 
-ghost use Rattle.std.specs.Prelude.{◌≡◌, ℕ, ◌<◌, ◌≤◌, List, Contains, length, IfOk, OnOk};
+ghost use Rattle.std.specs.Prelude.{◌≡◌, ◌≢◌, ℕ, ◌<◌, ◌≤◌, List, [], Contains, length, IfOk, OnOk};
 ghost use Rattle.coco_ast.specs.Keyed.{Rows};
 ghost use Rattle.coco_chief.specs.Chief.{Chief as ChiefState};
-ghost use Rattle.coco_letters.specs.Turns.{AreFresh, Counts};
+ghost use Rattle.coco_letters.specs.Turns.{AreFresh, AreSent, Counts};
 ghost use Rattle.coco_letters.specs.Worlds.{GoesOn};
-ghost use Rattle.coco_finish.specs.Finishing.{finished_of, AllCanFinish, AreBehind, AreTold, AreWhole, CatchesUpIf, FinishesSo, HaveMap, TellsCommitted};
+ghost use Rattle.coco_net.specs.declared.letter.Letter.{Letter as Mail};
+ghost use Rattle.coco_finish.specs.Finishing.{finished_of, AllCanFinish, AreBehind, AreTold, AreWhole, CatchesUpIf, Finish, FinishesSo, HaveMap, SaysOnly, TellsCommitted};
 
 use crate::NodeTables;
 use crate::tables::catch_up;
@@ -78,4 +79,82 @@ pub fn take_committed<N: Net>(
         catch_up(tables, node);
     }
     Ok(first)
+}
+
+/// A node that is to finish a committed epoch takes all letters that wait at it.
+pub fn finish_at<N: Net>(
+    alloc: Global,
+    net: &mut N,
+    cores: &mut [NodeCore],
+    tables: &mut NodeTables,
+    node: u8,
+    epoch: u64,
+) -> Result<(), NoMemory>
+    requires few { length cores.old ≤ 8 }
+    requires node { node < length cores.old }
+    requires some { 0 < epoch }
+    requires sent { AreSent (N.sent net.old) (N.waiting net.old) }
+    requires whole { AreWhole tables.old }
+    requires behind { length tables.old.behind.items ≡ length cores.old }
+    requires can { AllCanFinish epoch cores.old }
+    ensures finish { OnOk result (Finish epoch cores.old cores.new tables.old tables.new) }
+    ensures whole { AreWhole tables.new }
+    ensures map { (m : Rows) → HaveMap m tables.old → HaveMap m tables.new }
+    ensures behind { length tables.new.behind.items ≡ length tables.old.behind.items }
+    ensures count { OnOk result (length cores.new ≡ length cores.old) }
+    ensures can { OnOk result (AllCanFinish epoch cores.new) }
+    ensures are_behind { OnOk result (AreBehind epoch cores.old tables.old.behind.items → AreBehind epoch cores.new tables.new.behind.items) }
+    ensures told { OnOk result (AreBehind epoch cores.old tables.old.behind.items → AreTold epoch (N.sent net.old) tables.old.behind.items → AreTold epoch (N.sent net.new) tables.new.behind.items) }
+    ensures said { OnOk result (SaysOnly epoch (N.sent net.old) (N.sent net.new)) }
+    // Told that the epoch is committed, it answers.
+    ensures answers { OnOk result ((l : Mail) → Contains (N.waiting net.old node) l → TellsCommitted epoch l → Contains (N.fresh net.new) (finished_of node epoch)) }
+    ensures world { OnOk result ((chief : ChiefState) → GoesOn (record { cores = cores.old; chief = chief; sent = N.sent net.old }) (record { cores = cores.new; chief = chief; sent = N.sent net.new })) }
+    ensures sent { OnOk result (AreSent (N.sent net.new) (N.waiting net.new)) }
+    ensures taken { OnOk result (N.waiting net.new node ≡ []) }
+    ensures others { (p : ℕ) → p ≢ node → N.waiting net.new p ≡ N.waiting net.old p }
+    ensures fresh { OnOk result (AreFresh (N.sent net.old) (N.fresh net.old) (N.sent net.new) (N.fresh net.new)) }
+    ensures counts { Counts (N.given net.old) (N.faults net.old) (N.last_seed net.old) (N.given net.new) (N.faults net.new) (N.last_seed net.new) }
+{
+    while let Some(letter) = net.next(node) {
+        take_committed(alloc, net, cores, tables, node, epoch, &letter)?;
+    }
+    Ok(())
+}
+
+/// The nodes take, one after another, all letters that wait at them.
+pub fn nodes_finish<N: Net>(
+    alloc: Global,
+    net: &mut N,
+    cores: &mut [NodeCore],
+    tables: &mut NodeTables,
+    epoch: u64,
+) -> Result<(), NoMemory>
+    requires few { length cores.old ≤ 8 }
+    requires some { 0 < epoch }
+    requires sent { AreSent (N.sent net.old) (N.waiting net.old) }
+    requires whole { AreWhole tables.old }
+    requires behind { length tables.old.behind.items ≡ length cores.old }
+    requires can { AllCanFinish epoch cores.old }
+    ensures finish { OnOk result (Finish epoch cores.old cores.new tables.old tables.new) }
+    ensures whole { AreWhole tables.new }
+    ensures map { (m : Rows) → HaveMap m tables.old → HaveMap m tables.new }
+    ensures behind { length tables.new.behind.items ≡ length tables.old.behind.items }
+    ensures count { OnOk result (length cores.new ≡ length cores.old) }
+    ensures can { OnOk result (AllCanFinish epoch cores.new) }
+    ensures are_behind { OnOk result (AreBehind epoch cores.old tables.old.behind.items → AreBehind epoch cores.new tables.new.behind.items) }
+    ensures told { OnOk result (AreBehind epoch cores.old tables.old.behind.items → AreTold epoch (N.sent net.old) tables.old.behind.items → AreTold epoch (N.sent net.new) tables.new.behind.items) }
+    ensures said { OnOk result (SaysOnly epoch (N.sent net.old) (N.sent net.new)) }
+    // Each that is told that the epoch is committed answers.
+    ensures answers { OnOk result ((n : ℕ) (l : Mail) → n < length cores.old → Contains (N.waiting net.old n) l → TellsCommitted epoch l → Contains (N.fresh net.new) (finished_of n epoch)) }
+    ensures world { OnOk result ((chief : ChiefState) → GoesOn (record { cores = cores.old; chief = chief; sent = N.sent net.old }) (record { cores = cores.new; chief = chief; sent = N.sent net.new })) }
+    ensures sent { OnOk result (AreSent (N.sent net.new) (N.waiting net.new)) }
+    ensures taken { OnOk result ((n : ℕ) → n < length cores.old → N.waiting net.new n ≡ []) }
+    ensures others { (p : ℕ) → length cores.old ≤ p → N.waiting net.new p ≡ N.waiting net.old p }
+    ensures fresh { OnOk result (AreFresh (N.sent net.old) (N.fresh net.old) (N.sent net.new) (N.fresh net.new)) }
+    ensures counts { Counts (N.given net.old) (N.faults net.old) (N.last_seed net.old) (N.given net.new) (N.faults net.new) (N.last_seed net.new) }
+{
+    for node in 0..cores.len() as u8 {
+        finish_at(alloc, net, cores, tables, node, epoch)?;
+    }
+    Ok(())
 }

@@ -1,5 +1,5 @@
 -- Letters that wait were sent.
-use Rattle.std.proofs.Common.{◌≡◌, ◌⊎◌, inl, inr, ℕ, ◌≤◌, Bool, true, false, eqb, List, [], ◌∷◌, Option, Some, None, refl, sym, subst, arith}
+use Rattle.std.proofs.Common.{◌≡◌, ◌⊎◌, inl, inr, ℕ, ◌≤◌, Bool, true, false, eqb, List, [], ◌∷◌, Option, Some, None, refl, sym, ap, subst, arith}
 use Rattle.std.specs.Prelude.{◌≢◌, if◌then◌else◌, MatchOption}
 use Rattle.std.specs.List.{Contains}
 use Rattle.std.specs.List.Sorted.{IsPermutation}
@@ -8,7 +8,7 @@ use Rattle.std.proofs.lemmas.List.Elements.{All-contains}
 use Rattle.std.proofs.lemmas.List.Sorted.{Contains-permutation, IsPermutation-sym}
 use Rattle.coco_net.specs.declared.letter.Letter.{Letter}
 use Rattle.coco_net.specs.declared.letter.Posted.{Posted}
-use Rattle.coco_net.specs.Giving.{GivesMore}
+use Rattle.coco_net.specs.Giving.{Gives, GivesMore}
 use Rattle.coco_net.specs.Mail.{letters_to}
 use Rattle.coco_letters.specs.Turns.{AreSent}
 use Rattle.coco_letters.proofs.WorldLemmas.{contains_behind, contains_cases, contains_here}
@@ -27,6 +27,27 @@ letters_in place (p ∷ ps) l h = by_place (letters_in place ps l) (eqb p.to pla
       | inr behind ↦ contains_behind p (record { to = place; letter = l }) ps (rest behind)
     ]
     by_place rest false at h = contains_behind p (record { to = place; letter = l }) ps (rest h)
+
+letters_of : (place : ℕ) (ps : List Posted) (l : Letter) → Contains ps (record { to = place; letter = l }) → Contains (letters_to place ps) l
+letters_of place [] l h = none_in (record { to = place; letter = l }) h
+letters_of place (p ∷ ps) l h = by_place (letters_of place ps l) (eqb p.to place) refl (contains_cases p (record { to = place; letter = l }) ps h)
+  where
+    by_place : (Contains ps (record { to = place; letter = l }) → Contains (letters_to place ps) l) → (b : Bool) → eqb p.to place ≡ b → (◌≡◌ {A = Posted} p (record { to = place; letter = l })) ⊎ Contains ps (record { to = place; letter = l })
+        → Contains (if b then p.letter ∷ letters_to place ps else letters_to place ps) l
+    by_place rest true at (inl here) = subst (λ (x : Letter). Contains (x ∷ letters_to place ps) l) (sym (ap (λ (q : Posted). q.letter) here)) (contains_here l (letters_to place ps))
+    by_place rest true at (inr behind) = contains_behind p.letter l (letters_to place ps) (rest behind)
+    by_place rest false at (inl here) = absurd (eqb-false p.to place at (ap (λ (q : Posted). q.to) here))
+    by_place rest false at (inr behind) = rest behind
+
+-- what a round gives waits, and nothing else
+pub given_waits : (sent fresh : List Posted) (faults_old faults_new : ℕ) (waiting : ℕ → List Letter) (these : List Posted) (place : ℕ) (l : Letter) → Gives sent fresh faults_old faults_new waiting these → place ≤ 8
+    → Contains these (record { to = place; letter = l }) → Contains (waiting place) l
+given_waits sent fresh faults_old faults_new waiting these place l gives le among = Contains-permutation (letters_to place these) (waiting place) l (gives.wait place le) (letters_of place these l among)
+
+pub waits_given : (sent fresh : List Posted) (faults_old faults_new : ℕ) (waiting : ℕ → List Letter) (these : List Posted) (place : ℕ) (l : Letter) → Gives sent fresh faults_old faults_new waiting these → place ≤ 8
+    → Contains (waiting place) l → Contains these (record { to = place; letter = l })
+waits_given sent fresh faults_old faults_new waiting these place l gives le among =
+    letters_in place these l (Contains-permutation (waiting place) (letters_to place these) l (IsPermutation-sym (letters_to place these) (waiting place) (gives.wait place le)) among)
 
 -- what waits behind a round was sent
 pub round_sent : (sent fresh : List Posted) (faults_old faults_new : ℕ) (waiting : ℕ → List Letter) (old new : List Posted) → GivesMore sent fresh faults_old faults_new waiting old new → AreSent sent waiting

@@ -18,3 +18,5 @@ mod node;
 mod power;
 #[cfg(test)]
 mod ship;
+#[cfg(test)]
+mod votes;

@@ -2,4 +2,12 @@ pub mod PreparingLemmas
 pub mod PlaceLemmas
 pub mod StepLemmas
 pub mod PowerLemmas
+pub mod StopLemmas
+pub mod NearLemmas
 pub mod TakingLemmas
+pub mod VoterLemmas
+pub mod CountingLemmas
+pub mod GivingLemmas
+pub mod PrepareLemmas
+pub mod BeginningLemmas
+pub mod EndingLemmas

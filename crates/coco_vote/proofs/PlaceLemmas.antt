@@ -6,6 +6,7 @@ use Rattle.std.specs.Option.{option_map}
 use Rattle.std.proofs.Math.ListN.{set}
 use Rattle.std.proofs.lemmas.Bool.{eqb-true, eqb-false, eq-eqb, ne_eqb}
 use Rattle.coco_node.specs.Node.{Node}
+use Rattle.coco_letters.specs.declared.voter.Voter.{Voter}
 use Rattle.coco_world.specs.World.{put}
 use Rattle.coco_vote.specs.Preparing.{durable_at, have_durable}
 
@@ -58,3 +59,6 @@ have_same epoch cores n old core within there is k = by_place (eqb k n) refl
 -- one whose newest entry is older hasn't
 pub has_older : (epoch : ℕ) (cores : List Node) (n : ℕ) (core : Node) → slice_get cores n ≡ Some core → core.durable < epoch → have_durable epoch cores n ≡ false
 has_older epoch cores n core there older = ne_eqb (durable_at cores n) epoch (λ same. let is : durable_at cores n ≡ core.durable = durable_here cores n core there in omega (arith, is, same, older))
+
+pub held_items : (a b : Voter) → a.held ≡ b.held → a.held.items ≡ b.held.items
+held_items a b same = λ i. (same i).items

@@ -1,8 +1,8 @@
 -- Steps of a node that votes: its core and letters, and the ways of the world.
-use Rattle.std.proofs.Common.{◌≡◌, ◌⊎◌, inl, inr, ℕ, ◌<◌, ◌≤◌, max, Bool, true, false, eqb, ltb, List, [], ◌∷◌, ◌++◌, length, Option, Some, None, refl, sym, ap, subst, ◌∙◌, arith, append_assoc}
+use Rattle.std.proofs.Common.{◌≡◌, ◌⊎◌, inl, inr, ℕ, ◌<◌, ◌≤◌, max, Bool, true, false, eqb, ltb, List, [], ◌∷◌, ◌++◌, length, None, refl, sym, ap, subst, ◌∙◌, arith, append_assoc}
 use Rattle.std.specs.Prelude.{◌&&◌, if◌then◌else◌}
 use Rattle.std.specs.List.{slice_get}
-use Rattle.std.proofs.Math.ListN.{set, length-set}
+use Rattle.std.proofs.Math.ListN.{set}
 use Rattle.std.proofs.lemmas.Bool.{eqb-true, lt-ltb}
 use Rattle.std.proofs.lemmas.Option.{same_Some}
 use Rattle.coco_msg.specs.declared.action.Action.{Action}
@@ -20,10 +20,10 @@ use Rattle.coco_letters.proofs.WorldLemmas.{between_on, between_stopped, between
 use Rattle.coco_vote.specs.declared.step.Step.{Step}
 use Rattle.coco_vote.specs.declared.step.Step.TheVariants.{Voted, Restarted, Stopped}
 use Rattle.coco_vote.specs.Preparing.{have_durable}
-use Rattle.coco_vote.specs.Steps.{core_behind, is_early, letters_in, EndsVote, HasNewest, Steps}
+use Rattle.coco_vote.specs.Steps.{core_behind, is_early, EndsVote, HasNewest, Steps}
 use Rattle.coco_vote.specs.Asking.{AreAsked}
 use Rattle.coco_vote.specs.Voting.{GainsNewest, PreparesOnly}
-use Rattle.coco_vote.proofs.PlaceLemmas.{get_set_same, have_one_more, have_same, set_again}
+use Rattle.coco_vote.proofs.PlaceLemmas.{get_set_same, have_one_more, set_again}
 
 -- ---- letters
 

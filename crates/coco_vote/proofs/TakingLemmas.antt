@@ -1,39 +1,39 @@
 -- Letters that a node takes while it votes: what it hears, and what is told of it then.
-use Rattle.std.proofs.Common.{◌≡◌, ◌≢◌, ◌⊎◌, inl, inr, ℕ, zero, suc, ◌^◌, ◌<◌, ◌≤◌, max, Bool, true, false, eqb, ltb, List, [], ◌∷◌, ◌++◌, length, Option, Some, None, refl, sym, ap, subst, ◌∙◌, arith, append_assoc, append-nil}
-use Rattle.std.specs.Prelude.{◌&&◌, if◌then◌else◌, ◌==◌}
+use Rattle.std.proofs.Common.{◌≡◌, ◌≢◌, ◌⊎◌, inl, inr, ℕ, zero, suc, ◌^◌, ◌<◌, ◌≤◌, Bool, true, false, eqb, ltb, List, [], ◌∷◌, ◌++◌, length, Some, None, refl, sym, ap, subst, ◌∙◌, arith, append_assoc, append-nil}
+use Rattle.std.specs.Prelude.{◌&&◌, ◌||◌, if◌then◌else◌, ◌+◌}
 use Rattle.std.specs.List.{slice_get, Contains}
 use Rattle.std.proofs.Math.ListN.{set, length-set}
-use Rattle.std.proofs.lemmas.Bool.{cases_lt, eqb-true, eqb-false, eq-eqb, le-ltb, lt-ltb, ne_eqb}
+use Rattle.std.proofs.lemmas.Bool.{eqb-true, eqb-false, eq-eqb, le-ltb, lt-ltb, ne_eqb}
 use Rattle.std.proofs.lemmas.List.Elements.{Contains-append_cases, Contains-append_left, Contains-append_right}
 use Rattle.std.proofs.lemmas.Option.{same_Some}
 use Rattle.coco_msg.specs.declared.action.Action.{Action}
-use Rattle.coco_msg.specs.declared.action.Action.TheVariants.{Send, Force}
+use Rattle.coco_msg.specs.declared.action.Action.TheVariants.{Force}
 use Rattle.coco_msg.specs.declared.message.Message.{Message}
 use Rattle.coco_msg.specs.declared.message.Message.TheVariants.{Prepare, Query, Vote}
-use Rattle.coco_msg.specs.Bytes.{epoch_of}
 use Rattle.coco_net.specs.declared.letter.Letter.{Letter}
 use Rattle.coco_net.specs.declared.letter.Posted.{Posted}
-use Rattle.coco_node.specs.declared.machine.Decision.{Decision}
-use Rattle.coco_node.specs.declared.machine.Decision.TheVariants.{Unknown}
 use Rattle.coco_node.specs.Node.{Node, is_unknown, restarted}
-use Rattle.coco_node.specs.Table.{awaits, forced, handled, nothing, on_message, on_prepare, votes, Turn}
+use Rattle.coco_node.specs.Table.{awaits, handled, on_prepare, votes, Turn}
 use Rattle.coco_letters.specs.declared.hearing.Phase.TheVariants.{Voting}
 use Rattle.coco_letters.specs.declared.nodes.Heard.{Heard}
-use Rattle.coco_letters.specs.declared.nodes.Heard.TheVariants.{Nothing, Voted, Forces}
+use Rattle.coco_letters.specs.declared.nodes.Heard.TheVariants.{Voted}
 use Rattle.coco_letters.specs.Saying.{posted, posts_of}
 use Rattle.coco_letters.specs.Turns.{heard_of, is_awaited, AreFresh, Hears, IsForcing, IsFrom, Takes}
+use Rattle.coco_letters.specs.declared.voter.Voter.{Voter}
 use Rattle.coco_letters.proofs.SayingLemmas.{same_message}
 use Rattle.coco_letters.proofs.WorldLemmas.{contains_cases, contains_here}
 use Rattle.coco_vote.specs.declared.step.Step.{Step}
 use Rattle.coco_vote.specs.declared.step.Step.TheVariants as steps
 use Rattle.coco_vote.specs.declared.step.Stops.{Stops}
 use Rattle.coco_vote.specs.declared.step.Stops.TheVariants.{Never, Late, Early}
-use Rattle.coco_vote.specs.Preparing.{durable_at}
-use Rattle.coco_vote.specs.Steps.{core_behind, is_early, letters_in, EndsVote, HasNewest, Steps}
+use Rattle.coco_vote.specs.Nearing.{ahead_of, lacks, Nears}
+use Rattle.coco_vote.specs.Preparing.{durable_at, have_durable}
+use Rattle.coco_vote.specs.Steps.{core_behind, has_stopped, has_voted, is_early, letters_in, EndsVote, HasNewest, Marks, Steps}
 use Rattle.coco_vote.specs.Asking.{AreAsked}
-use Rattle.coco_vote.specs.Taking.{stops_of, vote_of, AreTold, AreVoting, HeardSo, IsVoting, UnlessLost}
+use Rattle.coco_vote.specs.Taking.{both_of, stops_of, vote_of, AreTold, AreVoting, HasGiven, HeardSo, IsSettled, IsVoting, KeepsCores, UnlessLost}
 use Rattle.coco_vote.specs.Voting.{PreparesOnly}
-use Rattle.coco_vote.proofs.PlaceLemmas.{durable_else, durable_here, durable_set, get_set_other, get_set_same, set_again}
+use Rattle.coco_vote.proofs.PlaceLemmas.{has_older, durable_else, durable_here, durable_set, get_set_other, get_set_same, set_again}
+use Rattle.coco_vote.proofs.StopLemmas.{never_both}
 use Rattle.coco_vote.proofs.StepLemmas.{max_none, only_same, only_then}
 use Rattle.coco_letters.specs.Worlds.{GoesBetween, GoesOn, SameEntries, Scene}
 use Rattle.coco_letters.proofs.WorldLemmas.{between_on, between_then}
@@ -247,6 +247,63 @@ module _ (n e : ℕ) (cores new : List Node) (sent posts after : List Posted) (a
     ];
   }
 
+-- ---- what is ahead
+
+lacks_more : (a b : Bool) → lacks (a || b) ≤ lacks b
+lacks_more true true = omega arith
+lacks_more true false = omega arith
+lacks_more false b = omega arith
+
+-- an entry is durable that wasn't
+near_step : (step : Step) (had has was now : Bool) → had ≡ false → (is_early step ≡ false → has ≡ true) → now ≡ (has_voted step || was) → Nears (stops_of step) (lacks had + lacks was) (lacks has + lacks now)
+near_step steps.Voted had has was now old new is = omega (arith, ap lacks old, ap lacks (new refl), ap lacks is, lacks_more true was)
+near_step (steps.Restarted voted) had has was now old new is = omega (arith, ap lacks old, ap lacks (new refl), ap lacks is, lacks_more voted was)
+near_step steps.Stopped had has was now old new is = tt
+
+-- a node that has voted again stops only where it wasn't asked before
+pub near_ended : (step : Step) (n e : ℕ) (cores new : List Node) (sent after : List Posted) (voter voter_new : Voter) → durable_at new n ≡ durable_at cores n → EndsVote step n e cores sent new after → Marks step voter voter_new
+    → (has_stopped step ≡ true → voter.asked_after_vote ≡ false) → (stops : Stops) → stops ≡ stops_of step → Nears stops (ahead_of e cores n voter) (ahead_of e new n voter_new)
+near_ended step n e cores new sent after voter voter_new same ends marks once stops is =
+    subst (λ (s : Stops). Nears s (ahead_of e cores n voter) (ahead_of e new n voter_new)) (sym is) (by_step step ends marks.asked once)
+  where
+    durable : lacks (have_durable e new n) ≡ lacks (have_durable e cores n)
+    durable = ap (λ (d : ℕ). lacks (eqb d e)) same
+
+    by_step : (s : Step) → EndsVote s n e cores sent new after → voter_new.asked_after_vote ≡ (has_voted s || voter.asked_after_vote) → (has_stopped s ≡ true → voter.asked_after_vote ≡ false)
+        → Nears (stops_of s) (ahead_of e cores n voter) (ahead_of e new n voter_new)
+    by_step steps.Voted ends is once = omega (arith, durable, ap lacks is, lacks_more true voter.asked_after_vote)
+    by_step (steps.Restarted true) ends is once = omega (arith, durable, ap lacks is, ap lacks (once refl))
+    by_step (steps.Restarted false) ends is once = absurd ends
+    by_step steps.Stopped ends is once = absurd ends
+
+-- ---- what holds of cores in any case
+
+settled_voting : (e : ℕ) (core : Node) → IsVoting e core → IsSettled e core
+settled_voting e core voting = record {
+  idle = voting.idle;
+  lost = omega (arith, voting.kept);
+  durable = elim voting.stands [ inl older ↦ omega (arith, older) | inr newest ↦ omega (arith, newest.0) ];
+  unknown = λ is. elim voting.stands [ inl older ↦ absurd (omega (arith, older, is)) | inr newest ↦ newest.1 ];
+}
+
+pub cores_voting : (e : ℕ) (cores new : List Node) → AreVoting e new → ((n : ℕ) → durable_at new n ≡ durable_at cores n) → KeepsCores e cores new
+cores_voting e cores new voting same = record { settled = λ n core there. settled_voting e core (voting n core there); entries = λ n. inl (same n) }
+
+pub cores_then : (e : ℕ) (a b c : List Node) → KeepsCores e a b → KeepsCores e b c → KeepsCores e a c
+cores_then e a b c one two = record {
+  settled = two.settled;
+  entries = λ n. elim (two.entries n) [
+    | inl same ↦ elim (one.entries n) [ inl was ↦ inl (same ∙ was) | inr now ↦ inr (same ∙ now) ]
+    | inr now ↦ inr now
+  ];
+}
+
+-- a node that has voted goes on, or begins anew
+settled_step : (step : Step) (n e : ℕ) (core : Node) → core.lost < e → core.durable < e → IsSettled e (core_behind step n e core)
+settled_step steps.Voted n e core kept older = record { idle = refl; lost = omega (arith, kept); durable = omega arith; unknown = λ is. refl }
+settled_step (steps.Restarted voted) n e core kept older = record { idle = refl; lost = omega arith; durable = omega (arith, max_none e); unknown = λ is. refl }
+settled_step steps.Stopped n e core kept older = record { idle = refl; lost = omega arith; durable = omega (arith, max_none core.durable, older); unknown = λ is. refl }
+
 -- ---- a vote that is given again
 
 -- each node has durable what it had
@@ -308,7 +365,7 @@ module _ (step : Step) (n e : ℕ) (cores mid new : List Node) (sent between aft
   new_is = stepped.cores_are ∙ ap (λ (cs : List Node). set cs n (core_behind step n e stepped.core)) mid_is ∙ set_again cores n (record core { forcing = e }) (core_behind step n e stepped.core)
 
   -- other nodes have durable what they had
-  elsewhere : (m : ℕ) → m ≢ n → durable_at new m ≡ durable_at cores m
+  pub elsewhere : (m : ℕ) → m ≢ n → durable_at new m ≡ durable_at cores m
   elsewhere m other = ap (λ (cs : List Node). durable_at cs m) new_is ∙ durable_else cores n m (core_behind step n e stepped.core) other
 
   here : durable_at new n ≡ (core_behind step n e stepped.core).durable
@@ -362,6 +419,41 @@ module _ (step : Step) (n e : ℕ) (cores mid new : List Node) (sent between aft
               inr (same_node, both.0, both.1)
           at false is = inl (sym (elsewhere m (eqb-false m n is)) ∙ now)
 
+  settled_here : AreVoting e cores → IsSettled e (core_behind step n e stepped.core)
+  settled_here voting =
+      subst (λ (c : Node). IsSettled e (core_behind step n e c)) (sym step_core)
+      (settled_step step n e (record core { forcing = e }) (voting n core there).kept older)
+
+  settled_all : AreVoting e cores → (k : ℕ) (found : Node) → slice_get (set cores n (core_behind step n e stepped.core)) k ≡ Some found → IsSettled e found
+  settled_all voting k found at = by_place (eqb k n) refl
+    where
+      by_place : (b : Bool) → eqb k n ≡ b → IsSettled e found
+      by_place true is =
+          let same : k ≡ n = eqb-true k n is in
+          subst (IsSettled e) (same_Some (core_behind step n e stepped.core) found (sym (get_set_same cores n (core_behind step n e stepped.core) within) ∙ ap (slice_get (set cores n (core_behind step n e stepped.core))) (sym same) ∙ at)) (settled_here voting)
+      by_place false is = settled_voting e found (voting k found (sym (get_set_other cores n k (core_behind step n e stepped.core) (eqb-false k n is)) ∙ at))
+
+  entry_here : (m : ℕ) → (durable_at new m ≡ durable_at cores m) ⊎ (durable_at new m ≡ e)
+  entry_here m = by_place (eqb m n) refl
+    where
+      by_step : (b : Bool) → is_early step ≡ b → (durable_at new n ≡ durable_at cores n) ⊎ (durable_at new n ≡ e)
+      by_step true early = inl (here ∙ lost_is step early ∙ sym (durable_here cores n core there))
+      by_step false late = inr (here ∙ behind_is step late)
+
+      by_place : (b : Bool) → eqb m n ≡ b → (durable_at new m ≡ durable_at cores m) ⊎ (durable_at new m ≡ e)
+      by_place true is = subst (λ (k : ℕ). (durable_at new k ≡ durable_at cores k) ⊎ (durable_at new k ≡ e)) (sym (eqb-true m n is)) (by_step (is_early step) refl)
+      by_place false is = inl (elsewhere m (eqb-false m n is))
+
+  pub cores_stepped : AreVoting e cores → KeepsCores e cores new
+  cores_stepped voting = record {
+    settled = subst (λ (cs : List Node). (k : ℕ) (found : Node) → slice_get cs k ≡ Some found → IsSettled e found) (sym new_is) (settled_all voting);
+    entries = entry_here;
+  }
+
+  pub near_stepped : (voter voter_new : Voter) → Marks step voter voter_new → Nears (stops_of step) (ahead_of e cores n voter) (ahead_of e new n voter_new)
+  near_stepped voter voter_new marks =
+      near_step step (have_durable e cores n) (have_durable e new n) voter.asked_after_vote voter_new.asked_after_vote (has_older e cores n core there older) (λ late. eq-eqb (durable_at new n) e (here ∙ behind_is step late)) marks.asked
+
   pub voting_behind : 0 < e → AreVoting e cores → is_early step ≡ false → AreVoting e new
   voting_behind some voting late = voting_stepped step n e mid new between after some (subst (λ (cs : List Node). n < length cs) (sym mid_is) (omega (arith, length-set cores n (record core { forcing = e }), within)))
       (λ k other apart found. voting k other (sym (get_set_other cores n k (record core { forcing = e }) apart) ∙ ap (λ (cs : List Node). slice_get cs k) (sym mid_is) ∙ found))
@@ -402,3 +494,27 @@ pub between_heard : (M : World → World → Type 0) (epoch : ℕ) (i k : ℕ �
 between_heard M epoch i k a b c wider heard next =
     between_then (PreparesOnly epoch) M (PreparesOnly epoch) (λ w v u one two. only_then epoch w v u one (wider v u two)) i i k a b c
     (between_on SameEntries (PreparesOnly epoch) i i a b (λ w v _ same. only_same epoch w v same) (λ n lt. omega arith) heard) next
+
+-- ---- one letter more
+
+-- those that were asked for a vote have given it, or the letter waits still
+pub votes_more : (n e : ℕ) (stops taken : Stops) (first waiting rest : List Letter) (letter : Letter) (fresh fresh_new : List Posted) → waiting ≡ letter ∷ rest
+    → (stops ≡ Never → (l : Letter) → Contains first l → IsFrom 8 l (Prepare e) → Contains waiting l ⊎ Contains fresh (vote_of n e true)) → (IsFrom 8 letter (Prepare e) → taken ≡ Never → Contains fresh_new (vote_of n e true))
+    → (Contains fresh (vote_of n e true) → Contains fresh_new (vote_of n e true)) → both_of stops taken ≡ Never → (l : Letter) → Contains first l → IsFrom 8 l (Prepare e) → Contains rest l ⊎ Contains fresh_new (vote_of n e true)
+votes_more n e stops taken first waiting rest letter fresh fresh_new waits before votes still never l among from =
+    let both = never_both stops taken never in
+    elim (before both.0 l among from) [
+      | inl there ↦ elim (contains_cases letter l rest (subst (λ (ls : List Letter). Contains ls l) waits there)) [
+        | inl here ↦ inr (votes (subst (λ (x : Letter). IsFrom 8 x (Prepare e)) (sym here) from) both.1)
+        | inr behind ↦ inl behind
+      ]
+      | inr voted ↦ inr (still voted)
+    ]
+
+-- and where none waits, all have given it
+pub given_all : (n e : ℕ) (first waiting : List Letter) (fresh fresh_new : List Posted) → waiting ≡ [] → fresh_new ≡ fresh → ((l : Letter) → Contains first l → IsFrom 8 l (Prepare e) → Contains waiting l ⊎ Contains fresh (vote_of n e true))
+    → HasGiven e n first fresh_new
+given_all n e first waiting fresh fresh_new none same before letter among from = elim (before letter among from) [
+  | inl waits ↦ none_in letter (subst (λ (ls : List Letter). Contains ls letter) none waits)
+  | inr voted ↦ subst (λ (ps : List Posted). Contains ps (vote_of n e true)) (sym same) voted
+]

@@ -2,7 +2,7 @@
 use Rattle.std.specs.Prelude.{◌≡◌, ℕ, ◌<◌, ◌≤◌, Bool, true, false}
 use Rattle.coco_vote.specs.declared.step.Step.{Step}
 use Rattle.coco_vote.specs.declared.step.Step.TheVariants.{Voted, Restarted, Stopped}
-use Rattle.coco_vote.specs.Steps.{has_stopped, is_early, has_voted}
+use Rattle.coco_vote.specs.Steps.{has_stopped, is_early}
 
 -- Later in the same epoch: no count falls, and what was asked for stays so.
 pub record IsLater {P : Type 0} (seen early : P → ℕ) (stopped : P → ℕ → ℕ) (begun : P → ℕ) (asked : P → ℕ → ℕ → Bool) (old new : P) : Type 0 where

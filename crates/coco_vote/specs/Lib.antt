@@ -3,3 +3,8 @@ pub mod Steps
 pub mod Asking
 pub mod Voting
 pub mod Taking
+pub mod Nearing
+pub mod Counting
+pub mod Outcomes
+pub mod Beginning
+pub mod Ending

@@ -80,8 +80,8 @@ fn lose_rows(
     Ok(())
 }
 
-// A node that has stopped behind its entry begins anew with it, and asks what became of the epoch.
-fn begin_anew<N: Net>(
+/// A node that has stopped behind its entry begins anew with it, and asks what became of the epoch. Its tables are lost.
+pub fn begin_anew<N: Net>(
     alloc: Global,
     net: &mut N,
     cores: &mut [NodeCore],

@@ -11,16 +11,17 @@ ghost use Rattle.coco_log.specs.LogState.{LogState};
 ghost use Rattle.coco_store.specs.Contents.{Contents};
 ghost use Rattle.coco_append.specs.Gaining.{IsNodeLog, Stands};
 ghost use Rattle.coco_vote.specs.Asking.{IsLater, TellsStops};
-ghost use Rattle.coco_vote.specs.Preparing.{have_durable, Ballot, MayForce, RestsVoted, Votes};
-ghost use Rattle.coco_vote.specs.Steps.{EndsVote, HasNewest, Marks};
-ghost use Rattle.coco_vote.specs.Taking.{vote_of, AreTold, AreVoting, CountsStops, HeardSo, IsMarked, UnlessLost};
+ghost use Rattle.coco_vote.specs.Nearing.{ahead_of, all_ahead, Nears};
+ghost use Rattle.coco_vote.specs.Preparing.{durable_at, have_durable, Ballot, MayForce, RestsVoted, Votes};
+ghost use Rattle.coco_vote.specs.Steps.{has_stopped, EndsVote, HasNewest, Marks};
+ghost use Rattle.coco_vote.specs.Taking.{vote_of, AreApart, AreHeld, AreMarked, AreReady, AreTold, AreVoting, CountsStops, HasGiven, HaveLogs, HeardSo, IsElsewhere, IsMarked, KeepPlaces, KeepsCores, UnlessLost};
 ghost use Rattle.coco_vote.specs.Voting.{PreparesOnly};
 ghost use Rattle.coco_vote.specs.declared.step.Stops.TheVariants.{Never as NoStop};
 
 use crate::forcing::{end_vote, force_and_vote};
 use crate::{Step, Stops};
 use coco_host::Host;
-use coco_letters::{Heard, Voter, node_votes};
+use coco_letters::{Heard, Voter, node_votes, waiting_letters_were_sent};
 use coco_log::LogFault;
 use coco_net::{Letter, Net};
 use coco_node::NodeCore;
@@ -70,6 +71,8 @@ fn vote_again<N: Net, P: Power>(
     ensures marks { IfOk result (λ step. Marks step voter.old voter.new) }
     ensures log { voter.new.log ≡ voter.old.log }
     ensures held { voter.new.held ≡ voter.old.held }
+    // It stops only where it wasn't asked before.
+    ensures once { IfOk result (λ step. has_stopped step ≡ true → voter.old.asked_after_vote ≡ false) }
     ensures later { IsLater P.stops_seen P.early_stops P.stopped P.begun P.asked power.old power.new }
     ensures stops { IfOk result (λ step. TellsStops step (P.stops_seen power.old) (P.early_stops power.old) (P.stops_seen power.new) (P.early_stops power.new)) }
     ensures asked { IsMarked node voter.old (P.asked power.old) → P.asked power.new node 5 ≡ true }
@@ -105,11 +108,15 @@ fn take_letter<H: Host, N: Net, P: Power>(
     requires unspent { voter.old.log.spent ≡ false }
     requires stands { Stands voter.old.log (H.reads host.old) (H.may_leave host.old) }
     ensures voting { IfOk result (λ stops. UnlessLost stops (AreVoting epoch cores.new)) }
+    ensures cores { OnOk result (KeepsCores epoch cores.old cores.new) }
     ensures told { OnOk result (AreTold epoch cores.old (N.sent net.old) (P.asked power.old) → AreTold epoch cores.new (N.sent net.new) (P.asked power.new)) }
     ensures marked { OnOk result (IsMarked node voter.new (P.asked power.new)) }
     ensures held { voter.new.held ≡ voter.old.held }
     // Asked for its vote, a node that doesn't stop gives it.
     ensures votes { IfOk result (λ stops. IsFrom Chiefs letter.now (Asks epoch) → stops ≡ NoStop → Contains (N.fresh net.new) (vote_of node epoch true)) }
+    // Its entry, or being asked for a stop behind its vote, isn't ahead of it any more where it has stopped.
+    ensures nears { IfOk result (λ stops. Nears stops (ahead_of epoch cores.old node voter.old) (ahead_of epoch cores.new node voter.new)) }
+    ensures elsewhere { OnOk result ((m : ℕ) → m ≢ node → durable_at cores.new m ≡ durable_at cores.old m) }
     // The files.
     ensures files { (c : Contents) (hold : ℕ → List Bool) → let b : Ballot = record { epoch = epoch; pieces = pieces.now; held = hold } in
         hold node ≡ voter.old.held.items → MayForce c b → node < c.setting.entry.layout.nodes → IsNodeLog c node voter.old.log
@@ -143,4 +150,132 @@ fn take_letter<H: Host, N: Net, P: Power>(
             Ok(step.stops())
         }
     }
+}
+
+// What a node that votes does with the letters that wait at it. It takes all of them, unless the epoch is lost.
+pub(crate) fn take_letters<H: Host, N: Net, P: Power>(
+    host: &mut H,
+    net: &mut N,
+    power: &mut P,
+    cores: &mut [NodeCore],
+    voter: &mut Voter,
+    node: u8,
+    epoch: u64,
+    pieces: &[Piece],
+    body: &mut Vec<u8>,
+) -> Result<Stops, LogFault>
+    requires few { length cores.old ≤ 8 }
+    requires node { node < length cores.old }
+    requires some { 0 < epoch }
+    requires sent { AreSent (N.sent net.old) (N.waiting net.old) }
+    requires voting { AreVoting epoch cores.old }
+    requires marked { IsMarked node voter.old (P.asked power.old) }
+    requires unspent { voter.old.log.spent ≡ false }
+    requires stands { Stands voter.old.log (H.reads host.old) (H.may_leave host.old) }
+    ensures voting { IfOk result (λ stops. UnlessLost stops (AreVoting epoch cores.new)) }
+    ensures cores { OnOk result (KeepsCores epoch cores.old cores.new) }
+    ensures told { OnOk result (AreTold epoch cores.old (N.sent net.old) (P.asked power.old) → AreTold epoch cores.new (N.sent net.new) (P.asked power.new)) }
+    ensures marked { OnOk result (IsMarked node voter.new (P.asked power.new)) }
+    ensures held { voter.new.held ≡ voter.old.held }
+    // Where it was asked for its vote and didn't stop, it has given it.
+    ensures votes { IfOk result (λ stops. stops ≡ NoStop → HasGiven epoch node (N.waiting net.old node) (N.fresh net.new)) }
+    ensures taken { IfOk result (λ stops. UnlessLost stops (N.waiting net.new node ≡ [])) }
+    ensures sent { OnOk result (AreSent (N.sent net.new) (N.waiting net.new)) }
+    // Its entry, or being asked for a stop behind its vote, isn't ahead of it any more where it has stopped.
+    ensures nears { IfOk result (λ stops. Nears stops (ahead_of epoch cores.old node voter.old) (ahead_of epoch cores.new node voter.new)) }
+    ensures elsewhere { OnOk result ((m : ℕ) → m ≢ node → durable_at cores.new m ≡ durable_at cores.old m) }
+    // The files.
+    ensures files { (c : Contents) (hold : ℕ → List Bool) → let b : Ballot = record { epoch = epoch; pieces = pieces.now; held = hold } in
+        hold node ≡ voter.old.held.items → MayForce c b → node < c.setting.entry.layout.nodes → IsNodeLog c node voter.old.log
+        → RestsVoted c b (have_durable epoch cores.old) (H.reads host.old) (H.may_leave host.old)
+        → Votes H.moment H.observed H.said H.reads H.may_leave result c b (have_durable epoch cores.new) host.old host.new }
+    ensures stands { OnOk result (Stands voter.new.log (H.reads host.new) (H.may_leave host.new)) }
+    ensures unspent { OnOk result (voter.new.log.spent ≡ false) }
+    ensures log { (voter.new.log.file ≡ voter.old.log.file) × (voter.new.log.kind ≡ voter.old.log.kind) }
+    ensures others { (other : LogState) → other.file ≢ voter.old.log.file → Stands other (H.reads host.old) (H.may_leave host.old) → Stands other (H.reads host.new) (H.may_leave host.new) }
+    ensures said { H.said host.new ≡ H.said host.old }
+    ensures disk { CountsFault result (H.disk_faults host.old) (H.disk_faults host.new) }
+    ensures stream { H.say_faults host.new ≡ H.say_faults host.old }
+    // The world.
+    ensures world { OnOk result ((chief : ChiefState) → GoesBetween (P.stopped power.old) (P.stopped power.new) (PreparesOnly epoch) (record { cores = cores.old; chief = chief; sent = N.sent net.old }) (record { cores = cores.new; chief = chief; sent = N.sent net.new })) }
+    // The counts.
+    ensures later { IsLater P.stops_seen P.early_stops P.stopped P.begun P.asked power.old power.new }
+    ensures stops { IfOk result (λ stops. CountsStops stops (P.stops_seen power.old) (P.early_stops power.old) (P.stops_seen power.new) (P.early_stops power.new)) }
+    ensures fresh { OnOk result (AreFresh (N.sent net.old) (N.fresh net.old) (N.sent net.new) (N.fresh net.new)) }
+    ensures waiting { (p : ℕ) → p ≢ node → N.waiting net.new p ≡ N.waiting net.old p }
+    ensures counts { Counts (N.given net.old) (N.faults net.old) (N.last_seed net.old) (N.given net.new) (N.faults net.new) (N.last_seed net.new) }
+{
+    waiting_letters_were_sent();
+    let mut stops = Stops::Never;
+    while !stops.is_early() {
+        match net.next(node) {
+            Some(letter) => {
+                let taken = take_letter(
+                    host, net, power, cores, voter, node, epoch, pieces, body, &letter,
+                )?;
+                stops = stops.and(taken);
+            }
+            None => return Ok(stops),
+        }
+    }
+    Ok(stops)
+}
+
+// What the nodes do with the letters that wait at them, in node order. They take all of them, unless the epoch is lost.
+pub(crate) fn nodes_take<H: Host, N: Net, P: Power>(
+    host: &mut H,
+    net: &mut N,
+    power: &mut P,
+    cores: &mut [NodeCore],
+    voters: &mut [Voter],
+    epoch: u64,
+    pieces: &[Piece],
+    body: &mut Vec<u8>,
+) -> Result<Stops, LogFault>
+    requires few { length cores.old ≤ 8 }
+    requires voters { length voters.old ≡ length cores.old }
+    requires some { 0 < epoch }
+    requires sent { AreSent (N.sent net.old) (N.waiting net.old) }
+    requires voting { AreVoting epoch cores.old }
+    requires marked { AreMarked voters.old (P.asked power.old) }
+    requires ready { AreReady voters.old (H.reads host.old) (H.may_leave host.old) }
+    requires apart { AreApart voters.old }
+    ensures voting { IfOk result (λ stops. UnlessLost stops (AreVoting epoch cores.new)) }
+    ensures cores { OnOk result (KeepsCores epoch cores.old cores.new) }
+    ensures told { OnOk result (AreTold epoch cores.old (N.sent net.old) (P.asked power.old) → AreTold epoch cores.new (N.sent net.new) (P.asked power.new)) }
+    ensures marked { OnOk result (AreMarked voters.new (P.asked power.new)) }
+    // Each that was asked for its vote has given it, where none has stopped.
+    ensures votes { IfOk result (λ stops. stops ≡ NoStop → (n : ℕ) → n < length cores.old → HasGiven epoch n (N.waiting net.old n) (N.fresh net.new)) }
+    ensures sent { OnOk result (AreSent (N.sent net.new) (N.waiting net.new)) }
+    ensures nears { IfOk result (λ stops. Nears stops (all_ahead epoch cores.old voters.old (length cores.old)) (all_ahead epoch cores.new voters.new (length cores.old))) }
+    // The files.
+    ensures files { (c : Contents) (hold : ℕ → List Bool) → let b : Ballot = record { epoch = epoch; pieces = pieces.now; held = hold } in
+        AreHeld hold voters.old → MayForce c b → c.setting.entry.layout.nodes ≡ length cores.old → HaveLogs c voters.old
+        → RestsVoted c b (have_durable epoch cores.old) (H.reads host.old) (H.may_leave host.old)
+        → Votes H.moment H.observed H.said H.reads H.may_leave result c b (have_durable epoch cores.new) host.old host.new }
+    ensures ready { OnOk result (AreReady voters.new (H.reads host.new) (H.may_leave host.new)) }
+    ensures places { KeepPlaces voters.old voters.new }
+    ensures others { (other : LogState) → IsElsewhere other voters.old → Stands other (H.reads host.old) (H.may_leave host.old) → Stands other (H.reads host.new) (H.may_leave host.new) }
+    ensures said { H.said host.new ≡ H.said host.old }
+    ensures disk { CountsFault result (H.disk_faults host.old) (H.disk_faults host.new) }
+    ensures stream { H.say_faults host.new ≡ H.say_faults host.old }
+    // The world.
+    ensures world { OnOk result ((chief : ChiefState) → GoesBetween (P.stopped power.old) (P.stopped power.new) (PreparesOnly epoch) (record { cores = cores.old; chief = chief; sent = N.sent net.old }) (record { cores = cores.new; chief = chief; sent = N.sent net.new })) }
+    // The counts.
+    ensures later { IsLater P.stops_seen P.early_stops P.stopped P.begun P.asked power.old power.new }
+    ensures stops { IfOk result (λ stops. CountsStops stops (P.stops_seen power.old) (P.early_stops power.old) (P.stops_seen power.new) (P.early_stops power.new)) }
+    ensures fresh { OnOk result (AreFresh (N.sent net.old) (N.fresh net.old) (N.sent net.new) (N.fresh net.new)) }
+    ensures waiting { (p : ℕ) → length cores.old ≤ p → N.waiting net.new p ≡ N.waiting net.old p }
+    ensures counts { Counts (N.given net.old) (N.faults net.old) (N.last_seed net.old) (N.given net.new) (N.faults net.new) (N.last_seed net.new) }
+{
+    let mut stops = Stops::Never;
+    for node in 0..cores.len() as u8 {
+        if stops.is_early() {
+            return Ok(stops);
+        }
+        let voter = &mut voters[node as usize];
+        let taken = take_letters(host, net, power, cores, voter, node, epoch, pieces, body)?;
+        stops = stops.and(taken);
+    }
+    Ok(stops)
 }

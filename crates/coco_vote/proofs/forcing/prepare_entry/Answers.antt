@@ -1,4 +1,4 @@
-use Rattle.std.proofs.Common.{◌≡◌, ℕ, Bool, true, List, subst, sym}
+use Rattle.std.proofs.Common.{◌≡◌, Bool, true, List, subst, sym}
 use Rattle.std.proofs.lemmas.Result.{err_from_is_err_and, on_ok_weaker}
 use Rattle.coco_entry.specs.Rows.{prepared_bytes}
 use Rattle.coco_entry.specs.declared.prepared.Row.{Row}

@@ -1,4 +1,4 @@
-use Rattle.std.proofs.Common.{◌≡◌, ◌<◌, arith, false, lit<, lit≤, refl, true}
+use Rattle.std.proofs.Common.{◌<◌, arith, false, lit<, lit≤, refl}
 use Rattle.std.proofs.lemmas.Bool.{eq-eqb}
 use Rattle.std.proofs.lemmas.Result.{IfOk-weaker, on_ok_weaker}
 use Rattle.coco_vote.proofs.PowerLemmas.{asked_here, later_asked, rises_if}

@@ -1,16 +1,18 @@
-use Rattle.std.proofs.Common.{◌≡◌, ◌<◌, ◌^◌, ℕ, List, [], ◌∷◌, true, ap, arith, eqb, subst, sym, ◌∙◌}
+use Rattle.std.proofs.Common.{ℕ, List, [], ◌∷◌, true, ap, arith, eqb, subst, sym, ◌∙◌}
 use Rattle.std.proofs.lemmas.Result.{err_from_is_err_and}
 use Rattle.coco_node.specs.Node.{Node}
 use Rattle.coco_letters.specs.declared.nodes.Heard.{Heard}
 use Rattle.coco_letters.specs.Worlds.{SameEntries}
 use Rattle.coco_vote.specs.declared.step.Stops.{Stops}
-use Rattle.coco_vote.specs.Preparing.{have_durable, Ballot, RestsVoted}
+use Rattle.coco_vote.specs.Nearing.{ahead_of, Nears}
+use Rattle.coco_vote.specs.Preparing.{durable_at, have_durable, Ballot, RestsVoted}
 use Rattle.coco_vote.specs.Steps.{letters_in, EndsVote}
 use Rattle.coco_vote.specs.Taking.{vote_of, AreVoting, HeardSo, UnlessLost}
 use Rattle.coco_vote.specs.Voting.{PreparesOnly}
+use Rattle.coco_vote.proofs.NearLemmas.{nears_same}
 use Rattle.coco_vote.proofs.PreparingLemmas.{none_ok, rests_same, votes_same}
 use Rattle.coco_vote.proofs.StepLemmas.{only_same}
-use Rattle.coco_vote.proofs.TakingLemmas.{between_heard, durable_ended, fresh_has, fresh_still, heard_durable, never_voted, told_ended, told_stepped, unless_any, voting_behind, voting_ended, voting_unless, vote_in}
+use Rattle.coco_vote.proofs.TakingLemmas.{between_heard, cores_stepped, cores_voting, durable_ended, elsewhere, near_ended, near_stepped, fresh_has, fresh_still, heard_durable, never_voted, told_ended, told_stepped, unless_any, voting_behind, voting_ended, voting_unless, vote_in}
 use Rattle.coco_vote.proofs.taking.take_letter.Goals as goal
 
 pub returns-in-Nothing-clause-files : goal.returns-in-Nothing-clause-files
@@ -92,3 +94,53 @@ pub returns-in_ok-step-in-Forces-clause-world : goal.returns-in_ok-step-in-Force
 returns-in_ok-step-in-Forces-clause-world g c = λ chief.
     between_heard (PreparesOnly c.args.epoch) c.args.epoch (g.P.Power.stopped c.args.power.now) (g.P.Power.stopped c.force_and_vote.new.power) (record { cores = c.args.cores.now; chief = chief; sent = g.N.Net.sent c.args.net.now }) (record { cores = c.hear_vote.new.cores; chief = chief; sent = g.N.Net.sent c.hear_vote.new.net }) (record { cores = c.force_and_vote.new.cores; chief = chief; sent = g.N.Net.sent c.force_and_vote.new.net })
     (λ w v only. only) (c.in_ok-hear_vote.ensures.world chief) (c.in_ok-step-in-Forces.ensures.world chief)
+
+pub returns-in-Nothing-clause-nears : goal.returns-in-Nothing-clause-nears
+returns-in-Nothing-clause-nears g c =
+    let h = subst (λ (h : Heard). HeardSo h c.args.node c.args.epoch c.args.letter.now c.args.cores.now (g.N.Net.sent c.args.net.now) c.hear_vote.new.cores (g.N.Net.sent c.hear_vote.new.net)) c.in-Nothing.is c.in_ok-hear_vote.ensures.heard in
+    nears_same (ahead_of c.args.epoch c.args.cores.now c.args.node c.args.voter.now) (ahead_of c.args.epoch c.hear_vote.new.cores c.args.node c.args.voter.now) (ap (λ (cs : List Node). ahead_of c.args.epoch cs c.args.node c.args.voter.now) h.0)
+
+pub returns-in-Nothing-clause-elsewhere : goal.returns-in-Nothing-clause-elsewhere
+returns-in-Nothing-clause-elsewhere g c =
+    let h = subst (λ (h : Heard). HeardSo h c.args.node c.args.epoch c.args.letter.now c.args.cores.now (g.N.Net.sent c.args.net.now) c.hear_vote.new.cores (g.N.Net.sent c.hear_vote.new.net)) c.in-Nothing.is c.in_ok-hear_vote.ensures.heard in
+    λ m _. ap (λ (cs : List Node). durable_at cs m) h.0
+
+pub returns-in_ok-step-in-Voted-clause-nears : goal.returns-in_ok-step-in-Voted-clause-nears
+returns-in_ok-step-in-Voted-clause-nears g c =
+    let h = subst (λ (h : Heard). HeardSo h c.args.node c.args.epoch c.args.letter.now c.args.cores.now (g.N.Net.sent c.args.net.now) c.hear_vote.new.cores (g.N.Net.sent c.hear_vote.new.net)) c.in-Voted.is c.in_ok-hear_vote.ensures.heard in
+    near_ended c.in_ok-step-in-Voted.step c.args.node c.args.epoch c.args.cores.now c.vote_again.new.cores (g.N.Net.sent c.hear_vote.new.net) (g.N.Net.sent c.vote_again.new.net) c.args.voter.now c.vote_again.new.voter (durable_ended c.in_ok-step-in-Voted.step c.args.node c.args.epoch c.args.cores.now c.vote_again.new.cores (g.N.Net.sent c.hear_vote.new.net) (g.N.Net.sent c.vote_again.new.net) c.requires.node h.0 (subst (λ (cs : List Node). EndsVote c.in_ok-step-in-Voted.step c.args.node c.args.epoch cs (g.N.Net.sent c.hear_vote.new.net) c.vote_again.new.cores (g.N.Net.sent c.vote_again.new.net)) h.1 c.in_ok-step-in-Voted.ensures.ends) c.args.node)
+    (subst (λ (cs : List Node). EndsVote c.in_ok-step-in-Voted.step c.args.node c.args.epoch cs (g.N.Net.sent c.hear_vote.new.net) c.vote_again.new.cores (g.N.Net.sent c.vote_again.new.net)) h.1 c.in_ok-step-in-Voted.ensures.ends) c.in_ok-step-in-Voted.ensures.marks c.in_ok-step-in-Voted.ensures.once c.stops.result c.stops.ensures
+
+pub returns-in_ok-step-in-Voted-clause-elsewhere : goal.returns-in_ok-step-in-Voted-clause-elsewhere
+returns-in_ok-step-in-Voted-clause-elsewhere g c =
+    let h = subst (λ (h : Heard). HeardSo h c.args.node c.args.epoch c.args.letter.now c.args.cores.now (g.N.Net.sent c.args.net.now) c.hear_vote.new.cores (g.N.Net.sent c.hear_vote.new.net)) c.in-Voted.is c.in_ok-hear_vote.ensures.heard in
+    λ m _. (durable_ended c.in_ok-step-in-Voted.step c.args.node c.args.epoch c.args.cores.now c.vote_again.new.cores (g.N.Net.sent c.hear_vote.new.net) (g.N.Net.sent c.vote_again.new.net) c.requires.node h.0 (subst (λ (cs : List Node). EndsVote c.in_ok-step-in-Voted.step c.args.node c.args.epoch cs (g.N.Net.sent c.hear_vote.new.net) c.vote_again.new.cores (g.N.Net.sent c.vote_again.new.net)) h.1 c.in_ok-step-in-Voted.ensures.ends) m)
+
+pub returns-in_ok-step-in-Forces-clause-nears : goal.returns-in_ok-step-in-Forces-clause-nears
+returns-in_ok-step-in-Forces-clause-nears g c =
+    let h = subst (λ (h : Heard). HeardSo h c.args.node c.args.epoch c.args.letter.now c.args.cores.now (g.N.Net.sent c.args.net.now) c.hear_vote.new.cores (g.N.Net.sent c.hear_vote.new.net)) c.in-Forces.is c.in_ok-hear_vote.ensures.heard in
+    subst (λ (stops : Stops). Nears stops (ahead_of c.args.epoch c.args.cores.now c.args.node c.args.voter.now) (ahead_of c.args.epoch c.force_and_vote.new.cores c.args.node c.force_and_vote.new.voter)) (sym c.stops-in-Forces.ensures)
+    (near_stepped c.in_ok-step-in-Forces.step c.args.node c.args.epoch c.args.cores.now c.hear_vote.new.cores c.force_and_vote.new.cores (g.N.Net.sent c.args.net.now) (g.N.Net.sent c.hear_vote.new.net) (g.N.Net.sent c.force_and_vote.new.net) c.requires.node h.3.0 h.3.1 h.3.2 h.2 c.in_ok-step-in-Forces.ensures.steps c.args.voter.now c.force_and_vote.new.voter c.in_ok-step-in-Forces.ensures.marks)
+
+pub returns-in_ok-step-in-Forces-clause-elsewhere : goal.returns-in_ok-step-in-Forces-clause-elsewhere
+returns-in_ok-step-in-Forces-clause-elsewhere g c =
+    let h = subst (λ (h : Heard). HeardSo h c.args.node c.args.epoch c.args.letter.now c.args.cores.now (g.N.Net.sent c.args.net.now) c.hear_vote.new.cores (g.N.Net.sent c.hear_vote.new.net)) c.in-Forces.is c.in_ok-hear_vote.ensures.heard in
+    elsewhere c.in_ok-step-in-Forces.step c.args.node c.args.epoch c.args.cores.now c.hear_vote.new.cores c.force_and_vote.new.cores (g.N.Net.sent c.args.net.now) (g.N.Net.sent c.hear_vote.new.net) (g.N.Net.sent c.force_and_vote.new.net) c.requires.node h.3.0 h.3.1 h.3.2 h.2 c.in_ok-step-in-Forces.ensures.steps
+
+pub returns-in-Nothing-clause-cores : goal.returns-in-Nothing-clause-cores
+returns-in-Nothing-clause-cores g c =
+    let h = subst (λ (h : Heard). HeardSo h c.args.node c.args.epoch c.args.letter.now c.args.cores.now (g.N.Net.sent c.args.net.now) c.hear_vote.new.cores (g.N.Net.sent c.hear_vote.new.net)) c.in-Nothing.is c.in_ok-hear_vote.ensures.heard in
+    cores_voting c.args.epoch c.args.cores.now c.hear_vote.new.cores (subst (AreVoting c.args.epoch) (sym h.0) c.requires.voting) (λ n. ap (λ (cs : List Node). durable_at cs n) h.0)
+
+pub returns-in_ok-step-in-Voted-clause-cores : goal.returns-in_ok-step-in-Voted-clause-cores
+returns-in_ok-step-in-Voted-clause-cores g c =
+    let h = subst (λ (h : Heard). HeardSo h c.args.node c.args.epoch c.args.letter.now c.args.cores.now (g.N.Net.sent c.args.net.now) c.hear_vote.new.cores (g.N.Net.sent c.hear_vote.new.net)) c.in-Voted.is c.in_ok-hear_vote.ensures.heard in
+    let ends = (subst (λ (cs : List Node). EndsVote c.in_ok-step-in-Voted.step c.args.node c.args.epoch cs (g.N.Net.sent c.hear_vote.new.net) c.vote_again.new.cores (g.N.Net.sent c.vote_again.new.net)) h.1 c.in_ok-step-in-Voted.ensures.ends) in
+    cores_voting c.args.epoch c.args.cores.now c.vote_again.new.cores
+    (voting_ended c.in_ok-step-in-Voted.step c.args.node c.args.epoch c.args.cores.now c.vote_again.new.cores (g.N.Net.sent c.hear_vote.new.net) (g.N.Net.sent c.vote_again.new.net) c.requires.some c.requires.node c.requires.voting ends)
+    (durable_ended c.in_ok-step-in-Voted.step c.args.node c.args.epoch c.args.cores.now c.vote_again.new.cores (g.N.Net.sent c.hear_vote.new.net) (g.N.Net.sent c.vote_again.new.net) c.requires.node h.0 ends)
+
+pub returns-in_ok-step-in-Forces-clause-cores : goal.returns-in_ok-step-in-Forces-clause-cores
+returns-in_ok-step-in-Forces-clause-cores g c =
+    let h = subst (λ (h : Heard). HeardSo h c.args.node c.args.epoch c.args.letter.now c.args.cores.now (g.N.Net.sent c.args.net.now) c.hear_vote.new.cores (g.N.Net.sent c.hear_vote.new.net)) c.in-Forces.is c.in_ok-hear_vote.ensures.heard in
+    cores_stepped c.in_ok-step-in-Forces.step c.args.node c.args.epoch c.args.cores.now c.hear_vote.new.cores c.force_and_vote.new.cores (g.N.Net.sent c.args.net.now) (g.N.Net.sent c.hear_vote.new.net) (g.N.Net.sent c.force_and_vote.new.net) c.requires.node h.3.0 h.3.1 h.3.2 h.2 c.in_ok-step-in-Forces.ensures.steps c.requires.voting
