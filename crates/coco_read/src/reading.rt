@@ -30,6 +30,7 @@ pub fn read_file<H: Host, R: Rules>(
     ensures log { IfOk result (λ log. IsFresh log file kind) }
     ensures ok { IfOk result (λ log. (files : Files) → H.reads host.old ≡ Some files
         → IsReadLog (R.rules (R.setting rules.old)) (R.taken rules.new) log files (H.may_leave host.new)) }
+    ensures whole { IfOk result (λ _. ¬ ((R.rules (R.setting rules.old)).Lacks (R.taken rules.new))) }
     ensures here { (other at : ℕ) → result ≡ Err (fault.NotAStore other at) → other ≡ file }
     ensures refused { (other at : ℕ) (files : Files) → result ≡ Err (fault.NotAStore other at) → H.reads host.old ≡ Some files
         → IsFirstIn (R.rules (R.setting rules.old)) kind (files file) at }

@@ -51,7 +51,7 @@ flat_same f g from (suc count) same =
     ∙ ap (λ (l : List ℕ). l ++ flat_map g (range_with_len (from + 1) count)) (same from (omega arith))
 
 -- the same, one number for each node
-numbers_from : (of : ℕ → List Prepared) (from : ℕ) (nodes : List (List Prepared)) → ((i : ℕ) → i < length nodes → get_or nodes i [] ≡ of (from + i))
+pub numbers_from : (of : ℕ → List Prepared) (from : ℕ) (nodes : List (List Prepared)) → ((i : ℕ) → i < length nodes → get_or nodes i [] ≡ of (from + i))
     → map greatest_prepared nodes ≡ map (λ n. greatest_prepared (of n)) (range_with_len from (length nodes))
 numbers_from of from [] are = refl
 numbers_from of from (entries ∷ nodes) are =

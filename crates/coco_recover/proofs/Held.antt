@@ -1,20 +1,19 @@
 -- What files hold whose entries were read, and where files are refused first.
-use Rattle.std.proofs.Common.{◌≡◌, ◌≢◌, ℕ, ◌<◌, Bool, true, false, nat_eq, List, [], ◌∷◌, map, Option, Some, refl, subst, sym}
+use Rattle.std.proofs.Common.{◌≡◌, ◌≢◌, ℕ, ◌<◌, true, false, nat_eq, List, [], ◌∷◌, map, Option, Some, refl, subst, sym}
 use Rattle.std.proofs.lemmas.Bool.{eqb-false, eqb-true}
 use Rattle.coco_host.specs.Files.{Files}
-use Rattle.coco_entry.specs.declared.commit.Commit.{Commit}
 use Rattle.coco_entry.specs.declared.layout.LayoutEntry.{LayoutEntry}
 use Rattle.coco_entry.specs.declared.prepared.Prepared.{Prepared}
 use Rattle.coco_log.specs.LogState.{IsFresh, IsOpened, LogState}
 use Rattle.coco_read.specs.EntryRules.{EntryRules, IsFile, IsFirstIn, IsReadLog}
 use Rattle.coco_store.specs.Contents.{Contents, Holds, HoldsBase, HoldsHistory, chief_of, file_of}
-use Rattle.coco_store.specs.Entries.{AreLayouts, BaseEntry, Dones, Head, Values, base_kind, commits_kind, layouts_kind, prepared_kind}
+use Rattle.coco_store.specs.Entries.{AreLayouts, BaseEntry, Dones, Head, Values, base_kind, commits_kind, layouts_kind}
 use Rattle.coco_store.specs.Refusals.{IsFirst, IsFirstRefusal, IsNodeRefused, in_node}
-use Rattle.coco_store.specs.Rules.{EachBehind, HavePrepared, IsNextPrepared, IsWhole}
+use Rattle.coco_store.specs.Rules.{IsWhole}
 use Rattle.coco_recover.specs.Bases.{Basis, IsBased, base_rules, entries_of}
 use Rattle.coco_recover.specs.Commits.{AreCommitted, commit_rules}
 use Rattle.coco_recover.specs.Layouts.{IsLastOf, layout_rules, setting_of}
-use Rattle.coco_recover.specs.Nodes.{NodeBasis, entries_at, node_rules}
+use Rattle.coco_recover.specs.Nodes.{entries_at}
 use Rattle.coco_recover.specs.Steps.{HoldsCommitted, HoldsEntries, HoldsLast, HoldsParts}
 use Rattle.coco_recover.specs.Without.{HoldsBut, IsFirstRefusalBut, IsHistoryRefusal, base_refused, commits_refused, in_other, layouts_refused}
 use Rattle.coco_recover.specs.declared.base.BasePart.{BasePart}
@@ -30,19 +29,11 @@ same_so a b denied = elim (nat_eq a b) as (λ t. nat_eq a b ≡ t → a ≡ b) [
   | false ↦ λ f. absurd (denied (eqb-false a b f))
 ] refl
 
-true_so : (b : Bool) → ¬ (¬ (b ≡ true)) → b ≡ true
-true_so true denied = refl
-true_so false denied = absurd (denied (λ e. let two : false ≡ true = e in cc))
-
 whole_so : (entries : List BaseEntry) → ¬ (¬ (IsWhole entries)) → IsWhole entries
 whole_so [] denied = denied (λ none. none)
 whole_so (Head head ∷ entries) denied = (same_so _ _ (λ other. denied (λ both. other both.0)), same_so _ _ (λ other. denied (λ both. other both.1)))
 whole_so (Dones dones ∷ entries) denied = denied (λ none. none)
 whole_so (Values rows ∷ entries) denied = denied (λ none. none)
-
-have_so : (entries : List Prepared) (commits : List Commit) → ¬ (¬ (HavePrepared entries commits)) → HavePrepared entries commits
-have_so entries [] denied = tt
-have_so entries (commit ∷ commits) denied = (true_so _ (λ lacks. denied (λ all. lacks all.0)), have_so entries commits (λ lacks. denied (λ all. lacks all.1)))
 
 -- ---- one file
 
@@ -82,14 +73,6 @@ holds_parts files last based number entries is of are file =
 pub holds_committed : (files : Files) (last : LastLayout) (committed : Committed) (b : Basis) → AreCommitted (setting_of last) committed
     → IsFile (commit_rules b) commits_kind committed.commits.items (files (chief_of (setting_of last))) → HoldsCommitted files last committed
 holds_committed files last committed b are file = record { are = file.log; each = are.remembered.each }
-
-pub holds_entries : (files : Files) (last : LastLayout) (committed : Committed) (b : NodeBasis) (entries : List Prepared) → b.commits ≡ committed.commits.items
-    → EachBehind (IsNextPrepared (setting_of last) b.node) [] entries → IsFile (node_rules b) prepared_kind entries (files (file_of (setting_of last) b.node)) → HoldsEntries files last committed b.node entries
-holds_entries files last committed b entries are each file = record {
-  are = file.log;
-  each = each;
-  committed = subst (HavePrepared entries) are (have_so entries b.commits file.whole);
-}
 
 -- ---- all of them
 

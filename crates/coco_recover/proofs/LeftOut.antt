@@ -7,17 +7,18 @@ use Rattle.std.proofs.Math.Nat.{eq-or-lt_of_le}
 use Rattle.coco_ast.proofs.Lists.{all_append, all_right}
 use Rattle.coco_entry.specs.declared.commit.Commit.{Commit}
 use Rattle.coco_entry.specs.declared.layout.LayoutEntry.{LayoutEntry}
+use Rattle.coco_entry.specs.Rows.{IsPrepared, prepared_bytes, prepared_in}
 use Rattle.coco_entry.specs.declared.prepared.Prepared.{Prepared}
 use Rattle.coco_entry.specs.Layouts.{IsLayout}
 use Rattle.coco_host.specs.Files.{Files, NoMore}
 use Rattle.coco_append.specs.Gaining.{Stands}
 use Rattle.coco_log.specs.LogState.{IsFresh, IsOpened, LogState}
-use Rattle.coco_read.specs.EntryRules.{IsFile, IsFirstIn}
+use Rattle.coco_read.specs.EntryRules.{EntryRules, IsFile, IsFirstIn}
 use Rattle.coco_read.proofs.Steps.{not_refused}
 use Rattle.coco_store.specs.Contents.{Contents, HoldsBase, HoldsCommits, HoldsHistory, HoldsLayouts, HoldsNode, IsGoodLayout, chief_of, file_of}
 use Rattle.coco_store.specs.Entries.{AreBase, BaseEntry, base_kind, commits_kind, layouts_kind, prepared_kind}
 use Rattle.coco_store.specs.Refusals.{BaseBreaks, CommitBreaks, IsFirst, IsFirstRefusal, IsNodeRefused, LayoutBreaks, PreparedBreaks, in_base, in_commits, in_layouts}
-use Rattle.coco_store.specs.Rules.{EachBehind, IsBase, IsNextBase, IsNextCommit, IsNextPrepared, Setting, commit_epochs}
+use Rattle.coco_store.specs.Rules.{EachBehind, HavePrepared, IsBase, IsNextBase, IsNextCommit, IsNextPrepared, Setting, commit_epochs}
 use Rattle.coco_store.proofs.Keeping.{base_kept, commits_kept, layouts_kept, node_kept}
 use Rattle.coco_store.proofs.Naming.{NamesApart, names_apart}
 use Rattle.coco_store.proofs.OneStore.{behind, one_base_file, one_chief_file, one_layouts}
@@ -25,7 +26,7 @@ use Rattle.coco_store.proofs.Refusing.{one_refusal}
 use Rattle.coco_recover.specs.Bases.{base_rules}
 use Rattle.coco_recover.specs.Commits.{commit_rules}
 use Rattle.coco_recover.specs.Layouts.{layout_rules, setting_of}
-use Rattle.coco_recover.specs.Nodes.{IsLoaded, node_rules, nodes_of}
+use Rattle.coco_recover.specs.Nodes.{IsLoaded, nodes_of}
 use Rattle.coco_recover.specs.Readings.{base_stands, commit_reads, layout_reads, prepared_reads}
 use Rattle.coco_recover.specs.Steps.{HoldsEntries, HoldsLast, IsLeft, IsRead}
 use Rattle.coco_recover.specs.Without.{AreOthersHeld, AreOthersRead, ArePartsOf, BehindGatesButForANode, GoodStoresAreButForANode, HasParts, HoldsBut, IsGoodBut, IsHistoryRefusal, IsLogBut, OneRefusalButForANode, RefusedButForANodeIsNone, RestsBut, StoresAreButForANode, base_refused, before_nodes, commits_refused, in_other, layouts_refused}
@@ -81,7 +82,7 @@ no_commits s base commits file at h first =
 
 no_node : (s : Setting) (commits : List Commit) (n : ℕ) (entries : List Prepared) (file : List ℕ) (at : ℕ) → HoldsNode s commits n entries file → IsFirst (IsNodeRefused s commits n file) at → ⊥
 no_node s commits n entries file at h first =
-    let rules = node_rules (record { basis = record { setting = s; base = []; keep = None }; commits = commits; nodes = []; node = n }) in
+    let rules : EntryRules Prepared = record { bytes_of = prepared_bytes; Is = IsPrepared; read = λ before. prepared_in; Breaks = PreparedBreaks s n; Lacks = λ entries. ¬ (HavePrepared entries commits) } in
     let is : IsFile rules prepared_kind entries file = record {
       log = h.are;
       keep = each_kept (IsNextPrepared s n) (PreparedBreaks s n) (prepared_keeps s n) [] entries h.each;

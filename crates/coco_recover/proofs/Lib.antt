@@ -1,3 +1,4 @@
+pub mod Anew
 pub mod Basing
 pub mod Committing
 pub mod Few
@@ -8,6 +9,7 @@ pub mod Keeping
 pub mod LaidOut
 pub mod LeftOut
 pub mod Loading
+pub mod NodeFiles
 pub mod OneMap
 pub mod Places
 pub mod Reading

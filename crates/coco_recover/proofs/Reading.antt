@@ -4,9 +4,10 @@ use Rattle.std.proofs.lemmas.List.{get_or_append_left, get_or_at}
 use Rattle.coco_host.specs.Files.{Files, NoMore}
 use Rattle.coco_entry.specs.declared.prepared.Prepared.{Prepared}
 use Rattle.coco_log.specs.LogState.{IsFresh, IsOpened, LogState}
+use Rattle.coco_rules.specs.Readying.{AreAmong}
 use Rattle.coco_store.specs.Contents.{file_of}
 use Rattle.coco_store.specs.Entries.{prepared_kind}
-use Rattle.coco_store.specs.Rules.{EachBehind, IsNextPrepared}
+use Rattle.coco_store.specs.Rules.{EachBehind, IsNextPrepared, prepared_epochs}
 use Rattle.coco_recover.specs.Layouts.{setting_of}
 use Rattle.coco_recover.specs.Nodes.{IsLoaded, nodes_of}
 use Rattle.coco_recover.specs.Steps.{AreHeld, AreRead, HoldsEntries, IsRead}
@@ -34,18 +35,20 @@ module _ (last : LastLayout) (committed : Committed) where
     are = are;
     nodes = ap length none;
     each = λ n less. absurd (omega (arith, less));
+    whole = λ n less. absurd (omega (arith, less));
     as_many = refl;
     fresh = λ other n less. absurd (omega (arith, less));
   }
 
   pub node_read : (old new : Loaded) (entries : List Prepared) (logs more : List LogState) (log : LogState) (n : ℕ) → AreRead last committed old logs n → IsRead last committed n old new entries
-      → IsFresh log (file_of (setting_of last) n) prepared_kind → more ≡ logs ++ log ∷ [] → AreRead last committed new more (n + 1)
-  node_read old new entries logs more log n was read fresh are =
+      → AreAmong (prepared_epochs entries) committed.epochs.items → IsFresh log (file_of (setting_of last) n) prepared_kind → more ≡ logs ++ log ∷ [] → AreRead last committed new more (n + 1)
+  node_read old new entries logs more log n was read whole fresh are =
       let s = setting_of last in
       record {
         are = read.loaded;
         nodes = one_longer (nodes_of old) (nodes_of new) entries n read.more was.nodes;
         each = rw read.more (one_more (λ m es. EachBehind (IsNextPrepared s m) [] es) (nodes_of old) entries [] n was.nodes was.each read.each);
+        whole = rw read.more (one_more (λ m es. AreAmong (prepared_epochs es) committed.epochs.items) (nodes_of old) entries [] n was.nodes was.whole whole);
         as_many = one_longer logs more log n are was.as_many;
         fresh = λ other. rw are (one_more (λ m l. IsFresh l (file_of s m) prepared_kind) logs log other n was.as_many (was.fresh other) fresh);
       }

@@ -1,34 +1,37 @@
 -- What holds of an opened store on every host.
-use Rattle.std.proofs.Common.{◌≡◌, ℕ, suc, ◌<◌, ◌≤◌, Bool, true, false, ◌||◌, nat_eq, List, [], ◌∷◌, ◌++◌, length, map, max, Global, refl, sym, ap, subst, ◌∙◌, arith}
-use Rattle.std.specs.List.{AllByRecursion, flat_map}
+use Rattle.std.proofs.Common.{◌≡◌, inl, inr, ℕ, zero, suc, ◌+◌, ◌<◌, ◌≤◌, Bool, true, false, ◌||◌, nat_eq, List, [], ◌∷◌, ◌++◌, length, map, Global, refl, sym, ap, subst, ◌∙◌, arith}
+use Rattle.std.specs.List.{AllByRecursion, flat_map, range_with_len}
 use Rattle.std.specs.Set.{is_member}
 use Rattle.std.specs.declared.vec.Vec.{Vec}
-use Rattle.std.proofs.lemmas.Bool.{eqb-true}
+use Rattle.std.proofs.lemmas.Bool.{cases_lt, eqb-true}
 use Rattle.std.proofs.lemmas.List.{length-map}
 use Rattle.coco_types.specs.Limits.{epochs_end}
 use Rattle.coco_ast.proofs.Lists.{all_append, all_left, all_map, all_right}
 use Rattle.coco_entry.specs.declared.commit.Commit.{Commit}
+use Rattle.coco_entry.specs.declared.layout.LayoutEntry.{LayoutEntry}
 use Rattle.coco_entry.specs.declared.prepared.Prepared.{Prepared}
 use Rattle.coco_load.specs.Epochs.{IsNextTo}
 use Rattle.coco_load.specs.Laws.{BaseDonesFollow, CommittedDonesFollow}
 use Rattle.coco_load.specs.Reading.{maps_read}
 use Rattle.coco_log.specs.LogState.{IsFresh}
+use Rattle.coco_rules.specs.Readying.{AreAmong}
 use Rattle.coco_store.specs.Entries.{BaseEntry, commits_kind, layouts_kind}
 use Rattle.coco_store.specs.Rules.{EachBehind, IsNextCommit, IsNextPrepared, Setting, base_of, commit_epochs, prepared_epochs}
 use Rattle.coco_store.proofs.Naming.{names_apart}
 use Rattle.coco_recover.specs.Bases.{IsBased, entries_of}
 use Rattle.coco_recover.specs.Commits.{AreCommitted}
 use Rattle.coco_recover.specs.Layouts.{IsGoodLast, setting_of}
-use Rattle.coco_recover.specs.Nodes.{entries_at, greatest_of, greatest_prepared, nodes_of}
-use Rattle.coco_recover.specs.Opening.{AreLogs, IsSoundStore, IsTabled}
+use Rattle.coco_recover.specs.Nodes.{entries_at, greatest_prepared, nodes_of}
+use Rattle.coco_recover.specs.Opening.{AreLogs, EntriesAreReadied, IsSoundStore, IsTabled}
 use Rattle.coco_recover.specs.Steps.{AreRead}
 use Rattle.coco_recover.specs.declared.base.Based.{Based}
 use Rattle.coco_recover.specs.declared.commits.Committed.{Committed}
 use Rattle.coco_recover.specs.declared.layouts.LastLayout.{LastLayout}
 use Rattle.coco_recover.specs.declared.nodes.Loaded.{Loaded}
 use Rattle.coco_recover.specs.declared.opening.Logs.{Logs}
-use Rattle.coco_recover.proofs.Having.{opened_of}
+use Rattle.coco_recover.proofs.Having.{numbers_from, opened_of}
 use Rattle.coco_recover.proofs.Keeping.{each_all, keeps_below}
+use Rattle.coco_recover.proofs.Loading.{greatest_below}
 use Rattle.coco_recover.proofs.OneMap.{one_map, one_map-on}
 use Rattle.coco_recover.proofs.Shards.{shards_hold}
 use Rattle.coco_recover.proofs.Tabled.{rows_tabled, values_tabled}
@@ -76,19 +79,45 @@ next_below epochs next is all = let below : is.greatest < epochs_end = member_of
 
 -- ---- what each node prepared
 
-below_either : (m x n : ℕ) → m < n → x < n → max m x < n
-below_either m x n first second = omega arith
-
-greatest_below : (n m : ℕ) (xs : List ℕ) → m < n → AllByRecursion (λ x. x < n) xs → greatest_of m xs < n
-greatest_below n m [] first all = first
-greatest_below n m (x ∷ xs) first all = greatest_below n (max m x) xs (below_either m x n first all.0) all.1
-
 nodes_below : (n : ℕ) (nodes : List (List Prepared)) → 0 < n → AllByRecursion (λ e. e < n) (flat_map prepared_epochs nodes) → AllByRecursion (λ e. e < n) (map greatest_prepared nodes)
 nodes_below n [] some all = tt
 nodes_below n (entries ∷ nodes) some all = (
   greatest_below n 0 (prepared_epochs entries) some (all_left (λ e. e < n) (prepared_epochs entries) (flat_map prepared_epochs nodes) all),
   nodes_below n nodes some (all_right (λ e. e < n) (prepared_epochs entries) (flat_map prepared_epochs nodes) all),
 )
+
+-- those of one node
+node_below : (P : ℕ → Type 0) (nodes : List (List Prepared)) (n : ℕ) → AllByRecursion P (flat_map prepared_epochs nodes) → AllByRecursion P (prepared_epochs (entries_at nodes n))
+node_below P [] zero all = tt
+node_below P [] (suc n) all = tt
+node_below P (entries ∷ nodes) zero all = all_left P (prepared_epochs entries) (flat_map prepared_epochs nodes) all
+node_below P (entries ∷ nodes) (suc n) all = node_below P nodes n (all_right P (prepared_epochs entries) (flat_map prepared_epochs nodes) all)
+
+-- those of one node of many
+node_at : (P : ℕ → Type 0) (f : ℕ → List ℕ) (from count n : ℕ) → AllByRecursion P (flat_map f (range_with_len from count)) → from ≤ n → n < from + count → AllByRecursion P (f n)
+node_at P f from zero n all low high = absurd (omega (arith, low, high))
+node_at P f from (suc count) n all low high =
+    let others = flat_map f (range_with_len (from + 1) count) in
+    elim (cases_lt from n) [
+      | inl more ↦ node_at P f (from + 1) count n (all_right P (f from) others all) (omega (arith, more)) (omega (arith, high))
+      | inr most ↦ (let same : from ≡ n = omega (arith, low, most) in subst (λ (m : ℕ). AllByRecursion P (f m)) same (all_left P (f from) others all))
+    ]
+
+pub entries_are_readied : EntriesAreReadied
+entries_are_readied keep files c store holds has =
+    let count = c.setting.entry.layout.nodes in
+    let below = λ (e : ℕ). e < store.next_epoch in
+    let epochs = λ (n : ℕ). prepared_epochs (c.prepared n) in
+    let nodes : store.layout.nodes ≡ count = ap (λ (e : LayoutEntry). e.layout.nodes) has.layout in
+    record {
+      greatest = has.prepared ∙ ap (λ (k : ℕ). map (λ n. greatest_prepared (c.prepared n)) (range_with_len 0 k)) (sym nodes);
+      committed = λ n less.
+          subst (AreAmong (epochs n)) (sym has.epochs)
+          (all_map (λ (x : Commit). x.epoch) (λ (e : ℕ). is_member nat_eq (epochs n) e ≡ true) c.commits (holds.nodes n (omega (arith, less, nodes))).committed);
+      below = λ n less.
+          node_at below epochs 0 count n (all_right below (c.setting.entry.layout.base_epoch ∷ commit_epochs c.commits) (flat_map epochs (range_with_len 0 count)) has.next.above) (omega arith)
+          (omega (arith, less, nodes));
+    }
 
 -- ---- the store
 
@@ -132,6 +161,13 @@ module _ (of_base : BaseDonesFollow) (of_commits : CommittedDonesFollow) (last :
         keeps = keeps_below of_base of_commits s committed are.remembered loaded.next above.0 above.1;
         each_node = ap (length {A = ℕ}) greatest ∙ length-map (nodes_of loaded) greatest_prepared ∙ read.nodes;
         prepared_below = subst (AllByRecursion (λ (e : ℕ). e < loaded.next)) (sym greatest) (nodes_below loaded.next (nodes_of loaded) first behind);
+        entries = λ n. prepared_epochs (entries n);
+        readied = record {
+          greatest = greatest ∙ numbers_from entries 0 (nodes_of loaded) (λ i less. ap entries (omega arith))
+              ∙ ap (λ (n : ℕ). map (λ m. greatest_prepared (entries m)) (range_with_len 0 n)) read.nodes;
+          committed = read.whole;
+          below = λ n less. node_below (λ (e : ℕ). e < loaded.next) (nodes_of loaded) n behind;
+        };
         first = first;
         end = next_below (last.entry.layout.base_epoch ∷ epochs ++ flat_map prepared_epochs (nodes_of loaded)) loaded.next next
             (epochs_below last committed loaded last.entry.layout.nodes good are read.nodes read.each);

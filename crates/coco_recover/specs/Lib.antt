@@ -1,6 +1,8 @@
 pub mod Bases
+pub mod Codes
 pub mod Commits
 pub mod Layouts
+pub mod Lost
 pub mod Nodes
 pub mod Opening
 pub mod Readings

@@ -21,14 +21,16 @@ use Rattle.coco_load.specs.Epochs.{IsNextOf}
 use Rattle.coco_load.specs.Reading.{maps_of}
 use Rattle.coco_load.specs.Tables.{HoldMap, HoldMaps, Maps}
 use Rattle.coco_log.specs.LogState.{IsFresh, LogState}
+use Rattle.coco_rules.specs.Readying.{AreAmong}
 use Rattle.coco_shard.specs.RowState.{IsOfPartition, IsSettled, ShardState, stable_at}
+use Rattle.coco_standing.specs.Standing.{TablesStand, none_behind}
 use Rattle.coco_store.specs.Contents.{Contents, Holds, history_of, map_in, on, rows_of}
 use Rattle.coco_store.specs.Entries.{commits_kind, layouts_kind, prepared_kind}
 use Rattle.coco_store.specs.Placement.{IsHeldBy}
-use Rattle.coco_store.specs.Rules.{IsWithinLimits, base_values, commit_epochs}
+use Rattle.coco_store.specs.Rules.{IsWithinLimits, base_values, commit_epochs, prepared_epochs}
 use Rattle.coco_store.specs.Texts.{IsAcceptedText}
 use Rattle.coco_recover.specs.Layouts.{place_behind}
-use Rattle.coco_recover.specs.Nodes.{greatest_prepared}
+use Rattle.coco_recover.specs.Nodes.{greatest_of, greatest_prepared}
 use Rattle.coco_recover.specs.declared.opening.Logs.{Logs}
 use Rattle.coco_recover.specs.declared.opening.Opened.{Opened}
 
@@ -71,6 +73,20 @@ pub record Has (keep : Option ℕ) (c : Contents) (store : Opened) : Type 0 wher
   pub epochs : store.epochs.items ≡ commit_epochs c.commits
   pub base : flat_map (λ rows. rows) store.base.items ≡ base_values c.base
   pub place : store.layout_place ≡ place_behind c.earlier
+
+-- each node has prepared every committed epoch: these are the epochs of its entries, all below the next one, of which the greatest is the one that is had
+pub record HaveReadied (prepared : ℕ → List ℕ) (store : Opened) : Type 0 where
+  pub greatest : store.prepared.items ≡ map (λ n. greatest_of 0 (prepared n)) (range_with_len 0 store.layout.nodes)
+  pub committed : (n : ℕ) → n < store.layout.nodes → AreAmong (prepared n) store.epochs.items
+  pub below : (n : ℕ) → n < store.layout.nodes → AllByRecursion (λ e. e < store.next_epoch) (prepared n)
+
+-- so it is with the entries that files hold
+abbrev pub EntriesAreReadied : Type 0
+EntriesAreReadied = (keep : Option ℕ) (files : Files) (c : Contents) (store : Opened) → Holds files c → Has keep c store → HaveReadied (λ n. prepared_epochs (c.prepared n)) store
+
+-- where each node has the history's rows, the tables of an opened store stand at the history's map, and no node is behind
+abbrev pub OpenedStand : Type 0
+OpenedStand = (keep : Option ℕ) (c : Contents) (store : Opened) → Has keep c store → HaveRows c → TablesStand c.setting.entry.layout (map_in c) none_behind store.shards.items store.copies.items
 
 -- the files hold a store, and the opened one has what they hold
 pub record IsOpening (keep_of : Contents → Option ℕ) (files : Files) (store : Opened) : Type 0 where
@@ -117,7 +133,7 @@ pub record AreKeptBelow (procs : Procedures) (kept : Keeping) (epoch : ℕ) : Ty
 abbrev pub IsTabled : Procedures → RowKey → Type 0
 IsTabled procs key = key.table < length procs.tables
 
--- the layout is good, each table holds a map of its partition, the shards hold one map together, each row's table is there, the committed epochs rise, and the next epoch's number is above them, above what each node prepared, and above those of the kept Dones
+-- the layout is good, each table holds a map of its partition, the shards hold one map together, each row's table is there, the committed epochs rise, each node has prepared them, and the next epoch's number is above them, above what each node prepared, and above those of the kept Dones
 pub record IsSoundStore (store : Opened) : Type 0 where
   pub is : IsLayout (entry_in store)
   pub limits : IsWithinLimits (entry_in store)
@@ -132,6 +148,8 @@ pub record IsSoundStore (store : Opened) : Type 0 where
   pub below : AllByRecursion (λ e. e < store.next_epoch) store.epochs.items
   pub each_node : length store.prepared.items ≡ store.layout.nodes
   pub prepared_below : AllByRecursion (λ e. e < store.next_epoch) store.prepared.items
+  pub entries : ℕ → List ℕ
+  pub readied : HaveReadied entries store
   pub keeps : AreKeptBelow store.procs store.kept store.next_epoch
   pub first : 0 < store.next_epoch
   pub end : store.next_epoch ≤ epochs_end

@@ -4,9 +4,10 @@ use Rattle.coco_host.specs.Files.{Files}
 use Rattle.coco_entry.specs.declared.layout.LayoutEntry.{LayoutEntry}
 use Rattle.coco_entry.specs.declared.prepared.Prepared.{Prepared}
 use Rattle.coco_log.specs.LogState.{IsFresh, IsOpened, LogState}
+use Rattle.coco_rules.specs.Readying.{AreAmong}
 use Rattle.coco_store.specs.Contents.{HoldsBase, HoldsCommits, HoldsLayouts, HoldsNode, chief_of, file_of}
 use Rattle.coco_store.specs.Entries.{prepared_kind}
-use Rattle.coco_store.specs.Rules.{EachBehind, IsNextPrepared}
+use Rattle.coco_store.specs.Rules.{EachBehind, IsNextPrepared, prepared_epochs}
 use Rattle.coco_recover.specs.Bases.{entries_of}
 use Rattle.coco_recover.specs.Layouts.{place_behind, setting_of}
 use Rattle.coco_recover.specs.Nodes.{IsLoaded, entries_at, nodes_of}
@@ -45,11 +46,12 @@ pub record IsRead (last : LastLayout) (committed : Committed) (n : ℕ) (old new
   pub each : EachBehind (IsNextPrepared (setting_of last) n) [] entries
   pub more : nodes_of new ≡ nodes_of old ++ entries ∷ []
 
--- the entries of the first nodes keep their rules and are loaded, and these are their logs
+-- the entries of the first nodes keep their rules and are loaded, none lacks that of a committed epoch, and these are their logs
 pub record AreRead (last : LastLayout) (committed : Committed) (loaded : Loaded) (logs : List LogState) (count : ℕ) : Type 0 where
   pub are : IsLoaded (setting_of last) committed loaded
   pub nodes : length (nodes_of loaded) ≡ count
   pub each : (n : ℕ) → n < count → EachBehind (IsNextPrepared (setting_of last) n) [] (entries_at (nodes_of loaded) n)
+  pub whole : (n : ℕ) → n < count → AreAmong (prepared_epochs (entries_at (nodes_of loaded) n)) committed.epochs.items
   pub as_many : length logs ≡ count
   pub fresh : (other : LogState) (n : ℕ) → n < count → IsFresh (slice_index_or logs n other) (file_of (setting_of last) n) prepared_kind
 

@@ -5,6 +5,7 @@ pub mod base;
 pub mod commits;
 mod files;
 pub mod layouts;
+pub mod lost;
 pub mod nodes;
 pub mod opening;
 mod refusal;
@@ -13,8 +14,9 @@ pub mod without;
 pub use base::{BaseHistory, BasePart, BaseReading, Based};
 pub use commits::{CommitReading, Committed};
 pub use layouts::{LastLayout, LayoutReading};
-pub use nodes::{Loaded, NodeReading};
-pub use opening::{Logs, Opened, recover, recover_whole};
+pub use lost::read_node;
+pub use nodes::{Loaded, NodeRead, NodeReading};
+pub use opening::{Logs, Opened, an_opened_store_stands, recover, recover_whole};
 pub use without::{
     Parts, a_store_is_one_but_for_a_node, a_store_refused_but_for_a_node_is_none, read_without,
 };

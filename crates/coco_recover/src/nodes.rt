@@ -1,25 +1,27 @@
 //! A node's file: what it prepared.
 
-ghost use Rattle.std.specs.Prelude.{◌≡◌, ℕ, ◌<◌, nat_eq, List, [], ◌∷◌, ◌++◌, length, IfOk, OnErr, OnOk};
+ghost use Rattle.std.specs.Prelude.{◌≡◌, ℕ, ◌<◌, nat_eq, List, [], IfOk, OnErr, OnOk};
 ghost use Rattle.std.specs.Set.{is_member};
+ghost use Rattle.coco_ast.specs.History.{RisesAbove};
 ghost use Rattle.coco_ast.specs.Keyed.{Rows};
 ghost use Rattle.coco_entry.specs.declared.prepared.Prepared.{Prepared as PreparedEntry};
 ghost use Rattle.coco_load.specs.Reading.{HoldRead, with_entry};
 ghost use Rattle.coco_load.specs.Tables.{AreTables, HoldMap};
-ghost use Rattle.coco_store.specs.Rules.{EachBehind, IsNextPrepared, Setting, base_of};
+ghost use Rattle.coco_store.specs.Rules.{Setting, base_of};
 ghost use Rattle.coco_recover.specs.Bases.{entries_of};
 ghost use Rattle.coco_recover.specs.Commits.{AreCommitted};
-ghost use Rattle.coco_recover.specs.Layouts.{setting_of};
-ghost use Rattle.coco_recover.specs.Nodes.{HoldsNodes, IsLoaded, IsNode, greatest_prepared, node_basis_of, nodes_of};
+ghost use Rattle.coco_recover.specs.Nodes.{IsLoaded, IsNodeRead, node_basis, nodes_of};
 
 use crate::commits::Committed;
-use crate::layouts::LastLayout;
 use crate::refusal::refused;
+use coco_ast::Checked;
+use coco_copy::CopyTable;
 use coco_entry::{Layout, Prepared, read_prepared};
 use coco_io::told::Told;
-use coco_load::{Tables, next_epoch, tables_follow_the_files};
+use coco_load::{Tables, tables_follow_the_files};
 use coco_read::Rules;
 use coco_rules::NodeRules;
+use coco_shard::Shard;
 use coco_types::NoMemory;
 use std::alloc::Global;
 use std::marker::Model;
@@ -34,15 +36,29 @@ pub struct Loaded {
     pub nodes: Told<Told<Prepared>>,
 }
 
+/// What was read of a node: the tables with its rows, and the greatest epoch that it prepared, 0 for none.
+#[derive(Drop)]
+pub struct NodeRead {
+    pub tables: Tables,
+    pub greatest: u64,
+    /// Its entries, which contracts alone see.
+    pub entries: Told<Prepared>,
+}
+
 /// The entries of a node's file. Contracts see what they stand under, and all of them, but none once one was refused or
 /// memory ran out.
 #[derive(Drop)]
 pub struct NodeReading<'a> {
-    last: &'a LastLayout,
-    committed: &'a Committed,
+    layout: &'a Layout,
+    procs: &'a Checked,
+    /// The committed ones.
+    epochs: &'a [u64],
     node: u8,
     rules: NodeRules<'a>,
-    loaded: Loaded,
+    /// The shards and the copies before the first entry.
+    shards: Told<Shard>,
+    copies: Told<CopyTable>,
+    tables: Tables,
     taken: Told<Prepared>,
     /// The greatest epoch of the entries, 0 without one.
     greatest: u64,
@@ -54,21 +70,22 @@ impl<'a> Model for NodeReading<'a> {
     ghost use Rattle.std.specs.Prelude.{◌≡◌, false, [], if◌then◌else◌};
     ghost use Rattle.std.specs.Coded.{codes};
     ghost use Rattle.coco_ast.specs.TreeCode.{procedures_code};
+    ghost use Rattle.coco_copy.specs.Codes.{copy_code};
     ghost use Rattle.coco_entry.specs.declared.prepared.Prepared.{Prepared};
+    ghost use Rattle.coco_recover.specs.Codes.{shard_code};
     ghost use Rattle.coco_recover.specs.Taking.{Taken};
     ghost use Rattle.coco_recover.specs.Nodes.{NodeBasis};
 
     ghost Value = { Taken NodeBasis Prepared };
 
-    ghost coded = { Prim.hlevel (codes, procedures_code) };
+    ghost coded = { Prim.hlevel (codes, procedures_code, shard_code, copy_code) };
 
-    ghost use Rattle.coco_recover.specs.Nodes.{AreTaken, IsNode, greatest_prepared, node_basis_of};
+    ghost use Rattle.coco_recover.specs.Nodes.{AreTaken, IsOfLayout, node_basis};
 
-    ghost view = { λ r. record { under = node_basis_of r.last.now r.committed.now r.loaded r.node; taken = if r.is_spent then [] else r.taken.items } };
+    ghost view = { λ r. record { under = node_basis r.layout.now r.procs.now r.epochs.now r.node r.shards.items r.copies.items; taken = if r.is_spent then [] else r.taken.items } };
 
-    ghost invariant = { λ r. IsNode (node_basis_of r.last.now r.committed.now r.loaded r.node) r.committed.now
-        × (r.is_spent ≡ false → AreTaken (node_basis_of r.last.now r.committed.now r.loaded r.node) r.taken.items r.rules r.loaded)
-        × (r.is_spent ≡ false → r.greatest ≡ greatest_prepared r.taken.items) };
+    ghost invariant = { λ r. IsOfLayout (node_basis r.layout.now r.procs.now r.epochs.now r.node r.shards.items r.copies.items)
+        × (r.is_spent ≡ false → AreTaken (node_basis r.layout.now r.procs.now r.epochs.now r.node r.shards.items r.copies.items) r.taken.items r.rules r.tables r.greatest) };
 }
 
 impl Loaded {
@@ -97,7 +114,8 @@ fn load(
 ) -> Result<(), NoMemory>
     requires tables { AreTables layout.now tables.old.shards.items tables.old.copies.items }
     requires node { node < layout.now.nodes }
-    ensures { OnOk result ((s : Setting) (base : Rows) (epochs : List ℕ) (entries : ℕ → List PreparedEntry) → s.entry.layout ≡ layout.now
+    ensures tables { OnOk result (AreTables layout.now tables.new.shards.items tables.new.copies.items) }
+    ensures ok { OnOk result ((s : Setting) (base : Rows) (epochs : List ℕ) (entries : ℕ → List PreparedEntry) → s.entry.layout ≡ layout.now
         → is_committed ≡ is_member nat_eq epochs prepared.now.epoch → HoldRead s base epochs entries tables.old.shards.items tables.old.copies.items
         → HoldRead s base epochs (with_entry node prepared.now entries) tables.new.shards.items tables.new.copies.items) }
 {
@@ -110,50 +128,60 @@ fn load(
 }
 
 impl<'a> NodeReading<'a> {
-    /// Before the first entry of the next node.
+    /// Before the first entry of a node, beside the committed epochs, which rise above the base's.
     pub fn new(
-        last: &'a LastLayout,
-        committed: &'a Committed,
+        layout: &'a Layout,
+        procs: &'a Checked,
+        epochs: &'a [u64],
         node: u8,
-        loaded: Loaded,
+        tables: Tables,
     ) -> NodeReading<'a>
-        requires node { IsNode (node_basis_of last.now committed.now loaded node) committed.now }
-        requires loaded { IsLoaded (setting_of last.now) committed.now loaded }
-        ensures { result ≡ record { under = node_basis_of last.now committed.now loaded node; taken = [] } }
+        requires node { node < layout.now.nodes }
+        requires rises { RisesAbove layout.now.base_epoch epochs.now }
+        requires tables { AreTables layout.now tables.shards.items tables.copies.items }
+        ensures { result ≡ record { under = node_basis layout.now procs.now epochs.now node tables.shards.items tables.copies.items; taken = [] } }
     {
         tables_follow_the_files();
+        let mut shards = Told::new();
+        let mut copies = Told::new();
+        shards.add(tables.shards.as_slice());
+        copies.add(tables.copies.as_slice());
         NodeReading {
-            last,
-            committed,
+            layout,
+            procs,
+            epochs,
             node,
-            rules: NodeRules::new(&last.entry.layout, node, committed.epochs.as_slice()),
-            loaded,
+            rules: NodeRules::new(layout, node, epochs),
+            shards,
+            copies,
+            tables,
             taken: Told::new(),
             greatest: 0,
             is_spent: false,
         }
     }
 
-    /// What is loaded with this node, and the greatest epoch that it prepared, if each entry was taken. It takes no
-    /// memory.
-    pub fn into_loaded(self) -> Result<(Loaded, u64), NoMemory>
-        ensures loaded { IfOk result (λ read. HoldsNodes self.entry.under.basis self.entry.under.commits (nodes_of read.0) read.0) }
-        ensures nodes { IfOk result (λ read. nodes_of read.0 ≡ self.entry.under.nodes ++ self.entry.taken ∷ []) }
-        ensures greatest { IfOk result (λ read. read.1 ≡ greatest_prepared self.entry.taken) }
-        ensures each { OnOk result (EachBehind (IsNextPrepared self.entry.under.basis.setting self.entry.under.node) [] self.entry.taken) }
+    /// What was read of the node, if each entry was taken. It takes no memory.
+    pub fn into_read(self) -> Result<NodeRead, NoMemory>
+        ensures entries { IfOk result (λ read. read.entries.items ≡ self.entry.taken) }
+        ensures read { IfOk result (λ read. (s : Setting) → s.entry.layout ≡ self.entry.under.layout → s.tree ≡ self.entry.under.tree
+            → IsNodeRead s self.entry.under.epochs self.entry.under.node self.entry.under.shards self.entry.under.copies read) }
         ensures err { OnErr result (self.entry.taken ≡ []) }
     {
         if self.is_spent {
             return Err(NoMemory);
         }
         let NodeReading {
-            mut loaded,
+            tables,
             taken,
             greatest,
             ..
         } = self;
-        loaded.nodes.add(slice::from_ref(&taken));
-        Ok((loaded, greatest))
+        Ok(NodeRead {
+            tables,
+            greatest,
+            entries: taken,
+        })
     }
 }
 
@@ -181,20 +209,13 @@ impl<'a> Rules for NodeReading<'a> {
             return Err(NoMemory);
         }
         self.is_spent = true;
-        let layout = &self.last.entry.layout;
-        let is_committed = match self.rules.next(layout, &self.last.procs, &prepared) {
+        let layout = self.layout;
+        let is_committed = match self.rules.next(layout, self.procs, &prepared) {
             Ok(is_committed) => is_committed,
             Err(at) => return Ok(Some(at)),
         };
-        load(
-            &mut self.loaded.tables,
-            layout,
-            self.node,
-            &prepared,
-            is_committed,
-        )?;
+        load(&mut self.tables, layout, self.node, &prepared, is_committed)?;
         tables_follow_the_files();
-        self.loaded.next = next_epoch(self.loaded.next, prepared.epoch);
         self.greatest = self.greatest.max(prepared.epoch);
         self.taken.add(slice::from_ref(&prepared));
         self.is_spent = false;
@@ -203,7 +224,7 @@ impl<'a> Rules for NodeReading<'a> {
 
     fn lacks(&self) -> bool {
         if self.is_spent {
-            !self.committed.epochs.as_slice().is_empty()
+            !self.epochs.is_empty()
         } else {
             !self.rules.have_prepared()
         }

@@ -11,7 +11,7 @@ ghost use Rattle.coco_store.specs.Contents.{Contents, Holds, IsGoodStore};
 ghost use Rattle.coco_store.specs.Entries.{layouts_kind};
 ghost use Rattle.coco_store.specs.Refusals.{IsFirstRefusal};
 ghost use Rattle.coco_recover.specs.Layouts.{IsGoodLast};
-ghost use Rattle.coco_recover.specs.Opening.{AllStand, IsOpening, IsSoundStore, entry_in, its_keep, no_keep};
+ghost use Rattle.coco_recover.specs.Opening.{AllStand, EntriesAreReadied, IsOpening, IsSoundStore, OpenedStand, entry_in, its_keep, no_keep};
 ghost use Rattle.coco_recover.specs.Steps.{HoldsLast};
 
 use crate::files::{read_base, read_commits, read_layouts, read_nodes};
@@ -59,6 +59,13 @@ pub struct Opened {
     /// Where the body of the last layout begins in the layouts' file.
     pub layout_place: u64,
 }
+
+/// The tables of an opened store stand at its map, and no node is behind, where each node has the history's rows. Each
+/// node has prepared every committed epoch, below the next one.
+pub fn an_opened_store_stands()
+    ensures tables { OpenedStand }
+    ensures readied { EntriesAreReadied }
+{}
 
 /// Opens a store: reads each of its files once, from its front, and writes none. Of the replies those are kept that
 /// the layout's keep number says. Files that are no store are refused at the first place.

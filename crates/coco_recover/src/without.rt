@@ -14,11 +14,11 @@ ghost use Rattle.coco_store.specs.Rules.{base_of};
 ghost use Rattle.coco_recover.specs.Bases.{Basis, entries_of};
 ghost use Rattle.coco_recover.specs.Commits.{AreCommitted};
 ghost use Rattle.coco_recover.specs.Layouts.{IsGoodLast, setting_of};
-ghost use Rattle.coco_recover.specs.Nodes.{HoldsNodes, IsLoaded, IsNode, node_basis_of, nodes_of};
+ghost use Rattle.coco_recover.specs.Nodes.{HoldsNodes, IsLoaded, IsNode, nodes_of};
 ghost use Rattle.coco_recover.specs.Steps.{HoldsCommitted, HoldsEntries, HoldsLast, HoldsParts, IsRead};
 ghost use Rattle.coco_recover.specs.Without.{AreOthersHeld, ArePartsOf, AreSoundParts, BehindGatesButForANode, GoodStoresAreButForANode, HoldsBut, IsFirstRefusalBut, IsGoodBut, IsLogBut, log_in, OneRefusalButForANode, PartsStand, RefusedButForANodeIsNone, RestsBut, StoresAreButForANode};
 
-use crate::files::{read_base, read_commits, read_layouts, read_node};
+use crate::files::{read_base, read_commits, read_layouts, read_next_node};
 use crate::{Based, Committed, LastLayout, Loaded};
 use coco_entry::{Layout, LayoutEntry};
 use coco_host::Host;
@@ -146,7 +146,7 @@ fn read_other<H: Host>(
     loaded: Loaded,
 ) -> Result<(Loaded, Option<Log>), OpenFault>
     requires good { IsGoodLast last.now }
-    requires node { IsNode (node_basis_of last.now committed.now loaded node) committed.now }
+    requires node { IsNode (setting_of last.now) committed.now loaded node }
     requires loaded { IsLoaded (setting_of last.now) committed.now loaded }
     ensures ok { IfOk result (λ read. (entries : List PreparedEntry) × IsRead last.now committed.now node loaded read.0 entries
         × ((files : Files) → H.reads host.old ≡ Some files
@@ -161,7 +161,7 @@ fn read_other<H: Host>(
     if node == left_out {
         return Ok((passed(loaded), None));
     }
-    let (loaded, log, _greatest) = read_node(alloc, host, last, committed, node, loaded)?;
+    let (loaded, log, _greatest) = read_next_node(alloc, host, last, committed, node, loaded)?;
     Ok((loaded, Some(log)))
 }
 

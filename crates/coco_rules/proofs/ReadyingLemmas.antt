@@ -9,14 +9,13 @@ use Rattle.std.proofs.lemmas.Bool.Decides.{nat_tests}
 use Rattle.std.proofs.lemmas.List.{drop_more, length-take-le, map-append}
 use Rattle.std.proofs.lemmas.List.Folds.{list_any-append}
 use Rattle.coco_ast.specs.History.{RisesAbove}
-use Rattle.coco_ast.proofs.Lists.{all_append, all_from_map, all_left, all_map, all_right, all_weaker}
+use Rattle.coco_ast.proofs.Lists.{all_append, all_left, all_right, all_weaker}
 use Rattle.coco_entry.specs.Rows.{prepared_bytes, row_bytes}
-use Rattle.coco_entry.specs.declared.commit.Commit.{Commit}
 use Rattle.coco_entry.specs.declared.prepared.Prepared.{Prepared}
 use Rattle.coco_entry.specs.declared.prepared.Row.{Row}
 use Rattle.coco_store.specs.Placement.{IsHeldBy, partition_of}
 use Rattle.coco_store.specs.Refusals.{IsFirst, ItemBreaks, PreparedBreaks, bad_prepared_epoch, bad_row}
-use Rattle.coco_store.specs.Rules.{EachBehind, HasTable, HavePrepared, IsNextEpoch, IsNodeRow, Setting, commit_epochs, prepared_epochs}
+use Rattle.coco_store.specs.Rules.{EachBehind, HasTable, IsNextEpoch, IsNodeRow, Setting, prepared_epochs}
 use Rattle.coco_rules.specs.Behind.{greatest}
 use Rattle.coco_rules.specs.Judged.{IsFirstBroken}
 use Rattle.coco_rules.specs.Readying.{AreAmong, IsBehindPrepared}
@@ -262,24 +261,18 @@ goes_on_to s committed before entry old new n rest is_next was less within below
 
 -- ---- at the end
 
-pub prepared_all : (s : Setting) (before : List Prepared) (commits : List Commit) (node : NodeRules) → IsBehindPrepared s (commit_epochs commits) before node
-    → (node.is_lacking ≡ false → length node.coming.now ≡ 0 → HavePrepared before commits) × (HavePrepared before commits → (node.is_lacking ≡ false) × (length node.coming.now ≡ 0))
-prepared_all s before commits node behind = (λ full none. forth node.coming.now behind.cut full none, λ have. back node.coming.now behind.cut behind.rises have)
+pub prepared_all : (s : Setting) (before : List Prepared) (committed : List ℕ) (node : NodeRules) → IsBehindPrepared s committed before node
+    → (node.is_lacking ≡ false → length node.coming.now ≡ 0 → AreAmong (prepared_epochs before) committed) × (AreAmong (prepared_epochs before) committed → (node.is_lacking ≡ false) × (length node.coming.now ≡ 0))
+prepared_all s before committed node behind = (λ full none. forth node.coming.now behind.cut full none, λ have. back node.coming.now behind.cut behind.rises have)
   where
-    among : HavePrepared before commits → AreAmong (prepared_epochs before) (commit_epochs commits)
-    among have = all_map (λ (c : Commit). c.epoch) (λ x. is_member nat_eq (prepared_epochs before) x ≡ true) commits have
-
-    forth : (coming : List ℕ) → commit_epochs commits ≡ behind.gone ++ coming → node.is_lacking ≡ false → length coming ≡ 0 → HavePrepared before commits
-    forth [] cut full none =
-        all_from_map (λ (c : Commit). c.epoch) (λ x. is_member nat_eq (prepared_epochs before) x ≡ true) commits
-        (subst (AreAmong (prepared_epochs before)) (sym (cut ∙ append-nil behind.gone)) (behind.lacking.0 full))
+    forth : (coming : List ℕ) → committed ≡ behind.gone ++ coming → node.is_lacking ≡ false → length coming ≡ 0 → AreAmong (prepared_epochs before) committed
+    forth [] cut full none = subst (AreAmong (prepared_epochs before)) (sym (cut ∙ append-nil behind.gone)) (behind.lacking.0 full)
     forth (x ∷ coming) cut full none = absurd (omega (arith, none))
 
-    back : (coming : List ℕ) → commit_epochs commits ≡ behind.gone ++ coming → RisesAbove node.last_epoch coming → HavePrepared before commits → (node.is_lacking ≡ false) × (length coming ≡ 0)
-    back [] cut rises have =
-        (behind.lacking.1 (subst (AreAmong (prepared_epochs before)) (cut ∙ append-nil behind.gone) (among have)), refl)
+    back : (coming : List ℕ) → committed ≡ behind.gone ++ coming → RisesAbove node.last_epoch coming → AreAmong (prepared_epochs before) committed → (node.is_lacking ≡ false) × (length coming ≡ 0)
+    back [] cut rises have = (behind.lacking.1 (subst (AreAmong (prepared_epochs before)) (cut ∙ append-nil behind.gone) have), refl)
     back (x ∷ coming) cut rises have =
-        let all : AreAmong (prepared_epochs before) (behind.gone ++ x ∷ coming) = subst (AreAmong (prepared_epochs before)) cut (among have) in
+        let all : AreAmong (prepared_epochs before) (behind.gone ++ x ∷ coming) = subst (AreAmong (prepared_epochs before)) cut have in
         let rest = all_right (λ y. is_member nat_eq (prepared_epochs before) y ≡ true) behind.gone (x ∷ coming) all in
         let high : node.last_epoch < x = rises.0 in
         let low = subst (λ n. AllByRecursion (λ y. y ≤ n) (prepared_epochs before)) (sym behind.last_epoch) (at_most_greatest s.entry.layout.base_epoch (prepared_epochs before)) in

@@ -5,12 +5,11 @@ ghost use Rattle.std.specs.Bool.{OnFalse, OnTrue};
 ghost use Rattle.std.specs.Set.{is_member};
 ghost use Rattle.coco_ast.specs.History.{RisesAbove};
 ghost use Rattle.coco_entry.specs.Rows.{prepared_bytes};
-ghost use Rattle.coco_entry.specs.declared.commit.Commit.{Commit as CommitEntry};
 ghost use Rattle.coco_entry.specs.declared.prepared.Prepared.{Prepared as PreparedEntry};
 ghost use Rattle.coco_store.specs.Refusals.{IsFirst, PreparedBreaks};
-ghost use Rattle.coco_store.specs.Rules.{HasTable, HavePrepared, IsNextPrepared, IsNodeRow, Setting, commit_epochs};
+ghost use Rattle.coco_store.specs.Rules.{HasTable, IsNextPrepared, IsNodeRow, Setting, prepared_epochs};
 ghost use Rattle.coco_rules.specs.Judged.{FindsBroken};
-ghost use Rattle.coco_rules.specs.Readying.{IsBehindPrepared};
+ghost use Rattle.coco_rules.specs.Readying.{AreAmong, IsBehindPrepared};
 
 use crate::commits::goes_on;
 use crate::lengths::rows_len;
@@ -181,8 +180,8 @@ impl<'a> NodeRules<'a> {
 
     /// Whether each of the committed epochs had an entry.
     pub fn have_prepared(&self) -> bool
-        ensures { (s : Setting) (before : List PreparedEntry) (commits : List CommitEntry) → IsBehindPrepared s (commit_epochs commits) before self.now
-            → IsTrue result ↔ HavePrepared before commits }
+        ensures { (s : Setting) (committed : List ℕ) (before : List PreparedEntry) → IsBehindPrepared s committed before self.now
+            → IsTrue result ↔ AreAmong (prepared_epochs before) committed }
     {
         !self.is_lacking && self.coming.is_empty()
     }

@@ -1,12 +1,14 @@
 //! The worked stores of one node, opened from their bytes.
 
+ghost use Rattle.coco_recover.specs.Opening.{IsSoundStore};
+
 use crate::made::{
     BASE, COMMITS, Files, LAYOUTS, NO_COMMITS, NONE_PREPARED, PREPARED, TWO_COMMITS, TWO_LAYOUTS,
     TWO_PREPARED, host_with, number,
 };
 use coco_host::MemoryHost;
 use coco_read::OpenFault;
-use coco_recover::{Opened, read_without, recover, recover_whole};
+use coco_recover::{Opened, read_node, read_without, recover, recover_whole};
 use coco_types::{Key, OutFault};
 use std::alloc::Global;
 use std::test::Fail;
@@ -226,5 +228,88 @@ fn is_left_out(alloc: Global) -> Result<bool, OutFault> {
 #[test]
 fn a_node_is_left_out(rt: HostRuntime) -> Result<(), Fail> {
     assert!(rt; is_left_out(rt.alloc())?);
+    Ok(())
+}
+
+// What the second of two nodes prepared for epoch 1: nothing, since it doesn't hold the partition.
+const NO_ROWS: [u8; 27] = [
+    b'C', b'O', b'C', b'O', b'L', b'O', b'G', 2, 1, 0, 0, 0, 13, 3, 0, 0, 0, 0, 0, 0, 0, 1, 0, 0,
+    0, 0, 0,
+];
+
+const TWO_NODES_AT_ONE: Files = &[
+    (0, &TWO_NODES),
+    (1, &COMMITS),
+    (2, &PREPARED),
+    (3, &NO_ROWS),
+];
+
+// A node's file, its number, and what row 5's table has once the node's tables are read anew from it.
+const ANEW: [(Files, u8, Result<Option<i64>, OpenFault>); 4] = [
+    (&[(2, &PREPARED)], 0, Ok(Some(70))),
+    (&[(3, &NO_ROWS)], 1, Ok(None)),
+    (
+        &[(2, &NONE_PREPARED)],
+        0,
+        Err(OpenFault::NotAStore { file: 2, at: 8 }),
+    ),
+    (
+        &[(2, &COMMITS)],
+        0,
+        Err(OpenFault::NotAStore { file: 2, at: 7 }),
+    ),
+];
+
+// What row 5's table has once a node's tables are read anew, over a store that was opened.
+fn five_anew(
+    alloc: Global,
+    store: &Opened,
+    host: &mut MemoryHost,
+    node: u8,
+) -> Result<Option<i64>, OpenFault>
+    requires { IsSoundStore store.now }
+{
+    if node >= store.layout.nodes {
+        return Ok(None);
+    }
+    let (tables, _log) = read_node(
+        alloc,
+        host,
+        &store.layout,
+        &store.procs,
+        store.epochs.as_slice(),
+        store.base.as_slice(),
+        node,
+    )?;
+    let five = Key { table: 0, row: 5 };
+    Ok(match tables.shards.first() {
+        Some(shard) => number(shard.stable(five)),
+        None => None,
+    })
+}
+
+// Whether a node's tables are read anew so, out of these files alone.
+fn is_read_anew(
+    alloc: Global,
+    files: Files,
+    node: u8,
+    wanted: &Result<Option<i64>, OpenFault>,
+) -> Result<bool, OutFault> {
+    let mut host = host_with(alloc, TWO_NODES_AT_ONE)?;
+    let Ok(store) = recover(alloc, &mut host) else {
+        return Ok(false);
+    };
+    let mut host = host_with(alloc, files)?;
+    Ok(five_anew(alloc, &store, &mut host, node) == *wanted)
+}
+
+#[test]
+fn a_lost_nodes_tables_are_read_anew(rt: HostRuntime) -> Result<(), Fail> {
+    for (files, node, wanted) in &ANEW {
+        assert!(rt;
+            is_read_anew(rt.alloc(), files, *node, wanted)?,
+            "node {node}"
+        );
+    }
     Ok(())
 }

@@ -1,3 +1,4 @@
+pub mod Beginning
 pub mod Tools
 pub mod NodeTurns
 pub mod Keeping

@@ -1,18 +1,33 @@
 -- What is said of every world that can be reached from good entries.
-use Rattle.std.specs.Prelude.{◌≡◌, ◌⊎◌, ℕ, ◌<◌, ◌≤◌, List, Bool, true, false}
+use Rattle.std.specs.Prelude.{◌≡◌, ◌⊎◌, ℕ, ◌<◌, ◌≤◌, nat_eq, List, [], ◌∷◌, Bool, true, false, Option}
+use Rattle.std.specs.List.{AllByRecursion}
+use Rattle.std.specs.Set.{is_member}
 use Rattle.coco_msg.specs.declared.action.Action.{Action}
 use Rattle.coco_msg.specs.declared.action.Action.TheVariants.{Send, Promote, Revert}
 use Rattle.coco_msg.specs.declared.message.Message.TheVariants.{Finished}
 use Rattle.coco_node.specs.declared.machine.TheConstants.{COORDINATOR}
+use Rattle.coco_node.specs.Node.{greatest, restarted}
 use Rattle.coco_chief.specs.Chief.{has}
 use Rattle.coco_chief.specs.Table.{has_finished}
 use Rattle.coco_world.specs.World.{World, Letter, Among, began_anew}
-use Rattle.coco_world.specs.Steps.{Event, May, Answers, happens, run, CanRun, AreGood}
+use Rattle.coco_world.specs.Steps.{Event, May, Answers, happens, run, CanRun, AreGood, IsAbove}
 use Rattle.coco_world.specs.Agreement.{HasFinished}
 
 -- of each world after any list of steps, from cores that begin anew over good entries
 abbrev pub InEachWorld : (World → Type 0) → Type 0
 InEachWorld P = (count : ℕ) (prepared : ℕ → List ℕ) (commits : List ℕ) (events : List Event) → AreGood count prepared commits → CanRun (began_anew count prepared commits) events → P (run (began_anew count prepared commits) events)
+
+-- entries that are read from files begin a world: where each node has an entry of every committed epoch they are good, and a number above each of them is above all that the world knows
+abbrev pub EntriesBegin : Type 0
+EntriesBegin = (count next : ℕ) (prepared : ℕ → List ℕ) (commits : List ℕ)
+    → ((n : ℕ) → n < count → AllByRecursion (λ e. is_member nat_eq (prepared n) e ≡ true) commits)
+    → ((n : ℕ) → n < count → AllByRecursion (λ e. e < next) (prepared n))
+    → AllByRecursion (λ e. e < next) commits
+    → AreGood count prepared commits × IsAbove (began_anew count prepared commits) next
+
+-- a node's core begins anew from the greatest of its epochs alone
+abbrev pub GreatestDecides : Type 0
+GreatestDecides = (number : ℕ) (epochs : List ℕ) (lost : Option ℕ) → restarted number (greatest epochs ∷ []) lost ≡ restarted number epochs lost
 
 -- the commit entry is durable, and every node has a durable entry
 pub record IsCommitted (w : World) (e : ℕ) : Type 0 where

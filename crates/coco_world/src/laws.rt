@@ -1,7 +1,7 @@
 //! The agreement of nodes and coordinator, over every list of steps: letters lost, late and repeated, nodes that
 //! stop at any moment, and crashes of the whole process.
 
-ghost use Rattle.coco_world.specs.Laws.{InEachWorld, PromotesOnlyCommitted, NeverRevertedLater, NeverRevertedEarlier, CommittedStays, DurableGrows, FinishedHasSaid, SaysOnlyFinished};
+ghost use Rattle.coco_world.specs.Laws.{EntriesBegin, GreatestDecides, InEachWorld, PromotesOnlyCommitted, NeverRevertedLater, NeverRevertedEarlier, CommittedStays, DurableGrows, FinishedHasSaid, SaysOnlyFinished};
 ghost use Rattle.coco_world.specs.Agreement.{Holds};
 ghost use Rattle.coco_world.specs.Steps.{CanRun, Event as Happening, run};
 ghost use Rattle.coco_world.specs.World.{World};
@@ -12,6 +12,13 @@ pub fn agreement()
     ensures committed { InEachWorld PromotesOnlyCommitted }
     ensures never_later { InEachWorld NeverRevertedLater }
     ensures never_earlier { InEachWorld NeverRevertedEarlier }
+{}
+
+/// The entries that files hold begin a world over good entries, and a number above them all is above what it knows.
+/// A node's core needs the greatest of its epochs alone.
+pub fn entries_begin_a_world()
+    ensures begin { EntriesBegin }
+    ensures cores { GreatestDecides }
 {}
 
 /// What is known of each core, each letter and each durable entry.

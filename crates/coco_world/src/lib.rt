@@ -4,5 +4,6 @@
 pub mod laws;
 
 pub use laws::{
-    agreement, each_step_keeps, finished_nodes_have_finished, invariant, nothing_is_forgotten,
+    agreement, each_step_keeps, entries_begin_a_world, finished_nodes_have_finished, invariant,
+    nothing_is_forgotten,
 };

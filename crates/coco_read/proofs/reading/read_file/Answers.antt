@@ -105,6 +105,13 @@ returns-then-lacks-clause-kept g c other at files entries told kept is =
     not_refused rules reads c.args.kind entries (files c.args.file) at kept
     (returns-then-lacks-clause-refused g c other at files is told)
 
+pub returns-clause-whole : goal.returns-clause-whole
+returns-clause-whole g c lack =
+    let was = c.loop-entries.invariant in
+    let next = c.in_ok-read_next.ensures in
+    let told : c.lacks.result ≡ true = c.lacks.ensures.1 (subst (λ s. (g.R.Rules.rules s).Lacks (g.R.Rules.taken c.read_next.new.rules)) (sym (next.setting ∙ was.setting)) lack) in
+    cc (told, c.if-lacks.false)
+
 pub returns-clause-ok : goal.returns-clause-ok
 returns-clause-ok g c files told =
     let rules = g.R.Rules.rules (g.R.Rules.setting c.args.rules.now) in
@@ -119,8 +126,6 @@ returns-clause-ok g c files told =
     (next.step files (was.read.same ∙ first)) (was.told files first)) in
     read_log rules reads c.read_next.new.entries (g.R.Rules.taken c.read_next.new.rules) c.args.file c.args.kind files (g.H.Host.may_leave c.read_next.new.host) c.into_log.result
     c.into_log.ensures (record { in_file = next.of.in_file ∙ was.of.in_file; of_kind = next.of.of_kind ∙ was.of.of_kind }) ended.0 ended.1
-    (λ lack.
-    let told : c.lacks.result ≡ true = c.lacks.ensures.1 (subst (λ s. (g.R.Rules.rules s).Lacks (g.R.Rules.taken c.read_next.new.rules)) (sym (next.setting ∙ was.setting)) lack) in
-    cc (told, c.if-lacks.false))
+    (returns-clause-whole g c)
     (λ (left : Files) may.
     subst (λ (n : ℕ). left n ≡ files n) begins.of.in_file ((begins.ok files told).durable left (was.read.crash left (next.read.crash left may))))

@@ -21,13 +21,13 @@ loop-node-preserved g c =
     let next = c.in_ok-more.ensures in
     let more = next.ok in
     record {
-      read = node_read last committed old c.in_ok-more.more more.0 logs c.add_log.new.logs.items c.in_ok-more.log n was.read more.1 next.log c.in_ok-add_log.ensures;
+      read = node_read last committed old c.in_ok-more.more more.0 logs c.add_log.new.logs.items c.in_ok-more.log n was.read more.1 more.4 next.log c.in_ok-add_log.ensures;
       only = read_then _ _ _ _ _ g.met.H.Host.only_now _ _ _ was.only next.read;
       counts = next.counts ∙ was.counts;
       stream = next.stream ∙ was.stream;
       held = λ files told.
           let found = more.2 files (was.only.same ∙ told) in
-          node_held last committed files (g.H.Host.may_leave c.loop-node.host) (g.H.Host.may_leave c.read_node.new.host) (nodes_of old) (nodes_of c.in_ok-more.more) more.0 logs c.add_log.new.logs.items
+          node_held last committed files (g.H.Host.may_leave c.loop-node.host) (g.H.Host.may_leave c.read_next_node.new.host) (nodes_of old) (nodes_of c.in_ok-more.more) more.0 logs c.add_log.new.logs.items
           c.in_ok-more.log n (was.held files told) next.read.crash was.read.nodes was.read.as_many found.0 found.1 more.1.more c.in_ok-add_log.ensures;
       prepared = node_prepared (nodes_of old) (nodes_of c.in_ok-more.more) more.0 c.loop-node.prepared.items c.add_epoch.new.prepared.items c.in_ok-more.greatest was.prepared more.1.more more.3 c.in_ok-add_epoch.ensures;
     }

@@ -1,22 +1,30 @@
-use Rattle.std.proofs.Common.{refl, ◌∙◌}
-use Rattle.coco_recover.specs.Commits.{basis_of_committed}
-use Rattle.coco_recover.specs.Layouts.{setting_of}
-use Rattle.coco_recover.specs.Nodes.{nodes_of}
-use Rattle.coco_recover.proofs.Loading.{node_begins}
+use Rattle.std.proofs.Common.{◌≡◌, List, ◌++◌, refl, ap, ◌∙◌}
+use Rattle.coco_copy.specs.CopyState.{CopyState}
+use Rattle.coco_shard.specs.RowState.{ShardState}
+use Rattle.coco_recover.specs.Nodes.{node_basis, setting_with}
+use Rattle.coco_recover.proofs.Loading.{loads_none}
 use Rattle.coco_recover.proofs.nodes.NodeReading.new.Goals as goal
 
 pub invariant_of-result : goal.invariant_of-result
 invariant_of-result c =
-    let s = setting_of c.args.last.now in
-    let basis = basis_of_committed s c.args.committed.now in
-    let commits = c.args.committed.now.commits.items in
-    let begun = node_begins c.tables_follow_the_files.ensures.nodes basis commits (nodes_of c.args.loaded) c.args.loaded c.requires.loaded in (
+    let s = setting_with c.args.layout.now c.args.procs.now in
+    let tables = c.args.tables in
+    let shards : c.add.new.self.items ≡ tables.shards.items = c.add.ensures ∙ ap (λ (l : List ShardState). l ++ c.as_slice.result.now) c.new-shards.ensures ∙ c.as_slice.ensures.value in
+    let copies : c.add-2.new.self.items ≡ tables.copies.items = c.add-2.ensures ∙ ap (λ (l : List CopyState). l ++ c.as_slice-2.result.now) c.new-copies.ensures ∙ c.as_slice-2.ensures.value in (
       c.requires.node,
-      λ _. rw c.new-2.ensures (record {
+      λ _. rw (c.new-2.ensures, shards, copies) (record {
         each = tt;
-        behind = rw (c.as_slice.ensures.value ∙ c.requires.node.behind.remembered.epochs) at (c.new.ensures.behind s refl);
+        behind = c.new.ensures.behind s refl;
         is_node = c.new.ensures.node;
-        holds = begun;
+        tables = c.requires.tables;
+        loads = loads_none c.tables_follow_the_files.ensures.nodes s c.args.epochs.now c.args.node tables.shards.items tables.copies.items;
+        greatest = refl;
       }),
-      λ _. rw c.new-2.ensures refl,
     )
+
+pub returns : goal.returns
+returns c =
+    let tables = c.args.tables in
+    let shards : c.add.new.self.items ≡ tables.shards.items = c.add.ensures ∙ ap (λ (l : List ShardState). l ++ c.as_slice.result.now) c.new-shards.ensures ∙ c.as_slice.ensures.value in
+    let copies : c.add-2.new.self.items ≡ tables.copies.items = c.add-2.ensures ∙ ap (λ (l : List CopyState). l ++ c.as_slice-2.result.now) c.new-copies.ensures ∙ c.as_slice-2.ensures.value in
+    λ i. record { under = node_basis c.args.layout.now c.args.procs.now c.args.epochs.now c.args.node (shards i) (copies i); taken = c.new-2.ensures i }
