@@ -1,3 +1,4 @@
+pub mod AroundLemmas
 pub mod BehindLemmas
 pub mod KeepLemmas
 pub mod MapLemmas

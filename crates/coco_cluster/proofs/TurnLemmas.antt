@@ -213,12 +213,14 @@ module _ (k : ClusterState) (requests : List Request) (workers attempts : ℕ) (
         omega (arith, same, passed, ap (length {A = Done}) kept_then, length-append k.kept.dones dones)
 
     -- the cluster has turned from the map that its shards held
-    pub turned_from : (seen after : ClusterState) → k ≡ seen → after.trace ≡ Some trace → after.kept ≡ end → after.shards ≡ last → (from : Rows) → HoldMap from seen.shards → HasTurned requests workers attempts from seen after
-    turned_from seen after is trace_is kept tables from holds =
+    pub turned_from : (seen after : ClusterState) → k ≡ seen → after.next_epoch ≡ k.next_epoch + 1 → after.trace ≡ Some trace → after.kept ≡ end → after.shards ≡ last → (from : Rows) → HoldMap from seen.shards → HasTurned requests workers attempts from seen after
+    turned_from seen after is next trace_is kept tables from holds =
         let here = run.ran from (subst (λ (s : ClusterState). HoldMap from s.shards) (sym is) holds) in
         subst (λ (s : ClusterState). HasTurned requests workers attempts from s after) is (record {
           dones = dones;
           trace = trace;
+          number = k.next_epoch;
+          next = next;
           trace_is = trace_is;
           traced = here.worked.traced;
           kept = ap (λ (n : Keeping). n.dones) kept ∙ kept_then;
@@ -233,7 +235,7 @@ module _ (k : ClusterState) (requests : List Request) (workers attempts : ℕ) (
 
 module _ {H : Type 0} (moment : H → ℕ) (observed : H → ℕ → Observation → Type 0) (said : H → Option (List ℕ)) (reads : H → Option Files) (may_leave : H → Files → Type 0) (old : H)
     (commits : RunsAreCommits) (prepares : RunsArePrepared)
-    (k : ClusterState) (requests : List Request) (workers attempts : ℕ) (shards : List ShardState) (now : Keeping) (dones : List Done) (rows : List Row) (trace : Traced)
+    (k : ClusterState) (requests : List Request) (workers attempts spare : ℕ) (shards : List ShardState) (now : Keeping) (dones : List Done) (rows : List Row) (trace : Traced)
     (run : HasRun k requests workers attempts shards now dones rows trace)
     (seen_as : ClusterState) (view_is : k ≡ seen_as) (c : Contents) (rests : RestsOn c (reads old) (may_leave old)) (stands_so : StandsAt c seen_as) (room : HasRoom c requests) where
   stands : StandsAt c k
@@ -350,11 +352,13 @@ module _ {H : Type 0} (moment : H → ℕ) (observed : H → ℕ → Observation
     are_stored : Stores moment observed said reads may_leave stored epoch rows dones c old new
     are_stored = subst (λ rs. Storing rs dones) same_rows (subst (λ ds. Storing given_rows ds) same_dones stores) may_store
 
-    turned : (result : Result (Unit {0}) TurnFault) (after : ClusterState) → OnOk result (RestsOn d (reads new) (may_leave new) × StandsAt d after × (after.trace ≡ Some trace))
-        → Turns moment observed said reads may_leave result requests workers attempts c seen_as after old new
-    turned result after ok = subst (λ (s : ClusterState). Turns moment observed said reads may_leave result requests workers attempts c s after old new) view_is (record {
+    turned : (result : Result (Unit {0}) TurnFault) (after : ClusterState) → OnOk result (RestsOn d (reads new) (may_leave new) × StandsAt d after × (after.trace ≡ Some trace) × (after.next_epoch ≡ epoch + 1))
+        → Turns moment observed said reads may_leave result requests workers attempts spare c seen_as after old new
+    turned result after ok = subst (λ (s : ClusterState). Turns moment observed said reads may_leave result requests workers attempts spare c s after old new) view_is (record {
       d = d;
       trace = trace;
+      number = epoch;
+      taken = record { low = omega arith; few = omega arith };
       grown = grown;
       ok = ok;
       moments = sees_weaker moment observed old new (ShowsOneOf epoch rows dones c (said old)) (ShowsStore c.setting h (history_of d) (epoch + 1) (said old)) (shows_store (said old)) are_stored.moments;
@@ -362,7 +366,7 @@ module _ {H : Type 0} (moment : H → ℕ) (observed : H → ℕ → Observation
       others = are_stored.others;
     })
 
-    pub failed : (result : Result (Unit {0}) TurnFault) (fault : TurnFault) (after : ClusterState) → result ≡ Err fault → Turns moment observed said reads may_leave result requests workers attempts c seen_as after old new
+    pub failed : (result : Result (Unit {0}) TurnFault) (fault : TurnFault) (after : ClusterState) → result ≡ Err fault → Turns moment observed said reads may_leave result requests workers attempts spare c seen_as after old new
     failed result fault after is = turned result after (no_ok result fault _ is)
 
     module _ (last : List ShardState) (end : Keeping) (over : HasEnded shards now dones last end) where
@@ -390,5 +394,5 @@ module _ {H : Type 0} (moment : H → ℕ) (observed : H → ℕ → Observation
           next = behind_epoch c epoch rows dones stands.next;
         }
 
-        pub succeeded : (tables : List ShardState) → tables ≡ last → stored ≡ Ok tt → Turns moment observed said reads may_leave (Ok tt) requests workers attempts c seen_as (after tables) old new
-        succeeded tables same is = turned (Ok tt) (after tables) (at_ok stored tt (RestsOn d (reads new) (may_leave new)) is are_stored.ok, subst (λ ts. StandsAt d (after ts)) (sym same) stands_then, refl)
+        pub succeeded : (tables : List ShardState) → tables ≡ last → stored ≡ Ok tt → Turns moment observed said reads may_leave (Ok tt) requests workers attempts spare c seen_as (after tables) old new
+        succeeded tables same is = turned (Ok tt) (after tables) (at_ok stored tt (RestsOn d (reads new) (may_leave new)) is are_stored.ok, subst (λ ts. StandsAt d (after ts)) (sym same) stands_then, refl, refl)

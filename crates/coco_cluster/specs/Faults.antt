@@ -1,9 +1,10 @@
 -- Where the faults of a turn come from.
-use Rattle.std.specs.Prelude.{◌≡◌, ℕ, ◌≤◌, Result, Ok, Err}
+use Rattle.std.specs.Prelude.{◌≡◌, ℕ, Result, Ok, Err}
 use Rattle.coco_io.specs.Counts.{Rose}
 use Rattle.coco_types.specs.Limits.{epochs_end}
 use Rattle.coco_log.specs.declared.fault.LogFault.{LogFault}
 use Rattle.coco_log.specs.declared.fault.LogFault.TheVariants as log
+use Rattle.coco_cluster.specs.Around.{SkipsFew}
 use Rattle.coco_cluster.specs.declared.fault.TurnFault.{TurnFault}
 use Rattle.coco_cluster.specs.declared.fault.TurnFault.TheVariants as fault
 
@@ -13,9 +14,9 @@ turn_fault_of log.Disk = fault.Disk
 turn_fault_of log.NoMemory = fault.NoMemory
 turn_fault_of (log.NotALog at) = fault.Disk
 
--- a turn is a disk fault where the host's count rose; its epochs are used up where there is no next number
-abbrev pub CountsTurn : {T : Type 0} → Result T TurnFault → ℕ → ℕ → ℕ → Type 0
-CountsTurn (Ok x) next old new = new ≡ old
-CountsTurn (Err fault.Disk) next old new = Rose old new
-CountsTurn (Err fault.NoMemory) next old new = new ≡ old
-CountsTurn (Err fault.EpochsUsedUp) next old new = (new ≡ old) × (epochs_end ≤ next)
+-- a turn is a disk fault where the host's count rose; its epochs are used up where the numbers reach the end, but for few that may have been skipped
+abbrev pub CountsTurn : {T : Type 0} → Result T TurnFault → ℕ → ℕ → ℕ → ℕ → Type 0
+CountsTurn (Ok x) next spare old new = new ≡ old
+CountsTurn (Err fault.Disk) next spare old new = Rose old new
+CountsTurn (Err fault.NoMemory) next spare old new = new ≡ old
+CountsTurn (Err fault.EpochsUsedUp) next spare old new = (new ≡ old) × SkipsFew next epochs_end 0 spare

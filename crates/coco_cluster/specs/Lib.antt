@@ -1,3 +1,4 @@
+pub mod Around
 pub mod Faults
 pub mod Messages
 pub mod Standing

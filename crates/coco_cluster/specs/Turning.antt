@@ -1,5 +1,5 @@
 -- What a turn makes of the store, and what is seen of it meanwhile.
-use Rattle.std.specs.Prelude.{◌≡◌, ◌⊎◌, ℕ, ◌+◌, ◌<◌, ◌≤◌, Bool, List, [], ◌++◌, map, length, Option, None, Some, Result, OnOk, nat_eq}
+use Rattle.std.specs.Prelude.{◌≡◌, ◌⊎◌, ℕ, ◌+◌, ◌≤◌, Bool, List, [], ◌∷◌, ◌++◌, map, length, Option, None, Some, Result, OnOk, nat_eq}
 use Rattle.std.specs.List.{AllByRecursion, IsDistinct}
 use Rattle.coco_types.specs.Limits.{most_batch_lines}
 use Rattle.coco_types.specs.declared.call.Done.{Done}
@@ -12,7 +12,6 @@ use Rattle.coco_ast.specs.Fitting.{Fits}
 use Rattle.coco_ast.specs.Growth.{GrowsBy}
 use Rattle.coco_ast.specs.History.{AreAbove, Epoch, History, all_dones, done_of, followed_by, kept_of, rows_after}
 use Rattle.coco_ast.specs.Keyed.{Rows}
-use Rattle.coco_ast.specs.Tree.{Procedures}
 use Rattle.coco_commits.specs.EpochEntries.{HasRoomFor}
 use Rattle.coco_entry.specs.declared.prepared.Row.{Row}
 use Rattle.coco_epoch.specs.Shards.{HoldMap}
@@ -21,6 +20,7 @@ use Rattle.coco_prepared.specs.LastWrites.{AreLastWrites}
 use Rattle.coco_shard.specs.RowState.{ShardState}
 use Rattle.coco_store.specs.Contents.{Contents, IsGoodStore, history_of, map_in}
 use Rattle.coco_store.specs.Rules.{Setting}
+use Rattle.coco_cluster.specs.Around.{IsTaken}
 use Rattle.coco_cluster.specs.Standing.{ClusterState, IsBehindAll, StandsAt}
 use Rattle.coco_cluster.specs.Writing.{WritesLogs}
 use Rattle.coco_work.specs.Working.{HasWorked}
@@ -38,6 +38,11 @@ pub record MayTurn (k : ClusterState) (requests : List Request) : Type 0 where
 -- there is room for their Dones in a store without a keep number
 abbrev pub HasRoom : Contents → List Request → Type 0
 HasRoom c requests = HasRoomFor c.setting.entry.keep (length (all_dones (history_of c)) + length requests)
+
+-- how many epochs these requests make
+abbrev pub epochs_of : List Request → ℕ
+epochs_of [] = 0
+epochs_of (r ∷ rs) = 1
 
 -- an epoch with the rows of its prepared entry
 pub record RanOn (b : Beginning) (epoch : ℕ) (held : List Bool) (shards : List ShardState) (dones : List Done) (rows : List Row) (trace : Traced) : Type 0 where
@@ -74,17 +79,19 @@ pub record ShowsStore (s : Setting) (before after : History) (end : ℕ) (bytes 
   pub store : IsStoreOf s before end seen.image ⊎ IsStoreOf s after end seen.image
   pub said : bytes ≡ Some seen.said
 
--- the store has grown by an epoch, where the turn succeeded, and the cluster has the trace of it. At each moment, and behind the turn whatever it answered,
--- all that a crash may leave is a good store with the history of before or the grown one, in which no entry is of a later epoch; and behind it the other files are as they were
+-- the store has grown by an epoch, where the turn succeeded, and the cluster has the trace of it; few numbers before the epoch's were skipped. At each moment, and behind the turn whatever it
+-- answered, all that a crash may leave is a good store with the history of before or the grown one, in which no entry is of a later epoch; and behind it the other files are as they were
 pub record Turns {H : Type 0} (moment : H → ℕ) (observed : H → ℕ → Observation → Type 0) (said : H → Option (List ℕ)) (reads : H → Option Files) (may_leave : H → Files → Type 0)
-    (result : Result (Unit {0}) TurnFault) (requests : List Request) (workers attempts : ℕ) (c : Contents) (before after : ClusterState) (old new : H) : Type 0 where
+    (result : Result (Unit {0}) TurnFault) (requests : List Request) (workers attempts spare : ℕ) (c : Contents) (before after : ClusterState) (old new : H) : Type 0 where
   pub d : Contents
   pub trace : Traced
-  pub grown : Grown requests workers attempts before.next_epoch trace c d
-  pub ok : OnOk result (RestsOn d (reads new) (may_leave new) × StandsAt d after × (after.trace ≡ Some trace))
-  pub moments : SeesOnly moment observed old new (ShowsStore c.setting (history_of c) (history_of d) (before.next_epoch + 1) (said old))
+  pub number : ℕ
+  pub taken : IsTaken before.next_epoch number spare
+  pub grown : Grown requests workers attempts number trace c d
+  pub ok : OnOk result (RestsOn d (reads new) (may_leave new) × StandsAt d after × (after.trace ≡ Some trace) × (after.next_epoch ≡ number + 1))
+  pub moments : SeesOnly moment observed old new (ShowsStore c.setting (history_of c) (history_of d) (number + 1) (said old))
   pub left : (bytes : List ℕ) → said old ≡ Some bytes → (image : Files) → may_leave new image
-      → IsStoreOf c.setting (history_of c) (before.next_epoch + 1) image ⊎ IsStoreOf c.setting (history_of d) (before.next_epoch + 1) image
+      → IsStoreOf c.setting (history_of c) (number + 1) image ⊎ IsStoreOf c.setting (history_of d) (number + 1) image
   pub others : WritesLogs c.setting (reads old) (reads new) (may_leave old) (may_leave new)
 
 -- a cluster whose last turn committed no epoch
@@ -106,7 +113,9 @@ beginning_at k m requests workers attempts =
 pub record HasTurned (requests : List Request) (workers attempts : ℕ) (m : Rows) (before after : ClusterState) : Type 0 where
   pub dones : List Done
   pub trace : Traced
+  pub number : ℕ
+  pub next : after.next_epoch ≡ number + 1
   pub trace_is : after.trace ≡ Some trace
-  pub traced : IsTraceOf (beginning_at before m requests workers attempts) before.next_epoch dones trace
+  pub traced : IsTraceOf (beginning_at before m requests workers attempts) number dones trace
   pub kept : after.kept.dones ≡ kept_of before.kept.keep (before.kept.dones ++ dones)
   pub map : HoldMap (rows_after before.procs m dones) after.shards

@@ -5,10 +5,11 @@ ghost use Rattle.coco_ast.specs.Keyed.{Rows};
 ghost use Rattle.coco_append.specs.Gaining.{RestsOn, Stands};
 ghost use Rattle.coco_epoch.specs.Shards.{HoldMap};
 ghost use Rattle.coco_store.specs.Contents.{Contents};
+ghost use Rattle.coco_cluster.specs.Around.{IsLater, SkipsFew, around, spare};
 ghost use Rattle.coco_cluster.specs.Faults.{CountsTurn};
 ghost use Rattle.coco_cluster.specs.Standing.{IsSound, StandsAt};
 ghost use Rattle.coco_parallel.specs.Traces.{traced};
-ghost use Rattle.coco_cluster.specs.Turning.{HasRoom, HasTurned, IsUntouched, MayTurn, Turns, without_trace};
+ghost use Rattle.coco_cluster.specs.Turning.{HasRoom, HasTurned, IsUntouched, MayTurn, Turns, epochs_of, without_trace};
 ghost use Rattle.coco_cluster.specs.declared.fault.TurnFault.TheVariants as fault;
 
 use crate::TurnFault;
@@ -21,7 +22,9 @@ use coco_gate::Gate;
 use coco_host::Host;
 use coco_kept::Kept;
 use coco_log::Log;
+use coco_net::Net;
 use coco_parallel::trace::Trace;
+use coco_power::Power;
 use coco_shard::Shard;
 use coco_types::Request;
 use coco_types::limits::EPOCHS_END;
@@ -103,11 +106,13 @@ impl Cluster {
     /// nothing to do. The trace of the turn before is gone, and that of this one stays until the next turn. After a fault
     /// the shards are as they were before the turn, also where the files may have the epoch: the cluster is spent, and
     /// the store has to be opened again.
-    pub fn turn<R: Threads + Wait + Clock + Sync, H: Host, G: Gate + Sync>(
+    pub fn turn<R: Threads + Wait + Clock + Sync, H: Host, N: Net + Sync, P: Power, G: Gate + Sync>(
         &mut self,
         rt: &R,
         alloc: Global,
         host: &mut H,
+        net: &mut N,
+        power: &mut P,
         requests: Vec<Request>,
         workers: u8,
         attempts: u8,
@@ -120,20 +125,22 @@ impl Cluster {
         requires stand { Stands self.old.node (H.reads host.old) (H.may_leave host.old) × Stands self.old.chief (H.reads host.old) (H.may_leave host.old) }
         ensures turns { (c : Contents) → RestsOn c (H.reads host.old) (H.may_leave host.old) → StandsAt c self.old → HasRoom c requests.items
             → IsUntouched result requests.items self.old self.new host.old host.new
-            ⊎ Turns H.moment H.observed H.said H.reads H.may_leave result requests.items workers attempts c self.old self.new host.old host.new }
+            ⊎ Turns H.moment H.observed H.said H.reads H.may_leave result requests.items workers attempts (spare (around N.sent N.given N.faults N.last_seed P.stops_seen P.early_stops P.stopped P.begun P.asked net.old power.old) (around N.sent N.given N.faults N.last_seed P.stops_seen P.early_stops P.stopped P.begun P.asked net.new power.new)) c self.old self.new host.old host.new }
         ensures nothing { requests.items ≡ [] → IsOk result × (host.new ≡ host.old) × (self.new ≡ without_trace self.old) }
         ensures stand { OnOk result (Stands self.new.node (H.reads host.new) (H.may_leave host.new) × Stands self.new.chief (H.reads host.new) (H.may_leave host.new)) }
         ensures unspent { OnOk result (self.new.spent ≡ false) }
         ensures spent { OnErr result (self.new.spent ≡ true) }
         ensures given_back { OnErr result (self.new.shards ≡ self.old.shards) }
-        ensures next { OnOk result (0 < length requests.items → self.new.next_epoch ≡ self.old.next_epoch + 1) }
+        ensures next { OnOk result (0 < length requests.items → self.old.next_epoch < self.new.next_epoch) }
+        ensures few { OnOk result (SkipsFew self.old.next_epoch self.new.next_epoch (epochs_of requests.items) (spare (around N.sent N.given N.faults N.last_seed P.stops_seen P.early_stops P.stopped P.begun P.asked net.old power.old) (around N.sent N.given N.faults N.last_seed P.stops_seen P.early_stops P.stopped P.begun P.asked net.new power.new))) }
         ensures turned { OnOk result (0 < length requests.items → (m : Rows) → HoldMap m self.old.shards → HasTurned requests.items workers attempts m self.old self.new) }
         ensures untraced { OnErr result (self.new.trace ≡ None) }
         ensures used_up { 0 < length requests.items → EPOCHS_END ≤ self.old.next_epoch → result ≡ Err fault.EpochsUsedUp }
         ensures procs { self.new.procs ≡ self.old.procs }
         ensures said { H.said host.new ≡ H.said host.old }
-        ensures counts { CountsTurn result self.old.next_epoch (H.disk_faults host.old) (H.disk_faults host.new) }
+        ensures counts { CountsTurn result self.old.next_epoch (spare (around N.sent N.given N.faults N.last_seed P.stops_seen P.early_stops P.stopped P.begun P.asked net.old power.old) (around N.sent N.given N.faults N.last_seed P.stops_seen P.early_stops P.stopped P.begun P.asked net.new power.new)) (H.disk_faults host.old) (H.disk_faults host.new) }
         ensures stream { H.say_faults host.new ≡ H.say_faults host.old }
+        ensures later { IsLater (around N.sent N.given N.faults N.last_seed P.stops_seen P.early_stops P.stopped P.begun P.asked net.old power.old) (around N.sent N.given N.faults N.last_seed P.stops_seen P.early_stops P.stopped P.begun P.asked net.new power.new) }
         ensures unused { result ≡ Err fault.EpochsUsedUp → host.new ≡ host.old }
         ensures kept { OnOk result (length self.new.kept.dones ≤ length self.old.kept.dones + length requests.items) }
     {
@@ -158,6 +165,7 @@ impl Cluster {
             requests,
             config,
             gate,
+            net,
         )?;
         // The laws by which its entries may be appended; the calls do nothing.
         a_run_is_the_next_commit();

@@ -19,7 +19,7 @@ use coco_epoch::{promote_all, revert_all};
 use coco_gate::Gate;
 use coco_kept::Kept;
 use coco_load::{add_dones, make_room};
-use coco_net::QuietNet;
+use coco_net::Net;
 use coco_parallel::trace::Trace;
 use coco_prepared::prepared_rows;
 use coco_shard::Shard;
@@ -57,7 +57,7 @@ pub fn on_one_node(epoch: u64, workers: u8, attempts: u8) -> EpochConfig
 /// Runs the requests of an epoch on shards at rest, and makes the rows of its prepared entry, and room for its Dones
 /// among the kept ones. It begins with the room that the epoch before left. Out of memory, the shards are as they were
 /// handed in.
-pub fn run_epoch<R: Threads + Wait + Clock + Sync, G: Gate + Sync>(
+pub fn run_epoch<R: Threads + Wait + Clock + Sync, G: Gate + Sync, N: Net + Sync>(
     rt: &R,
     alloc: Global,
     room: &mut EpochRoom,
@@ -68,6 +68,7 @@ pub fn run_epoch<R: Threads + Wait + Clock + Sync, G: Gate + Sync>(
     requests: Vec<Request>,
     config: EpochConfig,
     gate: &G,
+    net: &N,
 ) -> Result<Ran, NoMemory>
     requires may { MayWork procs.now requests.items config shards.old.items }
     requires alone { config.copies ≡ 0 }
@@ -80,7 +81,7 @@ pub fn run_epoch<R: Threads + Wait + Clock + Sync, G: Gate + Sync>(
     ensures pace { HasTimed (started_of room.old.pace config.workers (length requests.items)) (length requests.items) room.old.pace room.new.pace }
     ensures idle { IfOk result (λ ran. OthersAreIdle (started_of room.old.pace config.workers (length requests.items)) ran.trace.transcripts.items) }
 {
-    let worked = work(rt, alloc, room, shards, procs, requests, config, gate)?;
+    let worked = work(rt, alloc, room, shards, procs, requests, config, gate, net)?;
     let ran = made_ready(alloc, kept, held, worked);
     if ran.is_err() {
         revert_all(shards);
@@ -111,9 +112,9 @@ fn made_ready(
     Ok(Ran { dones, rows, trace })
 }
 
-// What workers came to in an epoch without copies, which a net has nothing to do with. Out of memory, the shards are as
-// they were handed in.
-fn work<R: Threads + Wait + Clock + Sync, G: Gate + Sync>(
+// What workers came to in an epoch without copies, to which the net carries nothing. Out of memory, the shards are as they
+// were handed in.
+fn work<R: Threads + Wait + Clock + Sync, G: Gate + Sync, N: Net + Sync>(
     rt: &R,
     alloc: Global,
     room: &mut EpochRoom,
@@ -122,6 +123,7 @@ fn work<R: Threads + Wait + Clock + Sync, G: Gate + Sync>(
     requests: Vec<Request>,
     config: EpochConfig,
     gate: &G,
+    net: &N,
 ) -> Result<coco_work::Ran, NoMemory>
     requires may { MayWork procs.now requests.items config shards.old.items }
     requires alone { config.copies ≡ 0 }
@@ -132,7 +134,6 @@ fn work<R: Threads + Wait + Clock + Sync, G: Gate + Sync>(
     ensures idle { IfOk result (λ w. OthersAreIdle (started_of room.old.pace config.workers (length requests.items)) w.trace.transcripts.items) }
 {
     let mut copies = Vec::new(alloc);
-    let net = QuietNet::new(alloc);
     coco_work::run(
         rt,
         alloc,
@@ -143,7 +144,7 @@ fn work<R: Threads + Wait + Clock + Sync, G: Gate + Sync>(
         requests,
         config,
         gate,
-        &net,
+        net,
     )
 }
 

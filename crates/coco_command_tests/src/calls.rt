@@ -1,6 +1,9 @@
 //! The commands on stores in memory: worked calls one after another, every call of the host failing in turn, and files
 //! that are cut.
 
+ghost use Rattle.std.specs.Prelude.{◌<◌, ◌≤◌};
+ghost use Rattle.coco_types.specs.Limits.{most_batch_lines};
+
 use crate::ending::{CHECK, PARSE};
 use coco_commands::{RunBounds, dump, run, verify};
 use coco_ending::{Ending, TextError};
@@ -8,6 +11,8 @@ use coco_gate::{Gate, HoldGate, OpenGate};
 use coco_host::{FuseHost, Host, MemoryHost};
 use coco_init::init;
 use coco_io::MemorySource;
+use coco_net::QuietNet;
+use coco_power::SteadyPower;
 use coco_types::NoMemory;
 use std::alloc::Global;
 use std::sync::Wait;
@@ -44,6 +49,25 @@ const BY_TWO: RunBounds = RunBounds {
     attempts: 3,
 };
 
+// `run` with a net that loses nothing, and no stops.
+fn run_on<R: Threads + Wait + Clock + Sync, H: Host, G: Gate + Sync>(
+    rt: &R,
+    alloc: Global,
+    host: &mut H,
+    input: &mut MemorySource,
+    bounds: RunBounds,
+    gate: &G,
+) -> Ending
+    requires some { 0 < bounds.size }
+    requires few { bounds.size ≤ most_batch_lines }
+    requires workers { 0 < bounds.workers }
+    requires attempts { 0 < bounds.attempts }
+{
+    let mut net = QuietNet::new(alloc);
+    let mut power = SteadyPower::new();
+    run(rt, alloc, host, &mut net, &mut power, input, bounds, gate)
+}
+
 fn call<R: Threads + Wait + Clock + Sync, H: Host, G: Gate + Sync>(
     rt: &R,
     alloc: Global,
@@ -57,9 +81,9 @@ fn call<R: Threads + Wait + Clock + Sync, H: Host, G: Gate + Sync>(
             Ok(()) => Ending::Finished,
             Err(ending) => ending,
         },
-        Asked::Run => run(rt, alloc, host, input, ALONE, gate),
-        Asked::RunPairs => run(rt, alloc, host, input, IN_PAIRS, gate),
-        Asked::RunSideBySide => run(rt, alloc, host, input, BY_TWO, gate),
+        Asked::Run => run_on(rt, alloc, host, input, ALONE, gate),
+        Asked::RunPairs => run_on(rt, alloc, host, input, IN_PAIRS, gate),
+        Asked::RunSideBySide => run_on(rt, alloc, host, input, BY_TWO, gate),
         Asked::Dump => dump(alloc, host),
         Asked::Verify => verify(alloc, host),
     }

@@ -15,6 +15,8 @@ mod made;
 #[cfg(test)]
 mod migrate;
 #[cfg(test)]
+mod query;
+#[cfg(test)]
 mod rebuild;
 #[cfg(test)]
 mod tells;

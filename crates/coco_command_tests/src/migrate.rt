@@ -8,6 +8,8 @@ use coco_ending::Ending;
 use coco_gate::OpenGate;
 use coco_host::{FuseHost, Host, MemoryHost};
 use coco_io::MemorySource;
+use coco_net::QuietNet;
+use coco_power::SteadyPower;
 use std::alloc::Global;
 use std::sync::Wait;
 use std::test::Fail;
@@ -71,7 +73,11 @@ pub fn run_lines<R: Threads + Wait + Clock + Sync>(
         workers: 1,
         attempts: 1,
     };
-    Ok(run(rt, alloc, host, &mut input, bounds, &OpenGate))
+    let mut net = QuietNet::new(alloc);
+    let mut power = SteadyPower::new();
+    Ok(run(
+        rt, alloc, host, &mut net, &mut power, &mut input, bounds, &OpenGate,
+    ))
 }
 
 // A store with these bytes in its layouts' file, and without epochs.

@@ -10,6 +10,8 @@ use crate::made::{COMMITS, PREPARED, new_cluster, new_logs};
 use coco_cluster::Cluster;
 use coco_gate::OpenGate;
 use coco_host::{Host, MemoryHost};
+use coco_net::QuietNet;
+use coco_power::SteadyPower;
 use coco_types::{Args, Call, NoMemory, Request, Value};
 use std::alloc::Global;
 use std::sync::Wait;
@@ -45,8 +47,12 @@ fn put_once<R: Threads + Wait + Clock + Sync, H: Host>(
     let (chief, node) = new_logs(alloc, host)?;
     let mut cluster = new_cluster(alloc, chief, node, None)?;
     let requests = put_of_seventy(alloc)?;
+    let mut net = QuietNet::new(alloc);
+    let mut power = SteadyPower::new();
     // Of four workers one finds a request to draw.
-    cluster.turn(rt, alloc, host, requests, 4, 3, &OpenGate)?;
+    cluster.turn(
+        rt, alloc, host, &mut net, &mut power, requests, 4, 3, &OpenGate,
+    )?;
     Ok(cluster)
 }
 
@@ -113,7 +119,19 @@ fn told_in_turn<R: Threads + Wait + Clock + Sync, H: Host>(
 ) -> Result<(Option<Counted>, Option<Counted>), Fail> {
     let mut cluster = put_once(rt, alloc, host)?;
     let behind_put = told(&cluster);
-    cluster.turn(rt, alloc, host, Vec::new(alloc), 4, 3, &OpenGate)?;
+    let mut net = QuietNet::new(alloc);
+    let mut power = SteadyPower::new();
+    cluster.turn(
+        rt,
+        alloc,
+        host,
+        &mut net,
+        &mut power,
+        Vec::new(alloc),
+        4,
+        3,
+        &OpenGate,
+    )?;
     Ok((behind_put, told(&cluster)))
 }
 

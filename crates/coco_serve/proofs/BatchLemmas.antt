@@ -1,5 +1,5 @@
 -- One batch: what its turn and the saying of its answers make of the store.
-use Rattle.std.proofs.Common.{◌≡◌, ℕ, ◌+◌, ◌≤◌, inl, inr, ◌⊎◌, ⊎_elim, List, [], ◌∷◌, ◌++◌, length, take, drop, Option, Some, None, Result, Ok, Err, refl, sym, ap, subst, ◌∙◌, arith, append_assoc, take-append-drop}
+use Rattle.std.proofs.Common.{◌≡◌, ℕ, ◌+◌, ◌≤◌, inl, inr, ◌⊎◌, ⊎_elim, List, [], ◌∷◌, ◌++◌, length, take, drop, Option, Some, None, Result, Ok, Err, refl, sym, ap, subst, ◌∙◌, arith, append_assoc, length-append, take-append-drop}
 use Rattle.std.specs.Prelude.{OnOk, OnErr}
 use Rattle.std.proofs.Math.Seq.{take-append_seam, take-length}
 use Rattle.std.proofs.lemmas.List.{append_cancel_left}
@@ -10,14 +10,15 @@ use Rattle.coco_types.specs.declared.call.Request.{Request}
 use Rattle.coco_types.specs.declared.error.OutFault.{OutFault}
 use Rattle.coco_types.specs.declared.error.OutFault.TheVariants as out
 use Rattle.coco_append.specs.Gaining.{RestsOn}
-use Rattle.coco_ast.specs.History.{History, all_dones, kept}
+use Rattle.coco_ast.specs.History.{Epoch, History, all_dones, kept}
 use Rattle.coco_ast.proofs.KeptLemmas.{keeps_all}
 use Rattle.coco_batches.specs.declared.answer.LineAnswer.{LineAnswer}
 use Rattle.coco_batches.specs.declared.batch.Batch.{Batch}
+use Rattle.coco_cluster.specs.Around.{IsTaken}
 use Rattle.coco_cluster.specs.Standing.{ClusterState, IsBehindAll, StandsAt}
 use Rattle.coco_cluster.proofs.TurnLemmas.{stands_untraced}
 use Rattle.coco_parallel.specs.Traces.{IsTraceOf, Traced, execution_in}
-use Rattle.coco_cluster.specs.Turning.{Grown, HasRoom, IsUntouched, ShowsStore, Turns, beginning_on, without_trace}
+use Rattle.coco_cluster.specs.Turning.{Grown, HasRoom, IsUntouched, ShowsStore, Turns, beginning_on, epochs_of, without_trace}
 use Rattle.coco_cluster.specs.declared.fault.TurnFault.{TurnFault}
 use Rattle.coco_cluster.specs.declared.fault.TurnFault.TheVariants as turn
 use Rattle.coco_cluster.specs.Writing.{WritesLogs}
@@ -35,14 +36,14 @@ use Rattle.coco_order.specs.Outcome.{ComeOfExecution}
 use Rattle.coco_store.specs.Contents.{Contents, history_of}
 use Rattle.coco_store.specs.Rules.{Setting}
 use Rattle.coco_serve.specs.Faults.{fault_of_saying, fault_of_turn}
-use Rattle.coco_serve.specs.Growth.{AddsFrom, GrowsByExecution, HasExecution, Manner, manner_of}
+use Rattle.coco_serve.specs.Growth.{AddsWithin, GrowsByExecution, HasExecution, Manner, manner_of}
 use Rattle.coco_serve.specs.OneBatch.{BatchEnds, IsRefused, SaysPart, WorksOffBatch, batch_texts}
 use Rattle.coco_serve.specs.Seen.{ShowsBatch}
 use Rattle.coco_serve.specs.Texts.{texts_over}
 use Rattle.coco_serve.specs.declared.fault.BatchFault.{BatchFault}
 use Rattle.coco_serve.specs.declared.fault.BatchFault.TheVariants as fault
 use Rattle.coco_serve.specs.declared.bounds.RunBounds.{RunBounds}
-use Rattle.coco_serve.proofs.NumberLemmas.{adds_none}
+use Rattle.coco_serve.proofs.NumberLemmas.{added_by, adds_none}
 
 -- ---- room
 
@@ -93,8 +94,28 @@ grows_by_execution : (requests : List Request) (bounds : RunBounds) (epoch : ℕ
     → GrowsByExecution (manner_of c.setting bounds) (history_of c) requests (history_of d)
 grows_by_execution requests bounds epoch trace c d g = (g.grows, execution_of requests bounds epoch trace c d g)
 
-abbrev adds_one : (requests : List Request) (workers attempts epoch : ℕ) (trace : Traced) (c d : Contents) → Grown requests workers attempts epoch trace c d → AddsFrom epoch (history_of c) (history_of d)
-adds_one requests workers attempts epoch trace c d g = record { added = g.e ∷ []; epochs = ap (λ (h : History). h.epochs) g.history; numbered = ap (λ n. n ∷ []) g.number }
+-- they make one epoch
+one_epoch : (requests : List Request) (workers attempts epoch : ℕ) (trace : Traced) (c d : Contents) → Grown requests workers attempts epoch trace c d → epochs_of requests ≡ 1
+one_epoch requests workers attempts epoch trace c d g =
+    let gained = added_by (history_of c) requests (history_of d) g.grows in
+    let before = (history_of c).epochs in
+    let by_count = ap (length {A = Epoch}) gained.1 in
+    let by_one = ap (λ (h : History). length h.epochs) g.history in
+    omega (arith, by_count, by_one, gained.2, length-append before gained.0, length-append before (g.e ∷ []))
+
+abbrev adds_one : (requests : List Request) (workers attempts next epoch spare : ℕ) (trace : Traced) (c d : Contents) → Grown requests workers attempts epoch trace c d → IsTaken next epoch spare
+    → AddsWithin next (epoch + epochs_of requests) spare (history_of c) (history_of d)
+adds_one requests workers attempts next epoch spare trace c d g taken =
+    let one = one_epoch requests workers attempts epoch trace c d g in
+    let number = g.number in
+    let low = taken.low in
+    let few = taken.few in
+    record { added = g.e ∷ []; epochs = ap (λ (h : History). h.epochs) g.history; numbered = (omega (arith, low, number), omega (arith, one, number)); few = omega (arith, one, few) }
+
+-- so behind it no entry is of a later one
+below_one : (requests : List Request) (workers attempts epoch : ℕ) (trace : Traced) (c d : Contents) → Grown requests workers attempts epoch trace c d → IsBehindAll d (epoch + epochs_of requests)
+below_one requests workers attempts epoch trace c d g =
+    let one = one_epoch requests workers attempts epoch trace c d g in behind_later d (epoch + 1) (epoch + epochs_of requests) (omega (arith, one)) g.below
 
 no_growth : (requests : List Request) (m : Manner) (h : History) → requests ≡ [] → GrowsByExecution m h requests h
 no_growth requests m h none = subst (λ rs. GrowsByExecution m h rs h) (sym none) (refl, tt)
@@ -103,16 +124,19 @@ no_growth requests m h none = subst (λ rs. GrowsByExecution m h rs h) (sym none
 
 module _ {H : Type 0} (moment : H → ℕ) (observed : H → ℕ → Observation → Type 0) (said : H → Option (List ℕ)) (reads : H → Option Files) (may_leave : H → Files → Type 0) where
   -- what a turn made of the store, where it succeeded
-  pub record Committed (c : Contents) (requests : List Request) (bounds : RunBounds) (next : ℕ) (after : ClusterState) (old mid : H) : Type 0 where
+  pub record Committed (c : Contents) (requests : List Request) (bounds : RunBounds) (next spare : ℕ) (after : ClusterState) (old mid : H) : Type 0 where
     pub d : Contents
     pub setting : d.setting ≡ c.setting
     pub grows : GrowsByExecution (manner_of c.setting bounds) (history_of c) requests (history_of d)
-    pub numbers : AddsFrom next (history_of c) (history_of d)
-    pub below : IsBehindAll d (next + length numbers.added)
-    pub last : IsBehindAll d (next + 1)
+    pub number : ℕ
+    pub taken : IsTaken next number spare
+    pub numbers : AddsWithin next (number + epochs_of requests) spare (history_of c) (history_of d)
+    pub below : IsBehindAll d (number + epochs_of requests)
+    pub last : IsBehindAll d (number + 1)
+    pub next_is : after.next_epoch ≡ number + epochs_of requests
     pub rests : RestsOn d (reads mid) (may_leave mid)
     pub stands : StandsAt d after
-    pub moments : SeesOnly moment observed old mid (ShowsStore c.setting (history_of c) (history_of d) (next + 1) (said old))
+    pub moments : SeesOnly moment observed old mid (ShowsStore c.setting (history_of c) (history_of d) (number + 1) (said old))
     pub others : WritesLogs c.setting (reads old) (reads mid) (may_leave old) (may_leave mid)
 
   abbrev pub OnlyNow : Type 0
@@ -123,18 +147,23 @@ module _ {H : Type 0} (moment : H → ℕ) (observed : H → ℕ → Observation
       let now = only_now host seen since in
       record { store = inl (record { contents = c; setting = refl; good = rests.left seen.image now.0; history = refl; below = below }); said = now.1 })
 
-  pub committed : OnlyNow → (result : Result (Unit {0}) TurnFault) (x : Unit {0}) (requests : List Request) (bounds : RunBounds) (c : Contents) (before after : ClusterState) (old mid : H) → result ≡ Ok x
+  pub committed : OnlyNow → (result : Result (Unit {0}) TurnFault) (x : Unit {0}) (requests : List Request) (bounds : RunBounds) (spare : ℕ) (c : Contents) (before after : ClusterState) (old mid : H) → result ≡ Ok x
       → RestsOn c (reads old) (may_leave old) → StandsAt c before
-      → IsUntouched result requests before after old mid ⊎ Turns moment observed said reads may_leave result requests bounds.workers bounds.attempts c before after old mid
-      → Committed c requests bounds before.next_epoch after old mid
-  committed only_now result x requests bounds c before after old mid ok rests stands (inl none) =
+      → IsUntouched result requests before after old mid ⊎ Turns moment observed said reads may_leave result requests bounds.workers bounds.attempts spare c before after old mid
+      → Committed c requests bounds before.next_epoch spare after old mid
+  committed only_now result x requests bounds spare c before after old mid ok rests stands (inl none) =
       let nothing : (requests ≡ []) × (after ≡ without_trace before) = subst (λ (r : Result _ _). OnOk r ((requests ≡ []) × (after ≡ without_trace before))) ok none.1 in
+      let no_epoch : epochs_of requests ≡ 0 = ap epochs_of nothing.0 in
+      let same_next = ap (λ (k : ClusterState). k.next_epoch) nothing.1 in
       record {
         d = c;
         setting = refl;
         grows = no_growth requests (manner_of c.setting bounds) (history_of c) nothing.0;
-        numbers = adds_none before.next_epoch (history_of c);
-        below = behind_later c before.next_epoch (before.next_epoch + 0) (omega arith) stands.next;
+        number = before.next_epoch;
+        taken = record { low = omega arith; few = omega arith };
+        numbers = adds_none before.next_epoch (before.next_epoch + epochs_of requests) spare (history_of c) (record { low = omega arith; few = omega (arith, no_epoch) });
+        below = behind_later c before.next_epoch (before.next_epoch + epochs_of requests) (omega arith) stands.next;
+        next_is = omega (arith, no_epoch, same_next);
         last = behind_later c before.next_epoch (before.next_epoch + 1) (omega arith) stands.next;
         rests = subst (λ h. RestsOn c (reads h) (may_leave h)) (sym none.0) rests;
         stands = subst (StandsAt c) (sym nothing.1) (stands_untraced c before stands);
@@ -142,16 +171,21 @@ module _ {H : Type 0} (moment : H → ℕ) (observed : H → ℕ → Observation
             (unmoved only_now c (before.next_epoch + 1) old rests (behind_later c before.next_epoch (before.next_epoch + 1) (omega arith) stands.next));
         others = writes_none c.setting (reads old) (reads mid) (may_leave old) (may_leave mid) (ap reads none.0) (λ image left. subst (λ h. may_leave h image) none.0 left);
       }
-  committed only_now result x requests bounds c before after old mid ok rests stands (inr t) =
-      let done : RestsOn t.d (reads mid) (may_leave mid) × StandsAt t.d after × (after.trace ≡ Some t.trace) =
-      subst (λ (r : Result _ _). OnOk r (RestsOn t.d (reads mid) (may_leave mid) × StandsAt t.d after × (after.trace ≡ Some t.trace))) ok t.ok in
+  committed only_now result x requests bounds spare c before after old mid ok rests stands (inr t) =
+      let done : RestsOn t.d (reads mid) (may_leave mid) × StandsAt t.d after × (after.trace ≡ Some t.trace) × (after.next_epoch ≡ t.number + 1) =
+      subst (λ (r : Result _ _). OnOk r (RestsOn t.d (reads mid) (may_leave mid) × StandsAt t.d after × (after.trace ≡ Some t.trace) × (after.next_epoch ≡ t.number + 1))) ok t.ok in
+      let one = one_epoch requests bounds.workers bounds.attempts t.number t.trace c t.d t.grown in
+      let next_then = done.3 in
       record {
         d = t.d;
         setting = t.grown.setting;
-        grows = grows_by_execution requests bounds before.next_epoch t.trace c t.d t.grown;
-        numbers = adds_one requests bounds.workers bounds.attempts before.next_epoch t.trace c t.d t.grown;
-        below = t.grown.below;
+        grows = grows_by_execution requests bounds t.number t.trace c t.d t.grown;
+        number = t.number;
+        taken = t.taken;
+        numbers = adds_one requests bounds.workers bounds.attempts before.next_epoch t.number spare t.trace c t.d t.grown t.taken;
+        below = below_one requests bounds.workers bounds.attempts t.number t.trace c t.d t.grown;
         last = t.grown.below;
+        next_is = omega (arith, one, next_then);
         rests = done.0;
         stands = done.1;
         moments = t.moments;
@@ -169,56 +203,75 @@ module _ {H : Type 0} (moment : H → ℕ) (observed : H → ℕ → Observation
   turn_shows s before after end bytes texts seen shows =
       ⊎_elim (λ was. inl (was, shows.said)) (λ grown. inr (grown, nothing_said bytes seen.said texts shows.said)) shows.store
 
-  turn_ends : (f : TurnFault) (result : Result (Unit {0}) TurnFault) (batch : Batch) (requests : List Request) (bounds : RunBounds) (c : Contents) (before after : ClusterState) (old new : H) → requests ≡ batch.fresh → said new ≡ said old
-      → (f ≡ turn.EpochsUsedUp → new ≡ old) → Turns moment observed said reads may_leave result requests bounds.workers bounds.attempts c before after old new
-      → IsRefused (Err (fault_of_turn f)) old new ⊎ WorksOffBatch moment observed said reads may_leave (Err (fault_of_turn f)) batch bounds c before.next_epoch after old new
-  turn_ends f result batch requests bounds c before after old new same quiet unused t = by f unused
+  turn_ends : (f : TurnFault) (result : Result (Unit {0}) TurnFault) (batch : Batch) (requests : List Request) (bounds : RunBounds) (spare : ℕ) (c : Contents) (before after : ClusterState) (old new : H) → requests ≡ batch.fresh → said new ≡ said old
+      → (f ≡ turn.EpochsUsedUp → new ≡ old) → Turns moment observed said reads may_leave result requests bounds.workers bounds.attempts spare c before after old new
+      → IsRefused (Err (fault_of_turn f)) old new ⊎ WorksOffBatch moment observed said reads may_leave (Err (fault_of_turn f)) batch bounds c before.next_epoch spare after old new
+  turn_ends f result batch requests bounds spare c before after old new same quiet unused t = by f unused
     where
+      numbers : AddsWithin before.next_epoch (t.number + epochs_of batch.fresh) spare (history_of c) (history_of t.d)
+      numbers = subst (λ rs. AddsWithin before.next_epoch (t.number + epochs_of rs) spare (history_of c) (history_of t.d)) same
+          (adds_one requests bounds.workers bounds.attempts before.next_epoch t.number spare t.trace c t.d t.grown t.taken)
+
+      below : IsBehindAll t.d (t.number + epochs_of batch.fresh)
+      below = subst (λ rs. IsBehindAll t.d (t.number + epochs_of rs)) same (below_one requests bounds.workers bounds.attempts t.number t.trace c t.d t.grown)
+
       grows : GrowsByExecution (manner_of c.setting bounds) (history_of c) batch.fresh (history_of t.d)
-      grows = subst (λ rs. GrowsByExecution (manner_of c.setting bounds) (history_of c) rs (history_of t.d)) same (grows_by_execution requests bounds before.next_epoch t.trace c t.d t.grown)
+      grows = subst (λ rs. GrowsByExecution (manner_of c.setting bounds) (history_of c) rs (history_of t.d)) same (grows_by_execution requests bounds t.number t.trace c t.d t.grown)
 
-      moments : SeesOnly moment observed old new (ShowsBatch c.setting (history_of c) (history_of t.d) (before.next_epoch + 1) (said old) (batch_texts c t.d batch))
-      moments = sees_weaker moment observed old new (ShowsStore c.setting (history_of c) (history_of t.d) (before.next_epoch + 1) (said old))
-          (ShowsBatch c.setting (history_of c) (history_of t.d) (before.next_epoch + 1) (said old) (batch_texts c t.d batch))
-          (turn_shows c.setting (history_of c) (history_of t.d) (before.next_epoch + 1) (said old) (batch_texts c t.d batch)) t.moments
+      moments : SeesOnly moment observed old new (ShowsBatch c.setting (history_of c) (history_of t.d) (t.number + 1) (said old) (batch_texts c t.d batch))
+      moments = sees_weaker moment observed old new (ShowsStore c.setting (history_of c) (history_of t.d) (t.number + 1) (said old))
+          (ShowsBatch c.setting (history_of c) (history_of t.d) (t.number + 1) (said old) (batch_texts c t.d batch))
+          (turn_shows c.setting (history_of c) (history_of t.d) (t.number + 1) (said old) (batch_texts c t.d batch)) t.moments
 
-      by : (f : TurnFault) → (f ≡ turn.EpochsUsedUp → new ≡ old) → IsRefused (Err (fault_of_turn f)) old new ⊎ WorksOffBatch moment observed said reads may_leave (Err (fault_of_turn f)) batch bounds c before.next_epoch after old new
-      by turn.Disk unused = inr (record { d = t.d; setting = t.grown.setting; grows = grows; numbers = adds_one requests bounds.workers bounds.attempts before.next_epoch t.trace c t.d t.grown; below = t.grown.below; moments = moments; others = t.others; ends = (t.left, quiet) })
+      by : (f : TurnFault) → (f ≡ turn.EpochsUsedUp → new ≡ old) → IsRefused (Err (fault_of_turn f)) old new ⊎ WorksOffBatch moment observed said reads may_leave (Err (fault_of_turn f)) batch bounds c before.next_epoch spare after old new
+      by turn.Disk unused = inr (record { d = t.d; setting = t.grown.setting; grows = grows; number = t.number; taken = t.taken; numbers = numbers; below = below; next_is = tt; moments = moments; others = t.others; ends = (t.left, quiet) })
       by turn.EpochsUsedUp unused = inl (unused refl)
-      by turn.NoMemory unused = inr (record { d = t.d; setting = t.grown.setting; grows = grows; numbers = adds_one requests bounds.workers bounds.attempts before.next_epoch t.trace c t.d t.grown; below = t.grown.below; moments = moments; others = t.others; ends = inl (t.left, quiet) })
+      by turn.NoMemory unused = inr (record { d = t.d; setting = t.grown.setting; grows = grows; number = t.number; taken = t.taken; numbers = numbers; below = below; next_is = tt; moments = moments; others = t.others; ends = inl (t.left, quiet) })
 
-  pub turn_failed : (f : TurnFault) (turned : Result (Unit {0}) TurnFault) (result : Result (Unit {0}) BatchFault) (batch : Batch) (requests : List Request) (bounds : RunBounds) (c : Contents) (before after : ClusterState) (old new : H)
+  pub turn_failed : (f : TurnFault) (turned : Result (Unit {0}) TurnFault) (result : Result (Unit {0}) BatchFault) (batch : Batch) (requests : List Request) (bounds : RunBounds) (spare : ℕ) (c : Contents) (before after : ClusterState) (old new : H)
       → turned ≡ Err f → result ≡ Err (fault_of_turn f) → requests ≡ batch.fresh → said new ≡ said old → (turned ≡ Err turn.EpochsUsedUp → new ≡ old)
-      → IsUntouched turned requests before after old new ⊎ Turns moment observed said reads may_leave turned requests bounds.workers bounds.attempts c before after old new
-      → IsRefused result old new ⊎ WorksOffBatch moment observed said reads may_leave result batch bounds c before.next_epoch after old new
-  turn_failed f turned result batch requests bounds c before after old new was is same quiet unused turns =
-      subst (λ r. IsRefused r old new ⊎ WorksOffBatch moment observed said reads may_leave r batch bounds c before.next_epoch after old new) (sym is)
-      (⊎_elim (λ none. inl (refused f old new none.0)) (turn_ends f turned batch requests bounds c before after old new same quiet (λ used. unused (was ∙ ap Err used))) turns)
+      → IsUntouched turned requests before after old new ⊎ Turns moment observed said reads may_leave turned requests bounds.workers bounds.attempts spare c before after old new
+      → IsRefused result old new ⊎ WorksOffBatch moment observed said reads may_leave result batch bounds c before.next_epoch spare after old new
+  turn_failed f turned result batch requests bounds spare c before after old new was is same quiet unused turns =
+      subst (λ r. IsRefused r old new ⊎ WorksOffBatch moment observed said reads may_leave r batch bounds c before.next_epoch spare after old new) (sym is)
+      (⊎_elim (λ none. inl (refused f old new none.0)) (turn_ends f turned batch requests bounds spare c before after old new same quiet (λ used. unused (was ∙ ap Err used))) turns)
 
   -- ---- a turn that committed, and what is said behind it
 
-  module _ (batch : Batch) (requests : List Request) (bounds : RunBounds) (c : Contents) (next : ℕ) (after : ClusterState) (old mid : H) (same : requests ≡ batch.fresh) (quiet : said mid ≡ said old)
-      (done : Committed c requests bounds next after old mid) where
+  module _ (batch : Batch) (requests : List Request) (bounds : RunBounds) (c : Contents) (next spare : ℕ) (after : ClusterState) (old mid : H) (same : requests ≡ batch.fresh) (quiet : said mid ≡ said old)
+      (done : Committed c requests bounds next spare after old mid) where
     abbrev texts : List ℕ
     texts = batch_texts c done.d batch
 
     abbrev Shows : Observation → Type 0
-    Shows = ShowsBatch c.setting (history_of c) (history_of done.d) (next + 1) (said old) texts
+    Shows = ShowsBatch c.setting (history_of c) (history_of done.d) (done.number + 1) (said old) texts
+
+    numbers_so : AddsWithin next (done.number + epochs_of batch.fresh) spare (history_of c) (history_of done.d)
+    numbers_so = subst (λ rs. AddsWithin next (done.number + epochs_of rs) spare (history_of c) (history_of done.d)) same done.numbers
+
+    below_so : IsBehindAll done.d (done.number + epochs_of batch.fresh)
+    below_so = subst (λ rs. IsBehindAll done.d (done.number + epochs_of rs)) same done.below
+
+    next_so : after.next_epoch ≡ done.number + epochs_of batch.fresh
+    next_so = subst (λ rs. after.next_epoch ≡ done.number + epochs_of rs) same done.next_is
 
     grows_so : GrowsByExecution (manner_of c.setting bounds) (history_of c) batch.fresh (history_of done.d)
     grows_so = subst (λ rs. GrowsByExecution (manner_of c.setting bounds) (history_of c) rs (history_of done.d)) same done.grows
 
     shown : SeesOnly moment observed old mid Shows
-    shown = sees_weaker moment observed old mid (ShowsStore c.setting (history_of c) (history_of done.d) (next + 1) (said old)) Shows (turn_shows c.setting (history_of c) (history_of done.d) (next + 1) (said old) texts) done.moments
+    shown = sees_weaker moment observed old mid (ShowsStore c.setting (history_of c) (history_of done.d) (done.number + 1) (said old)) Shows (turn_shows c.setting (history_of c) (history_of done.d) (done.number + 1) (said old) texts) done.moments
 
     -- out of memory before anything is said
-    pub unsaid : (result : Result (Unit {0}) BatchFault) → result ≡ Err fault.NoMemory → WorksOffBatch moment observed said reads may_leave result batch bounds c next after old mid
-    unsaid result is = subst (λ r. WorksOffBatch moment observed said reads may_leave r batch bounds c next after old mid) (sym is) (record {
+    pub unsaid : (result : Result (Unit {0}) BatchFault) → result ≡ Err fault.NoMemory → WorksOffBatch moment observed said reads may_leave result batch bounds c next spare after old mid
+    unsaid result is = subst (λ r. WorksOffBatch moment observed said reads may_leave r batch bounds c next spare after old mid) (sym is) (record {
       d = done.d;
       setting = done.setting;
       grows = grows_so;
-      numbers = done.numbers;
-      below = done.below;
+      number = done.number;
+      taken = done.taken;
+      numbers = numbers_so;
+      below = below_so;
+      next_is = tt;
       moments = shown;
       others = done.others;
       ends = inr (done.rests, (0, quiet ∙ sym (append_known-nil (said old))));
@@ -245,14 +298,17 @@ module _ {H : Type 0} (moment : H → ℕ) (observed : H → ℕ → Observation
         left = λ image leaves. done.rests.left image (crash image leaves);
       }
 
-      answered : (result : Result (Unit {0}) BatchFault) → BatchEnds c done.d (next + 1) after texts (said old) (said new) (reads new) (may_leave new) result
-          → WorksOffBatch moment observed said reads may_leave result batch bounds c next after old new
-      answered result ends = record {
+      answered : (result : Result (Unit {0}) BatchFault) → OnOk result (after.next_epoch ≡ done.number + epochs_of batch.fresh)
+          → BatchEnds c done.d (done.number + 1) after texts (said old) (said new) (reads new) (may_leave new) result → WorksOffBatch moment observed said reads may_leave result batch bounds c next spare after old new
+      answered result next_is ends = record {
         d = done.d;
         setting = done.setting;
         grows = grows_so;
-        numbers = done.numbers;
-        below = done.below;
+        number = done.number;
+        taken = done.taken;
+        numbers = numbers_so;
+        below = below_so;
+        next_is = next_is;
         moments = sees_then moment observed old mid new Shows (IsNew (may_leave mid) (said mid) (said new)) shown sees saying_shows;
         others = writes_then c.setting (reads old) (reads mid) (reads new) (may_leave old) (may_leave mid) (may_leave new) done.others
             (writes_none c.setting (reads mid) (reads new) (may_leave mid) (may_leave new) unread crash);
@@ -260,16 +316,16 @@ module _ {H : Type 0} (moment : H → ℕ) (observed : H → ℕ → Observation
       }
 
       -- the piece is said whole
-      pub all_said : said new ≡ append_known (said mid) piece → WorksOffBatch moment observed said reads may_leave (Ok tt) batch bounds c next after old new
-      all_said whole = answered (Ok tt) (rests_still, done.stands, whole ∙ ap (λ o. append_known o piece) quiet ∙ ap (append_known (said old)) are)
+      pub all_said : said new ≡ append_known (said mid) piece → WorksOffBatch moment observed said reads may_leave (Ok tt) batch bounds c next spare after old new
+      all_said whole = answered (Ok tt) next_so (rests_still, done.stands, whole ∙ ap (λ o. append_known o piece) quiet ∙ ap (append_known (said old)) are)
 
-      by_fault : (f : OutFault) → WorksOffBatch moment observed said reads may_leave (Err (fault_of_saying f)) batch bounds c next after old new
-      by_fault out.Failed = answered (Err fault.Say) (rests_still, said_part)
-      by_fault out.NoMemory = answered (Err fault.NoMemory) (inr (rests_still, said_part))
+      by_fault : (f : OutFault) → WorksOffBatch moment observed said reads may_leave (Err (fault_of_saying f)) batch bounds c next spare after old new
+      by_fault out.Failed = answered (Err fault.Say) tt (rests_still, said_part)
+      by_fault out.NoMemory = answered (Err fault.NoMemory) tt (inr (rests_still, said_part))
 
       -- the saying broke off
-      pub partly_said : (f : OutFault) (result : Result (Unit {0}) BatchFault) → result ≡ Err (fault_of_saying f) → WorksOffBatch moment observed said reads may_leave result batch bounds c next after old new
-      partly_said f result is = subst (λ r. WorksOffBatch moment observed said reads may_leave r batch bounds c next after old new) (sym is) (by_fault f)
+      pub partly_said : (f : OutFault) (result : Result (Unit {0}) BatchFault) → result ≡ Err (fault_of_saying f) → WorksOffBatch moment observed said reads may_leave result batch bounds c next spare after old new
+      partly_said f result is = subst (λ r. WorksOffBatch moment observed said reads may_leave r batch bounds c next spare after old new) (sym is) (by_fault f)
 
 -- ---- texts
 

@@ -8,7 +8,9 @@ use Rattle.coco_batches.specs.Asking.{known_of}
 use Rattle.coco_batches.specs.BatchReading.{BreaksOff, IsCutOff, ReadsBatch, TakesLines}
 use Rattle.coco_batches.specs.declared.batch.Batch.{Batch}
 use Rattle.coco_batches.proofs.BatchLemmas.{takes_both, takes_none}
+use Rattle.coco_cluster.specs.Around.{SkipsFew}
 use Rattle.coco_cluster.specs.Standing.{ClusterState, StandsAt}
+use Rattle.coco_cluster.specs.Turning.{epochs_of}
 use Rattle.coco_host.specs.Files.{Files}
 use Rattle.coco_host.specs.Moments.{Observation}
 use Rattle.coco_io.specs.Counts.{Rose}
@@ -22,29 +24,31 @@ use Rattle.coco_lines.proofs.LinesLemmas.{ended-first, lines_of-first, lines_of-
 use Rattle.coco_store.specs.Contents.{Contents}
 use Rattle.coco_serve.specs.Endings.{ending_of}
 use Rattle.coco_serve.specs.Faults.{Counts, CountsBatch}
-use Rattle.coco_serve.specs.Growth.{epochs_of}
 use Rattle.coco_serve.specs.OneBatch.{IsRefused, WorksOffBatch}
-use Rattle.coco_serve.specs.Serving.{HasCause, Outside, Serves}
+use Rattle.coco_serve.specs.Serving.{HasCause, Outside, Serves, spare_of}
 use Rattle.coco_serve.specs.declared.ending.Served.{Served}
 use Rattle.coco_serve.specs.declared.ending.Served.TheVariants as ending
 use Rattle.coco_serve.specs.declared.fault.BatchFault.{BatchFault}
 use Rattle.coco_serve.specs.declared.fault.BatchFault.TheVariants as fault
 use Rattle.coco_serve.specs.declared.bounds.RunBounds.{RunBounds}
 use Rattle.coco_serve.proofs.NextLemmas.{answers_failed, finished_short, served_more, used_up_before}
-use Rattle.coco_serve.proofs.RunLemmas.{AreServed, AreTaken, OnlyNow, SeenNow, disk_failed, few_epochs, finished, memory_ran_out, new_reader, read_failed, served_new}
+use Rattle.coco_serve.proofs.RunLemmas.{AreServed, AreTaken, OnlyNow, SeenNow, disk_failed, few_epochs, finished, memory_ran_out, new_reader, read_failed, served_later, served_new}
 
 -- ---- causes
 
-pub used_up : (f : BatchFault) (next requests : ℕ) (before after : Counts) → CountsBatch {T = Unit {0}} (Err f) next requests before after → f ≡ fault.EpochsUsedUp → (epochs_end ≤ next) × (0 < requests)
-used_up f next requests before after counts is = subst (λ x. CountsBatch {T = Unit {0}} (Err x) next requests before after) is counts
+pub used_up : (f : BatchFault) (next spare requests : ℕ) (before after : Counts) → CountsBatch {T = Unit {0}} (Err f) next spare requests before after → f ≡ fault.EpochsUsedUp
+    → SkipsFew next epochs_end 0 spare × (0 < requests)
+used_up f next spare requests before after counts is = subst (λ x. CountsBatch {T = Unit {0}} (Err x) next spare requests before after) is counts
 
--- the cause of a batch's fault is the run's, since no count moved before
-pub cause_of : (f : BatchFault) (next now requests : ℕ) (bytes : List ℕ) (start end : Outside) (before : Counts) → before.say ≡ start.say_faults → before.disk ≡ start.disk_faults → now ≤ next + length (lines_of bytes)
-    → CountsBatch {T = Unit {0}} (Err f) now requests before (record { say = end.say_faults; disk = end.disk_faults }) → HasCause next bytes start end (ending_of f)
-cause_of fault.Say next now requests bytes start end before says disks low counts = subst (λ n. Rose n end.say_faults) says counts
-cause_of fault.Disk next now requests bytes start end before says disks low counts = subst (λ n. Rose n end.disk_faults) disks counts
-cause_of fault.EpochsUsedUp next now requests bytes start end before says disks low counts = (let used = counts.0 in omega (arith, used, low))
-cause_of fault.NoMemory next now requests bytes start end before says disks low counts = tt
+-- the cause of a batch's fault is the run's, since no count of faults moved before
+pub cause_of : (f : BatchFault) (next now spare more requests : ℕ) (bytes : List ℕ) (start end : Outside) (before : Counts) → before.say ≡ start.say_faults → before.disk ≡ start.disk_faults
+    → SkipsFew next now (length (lines_of bytes)) spare → spare_of start end ≡ spare + more → CountsBatch {T = Unit {0}} (Err f) now more requests before (record { say = end.say_faults; disk = end.disk_faults })
+    → HasCause next bytes start end (ending_of f)
+cause_of fault.Say next now spare more requests bytes start end before says disks low adds counts = subst (λ n. Rose n end.say_faults) says counts
+cause_of fault.Disk next now spare more requests bytes start end before says disks low adds counts = subst (λ n. Rose n end.disk_faults) disks counts
+cause_of fault.EpochsUsedUp next now spare more requests bytes start end before says disks low adds counts =
+    (let used = counts.0 in subst (SkipsFew next epochs_end (length (lines_of bytes))) (sym adds) (omega (arith, used, low)))
+cause_of fault.NoMemory next now spare more requests bytes start end before says disks low adds counts = tt
 
 -- ---- batches
 
@@ -56,25 +60,25 @@ read_at procs now held k reader reader' m n size batch same kept r =
 
 module _ {H : Type 0} (moment : H → ℕ) (observed : H → ℕ → Observation → Type 0) (said : H → Option (List ℕ)) (reads : H → Option Files) (may_leave : H → Files → Type 0) where
   -- between two batches
-  pub record IsRunning (next : ℕ) (bounds : RunBounds) (reader : ReaderState) (before now : SourceMoment) (start k : ClusterState) (first host : H) : Type 0 where
-    pub taken : AreTaken next reader before now k
-    pub served : (c : Contents) → RestsOn c (reads first) (may_leave first) → StandsAt c start → AreServed moment observed said reads may_leave c next bounds taken.lines k first host
+  pub record IsRunning (next spare : ℕ) (bounds : RunBounds) (reader : ReaderState) (before now : SourceMoment) (start k : ClusterState) (first host : H) : Type 0 where
+    pub taken : AreTaken next spare reader before now k
+    pub served : (c : Contents) → RestsOn c (reads first) (may_leave first) → StandsAt c start → AreServed moment observed said reads may_leave c next spare bounds taken.lines k first host
 
-  -- at the end
-  pub record RunsTo (next : ℕ) (bounds : RunBounds) (reader : ReaderState) (before now : SourceMoment) (start k : ClusterState) (e : Served) (first host : H) : Type 0 where
+  -- at the end, where more may be skipped than did so far
+  pub record RunsTo (next spare total : ℕ) (bounds : RunBounds) (reader : ReaderState) (before now : SourceMoment) (start k : ClusterState) (e : Served) (first host : H) : Type 0 where
     pub bytes : List ℕ
     pub gives : Gives before now bytes
     pub count : reader.taken ≡ length bytes
-    pub low : k.next_epoch ≤ next + length (lines_of bytes)
-    pub serves : (c : Contents) → RestsOn c (reads first) (may_leave first) → StandsAt c start → Serves moment observed said reads may_leave c next bounds bytes e first host
+    pub low : SkipsFew next k.next_epoch (length (lines_of bytes)) spare
+    pub serves : (c : Contents) → RestsOn c (reads first) (may_leave first) → StandsAt c start → Serves moment observed said reads may_leave c next total bounds bytes e first host
 
-  pub running_new : OnlyNow moment observed said reads may_leave → (bounds : RunBounds) (s : ReaderState) (m : SourceMoment) (k : ClusterState) (host : H) → s ≡ new_reader → IsRunning k.next_epoch bounds s m m k k host host
-  running_new only_now bounds s m k host fresh = subst (λ r. IsRunning k.next_epoch bounds r m m k k host host) (sym fresh) (record {
+  pub running_new : OnlyNow moment observed said reads may_leave → (bounds : RunBounds) (s : ReaderState) (m : SourceMoment) (k : ClusterState) (host : H) (spare : ℕ) → s ≡ new_reader → IsRunning k.next_epoch spare bounds s m m k k host host
+  running_new only_now bounds s m k host spare fresh = subst (λ r. IsRunning k.next_epoch spare bounds r m m k k host host) (sym fresh) (record {
     taken = record { lines = []; takes = takes_none new_reader m; given = refl; low = omega arith };
-    served = λ c rests stands. served_new moment observed said reads may_leave only_now c k.next_epoch bounds k host refl rests stands;
+    served = λ c rests stands. served_new moment observed said reads may_leave only_now c spare bounds k host rests stands;
   })
 
-  module _ (next : ℕ) (bounds : RunBounds) (reader reader' : ReaderState) (before m n : SourceMoment) (start k : ClusterState) (first mid : H) (run : IsRunning next bounds reader before m start k first mid) where
+  module _ (next spare : ℕ) (bounds : RunBounds) (reader reader' : ReaderState) (before m n : SourceMoment) (start k : ClusterState) (first mid : H) (run : IsRunning next spare bounds reader before m start k first mid) where
     -- with further lines
     takes_on : (more : List Line) (behind : List ℕ) → TakesLines reader reader' m n more behind → TakesLines new_reader reader' before n (run.taken.lines ++ more) behind
     takes_on more behind takes = takes_both new_reader reader reader' before m n run.taken.lines more behind run.taken.takes takes
@@ -82,7 +86,7 @@ module _ {H : Type 0} (moment : H → ℕ) (observed : H → ℕ → Observation
     lines_so : (more : List Line) (behind : List ℕ) → (takes : TakesLines reader reader' m n more behind) → lines_of (takes_on more behind takes).bytes ≡ (run.taken.lines ++ more) ++ lines_of behind
     lines_so more behind takes = let t = takes_on more behind takes in lines_of-first (run.taken.lines ++ more) t.bytes behind reader'.ended t.text
 
-    low_so : (more : List Line) (behind : List ℕ) → (takes : TakesLines reader reader' m n more behind) → k.next_epoch ≤ next + length (lines_of (takes_on more behind takes).bytes)
+    low_so : (more : List Line) (behind : List ℕ) → (takes : TakesLines reader reader' m n more behind) → SkipsFew next k.next_epoch (length (lines_of (takes_on more behind takes).bytes)) spare
     low_so more behind takes =
         let all = ap (length {A = Line}) (lines_so more behind takes) in
         let low = run.taken.low in
@@ -90,8 +94,8 @@ module _ {H : Type 0} (moment : H → ℕ) (observed : H → ℕ → Observation
 
     -- ends without a turn
     ends_here : (e : Served) (more : List Line) (behind : List ℕ) → (takes : TakesLines reader reader' m n more behind)
-        → ((c : Contents) → AreServed moment observed said reads may_leave c next bounds run.taken.lines k first mid → Serves moment observed said reads may_leave c next bounds (takes_on more behind takes).bytes e first mid)
-        → RunsTo next bounds reader' before n start k e first mid
+        → ((c : Contents) → AreServed moment observed said reads may_leave c next spare bounds run.taken.lines k first mid → Serves moment observed said reads may_leave c next spare bounds (takes_on more behind takes).bytes e first mid)
+        → RunsTo next spare spare bounds reader' before n start k e first mid
     ends_here e more behind takes ends =
         let t = takes_on more behind takes in
         record {
@@ -108,20 +112,20 @@ module _ {H : Type 0} (moment : H → ℕ) (observed : H → ℕ → Observation
 
       -- ---- a batch that isn't read whole
 
-      pub broken_memory : (f : LineFault) → BreaksOff reader reader' m n bounds.size f → RunsTo next bounds reader' before n start k ending.NoMemory first mid
+      pub broken_memory : (f : LineFault) → BreaksOff reader reader' m n bounds.size f → RunsTo next spare spare bounds reader' before n start k ending.NoMemory first mid
       broken_memory f b = ends_here ending.NoMemory b.lines b.rest b.takes (λ c a.
-          memory_ran_out moment observed said reads may_leave seen_now c next bounds run.taken.lines k first mid a (takes_on b.lines b.rest b.takes).bytes (b.lines ++ lines_of b.rest) (others_so b.lines b.rest b.takes))
+          memory_ran_out moment observed said reads may_leave seen_now c next spare bounds run.taken.lines k first mid a (takes_on b.lines b.rest b.takes).bytes (b.lines ++ lines_of b.rest) (others_so b.lines b.rest b.takes))
 
-      broken_read : (f : LineFault) → (b : BreaksOff reader reader' m n bounds.size f) → (length b.lines < bounds.size) × HasNoFeed b.rest × (reader'.ended ≡ false) → RunsTo next bounds reader' before n start k ending.ReadFault first mid
+      broken_read : (f : LineFault) → (b : BreaksOff reader reader' m n bounds.size f) → (length b.lines < bounds.size) × HasNoFeed b.rest × (reader'.ended ≡ false) → RunsTo next spare spare bounds reader' before n start k ending.ReadFault first mid
       broken_read f b cut = ends_here ending.ReadFault b.lines b.rest b.takes (λ c a.
           let t = takes_on b.lines b.rest b.takes in
-          read_failed moment observed said reads may_leave seen_now c next bounds run.taken.lines k first mid a t.bytes (b.lines ++ lines_of b.rest) (others_so b.lines b.rest b.takes)
+          read_failed moment observed said reads may_leave seen_now c next spare bounds run.taken.lines k first mid a t.bytes (b.lines ++ lines_of b.rest) (others_so b.lines b.rest b.takes)
           b.lines (ended-first (run.taken.lines ++ b.lines) t.bytes b.rest reader'.ended t.text cut.2 cut.1) cut.0)
 
-      pub broken_failed : (f : LineFault) → BreaksOff reader reader' m n bounds.size f → f ≡ line.Failed → RunsTo next bounds reader' before n start k ending.ReadFault first mid
+      pub broken_failed : (f : LineFault) → BreaksOff reader reader' m n bounds.size f → f ≡ line.Failed → RunsTo next spare spare bounds reader' before n start k ending.ReadFault first mid
       broken_failed f b is = broken_read f b (subst (λ x. IsCutOff x bounds.size b.lines b.rest reader'.ended) is b.cut_off)
 
-      pub broken_much : (f : LineFault) → BreaksOff reader reader' m n bounds.size f → f ≡ line.TooMuch → RunsTo next bounds reader' before n start k ending.ReadFault first mid
+      pub broken_much : (f : LineFault) → BreaksOff reader reader' m n bounds.size f → f ≡ line.TooMuch → RunsTo next spare spare bounds reader' before n start k ending.ReadFault first mid
       broken_much f b is = broken_read f b (subst (λ x. IsCutOff x bounds.size b.lines b.rest reader'.ended) is b.cut_off)
 
       -- ---- a batch that is read
@@ -134,31 +138,32 @@ module _ {H : Type 0} (moment : H → ℕ) (observed : H → ℕ → Observation
         took = takes_on more reader'.pending r.taking.takes
 
         -- without a line
-        pub finished_empty : length batch.answers.items ≡ 0 → 0 < bounds.size → RunsTo next bounds reader' before n start k ending.Finished first mid
+        pub finished_empty : length batch.answers.items ≡ 0 → 0 < bounds.size → RunsTo next spare spare bounds reader' before n start k ending.Finished first mid
         finished_empty none some = ends_here ending.Finished more reader'.pending r.taking.takes (λ c a.
             let end = r.ends (omega (arith, none, some)) in
             let no_lines : more ≡ [] = nothing more (omega (arith, r.taking.as_many, none)) in
-            finished moment observed said reads may_leave seen_now c next bounds run.taken.lines k first mid a took.bytes (more ++ lines_of reader'.pending) (others_so more reader'.pending r.taking.takes)
+            finished moment observed said reads may_leave seen_now c next spare bounds run.taken.lines k first mid a took.bytes (more ++ lines_of reader'.pending) (others_so more reader'.pending r.taking.takes)
             (ap (λ ls. ls ++ lines_of reader'.pending) no_lines ∙ ap lines_of end.1 ∙ lines_of-nil) some)
           where
             nothing : (ls : List Line) → length ls ≡ 0 → ls ≡ []
             nothing [] e = refl
             nothing (l ∷ ls) e = absurd (omega arith)
 
-        abbrev Tries : Result (Unit {0}) BatchFault → ClusterState → H → Type 0
-        Tries result k' host =
-            (d : Contents) → RestsOn d (reads mid) (may_leave mid) → StandsAt d k → IsRefused result mid host ⊎ WorksOffBatch moment observed said reads may_leave result batch bounds d k.next_epoch k' mid host
+        abbrev Tries : ℕ → Result (Unit {0}) BatchFault → ClusterState → H → Type 0
+        Tries later result k' host =
+            (d : Contents) → RestsOn d (reads mid) (may_leave mid) → StandsAt d k → IsRefused result mid host ⊎ WorksOffBatch moment observed said reads may_leave result batch bounds d k.next_epoch later k' mid host
 
-        answered : (k' : ClusterState) (host : H) → Tries (Ok tt) k' host → (d : Contents) → RestsOn d (reads mid) (may_leave mid) → StandsAt d k
-            → WorksOffBatch moment observed said reads may_leave (Ok tt) batch bounds d k.next_epoch k' mid host
-        answered k' host tries d rests stands = ⊎_elim (λ none. absurd none) (λ yes. yes) (tries d rests stands)
+        answered : (later : ℕ) (k' : ClusterState) (host : H) → Tries later (Ok tt) k' host → (d : Contents) → RestsOn d (reads mid) (may_leave mid) → StandsAt d k
+            → WorksOffBatch moment observed said reads may_leave (Ok tt) batch bounds d k.next_epoch later k' mid host
+        answered later k' host tries d rests stands = ⊎_elim (λ none. absurd none) (λ yes. yes) (tries d rests stands)
 
         -- it was whole, and there are more
-        pub running_more : (result : Result (Unit {0}) BatchFault) (k' : ClusterState) (host : H) → result ≡ Ok tt → Tries result k' host → bounds.size ≤ length batch.answers.items → 0 < length batch.answers.items
-            → reader'.given ≡ reader.given + length batch.answers.items → k'.next_epoch ≡ k.next_epoch + epochs_of batch.fresh → IsRunning next bounds reader' before n start k' first host
-        running_more result k' host ok tries full some given numbers =
-            let good = subst (λ x. Tries x k' host) ok tries in
-            record {
+        pub running_more : (later total : ℕ) (result : Result (Unit {0}) BatchFault) (k' : ClusterState) (host : H) → total ≡ spare + later → result ≡ Ok tt → Tries later result k' host → bounds.size ≤ length batch.answers.items
+            → 0 < length batch.answers.items → reader'.given ≡ reader.given + length batch.answers.items → SkipsFew k.next_epoch k'.next_epoch (epochs_of batch.fresh) later
+            → IsRunning next total bounds reader' before n start k' first host
+        running_more later total result k' host adds ok tries full some given numbers =
+            let good = subst (λ x. Tries later x k' host) ok tries in
+            subst (λ t. IsRunning next t bounds reader' before n start k' first host) (sym adds) (record {
               taken = record {
                 lines = run.taken.lines ++ more;
                 takes = took;
@@ -167,48 +172,56 @@ module _ {H : Type 0} (moment : H → ℕ) (observed : H → ℕ → Observation
               };
               served = λ c rests stands.
                   let a = run.served c rests stands in
-                  let x = answered k' host good a.d a.rests a.stands in
-                  served_more moment observed said reads may_leave c next bounds run.taken.lines k k' first mid host reader reader' m n batch (Ok tt) a run.taken.given r x x.ends full numbers;
-            }
+                  let x = answered later k' host good a.d a.rests a.stands in
+                  served_more moment observed said reads may_leave c next spare later bounds run.taken.lines k k' first mid host reader reader' m n batch (Ok tt) a run.taken.given r x x.ends full x.next_is;
+            })
 
         -- it was the last one
-        pub finished_last : (result : Result (Unit {0}) BatchFault) (k' : ClusterState) (host : H) → result ≡ Ok tt → Tries result k' host → length batch.answers.items < bounds.size → 0 < length batch.answers.items
-            → RunsTo next bounds reader' before n start k ending.Finished first host
-        finished_last result k' host ok tries short some =
-            let good = subst (λ x. Tries x k' host) ok tries in
-            record {
+        pub finished_last : (later total : ℕ) (result : Result (Unit {0}) BatchFault) (k' : ClusterState) (host : H) → total ≡ spare + later → result ≡ Ok tt → Tries later result k' host → length batch.answers.items < bounds.size
+            → 0 < length batch.answers.items → RunsTo next spare total bounds reader' before n start k ending.Finished first host
+        finished_last later total result k' host adds ok tries short some =
+            let good = subst (λ x. Tries later x k' host) ok tries in
+            subst (λ t. RunsTo next spare t bounds reader' before n start k ending.Finished first host) (sym adds) (record {
               bytes = took.bytes;
               gives = took.gives;
               count = omega (arith, took.taken);
               low = low_so more reader'.pending r.taking.takes;
               serves = λ c rests stands.
                   let a = run.served c rests stands in
-                  let x = answered k' host good a.d a.rests a.stands in
-                  finished_short moment observed said reads may_leave c next bounds run.taken.lines k k' first mid host reader reader' m n batch (Ok tt) a run.taken.given r x seen_now took.bytes
+                  let x = answered later k' host good a.d a.rests a.stands in
+                  finished_short moment observed said reads may_leave c next spare later bounds run.taken.lines k k' first mid host reader reader' m n batch (Ok tt) a run.taken.given r x seen_now took.bytes
                   (lines_so more reader'.pending r.taking.takes) some x.ends short;
-            }
+            })
 
-        refused_ends : (f : BatchFault) (host : H) → IsRefused (Err f) mid host → (f ≡ fault.EpochsUsedUp → (epochs_end ≤ k.next_epoch) × (0 < length batch.fresh)) → 0 < length batch.answers.items → (c : Contents)
-            → AreServed moment observed said reads may_leave c next bounds run.taken.lines k first mid → Serves moment observed said reads may_leave c next bounds took.bytes (ending_of f) first host
-        refused_ends fault.Say host none used some c a = absurd none
-        refused_ends fault.Disk host same used some c a = subst (λ x. Serves moment observed said reads may_leave c next bounds took.bytes ending.DiskFault first x) (sym same)
-            (disk_failed moment observed said reads may_leave seen_now c next bounds run.taken.lines k first mid a took.bytes (more ++ lines_of reader'.pending) (others_so more reader'.pending r.taking.takes))
-        refused_ends fault.EpochsUsedUp host same used some c a = subst (λ x. Serves moment observed said reads may_leave c next bounds took.bytes ending.EpochsUsedUp first x) (sym same)
-            (let end = used refl in used_up_before moment observed said reads may_leave c next bounds run.taken.lines k first mid reader reader' m n batch a r took.bytes (lines_so more reader'.pending r.taking.takes) some seen_now end.0 end.1)
-        refused_ends fault.NoMemory host same used some c a = subst (λ x. Serves moment observed said reads may_leave c next bounds took.bytes ending.NoMemory first x) (sym same)
-            (memory_ran_out moment observed said reads may_leave seen_now c next bounds run.taken.lines k first mid a took.bytes (more ++ lines_of reader'.pending) (others_so more reader'.pending r.taking.takes))
+        abbrev later_on : (later : ℕ) (c : Contents) → AreServed moment observed said reads may_leave c next spare bounds run.taken.lines k first mid → AreServed moment observed said reads may_leave c next (spare + later) bounds run.taken.lines k first mid
+        later_on later c a = served_later moment observed said reads may_leave c next spare (spare + later) bounds run.taken.lines k first mid (omega arith) a
+
+        refused_ends : (later : ℕ) (f : BatchFault) (host : H) → IsRefused (Err f) mid host → (f ≡ fault.EpochsUsedUp → SkipsFew k.next_epoch epochs_end 0 later × (0 < length batch.fresh)) → 0 < length batch.answers.items
+            → (c : Contents) → AreServed moment observed said reads may_leave c next spare bounds run.taken.lines k first mid
+            → Serves moment observed said reads may_leave c next (spare + later) bounds took.bytes (ending_of f) first host
+        refused_ends later fault.Say host none used some c a = absurd none
+        refused_ends later fault.Disk host same used some c a = subst (λ x. Serves moment observed said reads may_leave c next (spare + later) bounds took.bytes ending.DiskFault first x) (sym same)
+            (disk_failed moment observed said reads may_leave seen_now c next (spare + later) bounds run.taken.lines k first mid (later_on later c a) took.bytes (more ++ lines_of reader'.pending) (others_so more reader'.pending r.taking.takes))
+        refused_ends later fault.EpochsUsedUp host same used some c a = subst (λ x. Serves moment observed said reads may_leave c next (spare + later) bounds took.bytes ending.EpochsUsedUp first x) (sym same)
+            (let end = used refl in
+            let reached = end.0 in
+            let few = a.numbers.few in
+            used_up_before moment observed said reads may_leave c next (spare + later) bounds run.taken.lines k first mid reader reader' m n batch (later_on later c a) r took.bytes (lines_so more reader'.pending r.taking.takes) some seen_now
+            (omega (arith, reached, few)) end.1)
+        refused_ends later fault.NoMemory host same used some c a = subst (λ x. Serves moment observed said reads may_leave c next (spare + later) bounds took.bytes ending.NoMemory first x) (sym same)
+            (memory_ran_out moment observed said reads may_leave seen_now c next (spare + later) bounds run.taken.lines k first mid (later_on later c a) took.bytes (more ++ lines_of reader'.pending) (others_so more reader'.pending r.taking.takes))
 
         -- it broke off
-        pub batch_broke : (result : Result (Unit {0}) BatchFault) (f : BatchFault) (k' : ClusterState) (host : H) → result ≡ Err f → Tries result k' host → (f ≡ fault.EpochsUsedUp → (epochs_end ≤ k.next_epoch) × (0 < length batch.fresh))
-            → 0 < length batch.answers.items → RunsTo next bounds reader' before n start k (ending_of f) first host
-        batch_broke result f k' host is tries used some = record {
+        pub batch_broke : (later total : ℕ) (result : Result (Unit {0}) BatchFault) (f : BatchFault) (k' : ClusterState) (host : H) → total ≡ spare + later → result ≡ Err f → Tries later result k' host
+            → (f ≡ fault.EpochsUsedUp → SkipsFew k.next_epoch epochs_end 0 later × (0 < length batch.fresh)) → 0 < length batch.answers.items → RunsTo next spare total bounds reader' before n start k (ending_of f) first host
+        batch_broke later total result f k' host adds is tries used some = subst (λ t. RunsTo next spare t bounds reader' before n start k (ending_of f) first host) (sym adds) (record {
           bytes = took.bytes;
           gives = took.gives;
           count = omega (arith, took.taken);
           low = low_so more reader'.pending r.taking.takes;
           serves = λ c rests stands.
               let a = run.served c rests stands in
-              ⊎_elim (λ none. refused_ends f host (subst (λ x. IsRefused x mid host) is none) used some c a)
-              (λ x. answers_failed moment observed said reads may_leave c next bounds run.taken.lines k k' first mid host reader reader' m n batch result a run.taken.given r x seen_now took.bytes
+              ⊎_elim (λ none. refused_ends later f host (subst (λ x. IsRefused x mid host) is none) used some c a)
+              (λ x. answers_failed moment observed said reads may_leave c next spare later bounds run.taken.lines k k' first mid host reader reader' m n batch result a run.taken.given r x seen_now took.bytes
               (lines_so more reader'.pending r.taking.takes) some f is) (tries a.d a.rests a.stands);
-        }
+        })

@@ -14,7 +14,9 @@ use Rattle.coco_ast.proofs.GrowthLemmas.{growth_keeps}
 use Rattle.coco_batches.specs.Asking.{known_of}
 use Rattle.coco_batches.specs.BatchReading.{ReadsBatch}
 use Rattle.coco_batches.specs.declared.batch.Batch.{Batch}
+use Rattle.coco_cluster.specs.Around.{SkipsFew}
 use Rattle.coco_cluster.specs.Standing.{ClusterState, IsBehindAll, StandsAt}
+use Rattle.coco_cluster.specs.Turning.{epochs_of}
 use Rattle.coco_cluster.specs.Writing.{WritesLogs}
 use Rattle.coco_cluster.proofs.BehindLemmas.{behind_later}
 use Rattle.coco_cluster.proofs.WriteLemmas.{writes_then}
@@ -33,7 +35,7 @@ use Rattle.coco_lines.proofs.LinesLemmas.{lines_of-nil}
 use Rattle.coco_lines.proofs.ReplyLemmas.{answers_still, are_new}
 use Rattle.coco_store.specs.Contents.{Contents, history_of}
 use Rattle.coco_lines.proofs.ClassLemmas.{classes_length}
-use Rattle.coco_serve.specs.Growth.{AddsFrom, AreFirstBatches, GrowsByExecution, IsGrown, Manner, answers_of, epochs_of, manner_of}
+use Rattle.coco_serve.specs.Growth.{AddsWithin, AreFirstBatches, GrowsByExecution, IsGrown, Manner, answers_of, manner_of}
 use Rattle.coco_serve.specs.OneBatch.{BatchEnds, SaysPart, WorksOffBatch, batch_texts}
 use Rattle.coco_serve.specs.Texts.{texts_over}
 use Rattle.coco_serve.specs.Seen.{IsServed, LeavesEither, ShowsBatch}
@@ -45,29 +47,29 @@ use Rattle.coco_serve.specs.declared.fault.BatchFault.TheVariants as fault
 use Rattle.coco_serve.specs.declared.bounds.RunBounds.{RunBounds}
 use Rattle.coco_serve.specs.Endings.{ending_of}
 use Rattle.coco_log.proofs.OnlyRead.{sees_then, sees_weaker}
-use Rattle.coco_serve.proofs.NumberLemmas.{adds_more}
+use Rattle.coco_serve.proofs.NumberLemmas.{adds_more, adds_none}
 use Rattle.coco_serve.proofs.ReplyLemmas.{keeps_some, no_later_done, texts_are_answers}
-use Rattle.coco_serve.proofs.RunLemmas.{AreServed, SeenNow, added_by, all_served, answers-append, batches_more, classes_at, cut_more, epochs_used_up, first_more, joined-more, left_by, map-more, more_served, paired, size_more, turns_more, moved}
+use Rattle.coco_serve.proofs.RunLemmas.{AreServed, SeenNow, all_served, answers-append, batches_more, classes_at, cut_more, epochs_used_up, first_more, joined-more, later_served, left_by, map-more, more_served, paired, size_more, turns_more, moved}
 
 module _ {H : Type 0} (moment : H → ℕ) (observed : H → ℕ → Observation → Type 0) (said : H → Option (List ℕ)) (reads : H → Option Files) (may_leave : H → Files → Type 0) where
   -- a batch that was read is the next one
-  module _ (c : Contents) (next : ℕ) (bounds : RunBounds) (lines : List Line) (k : ClusterState) (first mid : H) (reader reader' : ReaderState) (m n : SourceMoment) (batch : Batch)
-      (a : AreServed moment observed said reads may_leave c next bounds lines k first mid) (r : ReadsBatch k.procs (known_of k.kept []) reader reader' m n bounds.size batch) (bytes : List ℕ)
+  module _ (c : Contents) (next spare : ℕ) (bounds : RunBounds) (lines : List Line) (k : ClusterState) (first mid : H) (reader reader' : ReaderState) (m n : SourceMoment) (batch : Batch)
+      (a : AreServed moment observed said reads may_leave c next spare bounds lines k first mid) (r : ReadsBatch k.procs (known_of k.kept []) reader reader' m n bounds.size batch) (bytes : List ℕ)
       (all : lines_of bytes ≡ (lines ++ r.taking.lines) ++ lines_of reader'.pending) (some : 0 < length batch.answers.items) where
     read_next : AreFirstBatches bounds.size bytes (a.batches ++ r.taking.lines ∷ [])
     read_next = first_more bounds.size bytes lines r.taking.lines (lines_of reader'.pending) a.batches a.lines_are a.whole (omega (arith, r.taking.as_many, some)) (omega (arith, r.taking.as_many, r.few))
         (λ short. ap lines_of (r.ends (omega (arith, r.taking.as_many, short))).1 ∙ lines_of-nil) all
 
     -- it has a new request, and no number is left for its epoch
-    pub used_up_before : SeenNow moment observed said reads may_leave → epochs_end ≤ k.next_epoch → 0 < length batch.fresh → Serves moment observed said reads may_leave c next bounds bytes ending.EpochsUsedUp first mid
+    pub used_up_before : SeenNow moment observed said reads may_leave → SkipsFew next epochs_end (length a.numbers.added) spare → 0 < length batch.fresh → Serves moment observed said reads may_leave c next spare bounds bytes ending.EpochsUsedUp first mid
     used_up_before seen_now end some_new =
         let same = ap (length {A = Request}) r.taking.fresh in
-        epochs_used_up moment observed said reads may_leave seen_now c next bounds lines k first mid a bytes (r.taking.lines ++ lines_of reader'.pending) (all ∙ append_assoc lines r.taking.lines (lines_of reader'.pending)) end
+        epochs_used_up moment observed said reads may_leave seen_now c next spare bounds lines k first mid a bytes (r.taking.lines ++ lines_of reader'.pending) (all ∙ append_assoc lines r.taking.lines (lines_of reader'.pending)) end
         r.taking.lines r.taking.classes read_next (classes_at c a.d k r.taking.lines r.taking.classes a.stands a.setting r.taking.are) (omega (arith, same, some_new))
 
-  module _ (c : Contents) (next : ℕ) (bounds : RunBounds) (lines : List Line) (k k' : ClusterState) (first mid host : H) (reader reader' : ReaderState) (m n : SourceMoment) (batch : Batch) (result : Result (Unit {0}) BatchFault)
-      (a : AreServed moment observed said reads may_leave c next bounds lines k first mid) (given : reader.given ≡ length lines) (r : ReadsBatch k.procs (known_of k.kept []) reader reader' m n bounds.size batch)
-      (x : WorksOffBatch moment observed said reads may_leave result batch bounds a.d k.next_epoch k' mid host) where
+  module _ (c : Contents) (next spare more_spare : ℕ) (bounds : RunBounds) (lines : List Line) (k k' : ClusterState) (first mid host : H) (reader reader' : ReaderState) (m n : SourceMoment) (batch : Batch) (result : Result (Unit {0}) BatchFault)
+      (a : AreServed moment observed said reads may_leave c next spare bounds lines k first mid) (given : reader.given ≡ length lines) (r : ReadsBatch k.procs (known_of k.kept []) reader reader' m n bounds.size batch)
+      (x : WorksOffBatch moment observed said reads may_leave result batch bounds a.d k.next_epoch more_spare k' mid host) where
     abbrev tree : Procedures
     tree = c.setting.tree
 
@@ -113,8 +115,18 @@ module _ {H : Type 0} (moment : H → ℕ) (observed : H → ℕ → Observation
       executed = subst (λ l. GrowsInTurn (GrowsByExecution manner) opening l g) (sym (map-more a.classes cs)) (turns_more manner opening (map new_of a.classes) h (new_of cs) g a.grown.executed grows);
     }
 
-    abbrev numbers' : AddsFrom next opening g
-    numbers' = adds_more next k.next_epoch opening h g a.numbers a.reached x.numbers
+    abbrev all : ℕ
+    all = spare + more_spare
+
+    abbrev end' : ℕ
+    end' = x.number + epochs_of batch.fresh
+
+    numbers' : AddsWithin next end' all opening g
+    numbers' = adds_more next k.next_epoch end' spare more_spare opening h g a.numbers x.numbers
+
+    -- the number of its epoch is tried, and the history has yet to grow
+    numbers_before : AddsWithin next x.number all opening h
+    numbers_before = adds_more next k.next_epoch x.number spare more_spare opening h h a.numbers (adds_none k.next_epoch x.number more_spare h x.taken)
 
     as_many : length a.classes ≡ length a.batches
     as_many = paired tree opening a.batches a.classes h a.grown.grown
@@ -145,36 +157,24 @@ module _ {H : Type 0} (moment : H → ℕ) (observed : H → ℕ → Observation
         is ∙ ap (λ o. append_known o (take i texts)) a.says ∙ append_known-append (said first) (answers_of h a.classes) (take i texts)
         ∙ ap (append_known (said first)) (sym (ap (take (length (answers_of h a.classes) + i)) all_answers ∙ take-append-add (answers_of h a.classes) texts i))
 
-    -- the epochs that are told in the whole run and in the batch
-    end_before : k.next_epoch + 1 ≤ next + length a.numbers.added + 1
-    end_before = let n = a.reached in omega (arith, n)
-
-    end_then : k.next_epoch + 1 ≤ next + length numbers'.added + 1
-    end_then = let n = a.reached in omega (arith, n, length-append a.numbers.added x.numbers.added)
-
-    batch_shows : (seen : Observation) → ShowsBatch a.d.setting h g (k.next_epoch + 1) (said mid) texts seen → IsServed c.setting bounds opening next batches' classes' g (said first) seen
+    batch_shows : (seen : Observation) → ShowsBatch a.d.setting h g (x.number + 1) (said mid) texts seen → IsServed c.setting bounds opening next all batches' classes' g (said first) seen
     batch_shows seen shows = ⊎_elim
-        (λ was. more_served c.setting bounds opening next a.batches a.classes h (said first) as_many more cs g keeps.prefix seen
-        (all_served c.setting bounds opening next a.batches a.classes h (said first) a.grown a.numbers seen
-        (moved a.d.setting c.setting h (k.next_epoch + 1) (next + length a.numbers.added + 1) seen.image a.setting end_before was.0) (length (answers_of h a.classes))
+        (λ was. more_served c.setting bounds opening next all a.batches a.classes h (said first) as_many more cs g keeps.prefix seen
+        (all_served c.setting bounds opening next all a.batches a.classes h (said first) a.grown x.number numbers_before seen
+        (moved a.d.setting c.setting h (x.number + 1) (x.number + 1) seen.image a.setting (omega arith) was.0) (length (answers_of h a.classes))
         (sym was.1 ∙ a.says ∙ ap (append_known (said first)) (sym (take-length (answers_of h a.classes))))))
-        (λ grew. all_served c.setting bounds opening next batches' classes' g (said first) grown' numbers' seen
-        (moved a.d.setting c.setting g (k.next_epoch + 1) (next + length numbers'.added + 1) seen.image a.setting end_then grew.0) (length (answers_of h a.classes) + grew.1.0) (front_said (Some seen.said) grew.1.0 grew.1.1)) shows
+        (λ grew. all_served c.setting bounds opening next all batches' classes' g (said first) grown' end' numbers' seen
+        (moved a.d.setting c.setting g (x.number + 1) (end' + 1) seen.image a.setting (omega arith) grew.0) (length (answers_of h a.classes) + grew.1.0) (front_said (Some seen.said) grew.1.0 grew.1.1)) shows
 
-    moments' : SeesOnly moment observed first host (IsServed c.setting bounds opening next batches' classes' g (said first))
-    moments' = sees_then moment observed first mid host (IsServed c.setting bounds opening next batches' classes' g (said first)) (ShowsBatch a.d.setting h g (k.next_epoch + 1) (said mid) texts)
-        (sees_weaker moment observed first mid (IsServed c.setting bounds opening next a.batches a.classes h (said first)) (IsServed c.setting bounds opening next batches' classes' g (said first))
-        (more_served c.setting bounds opening next a.batches a.classes h (said first) as_many more cs g keeps.prefix) a.moments) x.moments batch_shows
+    moments' : SeesOnly moment observed first host (IsServed c.setting bounds opening next all batches' classes' g (said first))
+    moments' = sees_then moment observed first mid host (IsServed c.setting bounds opening next all batches' classes' g (said first)) (ShowsBatch a.d.setting h g (x.number + 1) (said mid) texts)
+        (sees_weaker moment observed first mid (IsServed c.setting bounds opening next spare a.batches a.classes h (said first)) (IsServed c.setting bounds opening next all batches' classes' g (said first))
+        (λ seen s. more_served c.setting bounds opening next all a.batches a.classes h (said first) as_many more cs g keeps.prefix seen
+        (later_served c.setting bounds opening next spare a.batches a.classes h (said first) all (omega arith) seen s)) a.moments) x.moments batch_shows
 
     others' : WritesLogs c.setting (reads first) (reads host) (may_leave first) (may_leave host)
     others' = writes_then c.setting (reads first) (reads mid) (reads host) (may_leave first) (may_leave mid) (may_leave host) a.others
         (subst (λ s. WritesLogs s (reads mid) (reads host) (may_leave mid) (may_leave host)) a.setting x.others)
-
-    abbrev end' : ℕ
-    end' = next + length numbers'.added
-
-    below' : IsBehindAll x.d end'
-    below' = behind_later x.d (k.next_epoch + length x.numbers.added) end' (let n = a.reached in omega (arith, n, length-append a.numbers.added x.numbers.added)) x.below
 
     abbrev IsWhole : Type 0
     IsWhole = RestsOn x.d (reads host) (may_leave host) × StandsAt x.d k' × (said host ≡ append_known (said mid) texts)
@@ -183,9 +183,8 @@ module _ {H : Type 0} (moment : H → ℕ) (observed : H → ℕ → Observation
     says_whole done = done.2 ∙ ap (λ o. append_known o texts) a.says ∙ append_known-append (said first) (answers_of h a.classes) texts ∙ ap (append_known (said first)) (sym all_answers)
 
     -- the batch was whole, committed and said
-    pub served_more : IsWhole → bounds.size ≤ length batch.answers.items → k'.next_epoch ≡ k.next_epoch + epochs_of batch.fresh → AreServed moment observed said reads may_leave c next bounds (lines ++ more) k' first host
-    served_more done full numbers =
-        let gained = added_by h (new_of cs) g grows.0 in
+    pub served_more : IsWhole → bounds.size ≤ length batch.answers.items → k'.next_epoch ≡ end' → AreServed moment observed said reads may_leave c next all bounds (lines ++ more) k' first host
+    served_more done full next_is =
         record {
           batches = batches';
           classes = classes';
@@ -202,18 +201,14 @@ module _ {H : Type 0} (moment : H → ℕ) (observed : H → ℕ → Observation
           says = says_whole done;
           moments = moments';
           others = others';
-          numbers = numbers';
-          reached = (
-              let same : epochs_of batch.fresh ≡ epochs_of (new_of cs) = ap epochs_of r.taking.fresh in
-              let by_turn = ap (length {A = Epoch}) (sym gained.1 ∙ x.numbers.epochs) in
-              omega (arith, numbers, same, a.reached, gained.2, by_turn, length-append h.epochs gained.0, length-append h.epochs x.numbers.added, length-append a.numbers.added x.numbers.added));
+          numbers = subst (λ e. AddsWithin next e all opening g) (sym next_is) numbers';
         }
 
     -- ---- where a run ends with the batch
 
-    module _ (seen_now : SeenNow moment observed said reads may_leave) (bytes : List ℕ) (all : lines_of bytes ≡ (lines ++ more) ++ lines_of reader'.pending) (some : 0 < length batch.answers.items) where
+    module _ (seen_now : SeenNow moment observed said reads may_leave) (bytes : List ℕ) (lines_are : lines_of bytes ≡ (lines ++ more) ++ lines_of reader'.pending) (some : 0 < length batch.answers.items) where
       all_lines : lines_of bytes ≡ joined batches' ++ lines_of reader'.pending
-      all_lines = all ∙ ap (λ ls. ls ++ lines_of reader'.pending) (ap (λ ls. ls ++ more) a.lines_are ∙ sym (joined-more a.batches more))
+      all_lines = lines_are ∙ ap (λ ls. ls ++ lines_of reader'.pending) (ap (λ ls. ls ++ more) a.lines_are ∙ sym (joined-more a.batches more))
 
       some_lines : 0 < length more
       some_lines = omega (arith, r.taking.as_many, some)
@@ -222,26 +217,26 @@ module _ {H : Type 0} (moment : H → ℕ) (observed : H → ℕ → Observation
       cut_short end = (ap lines_of end.1 ∙ lines_of-nil, cut_more bounds.size a.batches more a.whole some_lines (omega (arith, r.few, r.taking.as_many)))
 
       firsts : AreFirstBatches bounds.size bytes batches'
-      firsts = read_next c next bounds lines k first mid reader reader' m n batch a r bytes all some
+      firsts = read_next c next spare bounds lines k first mid reader reader' m n batch a r bytes lines_are some
 
-      abbrev progress' : Progress manner opening next bounds.size bytes
-      progress' = record { batches = batches'; classes = classes'; history = g; grown = grown'; numbers = numbers'; first = firsts }
+      abbrev progress' : Progress manner opening next all bounds.size bytes
+      progress' = record { batches = batches'; classes = classes'; history = g; grown = grown'; end = end'; numbers = numbers'; first = firsts }
 
-      ends_so : (e : Served) → RunEnds c next bounds bytes progress' (said first) (said host) (reads host) (may_leave host) e → Serves moment observed said reads may_leave c next bounds bytes e first host
+      ends_so : (e : Served) → RunEnds c next all bounds bytes progress' (said first) (said host) (reads host) (may_leave host) e → Serves moment observed said reads may_leave c next all bounds bytes e first host
       ends_so e ends = record {
         progress = progress';
         moments = moments';
-        left = left_by moment observed said reads may_leave seen_now first host (IsServed c.setting bounds opening next batches' classes' g (said first)) moments';
+        left = left_by moment observed said reads may_leave seen_now first host (IsServed c.setting bounds opening next all batches' classes' g (said first)) moments';
         others = others';
         ends = ends;
       }
 
-      pub finished_short : IsWhole → length batch.answers.items < bounds.size → Serves moment observed said reads may_leave c next bounds bytes ending.Finished first host
+      pub finished_short : IsWhole → length batch.answers.items < bounds.size → Serves moment observed said reads may_leave c next all bounds bytes ending.Finished first host
       finished_short done short =
           let end = cut_short (r.ends short) in
           ends_so ending.Finished (
             (all_lines ∙ ap (λ ls. joined batches' ++ ls) end.0 ∙ append-nil (joined batches'), end.1),
-            (x.d, x.setting ∙ a.setting, refl, below', done.0),
+            (x.d, x.setting ∙ a.setting, refl, x.below, done.0),
             says_whole done,
           )
 
@@ -273,26 +268,27 @@ module _ {H : Type 0} (moment : H → ℕ) (observed : H → ℕ → Observation
           }
 
       rests_then : RestsOn x.d (reads host) (may_leave host) → RestsAt c.setting g end' (reads host) (may_leave host)
-      rests_then rests = (x.d, x.setting ∙ a.setting, refl, below', rests)
+      rests_then rests = (x.d, x.setting ∙ a.setting, refl, x.below, rests)
 
-      say_ends : RestsOn x.d (reads host) (may_leave host) × SaysPart texts (said mid) (said host) → Serves moment observed said reads may_leave c next bounds bytes ending.SayFault first host
+      say_ends : RestsOn x.d (reads host) (may_leave host) × SaysPart texts (said mid) (said host) → Serves moment observed said reads may_leave c next all bounds bytes ending.SayFault first host
       say_ends ends = ends_so ending.SayFault (rests_then ends.0, says_part ends.1)
 
       abbrev Leaves : (History → List (List Class) → Type 0) → Type 0
-      Leaves Says = LeavesLast c.setting bounds opening next batches' classes' g Says (said host) (may_leave host)
+      Leaves Says = LeavesLast c.setting bounds opening next all batches' classes' g Says (said host) (may_leave host)
 
       -- the batch's turn failed
-      leaves_before : (Says : History → List (List Class) → Type 0) → LeavesEither a.d.setting h g (k.next_epoch + 1) (said mid) (may_leave host) → said host ≡ said mid → Says h a.classes → Leaves Says
+      leaves_before : (Says : History → List (List Class) → Type 0) → LeavesEither a.d.setting h g (x.number + 1) (said mid) (may_leave host) → said host ≡ said mid → Says h a.classes → Leaves Says
       leaves_before Says left same says = record {
         count = last;
         last = inr one_more;
         history = h;
         grown = grown_before;
-        numbers = a.numbers;
+        number = x.number;
+        numbers = numbers_before;
         says = subst (Says h) (sym take_classes) says;
         left = λ bytes spoke image leaves. ⊎_elim
-            (λ was. inl (moved a.d.setting c.setting h (k.next_epoch + 1) (next + length a.numbers.added + 1) image a.setting end_before was))
-            (λ grew. inr (moved a.d.setting c.setting g (k.next_epoch + 1) (next + length a.numbers.added + 1) image a.setting end_before grew)) (left bytes (sym same ∙ spoke) image leaves);
+            (λ was. inl (moved a.d.setting c.setting h (x.number + 1) (x.number + 1) image a.setting (omega arith) was))
+            (λ grew. inr (moved a.d.setting c.setting g (x.number + 1) (x.number + 1) image a.setting (omega arith) grew)) (left bytes (sym same ∙ spoke) image leaves);
       }
 
       says_before : said host ≡ said mid → said host ≡ append_known (said first) (answers_of h a.classes)
@@ -308,7 +304,7 @@ module _ {H : Type 0} (moment : H → ℕ) (observed : H → ℕ → Observation
             most = omega arith;
           }
 
-      disk_ends : LeavesEither a.d.setting h g (k.next_epoch + 1) (said mid) (may_leave host) × (said host ≡ said mid) → Serves moment observed said reads may_leave c next bounds bytes ending.DiskFault first host
+      disk_ends : LeavesEither a.d.setting h g (x.number + 1) (said mid) (may_leave host) × (said host ≡ said mid) → Serves moment observed said reads may_leave c next all bounds bytes ending.DiskFault first host
       disk_ends ends = ends_so ending.DiskFault (leaves_before (SaysAll (said first) (said host)) ends.0 ends.1 (says_before ends.1))
 
       -- the batch is committed
@@ -319,6 +315,7 @@ module _ {H : Type 0} (moment : H → ℕ) (observed : H → ℕ → Observation
         history = g;
         grown = subst (λ bs. IsGrown manner opening bs (take (length batches') classes') g) (sym (take-length batches'))
             (subst (λ l. IsGrown manner opening batches' l g) (sym all_classes) grown');
+        number = end';
         numbers = numbers';
         says = subst (Says g) (sym all_classes) says;
         left = λ bytes spoke image leaves. inl (record {
@@ -326,24 +323,24 @@ module _ {H : Type 0} (moment : H → ℕ) (observed : H → ℕ → Observation
           setting = x.setting ∙ a.setting;
           good = rests.left image leaves;
           history = refl;
-          below = behind_later x.d end' (end' + 1) (omega arith) below';
+          below = behind_later x.d end' (end' + 1) (omega arith) x.below;
         });
       }
         where
           all_classes : take (length batches') classes' ≡ classes'
           all_classes = ap (λ i. take i classes') (sym (paired tree opening batches' classes' g grown'.grown)) ∙ take-length classes'
 
-      memory_ends : LeavesEither a.d.setting h g (k.next_epoch + 1) (said mid) (may_leave host) × (said host ≡ said mid) ⊎ RestsOn x.d (reads host) (may_leave host) × SaysPart texts (said mid) (said host)
-          → Serves moment observed said reads may_leave c next bounds bytes ending.NoMemory first host
+      memory_ends : LeavesEither a.d.setting h g (x.number + 1) (said mid) (may_leave host) × (said host ≡ said mid) ⊎ RestsOn x.d (reads host) (may_leave host) × SaysPart texts (said mid) (said host)
+          → Serves moment observed said reads may_leave c next all bounds bytes ending.NoMemory first host
       memory_ends ends = ends_so ending.NoMemory (⊎_elim
           (λ before. leaves_before (SaysUpTo (said first) (said host)) before.0 before.1 (says_before_whole before.1))
           (λ after. leaves_after (SaysUpTo (said first) (said host)) after.0 (says_part after.1)) ends)
 
-      batch_fails : (f : BatchFault) → BatchEnds a.d x.d (k.next_epoch + 1) k' texts (said mid) (said host) (reads host) (may_leave host) (Err f) → Serves moment observed said reads may_leave c next bounds bytes (ending_of f) first host
+      batch_fails : (f : BatchFault) → BatchEnds a.d x.d (x.number + 1) k' texts (said mid) (said host) (reads host) (may_leave host) (Err f) → Serves moment observed said reads may_leave c next all bounds bytes (ending_of f) first host
       batch_fails fault.Say ends = say_ends ends
       batch_fails fault.Disk ends = disk_ends ends
       batch_fails fault.EpochsUsedUp ends = absurd ends
       batch_fails fault.NoMemory ends = memory_ends ends
 
-      pub answers_failed : (f : BatchFault) → result ≡ Err f → Serves moment observed said reads may_leave c next bounds bytes (ending_of f) first host
-      answers_failed f is = batch_fails f (subst (BatchEnds a.d x.d (k.next_epoch + 1) k' texts (said mid) (said host) (reads host) (may_leave host)) is x.ends)
+      pub answers_failed : (f : BatchFault) → result ≡ Err f → Serves moment observed said reads may_leave c next all bounds bytes (ending_of f) first host
+      answers_failed f is = batch_fails f (subst (BatchEnds a.d x.d (x.number + 1) k' texts (said mid) (said host) (reads host) (may_leave host)) is x.ends)

@@ -15,8 +15,9 @@ use Rattle.coco_ast.proofs.Growths.{prefix_trans}
 use Rattle.coco_ast.proofs.Lists.{all_append}
 use Rattle.coco_batches.specs.Asking.{known_of}
 use Rattle.coco_batches.specs.BatchReading.{TakesLines}
+use Rattle.coco_cluster.specs.Around.{SkipsFew}
 use Rattle.coco_cluster.specs.Standing.{ClusterState, IsBehindAll, StandsAt}
-use Rattle.coco_cluster.specs.Turning.{IsStoreOf}
+use Rattle.coco_cluster.specs.Turning.{IsStoreOf, epochs_of}
 use Rattle.coco_cluster.specs.Writing.{WritesLogs}
 use Rattle.coco_cluster.proofs.BehindLemmas.{behind_later}
 use Rattle.coco_cluster.proofs.WriteLemmas.{writes_none}
@@ -33,14 +34,15 @@ use Rattle.coco_lines.specs.Lines.{Line, ended_lines_of, lines_of}
 use Rattle.coco_lines.specs.ReaderState.{ReaderState}
 use Rattle.coco_lines.specs.Reads.{SourceMoment}
 use Rattle.coco_lines.specs.declared.class.Class.{Class}
+use Rattle.coco_log.proofs.OnlyRead.{sees_weaker}
 use Rattle.coco_store.specs.Contents.{Contents, history_of}
-use Rattle.coco_serve.specs.Growth.{AddsFrom, AreFirstBatches, GrowsByExecution, HaveSize, IsGrown, Manner, answers_of, epochs_of, manner_of}
+use Rattle.coco_serve.specs.Growth.{AddsWithin, AreFirstBatches, GrowsByExecution, HaveSize, IsGrown, Manner, answers_of, manner_of}
 use Rattle.coco_serve.specs.Seen.{IsServed, LeavesEither}
 use Rattle.coco_serve.specs.Serving.{LeavesLast, Progress, RestsAt, RunEnds, SaysAll, SaysUpTo, Serves}
 use Rattle.coco_serve.specs.declared.ending.Served.{Served}
 use Rattle.coco_serve.specs.declared.ending.Served.TheVariants as ending
 use Rattle.coco_serve.specs.declared.bounds.RunBounds.{RunBounds}
-use Rattle.coco_serve.proofs.NumberLemmas.{adds_none}
+use Rattle.coco_serve.proofs.NumberLemmas.{adds_later, adds_none}
 
 -- ---- lists of batches
 
@@ -115,11 +117,6 @@ pub few_epochs : (rs : List Request) → epochs_of rs ≤ 1
 few_epochs [] = omega arith
 few_epochs (r ∷ rs) = omega arith
 
--- how many epochs a history gained
-pub added_by : (h : History) (rs : List Request) (g : History) → GrowsBy h rs g → (added : List Epoch) × (g.epochs ≡ h.epochs ++ added) × (length added ≡ epochs_of rs)
-added_by h [] g same = ([], ap (λ (x : History). x.epochs) same ∙ sym (append-nil h.epochs), refl)
-added_by h (r ∷ rs) g grows = (grows.0 ∷ [], ap (λ (x : History). x.epochs) grows.3, refl)
-
 -- ---- what is known
 
 pub known_at : (c : Contents) (k : ClusterState) → StandsAt c k → known_of k.kept [] ≡ known_in (history_of c)
@@ -145,11 +142,11 @@ pub moved : (s t : Setting) (h : History) (end later : ℕ) (files : Files) → 
 moved s t h end later files same le store =
     record { contents = store.contents; setting = store.setting ∙ same; good = store.good; history = store.history; below = behind_later store.contents end later le store.below }
 
-module _ (in_setting : Setting) (bounds : RunBounds) (opening : History) (next : ℕ) (batches : List Lines) (classes : List (List Class)) (whole : History) (said : Option (List ℕ)) where
+module _ (in_setting : Setting) (bounds : RunBounds) (opening : History) (next spare : ℕ) (batches : List Lines) (classes : List (List Class)) (whole : History) (said : Option (List ℕ)) where
   -- the whole history, and a front of all answers
-  pub all_served : IsGrown (manner_of in_setting bounds) opening batches classes whole → (numbers : AddsFrom next opening whole) → (seen : Observation) → IsStoreOf in_setting whole (next + length numbers.added + 1) seen.image
-      → (part : ℕ) → Some seen.said ≡ append_known said (take part (answers_of whole classes)) → IsServed in_setting bounds opening next batches classes whole said seen
-  all_served grown numbers seen store part says =
+  pub all_served : IsGrown (manner_of in_setting bounds) opening batches classes whole → (number : ℕ) → AddsWithin next number spare opening whole → (seen : Observation) → IsStoreOf in_setting whole (number + 1) seen.image
+      → (part : ℕ) → Some seen.said ≡ append_known said (take part (answers_of whole classes)) → IsServed in_setting bounds opening next spare batches classes whole said seen
+  all_served grown number numbers seen store part says =
       let all_batches : batches ≡ take (length batches) batches = sym (take-length batches) in
       let as_many : length classes ≡ length batches = paired in_setting.tree opening batches classes whole grown.grown in
       let all_classes : classes ≡ take (length batches) classes = sym (ap (λ n. take n classes) (sym as_many) ∙ take-length classes) in
@@ -157,6 +154,7 @@ module _ (in_setting : Setting) (bounds : RunBounds) (opening : History) (next :
         count = length batches;
         within = omega arith;
         history = whole;
+        number = number;
         numbers = numbers;
         store = store;
         grown = subst (λ bs. IsGrown (manner_of in_setting bounds) opening bs (take (length batches) classes) whole) all_batches (subst (λ cs. IsGrown (manner_of in_setting bounds) opening batches cs whole) all_classes grown);
@@ -165,9 +163,24 @@ module _ (in_setting : Setting) (bounds : RunBounds) (opening : History) (next :
         says = says ∙ ap (λ cs. append_known said (take part (answers_of whole cs))) all_classes;
       }
 
+  -- where more may be skipped
+  pub later_served : (more : ℕ) → spare ≤ more → (seen : Observation) → IsServed in_setting bounds opening next spare batches classes whole said seen → IsServed in_setting bounds opening next more batches classes whole said seen
+  later_served more le seen s = record {
+    count = s.count;
+    within = s.within;
+    history = s.history;
+    number = s.number;
+    numbers = adds_later next s.number spare more opening s.history le s.numbers;
+    store = s.store;
+    grown = s.grown;
+    begins = s.begins;
+    part = s.part;
+    says = s.says;
+  }
+
   -- with a batch more
-  pub more_served : length classes ≡ length batches → (b : Lines) (c : List Class) (g : History) → IsPrefixOf whole g → (seen : Observation) → IsServed in_setting bounds opening next batches classes whole said seen
-      → IsServed in_setting bounds opening next (batches ++ b ∷ []) (classes ++ c ∷ []) g said seen
+  pub more_served : length classes ≡ length batches → (b : Lines) (c : List Class) (g : History) → IsPrefixOf whole g → (seen : Observation) → IsServed in_setting bounds opening next spare batches classes whole said seen
+      → IsServed in_setting bounds opening next spare (batches ++ b ∷ []) (classes ++ c ∷ []) g said seen
   more_served as_many b c g begins seen s =
       let same_batches : take s.count batches ≡ take s.count (batches ++ b ∷ []) = sym (take-append-le s.count batches (b ∷ []) s.within) in
       let same_classes : take s.count classes ≡ take s.count (classes ++ c ∷ []) = (let w = s.within in sym (take-append-le s.count classes (c ∷ []) (omega (arith, w, as_many)))) in
@@ -175,6 +188,7 @@ module _ (in_setting : Setting) (bounds : RunBounds) (opening : History) (next :
         count = s.count;
         within = (let w = s.within in let l = length-append batches (b ∷ []) in omega (arith, w, l));
         history = s.history;
+        number = s.number;
         numbers = s.numbers;
         store = s.store;
         grown = subst (λ bs. IsGrown (manner_of in_setting bounds) opening bs (take s.count (classes ++ c ∷ [])) s.history) same_batches
@@ -189,16 +203,16 @@ module _ (in_setting : Setting) (bounds : RunBounds) (opening : History) (next :
 abbrev pub new_reader : ReaderState
 new_reader = record { pending = []; ended = false; taken = 0; given = 0 }
 
--- the lines so far, and the numbers of epochs that they took at most
-pub record AreTaken (next : ℕ) (reader : ReaderState) (before now : SourceMoment) (k : ClusterState) : Type 0 where
+-- the lines so far, and the numbers of epochs that they took at most, but for those that may be skipped
+pub record AreTaken (next spare : ℕ) (reader : ReaderState) (before now : SourceMoment) (k : ClusterState) : Type 0 where
   pub lines : List Line
   pub takes : TakesLines new_reader reader before now lines reader.pending
   pub given : reader.given ≡ length lines
-  pub low : k.next_epoch ≤ next + length lines
+  pub low : SkipsFew next k.next_epoch (length lines) spare
 
 module _ {H : Type 0} (moment : H → ℕ) (observed : H → ℕ → Observation → Type 0) (said : H → Option (List ℕ)) (reads : H → Option Files) (may_leave : H → Files → Type 0) where
   -- the lines so far are whole batches, a host rests on the store that they make, and all their answers are said
-  pub record AreServed (c : Contents) (next : ℕ) (bounds : RunBounds) (lines : List Line) (k : ClusterState) (first host : H) : Type 0 where
+  pub record AreServed (c : Contents) (next spare : ℕ) (bounds : RunBounds) (lines : List Line) (k : ClusterState) (first host : H) : Type 0 where
     pub batches : List Lines
     pub classes : List (List Class)
     pub d : Contents
@@ -210,9 +224,8 @@ module _ {H : Type 0} (moment : H → ℕ) (observed : H → ℕ → Observation
     pub rests : RestsOn d (reads host) (may_leave host)
     pub stands : StandsAt d k
     pub says : said host ≡ append_known (said first) (answers_of (history_of d) classes)
-    pub moments : SeesOnly moment observed first host (IsServed c.setting bounds (history_of c) next batches classes (history_of d) (said first))
-    pub numbers : AddsFrom next (history_of c) (history_of d)
-    pub reached : k.next_epoch ≡ next + length numbers.added
+    pub moments : SeesOnly moment observed first host (IsServed c.setting bounds (history_of c) next spare batches classes (history_of d) (said first))
+    pub numbers : AddsWithin next k.next_epoch spare (history_of c) (history_of d)
     pub others : WritesLogs c.setting (reads first) (reads host) (may_leave first) (may_leave host)
 
   abbrev pub OnlyNow : Type 0
@@ -221,8 +234,8 @@ module _ {H : Type 0} (moment : H → ℕ) (observed : H → ℕ → Observation
   abbrev pub SeenNow : Type 0
   SeenNow = (host : H) (t : ℕ) (seen : Observation) → t ≤ moment host → may_leave host seen.image → said host ≡ Some seen.said → observed host t seen
 
-  pub served_new : OnlyNow → (c : Contents) (next : ℕ) (bounds : RunBounds) (k : ClusterState) (host : H) → k.next_epoch ≡ next → RestsOn c (reads host) (may_leave host) → StandsAt c k → AreServed c next bounds [] k host host
-  served_new only_now c next bounds k host same rests stands = record {
+  pub served_new : OnlyNow → (c : Contents) (spare : ℕ) (bounds : RunBounds) (k : ClusterState) (host : H) → RestsOn c (reads host) (may_leave host) → StandsAt c k → AreServed c k.next_epoch spare bounds [] k host host
+  served_new only_now c spare bounds k host rests stands = record {
     batches = [];
     classes = [];
     d = c;
@@ -234,13 +247,35 @@ module _ {H : Type 0} (moment : H → ℕ) (observed : H → ℕ → Observation
     rests = rests;
     stands = stands;
     says = sym (append_known-nil (said host));
-    moments = started moment observed host (IsServed c.setting bounds (history_of c) next [] [] (history_of c) (said host)) (λ seen since.
+    moments = started moment observed host (IsServed c.setting bounds (history_of c) k.next_epoch spare [] [] (history_of c) (said host)) (λ seen since.
         let now = only_now host seen since in
-        all_served c.setting bounds (history_of c) next [] [] (history_of c) (said host) (record { grown = (refl, refl); executed = refl }) (adds_none next (history_of c)) seen
-        (record { contents = c; setting = refl; good = rests.left seen.image now.0; history = refl; below = behind_later c k.next_epoch (next + 0 + 1) (omega (arith, same)) stands.next }) 0 (sym now.1 ∙ sym (append_known-nil (said host))));
-    numbers = adds_none next (history_of c);
-    reached = omega (arith, same);
+        all_served c.setting bounds (history_of c) k.next_epoch spare [] [] (history_of c) (said host) (record { grown = (refl, refl); executed = refl }) k.next_epoch none seen
+        (record { contents = c; setting = refl; good = rests.left seen.image now.0; history = refl; below = behind_later c k.next_epoch (k.next_epoch + 1) (omega arith) stands.next }) 0 (sym now.1 ∙ sym (append_known-nil (said host))));
+    numbers = none;
     others = writes_none c.setting (reads host) (reads host) (may_leave host) (may_leave host) refl (λ image left. left);
+  }
+    where
+      none : AddsWithin k.next_epoch k.next_epoch spare (history_of c) (history_of c)
+      none = adds_none k.next_epoch k.next_epoch spare (history_of c) (record { low = omega arith; few = omega arith })
+
+  -- where more may be skipped
+  abbrev pub served_later : (c : Contents) (next spare more : ℕ) (bounds : RunBounds) (lines : List Line) (k : ClusterState) (first host : H) → spare ≤ more → AreServed c next spare bounds lines k first host → AreServed c next more bounds lines k first host
+  served_later c next spare more bounds lines k first host le a = record {
+    batches = a.batches;
+    classes = a.classes;
+    d = a.d;
+    setting = a.setting;
+    lines_are = a.lines_are;
+    grown = a.grown;
+    whole = a.whole;
+    many = a.many;
+    rests = a.rests;
+    stands = a.stands;
+    says = a.says;
+    moments = sees_weaker moment observed first host (IsServed c.setting bounds (history_of c) next spare a.batches a.classes (history_of a.d) (said first)) (IsServed c.setting bounds (history_of c) next more a.batches a.classes (history_of a.d) (said first))
+        (later_served c.setting bounds (history_of c) next spare a.batches a.classes (history_of a.d) (said first) more le) a.moments;
+    numbers = adds_later next k.next_epoch spare more (history_of c) (history_of a.d) le a.numbers;
+    others = a.others;
   }
 
   -- what is left at exit was seen
@@ -249,7 +284,7 @@ module _ {H : Type 0} (moment : H → ℕ) (observed : H → ℕ → Observation
 
   -- ---- where a run ends between two batches
 
-  module _ (seen_now : SeenNow) (c : Contents) (next : ℕ) (bounds : RunBounds) (lines : List Line) (k : ClusterState) (first host : H) (a : AreServed c next bounds lines k first host) (bytes : List ℕ) (others : List Line)
+  module _ (seen_now : SeenNow) (c : Contents) (next spare : ℕ) (bounds : RunBounds) (lines : List Line) (k : ClusterState) (first host : H) (a : AreServed c next spare bounds lines k first host) (bytes : List ℕ) (others : List Line)
       (all : lines_of bytes ≡ lines ++ others) where
     abbrev tree : Procedures
     tree = c.setting.tree
@@ -260,37 +295,32 @@ module _ {H : Type 0} (moment : H → ℕ) (observed : H → ℕ → Observation
     abbrev h : History
     h = history_of a.d
 
-    abbrev still : Progress manner (history_of c) next bounds.size bytes
+    abbrev still : Progress manner (history_of c) next spare bounds.size bytes
     still = record {
       batches = a.batches;
       classes = a.classes;
       history = h;
       grown = a.grown;
+      end = k.next_epoch;
       numbers = a.numbers;
       first = record { others = others; lines = all ∙ ap (λ ls. ls ++ others) a.lines_are; cut = inl a.whole };
     }
 
-    ended_so : (e : Served) → RunEnds c next bounds bytes still (said first) (said host) (reads host) (may_leave host) e → Serves moment observed said reads may_leave c next bounds bytes e first host
+    ended_so : (e : Served) → RunEnds c next spare bounds bytes still (said first) (said host) (reads host) (may_leave host) e → Serves moment observed said reads may_leave c next spare bounds bytes e first host
     ended_so e ends = record {
       progress = still;
       moments = a.moments;
-      left = left_by seen_now first host (IsServed c.setting bounds (history_of c) next a.batches a.classes h (said first)) a.moments;
+      left = left_by seen_now first host (IsServed c.setting bounds (history_of c) next spare a.batches a.classes h (said first)) a.moments;
       others = a.others;
       ends = ends;
     }
 
-    abbrev end : ℕ
-    end = next + length a.numbers.added
+    rests_at : RestsAt c.setting h k.next_epoch (reads host) (may_leave host)
+    rests_at = (a.d, a.setting, refl, a.stands.next, a.rests)
 
-    below : IsBehindAll a.d end
-    below = behind_later a.d k.next_epoch end (let n = a.reached in omega (arith, n)) a.stands.next
-
-    rests_at : RestsAt c.setting h end (reads host) (may_leave host)
-    rests_at = (a.d, a.setting, refl, below, a.rests)
-
-    leaves_one : LeavesEither c.setting h h (end + 1) (said host) (may_leave host)
+    leaves_one : LeavesEither c.setting h h (k.next_epoch + 1) (said host) (may_leave host)
     leaves_one bytes spoke image leaves =
-        inl (record { contents = a.d; setting = a.setting; good = a.rests.left image leaves; history = refl; below = behind_later a.d end (end + 1) (omega arith) below })
+        inl (record { contents = a.d; setting = a.setting; good = a.rests.left image leaves; history = refl; below = behind_later a.d k.next_epoch (k.next_epoch + 1) (omega arith) a.stands.next })
 
     all_batches : IsGrown manner (history_of c) (take (length a.batches) a.batches) (take (length a.batches) a.classes) h
     all_batches =
@@ -301,12 +331,13 @@ module _ {H : Type 0} (moment : H → ℕ) (observed : H → ℕ → Observation
     all_classes : take (length a.batches) a.classes ≡ a.classes
     all_classes = ap (λ n. take n a.classes) (sym (paired tree (history_of c) a.batches a.classes h a.grown.grown)) ∙ take-length a.classes
 
-    leaves_by : (Says : History → List (List Class) → Type 0) → Says h a.classes → LeavesLast c.setting bounds (history_of c) next a.batches a.classes h Says (said host) (may_leave host)
+    leaves_by : (Says : History → List (List Class) → Type 0) → Says h a.classes → LeavesLast c.setting bounds (history_of c) next spare a.batches a.classes h Says (said host) (may_leave host)
     leaves_by Says says = record {
       count = length a.batches;
       last = inl refl;
       history = h;
       grown = all_batches;
+      number = k.next_epoch;
       numbers = a.numbers;
       says = subst (Says h) (sym all_classes) says;
       left = leaves_one;
@@ -323,28 +354,28 @@ module _ {H : Type 0} (moment : H → ℕ) (observed : H → ℕ → Observation
           most = omega arith;
         }
 
-    pub memory_ran_out : Serves moment observed said reads may_leave c next bounds bytes ending.NoMemory first host
+    pub memory_ran_out : Serves moment observed said reads may_leave c next spare bounds bytes ending.NoMemory first host
     memory_ran_out = ended_so ending.NoMemory (leaves_by (SaysUpTo (said first) (said host)) says_whole)
 
-    pub disk_failed : Serves moment observed said reads may_leave c next bounds bytes ending.DiskFault first host
+    pub disk_failed : Serves moment observed said reads may_leave c next spare bounds bytes ending.DiskFault first host
     disk_failed = ended_so ending.DiskFault (leaves_by (SaysAll (said first) (said host)) a.says)
 
-    pub epochs_used_up : epochs_end ≤ k.next_epoch → (more : Lines) (cs : List Class) → AreFirstBatches bounds.size bytes (a.batches ++ more ∷ []) → AreClasses tree (known_in h) more cs → 0 < length (new_of cs)
-        → Serves moment observed said reads may_leave c next bounds bytes ending.EpochsUsedUp first host
+    pub epochs_used_up : SkipsFew next epochs_end (length a.numbers.added) spare → (more : Lines) (cs : List Class) → AreFirstBatches bounds.size bytes (a.batches ++ more ∷ []) → AreClasses tree (known_in h) more cs → 0 < length (new_of cs)
+        → Serves moment observed said reads may_leave c next spare bounds bytes ending.EpochsUsedUp first host
     epochs_used_up end more cs so are some = ended_so ending.EpochsUsedUp (
       rests_at,
       a.says,
-      record { end = (let n = a.reached in omega (arith, n, end)); batch = more; classes = cs; first = so; are = are; some = some },
+      record { end = end; batch = more; classes = cs; first = so; are = are; some = some },
     )
 
-    pub read_failed : (rest : List Line) → ended_lines_of bytes ≡ lines ++ rest → length rest < bounds.size → Serves moment observed said reads may_leave c next bounds bytes ending.ReadFault first host
+    pub read_failed : (rest : List Line) → ended_lines_of bytes ≡ lines ++ rest → length rest < bounds.size → Serves moment observed said reads may_leave c next spare bounds bytes ending.ReadFault first host
     read_failed rest ended few = ended_so ending.ReadFault (
       record { whole = a.whole; others = rest; lines = ended ∙ ap (λ ls. ls ++ rest) a.lines_are; few = few },
       rests_at,
       a.says,
     )
 
-    pub finished : others ≡ [] → 0 < bounds.size → Serves moment observed said reads may_leave c next bounds bytes ending.Finished first host
+    pub finished : others ≡ [] → 0 < bounds.size → Serves moment observed said reads may_leave c next spare bounds bytes ending.Finished first host
     finished none some = ended_so ending.Finished (
       (all ∙ ap (λ ls. lines ++ ls) none ∙ append-nil lines ∙ a.lines_are, cut_full bounds.size a.batches a.whole some),
       rests_at,

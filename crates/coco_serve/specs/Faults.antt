@@ -1,9 +1,10 @@
 -- Where the faults of a batch come from, and what they are to a run.
-use Rattle.std.specs.Prelude.{◌≡◌, ⊤, ℕ, ◌<◌, ◌≤◌, Result, Ok, Err}
+use Rattle.std.specs.Prelude.{◌≡◌, ⊤, ℕ, ◌<◌, Result, Ok, Err}
 use Rattle.coco_types.specs.Limits.{epochs_end}
 use Rattle.coco_types.specs.declared.error.OutFault.{OutFault}
 use Rattle.coco_types.specs.declared.error.OutFault.TheVariants as out
 use Rattle.coco_io.specs.Counts.{Rose}
+use Rattle.coco_cluster.specs.Around.{SkipsFew}
 use Rattle.coco_cluster.specs.declared.fault.TurnFault.{TurnFault}
 use Rattle.coco_cluster.specs.declared.fault.TurnFault.TheVariants as turn
 use Rattle.coco_serve.specs.declared.fault.BatchFault.{BatchFault}
@@ -25,10 +26,11 @@ pub record Counts : Type 0 where
   pub say : ℕ
   pub disk : ℕ
 
--- a count rose where its fault is answered, and none moved where there is no fault; epochs are used up where there is no next number for so many requests
-abbrev pub CountsBatch : {T : Type 0} → Result T BatchFault → ℕ → ℕ → Counts → Counts → Type 0
-CountsBatch (Ok x) next requests before after = after ≡ before
-CountsBatch (Err fault.Say) next requests before after = Rose before.say after.say
-CountsBatch (Err fault.Disk) next requests before after = Rose before.disk after.disk
-CountsBatch (Err fault.EpochsUsedUp) next requests before after = (epochs_end ≤ next) × (0 < requests)
-CountsBatch (Err fault.NoMemory) next requests before after = ⊤
+-- a count rose where its fault is answered, and none moved where there is no fault; epochs are used up where there is no next number for so many requests, but for few that may
+-- have been skipped
+abbrev pub CountsBatch : {T : Type 0} → Result T BatchFault → ℕ → ℕ → ℕ → Counts → Counts → Type 0
+CountsBatch (Ok x) next spare requests before after = after ≡ before
+CountsBatch (Err fault.Say) next spare requests before after = Rose before.say after.say
+CountsBatch (Err fault.Disk) next spare requests before after = Rose before.disk after.disk
+CountsBatch (Err fault.EpochsUsedUp) next spare requests before after = SkipsFew next epochs_end 0 spare × (0 < requests)
+CountsBatch (Err fault.NoMemory) next spare requests before after = ⊤

@@ -1,10 +1,11 @@
 -- How a history grows by batches of lines, and which batches are the first ones of a text.
-use Rattle.std.specs.Prelude.{◌≡◌, ◌⊎◌, ⊤, ℕ, List, [], ◌∷◌, ◌++◌, length, map}
+use Rattle.std.specs.Prelude.{◌≡◌, ◌⊎◌, ⊤, ℕ, ◌+◌, ◌≤◌, List, [], ◌∷◌, ◌++◌, length, map}
 use Rattle.std.specs.List.{AllByRecursion, range_with_len}
 use Rattle.coco_types.specs.declared.call.Request.{Request}
 use Rattle.coco_ast.specs.Growth.{GrowsBy, GrowsInTurn}
 use Rattle.coco_ast.specs.History.{Epoch, History, followed_by, map_of}
 use Rattle.coco_ast.specs.Tree.{Procedures}
+use Rattle.coco_cluster.specs.Around.{SkipsFew}
 use Rattle.coco_lines.specs.Answers.{answers_in}
 use Rattle.coco_lines.specs.Batches.{AreBatches, Batch, joined}
 use Rattle.coco_lines.specs.Classes.{new_of}
@@ -40,20 +41,21 @@ HasExecution m h (r ∷ rs) g = (e : Epoch) × ComeOfExecution (beginning_behind
 abbrev pub GrowsByExecution : Manner → History → List Request → History → Type 0
 GrowsByExecution m h requests g = GrowsBy h requests g × HasExecution m h requests g
 
+-- the numbers of these epochs rise, from `next` on and below `end`
+abbrev pub AreNumberedWithin : ℕ → ℕ → List Epoch → Type 0
+AreNumberedWithin next end [] = next ≤ end
+AreNumberedWithin next end (e ∷ epochs) = (next ≤ e.number) × AreNumberedWithin (e.number + 1) end epochs
+
+-- a history has the epochs of another, and behind them these, numbered so; few numbers below `end` are no epoch's
+pub record AddsWithin (next end spare : ℕ) (opening history : History) : Type 0 where
+  pub added : List Epoch
+  pub epochs : history.epochs ≡ opening.epochs ++ added
+  pub numbered : AreNumberedWithin next end added
+  pub few : SkipsFew next end (length added) spare
+
 -- these epochs are numbered next, next + 1 and so on, without a gap
 abbrev pub AreNumberedFrom : ℕ → List Epoch → Type 0
 AreNumberedFrom next epochs = map (λ (e : Epoch). e.number) epochs ≡ range_with_len next (length epochs)
-
--- a history has the epochs of another, and behind them these, numbered from `next` on
-pub record AddsFrom (next : ℕ) (opening history : History) : Type 0 where
-  pub added : List Epoch
-  pub epochs : history.epochs ≡ opening.epochs ++ added
-  pub numbered : AreNumberedFrom next added
-
--- how many epochs these requests make
-abbrev pub epochs_of : List Request → ℕ
-epochs_of [] = 0
-epochs_of (r ∷ rs) = 1
 
 -- the history that the opening one has grown to by these batches, whose lines have these classes
 pub record IsGrown (m : Manner) (opening : History) (batches : List Batch) (classes : List (List Class)) (history : History) : Type 0 where

@@ -1,15 +1,17 @@
 -- What is committed and said of one batch, and what is seen meanwhile.
-use Rattle.std.specs.Prelude.{◌≡◌, ◌⊎◌, ℕ, ◌+◌, List, length, take, Option, Result, Ok, Err}
+use Rattle.std.specs.Prelude.{◌≡◌, ◌⊎◌, ℕ, ◌+◌, List, take, Option, Result, Ok, Err, OnOk}
 use Rattle.std.specs.Io.KnownBytes.{append_known}
 use Rattle.coco_append.specs.Gaining.{RestsOn}
 use Rattle.coco_ast.specs.History.{kept}
 use Rattle.coco_batches.specs.declared.batch.Batch.{Batch}
+use Rattle.coco_cluster.specs.Around.{IsTaken}
 use Rattle.coco_cluster.specs.Standing.{ClusterState, IsBehindAll, StandsAt}
+use Rattle.coco_cluster.specs.Turning.{epochs_of}
 use Rattle.coco_cluster.specs.Writing.{WritesLogs}
 use Rattle.coco_host.specs.Files.{Files}
 use Rattle.coco_host.specs.Moments.{Observation, SeesOnly}
 use Rattle.coco_store.specs.Contents.{Contents, history_of}
-use Rattle.coco_serve.specs.Growth.{AddsFrom, GrowsByExecution, manner_of}
+use Rattle.coco_serve.specs.Growth.{AddsWithin, GrowsByExecution, manner_of}
 use Rattle.coco_serve.specs.Seen.{LeavesEither, ShowsBatch}
 use Rattle.coco_serve.specs.Texts.{texts_over}
 use Rattle.coco_serve.specs.declared.fault.BatchFault.{BatchFault}
@@ -34,18 +36,21 @@ BatchEnds c d end after texts before now reads may_leave (Err fault.EpochsUsedUp
 BatchEnds c d end after texts before now reads may_leave (Err fault.NoMemory) =
     LeavesEither c.setting (history_of c) (history_of d) end before may_leave × (now ≡ before) ⊎ RestsOn d reads may_leave × SaysPart texts before now
 
--- the store has grown by a batch, whose epoch, if it has one, is numbered `next`, and whose answers are said behind it. At each moment there is the store
--- of before with nothing said, or the grown one with a front of the answers, and no entry is of a later epoch; and behind it the other files are as they were
+-- the store has grown by a batch, whose epoch, if it has one, has this number, before which few were skipped, and whose answers are said behind it. At each moment there is the
+-- store of before with nothing said, or the grown one with a front of the answers, and no entry is of a later epoch; and behind it the other files are as they were
 pub record WorksOffBatch {H : Type 0} (moment : H → ℕ) (observed : H → ℕ → Observation → Type 0) (said : H → Option (List ℕ)) (reads : H → Option Files) (may_leave : H → Files → Type 0)
-    (result : Result (Unit {0}) BatchFault) (batch : Batch) (bounds : RunBounds) (c : Contents) (next : ℕ) (after : ClusterState) (old new : H) : Type 0 where
+    (result : Result (Unit {0}) BatchFault) (batch : Batch) (bounds : RunBounds) (c : Contents) (next spare : ℕ) (after : ClusterState) (old new : H) : Type 0 where
   pub d : Contents
   pub setting : d.setting ≡ c.setting
   pub grows : GrowsByExecution (manner_of c.setting bounds) (history_of c) batch.fresh (history_of d)
-  pub numbers : AddsFrom next (history_of c) (history_of d)
-  pub below : IsBehindAll d (next + length numbers.added)
-  pub moments : SeesOnly moment observed old new (ShowsBatch c.setting (history_of c) (history_of d) (next + 1) (said old) (batch_texts c d batch))
+  pub number : ℕ
+  pub taken : IsTaken next number spare
+  pub numbers : AddsWithin next (number + epochs_of batch.fresh) spare (history_of c) (history_of d)
+  pub below : IsBehindAll d (number + epochs_of batch.fresh)
+  pub next_is : OnOk result (after.next_epoch ≡ number + epochs_of batch.fresh)
+  pub moments : SeesOnly moment observed old new (ShowsBatch c.setting (history_of c) (history_of d) (number + 1) (said old) (batch_texts c d batch))
   pub others : WritesLogs c.setting (reads old) (reads new) (may_leave old) (may_leave new)
-  pub ends : BatchEnds c d (next + 1) after (batch_texts c d batch) (said old) (said new) (reads new) (may_leave new) result
+  pub ends : BatchEnds c d (number + 1) after (batch_texts c d batch) (said old) (said new) (reads new) (may_leave new) result
 
 -- a batch may break off before anything is done
 abbrev pub IsRefused : {H : Type 0} → Result (Unit {0}) BatchFault → H → H → Type 0

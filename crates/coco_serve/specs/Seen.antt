@@ -8,17 +8,18 @@ use Rattle.coco_host.specs.Moments.{Observation}
 use Rattle.coco_lines.specs.Batches.{Batch}
 use Rattle.coco_lines.specs.declared.class.Class.{Class}
 use Rattle.coco_store.specs.Rules.{Setting}
-use Rattle.coco_serve.specs.Growth.{AddsFrom, IsGrown, answers_of, manner_of}
+use Rattle.coco_serve.specs.Growth.{AddsWithin, IsGrown, answers_of, manner_of}
 use Rattle.coco_serve.specs.declared.bounds.RunBounds.{RunBounds}
 
 -- seen at a moment: a good store under the same layout, whose history is the opening one grown by some first batches and begins the whole one; and a front of the answers of these
--- batches' lines, behind what was said before. The epochs that were added are numbered from `next` on, and behind them no entry is of another epoch than the one that is under way
-pub record IsServed (s : Setting) (bounds : RunBounds) (opening : History) (next : ℕ) (batches : List Batch) (classes : List (List Class)) (whole : History) (said : Option (List ℕ)) (seen : Observation) : Type 0 where
+-- batches' lines, behind what was said before. The epochs that were added are numbered from `next` on, few numbers are skipped, and no entry is of an epoch behind the one that is under way
+pub record IsServed (s : Setting) (bounds : RunBounds) (opening : History) (next spare : ℕ) (batches : List Batch) (classes : List (List Class)) (whole : History) (said : Option (List ℕ)) (seen : Observation) : Type 0 where
   pub count : ℕ
   pub within : count ≤ length batches
   pub history : History
-  pub numbers : AddsFrom next opening history
-  pub store : IsStoreOf s history (next + length numbers.added + 1) seen.image
+  pub number : ℕ
+  pub numbers : AddsWithin next number spare opening history
+  pub store : IsStoreOf s history (number + 1) seen.image
   pub grown : IsGrown (manner_of s bounds) opening (take count batches) (take count classes) history
   pub begins : IsPrefixOf history whole
   pub part : ℕ

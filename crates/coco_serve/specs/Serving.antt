@@ -4,6 +4,7 @@ use Rattle.std.specs.Io.KnownBytes.{append_known}
 use Rattle.coco_types.specs.Limits.{epochs_end, most_input_bytes}
 use Rattle.coco_append.specs.Gaining.{RestsOn}
 use Rattle.coco_ast.specs.History.{History}
+use Rattle.coco_cluster.specs.Around.{Around, IsLater, SkipsFew, spare}
 use Rattle.coco_cluster.specs.Standing.{ClusterState, IsBehindAll, StandsAt}
 use Rattle.coco_cluster.specs.Writing.{WritesLogs}
 use Rattle.coco_host.specs.Files.{Files}
@@ -16,7 +17,7 @@ use Rattle.coco_lines.specs.Reads.{Gives, IsSpent, SourceMoment}
 use Rattle.coco_lines.specs.declared.class.Class.{Class}
 use Rattle.coco_store.specs.Contents.{Contents, history_of}
 use Rattle.coco_store.specs.Rules.{Setting}
-use Rattle.coco_serve.specs.Growth.{AddsFrom, AreFirstBatches, HaveSize, IsGrown, Manner, answers_of, manner_of}
+use Rattle.coco_serve.specs.Growth.{AddsWithin, AreFirstBatches, HaveSize, IsGrown, Manner, answers_of, manner_of}
 use Rattle.coco_serve.specs.Seen.{IsServed, LeavesEither}
 use Rattle.coco_serve.specs.declared.ending.Served.{Served}
 use Rattle.coco_serve.specs.declared.bounds.RunBounds.{RunBounds}
@@ -24,32 +25,38 @@ use Rattle.coco_serve.specs.declared.ending.Served.TheVariants.{Finished, ReadFa
 
 -- ---- causes
 
--- what a run sees and changes beside its store, at one moment: its source, and the counts of faults
+-- what a run sees and changes beside its store, at one moment: its source, the counts of faults, and what the net and the power tell
 pub record Outside : Type 0 where
   pub source : SourceMoment
   pub source_faults : ℕ
   pub say_faults : ℕ
   pub disk_faults : ℕ
+  pub around : Around
 
--- why a run ended so, by the bytes that the source gave; epochs are used up where the number of the next one and the lines reach the end. Want of memory
--- needs no cause
+-- in sixteenths, how many numbers may be skipped in a run
+abbrev pub spare_of : Outside → Outside → ℕ
+spare_of before after = spare before.around after.around
+
+-- why a run ended so, by the bytes that the source gave; epochs are used up where the numbers from the next one on reach the end, by one for each line and few that may be skipped. Want of
+-- memory needs no cause
 abbrev pub HasCause : ℕ → List ℕ → Outside → Outside → Served → Type 0
 HasCause next bytes before after Finished = IsSpent after.source
 HasCause next bytes before after ReadFault = Rose before.source_faults after.source_faults ⊎ (length bytes ≡ most_input_bytes)
 HasCause next bytes before after SayFault = Rose before.say_faults after.say_faults
 HasCause next bytes before after DiskFault = Rose before.disk_faults after.disk_faults
-HasCause next bytes before after EpochsUsedUp = epochs_end ≤ next + length (lines_of bytes)
+HasCause next bytes before after EpochsUsedUp = SkipsFew next epochs_end (length (lines_of bytes)) (spare_of before after)
 HasCause next bytes before after NoMemory = ⊤
 
 -- ---- batches and answers
 
--- a history grown by the first batches of these bytes, the epochs that it has more numbered from `next` on
-pub record Progress (m : Manner) (opening : History) (next size : ℕ) (bytes : List ℕ) : Type 0 where
+-- a history grown by the first batches of these bytes, the epochs that it has more numbered from `next` on and below `end`
+pub record Progress (m : Manner) (opening : History) (next spare size : ℕ) (bytes : List ℕ) : Type 0 where
   pub batches : List Batch
   pub classes : List (List Class)
   pub history : History
   pub grown : IsGrown m opening batches classes history
-  pub numbers : AddsFrom next opening history
+  pub end : ℕ
+  pub numbers : AddsWithin next end spare opening history
   pub first : AreFirstBatches size bytes batches
 
 -- they are all batches of the lines
@@ -79,21 +86,22 @@ pub record SaysUpTo (before now : Option (List ℕ)) (h : History) (classes : Li
 abbrev pub RestsAt : Setting → History → ℕ → Option Files → (Files → Type 0) → Type 0
 RestsAt s h end reads may_leave = (d : Contents) × (d.setting ≡ s) × (history_of d ≡ h) × IsBehindAll d end × RestsOn d reads may_leave
 
--- some first batches are said, all of them or all but one; what a crash may leave is a store of their history or of the whole one, and no entry in it is of a later epoch than the next one
--- behind that history
-pub record LeavesLast (s : Setting) (bounds : RunBounds) (opening : History) (next : ℕ) (batches : List Batch) (classes : List (List Class)) (whole : History) (Says : History → List (List Class) → Type 0)
+-- some first batches are said, all of them or all but one; what a crash may leave is a store of their history or of the whole one, and no entry in it is of a later epoch than the one
+-- that was tried last
+pub record LeavesLast (s : Setting) (bounds : RunBounds) (opening : History) (next spare : ℕ) (batches : List Batch) (classes : List (List Class)) (whole : History) (Says : History → List (List Class) → Type 0)
     (now : Option (List ℕ)) (may_leave : Files → Type 0) : Type 0 where
   pub count : ℕ
   pub last : (length batches ≡ count) ⊎ (length batches ≡ count + 1)
   pub history : History
   pub grown : IsGrown (manner_of s bounds) opening (take count batches) (take count classes) history
-  pub numbers : AddsFrom next opening history
+  pub number : ℕ
+  pub numbers : AddsWithin next number spare opening history
   pub says : Says history (take count classes)
-  pub left : LeavesEither s history whole (next + length numbers.added + 1) now may_leave
+  pub left : LeavesEither s history whole (number + 1) now may_leave
 
--- as many epochs were added as there were numbers for, and the next batch has a new request
-pub record AreUsedUp (m : Manner) (opening : History) (next size : ℕ) (bytes : List ℕ) (p : Progress m opening next size bytes) : Type 0 where
-  pub end : epochs_end ≤ next + length p.numbers.added
+-- as many epochs were added as there were numbers for, but for few that may be skipped, and the next batch has a new request
+pub record AreUsedUp (m : Manner) (opening : History) (next spare size : ℕ) (bytes : List ℕ) (p : Progress m opening next spare size bytes) : Type 0 where
+  pub end : SkipsFew next epochs_end (length p.numbers.added) spare
   pub batch : Batch
   pub classes : List Class
   pub first : AreFirstBatches size bytes (p.batches ++ batch ∷ [])
@@ -104,30 +112,31 @@ pub record AreUsedUp (m : Manner) (opening : History) (next size : ℕ) (bytes :
 
 -- by its ending: an input that was read to its end is committed and answered whole; after a fault of reading so are all whole batches; a fault of saying
 -- leaves all batches committed, the last one said in part; and after a fault of the disk, or out of memory, one batch more may be committed than is said
-abbrev pub RunEnds : (c : Contents) → (next : ℕ) → (bounds : RunBounds) → (bytes : List ℕ) → Progress (manner_of c.setting bounds) (history_of c) next bounds.size bytes → Option (List ℕ) → Option (List ℕ) → Option Files → (Files → Type 0) → Served → Type 0
-RunEnds c next bounds bytes p before now reads may_leave Finished = AreAll bounds.size bytes p.batches × RestsAt c.setting p.history (next + length p.numbers.added) reads may_leave × SaysAll before now p.history p.classes
-RunEnds c next bounds bytes p before now reads may_leave ReadFault = AreAllWhole bounds.size bytes p.batches × RestsAt c.setting p.history (next + length p.numbers.added) reads may_leave × SaysAll before now p.history p.classes
-RunEnds c next bounds bytes p before now reads may_leave SayFault = RestsAt c.setting p.history (next + length p.numbers.added) reads may_leave × SaysUpTo before now p.history p.classes
-RunEnds c next bounds bytes p before now reads may_leave DiskFault =
-    LeavesLast c.setting bounds (history_of c) next p.batches p.classes p.history (SaysAll before now) now may_leave
-RunEnds c next bounds bytes p before now reads may_leave EpochsUsedUp =
-    RestsAt c.setting p.history (next + length p.numbers.added) reads may_leave × SaysAll before now p.history p.classes × AreUsedUp (manner_of c.setting bounds) (history_of c) next bounds.size bytes p
-RunEnds c next bounds bytes p before now reads may_leave NoMemory =
-    LeavesLast c.setting bounds (history_of c) next p.batches p.classes p.history (SaysUpTo before now) now may_leave
+abbrev pub RunEnds : (c : Contents) → (next spare : ℕ) → (bounds : RunBounds) → (bytes : List ℕ) → Progress (manner_of c.setting bounds) (history_of c) next spare bounds.size bytes → Option (List ℕ) → Option (List ℕ) → Option Files → (Files → Type 0) → Served → Type 0
+RunEnds c next spare bounds bytes p before now reads may_leave Finished = AreAll bounds.size bytes p.batches × RestsAt c.setting p.history p.end reads may_leave × SaysAll before now p.history p.classes
+RunEnds c next spare bounds bytes p before now reads may_leave ReadFault = AreAllWhole bounds.size bytes p.batches × RestsAt c.setting p.history p.end reads may_leave × SaysAll before now p.history p.classes
+RunEnds c next spare bounds bytes p before now reads may_leave SayFault = RestsAt c.setting p.history p.end reads may_leave × SaysUpTo before now p.history p.classes
+RunEnds c next spare bounds bytes p before now reads may_leave DiskFault =
+    LeavesLast c.setting bounds (history_of c) next spare p.batches p.classes p.history (SaysAll before now) now may_leave
+RunEnds c next spare bounds bytes p before now reads may_leave EpochsUsedUp =
+    RestsAt c.setting p.history p.end reads may_leave × SaysAll before now p.history p.classes × AreUsedUp (manner_of c.setting bounds) (history_of c) next spare bounds.size bytes p
+RunEnds c next spare bounds bytes p before now reads may_leave NoMemory =
+    LeavesLast c.setting bounds (history_of c) next spare p.batches p.classes p.history (SaysUpTo before now) now may_leave
 
 -- of a host that rested on these contents: what was seen in the run and is left behind it, which files it wrote, and how it ended
 pub record Serves {H : Type 0} (moment : H → ℕ) (observed : H → ℕ → Observation → Type 0) (said : H → Option (List ℕ)) (reads : H → Option Files) (may_leave : H → Files → Type 0)
-    (c : Contents) (next : ℕ) (bounds : RunBounds) (bytes : List ℕ) (ending : Served) (old new : H) : Type 0 where
-  pub progress : Progress (manner_of c.setting bounds) (history_of c) next bounds.size bytes
-  pub moments : SeesOnly moment observed old new (IsServed c.setting bounds (history_of c) next progress.batches progress.classes progress.history (said old))
-  pub left : (seen : Observation) → said new ≡ Some seen.said → may_leave new seen.image → IsServed c.setting bounds (history_of c) next progress.batches progress.classes progress.history (said old) seen
+    (c : Contents) (next spare : ℕ) (bounds : RunBounds) (bytes : List ℕ) (ending : Served) (old new : H) : Type 0 where
+  pub progress : Progress (manner_of c.setting bounds) (history_of c) next spare bounds.size bytes
+  pub moments : SeesOnly moment observed old new (IsServed c.setting bounds (history_of c) next spare progress.batches progress.classes progress.history (said old))
+  pub left : (seen : Observation) → said new ≡ Some seen.said → may_leave new seen.image → IsServed c.setting bounds (history_of c) next spare progress.batches progress.classes progress.history (said old) seen
   pub others : WritesLogs c.setting (reads old) (reads new) (may_leave old) (may_leave new)
-  pub ends : RunEnds c next bounds bytes progress (said old) (said new) (reads new) (may_leave new) ending
+  pub ends : RunEnds c next spare bounds bytes progress (said old) (said new) (reads new) (may_leave new) ending
 
--- the bytes that the source gave, why the run ended so, and what it made of each store that the cluster stood at
+-- the bytes that the source gave, what came of net and power, why the run ended so, and what it made of each store that the cluster stood at
 pub record Runs {H : Type 0} (moment : H → ℕ) (observed : H → ℕ → Observation → Type 0) (said : H → Option (List ℕ)) (reads : H → Option Files) (may_leave : H → Files → Type 0)
     (cluster : ClusterState) (bounds : RunBounds) (before after : Outside) (ending : Served) (old new : H) : Type 0 where
   pub bytes : List ℕ
   pub gives : Gives before.source after.source bytes
+  pub later : IsLater before.around after.around
   pub cause : HasCause cluster.next_epoch bytes before after ending
-  pub serves : (c : Contents) → RestsOn c (reads old) (may_leave old) → StandsAt c cluster → Serves moment observed said reads may_leave c cluster.next_epoch bounds bytes ending old new
+  pub serves : (c : Contents) → RestsOn c (reads old) (may_leave old) → StandsAt c cluster → Serves moment observed said reads may_leave c cluster.next_epoch (spare_of before after) bounds bytes ending old new

@@ -2,6 +2,7 @@
 ghost use Rattle.std.specs.Prelude.{◌≡◌, ◌<◌, ◌≤◌, false, length};
 ghost use Rattle.coco_types.specs.Limits.{most_batch_lines, most_kept};
 ghost use Rattle.coco_append.specs.Gaining.{Stands};
+ghost use Rattle.coco_cluster.specs.Around.{around};
 ghost use Rattle.coco_serve.specs.Serving.{Runs};
 
 use crate::bounds::RunBounds;
@@ -13,6 +14,8 @@ use coco_gate::Gate;
 use coco_host::Host;
 use coco_io::Source;
 use coco_lines::{LineFault, Reader, Scratch};
+use coco_net::Net;
+use coco_power::Power;
 use std::alloc::Global;
 use std::sync::Wait;
 use std::thread::Threads;
@@ -20,10 +23,19 @@ use std::time::Clock;
 
 /// Reads request lines to the end of the input, and works them off within these bounds. The new requests of a batch are
 /// committed to the files before its answers are said.
-pub fn answer_lines<R: Threads + Wait + Clock + Sync, H: Host, S: Source, G: Gate + Sync>(
+pub fn answer_lines<
+    R: Threads + Wait + Clock + Sync,
+    H: Host,
+    N: Net + Sync,
+    P: Power,
+    S: Source,
+    G: Gate + Sync,
+>(
     rt: &R,
     alloc: Global,
     host: &mut H,
+    net: &mut N,
+    power: &mut P,
     cluster: &mut Cluster,
     input: &mut S,
     bounds: RunBounds,
@@ -37,8 +49,8 @@ pub fn answer_lines<R: Threads + Wait + Clock + Sync, H: Host, S: Source, G: Gat
     requires room { length cluster.old.kept.dones ≤ most_kept }
     requires stand { Stands cluster.old.node (H.reads host.old) (H.may_leave host.old) × Stands cluster.old.chief (H.reads host.old) (H.may_leave host.old) }
     ensures { Runs H.moment H.observed H.said H.reads H.may_leave cluster.old bounds
-        (record { source = record { given = S.given input.old; left = S.remaining input.old; at_end = S.at_end input.old }; source_faults = S.faults input.old; say_faults = H.say_faults host.old; disk_faults = H.disk_faults host.old })
-        (record { source = record { given = S.given input.new; left = S.remaining input.new; at_end = S.at_end input.new }; source_faults = S.faults input.new; say_faults = H.say_faults host.new; disk_faults = H.disk_faults host.new })
+        (record { source = record { given = S.given input.old; left = S.remaining input.old; at_end = S.at_end input.old }; source_faults = S.faults input.old; say_faults = H.say_faults host.old; disk_faults = H.disk_faults host.old; around = around N.sent N.given N.faults N.last_seed P.stops_seen P.early_stops P.stopped P.begun P.asked net.old power.old })
+        (record { source = record { given = S.given input.new; left = S.remaining input.new; at_end = S.at_end input.new }; source_faults = S.faults input.new; say_faults = H.say_faults host.new; disk_faults = H.disk_faults host.new; around = around N.sent N.given N.faults N.last_seed P.stops_seen P.early_stops P.stopped P.begun P.asked net.new power.new })
         result host.old host.new }
 {
     let mut reader = Reader::new(alloc);
@@ -62,7 +74,7 @@ pub fn answer_lines<R: Threads + Wait + Clock + Sync, H: Host, S: Source, G: Gat
         if count == 0 {
             return Served::Finished;
         }
-        match turn_and_say(rt, alloc, host, cluster, batch, bounds, gate) {
+        match turn_and_say(rt, alloc, host, net, power, cluster, batch, bounds, gate) {
             Ok(()) => {}
             Err(fault) => return Served::from(fault),
         }

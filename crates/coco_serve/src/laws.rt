@@ -1,15 +1,18 @@
 //! What holds of lines that come again, whatever the program does.
 
-ghost use Rattle.std.specs.Prelude.{◌≡◌, ◌++◌, ◌∷◌, ℕ, List, None, Some, map, slice_get};
+ghost use Rattle.std.specs.Prelude.{◌≡◌, ◌++◌, ◌+◌, ◌∷◌, ℕ, List, None, Some, length, map, slice_get};
 ghost use Rattle.std.specs.List.{AllByRecursion};
 ghost use Rattle.coco_ast.specs.Growth.{AreNew};
 ghost use Rattle.coco_ast.specs.History.{History, IsOrdered};
 ghost use Rattle.coco_ast.specs.Tree.{Procedures};
+ghost use Rattle.coco_cluster.specs.Around.{Around, spare};
+ghost use Rattle.coco_io.specs.Counts.{Rose};
 ghost use Rattle.coco_lines.specs.Batches.{Batch, joined};
 ghost use Rattle.coco_lines.specs.Classes.{new_of};
 ghost use Rattle.coco_lines.specs.Growing.{GrowsByBatches};
 ghost use Rattle.coco_lines.specs.Lines.{Line};
 ghost use Rattle.coco_lines.specs.declared.class.Class.{Class as LineClass};
+ghost use Rattle.coco_serve.specs.Growth.{AddsWithin, AreNumberedFrom};
 ghost use Rattle.coco_serve.specs.Again.{AreAnsweredAgain, ComesAgain, IsNotFull, StandsAt, again};
 
 /// The same lines again on the history that they left, however they are cut. No id that the history has runs a second
@@ -46,4 +49,11 @@ pub fn a_line_again()
         (i : ℕ) (line : Line) (first second : LineClass)
         → IsOrdered before → AllByRecursion IsNotFull (joined cs) → joined repeated ≡ joined batches ++ others → GrowsByBatches procs before batches cs g → GrowsByBatches procs g repeated ds k
         → StandsAt i (joined batches) (joined cs) line first → slice_get (joined ds) i ≡ Some second → ComesAgain procs g g k line first second }
+{}
+
+/// Where no node stopped before its entry, and the net lost no letter, no number is skipped: the epochs that were added
+/// are numbered without a gap, and the number behind them comes next.
+pub fn no_number_is_skipped()
+    ensures { (before after : Around) (next end : ℕ) (opening history : History) → ¬ (Rose before.faults after.faults) → ¬ (Rose before.early after.early)
+        → (adds : AddsWithin next end (spare before after) opening history) → AreNumberedFrom next adds.added × (end ≡ next + length adds.added) }
 {}

@@ -3,10 +3,11 @@ ghost use Rattle.std.specs.Prelude.{◌≡◌, ◌⊎◌, ◌+◌, ◌≤◌, �
 ghost use Rattle.coco_types.specs.Limits.{most_batch_lines, most_kept};
 ghost use Rattle.coco_append.specs.Gaining.{RestsOn, Stands};
 ghost use Rattle.coco_batches.specs.Asking.{MayCommit};
+ghost use Rattle.coco_cluster.specs.Around.{IsLater, SkipsFew, around, spare};
 ghost use Rattle.coco_cluster.specs.Standing.{StandsAt};
+ghost use Rattle.coco_cluster.specs.Turning.{epochs_of};
 ghost use Rattle.coco_store.specs.Contents.{Contents};
 ghost use Rattle.coco_serve.specs.Faults.{CountsBatch};
-ghost use Rattle.coco_serve.specs.Growth.{epochs_of};
 ghost use Rattle.coco_serve.specs.OneBatch.{IsRefused, WorksOffBatch};
 
 use crate::bounds::RunBounds;
@@ -16,6 +17,8 @@ use coco_batches::Batch;
 use coco_cluster::Cluster;
 use coco_gate::Gate;
 use coco_host::{Host, say_all};
+use coco_net::Net;
+use coco_power::Power;
 use std::alloc::Global;
 use std::sync::Wait;
 use std::thread::Threads;
@@ -23,10 +26,18 @@ use std::time::Clock;
 
 /// Commits the new requests of a batch within these bounds, and then says its answers. After a fault the cluster is of
 /// no further use.
-pub fn turn_and_say<R: Threads + Wait + Clock + Sync, H: Host, G: Gate + Sync>(
+pub fn turn_and_say<
+    R: Threads + Wait + Clock + Sync,
+    H: Host,
+    N: Net + Sync,
+    P: Power,
+    G: Gate + Sync,
+>(
     rt: &R,
     alloc: Global,
     host: &mut H,
+    net: &mut N,
+    power: &mut P,
     cluster: &mut Cluster,
     batch: Batch,
     bounds: RunBounds,
@@ -39,13 +50,14 @@ pub fn turn_and_say<R: Threads + Wait + Clock + Sync, H: Host, G: Gate + Sync>(
     requires few { length batch.fresh ≤ most_batch_lines }
     requires stand { Stands cluster.old.node (H.reads host.old) (H.may_leave host.old) × Stands cluster.old.chief (H.reads host.old) (H.may_leave host.old) }
     ensures answers { (c : Contents) → RestsOn c (H.reads host.old) (H.may_leave host.old) → StandsAt c cluster.old
-        → IsRefused result host.old host.new ⊎ WorksOffBatch H.moment H.observed H.said H.reads H.may_leave result batch bounds c cluster.old.next_epoch cluster.new host.old host.new }
+        → IsRefused result host.old host.new ⊎ WorksOffBatch H.moment H.observed H.said H.reads H.may_leave result batch bounds c cluster.old.next_epoch (spare (around N.sent N.given N.faults N.last_seed P.stops_seen P.early_stops P.stopped P.begun P.asked net.old power.old) (around N.sent N.given N.faults N.last_seed P.stops_seen P.early_stops P.stopped P.begun P.asked net.new power.new)) cluster.new host.old host.new }
     ensures stand { OnOk result (Stands cluster.new.node (H.reads host.new) (H.may_leave host.new) × Stands cluster.new.chief (H.reads host.new) (H.may_leave host.new)) }
     ensures unspent { OnOk result (cluster.new.spent ≡ false) }
     ensures few { OnOk result (length cluster.new.kept.dones ≤ most_kept) }
-    ensures next { OnOk result (cluster.new.next_epoch ≡ cluster.old.next_epoch + epochs_of batch.fresh) }
+    ensures next { OnOk result (SkipsFew cluster.old.next_epoch cluster.new.next_epoch (epochs_of batch.fresh) (spare (around N.sent N.given N.faults N.last_seed P.stops_seen P.early_stops P.stopped P.begun P.asked net.old power.old) (around N.sent N.given N.faults N.last_seed P.stops_seen P.early_stops P.stopped P.begun P.asked net.new power.new))) }
+    ensures later { IsLater (around N.sent N.given N.faults N.last_seed P.stops_seen P.early_stops P.stopped P.begun P.asked net.old power.old) (around N.sent N.given N.faults N.last_seed P.stops_seen P.early_stops P.stopped P.begun P.asked net.new power.new) }
     ensures procs { cluster.new.procs ≡ cluster.old.procs }
-    ensures counts { CountsBatch result cluster.old.next_epoch (length batch.fresh)
+    ensures counts { CountsBatch result cluster.old.next_epoch (spare (around N.sent N.given N.faults N.last_seed P.stops_seen P.early_stops P.stopped P.begun P.asked net.old power.old) (around N.sent N.given N.faults N.last_seed P.stops_seen P.early_stops P.stopped P.begun P.asked net.new power.new)) (length batch.fresh)
         (record { say = H.say_faults host.old; disk = H.disk_faults host.old })
         (record { say = H.say_faults host.new; disk = H.disk_faults host.new }) }
 {
@@ -56,6 +68,8 @@ pub fn turn_and_say<R: Threads + Wait + Clock + Sync, H: Host, G: Gate + Sync>(
         rt,
         alloc,
         host,
+        net,
+        power,
         requests,
         bounds.workers,
         bounds.attempts,

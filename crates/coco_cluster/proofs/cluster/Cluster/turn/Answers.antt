@@ -26,7 +26,7 @@ returns-in-Err-clause-turns g c k rests stands room =
     c.in_ok-dones.field-0.dones c.in_ok-dones.field-0.rows.items (traced c.in_ok-dones.field-0.trace) c.self.view_is c.requires.unspent c.self.invariant c.requires.may c.if-self-ge-EPOCHS_END.false c.args.requests.len (sym c.is_empty.ensures ∙ c.if-is_empty.false) c.args.requests.ok.0
     c.on_one_node-config.ensures refl c.run_epoch.ensures.count c.as_slice.ensures.value c.in_ok-dones.ensures.ran c.in_ok-dones.ensures.few c.run_epoch.ensures.kept in
     inr (failed g.H.Host.moment g.H.Host.observed g.H.Host.said g.H.Host.reads g.H.Host.may_leave c.args.host.now c.a_run_is_the_next_commit.ensures
-    (record { may = c.a_run_may_be_prepared.ensures.may; ready = c.a_run_may_be_prepared.ensures.ready }) (the_view c.self.inside) c.args.requests.items c.args.workers c.args.attempts c.run_epoch.new.shards.items c.run_epoch.new.kept
+    (record { may = c.a_run_may_be_prepared.ensures.may; ready = c.a_run_may_be_prepared.ensures.ready }) (the_view c.self.inside) c.args.requests.items c.args.workers c.args.attempts _ c.run_epoch.new.shards.items c.run_epoch.new.kept
     c.in_ok-dones.field-0.dones c.in_ok-dones.field-0.rows.items (traced c.in_ok-dones.field-0.trace) run c.args.self.now c.self.view_is k rests stands room
     c.store_epoch.result c.store_epoch.new.host c.as_slice-2.result.now c.as_slice-3.result.now c.as_slice-2.ensures.value c.as_slice-3.ensures (c.store_epoch.ensures.stores k)
     (Err c.from.result) c.from.result _ refl)
@@ -74,7 +74,7 @@ returns-clause-turns g c k rests stands room =
     c.deref_mut-2.ensures.value c.end_epoch.auto.shards c.end_epoch.ensures.holds c.end_epoch.ensures.keep c.end_epoch.ensures.kept in
     let tables = with_items_is c.run_epoch.new.shards c.end_epoch.new.shards (c.end_epoch.auto.shards ∙ c.deref_mut-2.ensures.len) in
     inr (succeeded g.H.Host.moment g.H.Host.observed g.H.Host.said g.H.Host.reads g.H.Host.may_leave c.args.host.now c.a_run_is_the_next_commit.ensures
-    (record { may = c.a_run_may_be_prepared.ensures.may; ready = c.a_run_may_be_prepared.ensures.ready }) (the_view c.self.inside) c.args.requests.items c.args.workers c.args.attempts c.run_epoch.new.shards.items c.run_epoch.new.kept
+    (record { may = c.a_run_may_be_prepared.ensures.may; ready = c.a_run_may_be_prepared.ensures.ready }) (the_view c.self.inside) c.args.requests.items c.args.workers c.args.attempts _ c.run_epoch.new.shards.items c.run_epoch.new.kept
     c.in_ok-dones.field-0.dones c.in_ok-dones.field-0.rows.items (traced c.in_ok-dones.field-0.trace) run c.args.self.now c.self.view_is k rests stands room
     c.store_epoch.result c.store_epoch.new.host c.as_slice-2.result.now c.as_slice-3.result.now c.as_slice-2.ensures.value c.as_slice-3.ensures (c.store_epoch.ensures.stores k)
     c.end_epoch.new.shards c.end_epoch.new.kept over c.store_epoch.new.chief c.store_epoch.new.node (c.store_epoch.ensures.files.2, c.store_epoch.ensures.files.3) (c.store_epoch.ensures.files.0, c.store_epoch.ensures.files.1)
@@ -88,4 +88,4 @@ returns-clause-turned g c _ m holds =
     let over = has_ended c.run_epoch.new.shards.items c.deref_mut-2.result.now c.run_epoch.new.kept c.in_ok-dones.field-0.dones c.end_epoch.new.shards c.end_epoch.new.kept
     c.deref_mut-2.ensures.value c.end_epoch.auto.shards c.end_epoch.ensures.holds c.end_epoch.ensures.keep c.end_epoch.ensures.kept in
     let tables = with_items_is c.run_epoch.new.shards c.end_epoch.new.shards (c.end_epoch.auto.shards ∙ c.deref_mut-2.ensures.len) in
-    turned_from _ _ _ _ _ _ _ _ _ run _ _ over c.args.self.now _ c.self.view_is refl refl tables m holds
+    turned_from _ _ _ _ _ _ _ _ _ run _ _ over c.args.self.now _ c.self.view_is refl refl refl tables m holds
