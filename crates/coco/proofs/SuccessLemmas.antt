@@ -7,6 +7,11 @@ use Rattle.coco_types.specs.Limits.{most_input_bytes}
 use Rattle.coco_types.specs.declared.call.Done.{Done}
 use Rattle.coco_types.specs.declared.call.Request.{Request}
 use Rattle.coco_append.specs.Gaining.{GainsAs, HasStore, RestsAs}
+use Rattle.coco_asks.specs.Answering.{SaysAnswers}
+use Rattle.coco_asks.specs.Answering.{HasCause as HasCauseOfAsking}
+use Rattle.coco_asks.specs.Asking.{answers_from}
+use Rattle.coco_asks.specs.declared.ending.Asked.{Asked}
+use Rattle.coco_asks.specs.declared.ending.Asked.TheVariants as asked
 use Rattle.coco_ast.specs.History.{History, IsSerial, RepliesAreRuns, epoch_dones, rows_after}
 use Rattle.coco_ast.specs.Keyed.{Rows}
 use Rattle.coco_ast.specs.Meaning.{run as run_of}
@@ -27,6 +32,7 @@ use Rattle.coco_io.specs.Counts.{Rose}
 use Rattle.coco_lines.specs.Batches.{Batch, joined}
 use Rattle.coco_lines.specs.Classes.{known_in, new_of}
 use Rattle.coco_lines.specs.Growing.{GrowsByBatches}
+use Rattle.coco_lines.specs.Lines.{Line, lines_of}
 use Rattle.coco_lines.specs.Reads.{Gives, SourceMoment}
 use Rattle.coco_lines.specs.declared.class.Class.{Class}
 use Rattle.coco_log.specs.Faults.{CountsFault}
@@ -40,20 +46,21 @@ use Rattle.coco_rebuild.specs.declared.fault.RebuildFault.TheVariants as rebuild
 use Rattle.coco_recover.specs.Without.{IsGoodBut}
 use Rattle.coco_commands.specs.Keeping.{contents_keeping}
 use Rattle.coco_commands.specs.Migrating.{ending_of_adding}
+use Rattle.coco_commands.specs.Querying.{IsNotAsked, MayBeAsked, ending_of_asking, past_at, streams_of}
 use Rattle.coco_commands.specs.Rebuilding.{ending_of_rebuilding}
 use Rattle.coco_commands.specs.Opening.{FailsToOpen, IsRefusedInRun, RefusedIsNotRun}
 use Rattle.coco_commands.specs.Running.{Opens, ending_of_run}
 use Rattle.coco_lines.proofs.ClassLemmas.{classes_length}
 use Rattle.coco_commands.specs.Served as served
-use Rattle.coco_commands.proofs.ServingLemmas.{added_by, few_new, joined-more}
-use Rattle.coco_store.specs.Contents.{Contents, history_of}
+use Rattle.coco_commands.proofs.ServingLemmas.{added_by, few_new, joined-more, none_spare}
+use Rattle.coco_store.specs.Contents.{Contents, Holds, history_of}
 use Rattle.coco_store.specs.Refusals.{IsFirstRefusal, RefusedIsNone}
 use Rattle.coco_store.specs.Texts.{IsAcceptedText}
 use Rattle.coco_commands.specs.Telling.{IsVerdict, SaysText}
 use Rattle.coco_commands.specs.Serving.{Counts, epochs_of, HasCause, Outside, RunBounds, Served, Serves}
-use Rattle.coco_words.specs.declared.Command.TheVariants.{Compact, Dump, Init, Migrate, Rebuild, Run, Verify}
+use Rattle.coco_words.specs.declared.Command.TheVariants.{Compact, Dump, Init, Migrate, Query, Rebuild, Run, Verify}
 use Rattle.coco.specs.Commands.{counts_of, ending_in, bounds_of}
-use Rattle.coco.specs.Success.{AllAreAnswered, CompactSucceeds, DumpSucceeds, FewLinesHaveNumbers, HaveNumbers, InitSucceeds, DoneOrNoMemory, MigrateSucceeds, NoneRose, ReadsEmpty, ReadsWithout, RebuildSucceeds, RunSucceeds, VerifySucceeds}
+use Rattle.coco.specs.Success.{AllAreAnswered, CompactSucceeds, DumpSucceeds, FewLinesHaveNumbers, HaveNumbers, InitSucceeds, DoneOrNoMemory, MigrateSucceeds, NoneRose, QuerySucceeds, ReadsEmpty, ReadsWithout, RebuildSucceeds, RunSucceeds, VerifySucceeds}
 
 -- ---- numbers
 
@@ -132,8 +139,8 @@ verdict_is_serial c text own serial verdict = absurd verdict
 module _ {H : Type 0} (moment : H → ℕ) (observed : H → ℕ → Observation → Type 0) (said : H → Option (List ℕ)) (reads : H → Option Files) (may_leave : H → Files → Type 0) where
   served_or_memory : (c : Contents) (next : ℕ) (bounds : RunBounds) (bytes : List ℕ) (how : Ending) (before after : Outside) (old opened new : H) (s : Served)
       → how ≡ ending_of_run s → NoneRose before after → length bytes < most_input_bytes → HaveNumbers c next bounds bytes → HasCause next bytes before after s
-      → Serves moment observed said reads may_leave c next bounds bytes s opened new
-      → DoneOrNoMemory how (HasCause next bytes before after served.Finished × Serves moment observed said reads may_leave c next bounds bytes served.Finished opened new)
+      → Serves moment observed said reads may_leave c next 0 bounds bytes s opened new
+      → DoneOrNoMemory how (HasCause next bytes before after served.Finished × Serves moment observed said reads may_leave c next 0 bounds bytes served.Finished opened new)
   served_or_memory c next bounds bytes how before after old opened new served.Finished ends faultless few numbers cause serves = inl (ends, (cause, serves))
   served_or_memory c next bounds bytes how before after old opened new served.ReadFault ends faultless few numbers cause serves =
       absurd (⊎_elim faultless.source (λ full. omega (arith, few, full)) cause)
@@ -156,7 +163,9 @@ module _ {H : Type 0} (moment : H → ℕ) (observed : H → ℕ → Observation
           let next = opens.is_next store.files c store.are store.good.holds in
           let same = one_giving before.source after.source opens.bytes bytes opens.gives gives in
           let cause = subst (λ (b : List ℕ). HasCause opens.next b before after opens.served) same opens.cause in
-          let serves = subst (λ (b : List ℕ). Serves moment observed said reads may_leave c opens.next (bounds_of run) b opens.served opens.opened new) same (opens.serves store.files c store.are store.good) in
+          let none = none_spare before.around after.around faultless.none_rose.net faultless.none_rose.power in
+          let serves = subst (λ (b : List ℕ). Serves moment observed said reads may_leave c opens.next 0 (bounds_of run) b opens.served opens.opened new) same
+          (subst (λ (n : ℕ). Serves moment observed said reads may_leave c opens.next n (bounds_of run) opens.bytes opens.served opens.opened new) none (opens.serves store.files c store.are store.good)) in
           ⊎_elim
           (λ done. inl (done.0, record { opened = opens.opened; opening = opens.opening; next = opens.next; is_next = next; spent = done.1.0; serves = done.1.1 })) inr
           (served_or_memory c opens.next (bounds_of run) bytes how before after old opens.opened new opens.served opens.ends faultless.none_rose may.few (may.numbers opens.next next) cause serves)
@@ -252,3 +261,31 @@ module _ {H : Type 0} (moment : H → ℕ) (observed : H → ℕ → Observation
       (λ does. (let is = does.1 in
       rebuilt_or_memory node c how before.disk_faults after.disk_faults old new is.result is.ends faultless.none_rose.disk is.cause store (is.answers store.files c store.are store.good.holds) is.seen))
       (λ lacks. inr lacks.0) (faultless.obeyed.command (Rebuild node) faultless.is)
+
+  not_asked_or_memory : (epoch : ℕ) (how : Ending) (told : Option Files) (files : Files) (c : Contents) → told ≡ Some files → Holds files c → MayBeAsked (history_of c) epoch → IsNotAsked epoch how told
+      → how ≡ ending.NoMemory
+  not_asked_or_memory epoch (ending.NotWithin e first last) told files c are holds may cause =
+      (let range = cause.2 files c are holds in absurd (cause.1 (subst (λ (n : ℕ). n ≤ epoch) (sym range.0) may.0, subst (λ (n : ℕ). epoch ≤ n) (sym range.1) may.1)))
+  not_asked_or_memory epoch ending.NoMemory told files c are holds may cause = refl
+  not_asked_or_memory epoch how told files c are holds may cause = absurd cause
+
+  asked_or_memory : (answers : List Line → List ℕ) (bytes : List ℕ) (how : Ending) (before after : Outside) (was now : Option (List ℕ)) (a : Asked) → how ≡ ending_of_asking a → NoneRose before after
+      → length bytes < most_input_bytes → HasCauseOfAsking bytes (streams_of before) (streams_of after) a → SaysAnswers answers bytes was now a
+      → DoneOrNoMemory how (now ≡ append_known was (answers (lines_of bytes)))
+  asked_or_memory answers bytes how before after was now asked.Finished ends faultless few cause says = inl (ends, says)
+  asked_or_memory answers bytes how before after was now asked.ReadFault ends faultless few cause says = absurd (⊎_elim faultless.source (λ full. omega (arith, few, full)) cause.0)
+  asked_or_memory answers bytes how before after was now asked.SayFault ends faultless few cause says = absurd (faultless.stream cause.0)
+  asked_or_memory answers bytes how before after was now asked.NoMemory ends faultless few cause says = inr ends
+
+  pub query_succeeds : RefusedIsNone → QuerySucceeds moment observed said reads may_leave
+  query_succeeds refused at readers how before after old new c bytes faultless store gives few may =
+      ⊎_elim
+      (λ does. ⊎_elim
+      (λ closed. inr (opened_or_memory IsFirstRefusal how (reads old) store.files before.disk_faults after.disk_faults store.are (λ file place is. refused store.files file place is c store.good.holds) faultless.none_rose.disk closed.cause))
+      (λ found. ⊎_elim (λ unasked. inr (not_asked_or_memory at how (reads old) store.files c store.are store.good.holds may unasked.cause))
+      (λ asks.
+      let same = one_giving before.source after.source asks.bytes bytes asks.gives gives in
+      subst (λ (given : List ℕ). DoneOrNoMemory how (said new ≡ append_known (said old) (answers_from (past_at c at) 1 (lines_of given)))) same
+      (asked_or_memory (answers_from (past_at c at) 1) asks.bytes how before after (said old) (said new) asks.asked asks.ends faultless.none_rose
+      (subst (λ (given : List ℕ). length given < most_input_bytes) (sym same) few) asks.cause (asks.says store.files c store.are store.good))) found) does)
+      (λ lacks. inr lacks.0) (faultless.obeyed.command (Query at readers) faultless.is)

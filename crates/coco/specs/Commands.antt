@@ -10,13 +10,14 @@ use Rattle.coco_lines.specs.Reads.{Gives}
 use Rattle.coco_make.specs.NewStore.{new_layout}
 use Rattle.coco_commands.specs.Compacting.{Compacts}
 use Rattle.coco_commands.specs.Migrating.{Migrates}
+use Rattle.coco_commands.specs.Querying.{Queries}
 use Rattle.coco_commands.specs.Rebuilding.{Rebuilds}
 use Rattle.coco_commands.specs.Running.{RunsOn}
 use Rattle.coco_commands.specs.Telling.{Dumps, Verifies}
 use Rattle.coco_commands.specs.Serving.{Counts, Outside, RunBounds}
 use Rattle.coco_words.specs.Commands.{IsCommand, IsOnlyCommand}
 use Rattle.coco_words.specs.declared.Command.{Command}
-use Rattle.coco_words.specs.declared.Command.TheVariants.{Init, Run, Dump, Verify, Migrate, Compact, Rebuild}
+use Rattle.coco_words.specs.declared.Command.TheVariants.{Init, Run, Dump, Verify, Migrate, Compact, Rebuild, Query}
 use Rattle.coco_words.specs.declared.RunOptions.{RunOptions}
 
 -- the ending of a call that succeeded, or that came to this one
@@ -28,10 +29,11 @@ ending_in (Err e) = e
 abbrev pub bounds_of : RunOptions → RunBounds
 bounds_of run = record { size = run.epoch; workers = run.workers; attempts = run.attempts }
 
--- a command takes nothing of its input
+-- a command takes nothing of its input, and leaves net and power as they are
 pub record KeepsInput (before after : Outside) : Type 0 where
   pub source : after.source ≡ before.source
   pub faults : after.source_faults ≡ before.source_faults
+  pub around : after.around ≡ before.around
 
 abbrev pub counts_of : Outside → Counts
 counts_of o = record { say = o.say_faults; disk = o.disk_faults }
@@ -53,6 +55,7 @@ module _ {H : Type 0} (moment : H → ℕ) (observed : H → ℕ → Observation
     pub only_there : (files : Files) → reads old ≡ Some files → files 0 ≢ [] → (result ≡ Err (ending.AlreadyThere (length (files 0)))) ⊎ (result ≡ Err ending.DiskFault)
     pub reading : CountsReads result before.source_faults after.source_faults
     pub disk : CountsDisk result before.disk_faults after.disk_faults
+    pub around : after.around ≡ before.around
 
   abbrev pub Does : Command → Ending → Outside → Outside → H → H → Type 0
   Does (Init nodes partitions copies) how before after old new = Inits nodes partitions copies how before after old new
@@ -62,6 +65,7 @@ module _ {H : Type 0} (moment : H → ℕ) (observed : H → ℕ → Observation
   Does (Migrate keep) how before after old new = KeepsInput before after × Migrates moment observed said reads may_leave keep how (counts_of before) (counts_of after) old new
   Does Compact how before after old new = KeepsInput before after × Compacts moment observed said reads may_leave how (counts_of before) (counts_of after) old new
   Does (Rebuild node) how before after old new = KeepsInput before after × Rebuilds moment observed said reads may_leave node how (counts_of before) (counts_of after) old new
+  Does (Query at readers) how before after old new = Queries moment observed said reads may_leave at how before after old new
 
   -- nothing is done, for want of memory
   abbrev pub LacksMemory : Ending → Outside → Outside → H → H → Type 0

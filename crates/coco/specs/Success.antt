@@ -3,6 +3,7 @@ use Rattle.std.specs.Prelude.{◌≡◌, ◌⊎◌, ℕ, ◌+◌, ◌<◌, ◌�
 use Rattle.std.specs.Io.KnownBytes.{append_known}
 use Rattle.coco_types.specs.Limits.{epochs_end, most_input_bytes}
 use Rattle.coco_append.specs.Gaining.{RestsAs, RestsOn}
+use Rattle.coco_asks.specs.Asking.{answers_from}
 use Rattle.coco_ast.specs.History.{epoch_dones}
 use Rattle.coco_ast.specs.Tree.{Procedures}
 use Rattle.coco_audit.specs.Texts.{serial_text}
@@ -24,21 +25,24 @@ use Rattle.coco_rebuild.specs.Rebuilding.{HasRebuilt, IsHeldAlone}
 use Rattle.coco_recover.specs.Without.{IsGoodBut}
 use Rattle.coco_store.specs.Contents.{Contents, IsGoodStore, history_of}
 use Rattle.coco_store.specs.Texts.{IsAcceptedText}
+use Rattle.coco_commands.specs.Querying.{MayBeAsked, past_at}
 use Rattle.coco_commands.specs.Telling.{dump_in}
 use Rattle.coco_commands.specs.Serving.{AreUsedUp, manner_of, Outside, Progress, RunBounds, Serves}
 use Rattle.coco_words.specs.Commands.{IsCommand}
 use Rattle.coco_words.specs.declared.Command.{Command}
-use Rattle.coco_words.specs.declared.Command.TheVariants.{Init, Run, Dump, Verify, Migrate, Compact, Rebuild}
+use Rattle.coco_words.specs.declared.Command.TheVariants.{Init, Run, Dump, Verify, Migrate, Compact, Rebuild, Query}
 use Rattle.coco_words.specs.declared.RunOptions.{RunOptions}
 use Rattle.coco.specs.Commands.{Obeys, bounds_of}
 
 -- ---- premises
 
--- no count of faults rose: the source's, that of the reply stream, or that of the files
+-- no count of faults rose, neither the source's, nor that of the reply stream, that of the files or the net's; and no node stopped before its entry
 pub record NoneRose (before after : Outside) : Type 0 where
   pub source : ¬ (Rose before.source_faults after.source_faults)
   pub stream : ¬ (Rose before.say_faults after.say_faults)
   pub disk : ¬ (Rose before.disk_faults after.disk_faults)
+  pub net : ¬ (Rose before.around.faults after.around.faults)
+  pub power : ¬ (Rose before.around.early after.around.early)
 
 -- the files read as a good store with these contents
 pub record ReadsAs (c : Contents) (reads : Option Files) : Type 0 where
@@ -60,10 +64,10 @@ pub record ReadsEmpty (reads : Option Files) : Type 0 where
   pub are : reads ≡ Some files
   pub empty : files 0 ≡ []
 
--- behind whichever first batches of these bytes a next one has a new request, there is a number for its epoch
+-- behind whichever first batches of these bytes a next one has a new request, there is a number for its epoch, where none is skipped
 abbrev pub HaveNumbers : Contents → ℕ → RunBounds → List ℕ → Type 0
-HaveNumbers c next bounds bytes = (p : Progress (manner_of c.setting bounds) (history_of c) next bounds.size bytes)
-    → ¬ (AreUsedUp (manner_of c.setting bounds) (history_of c) next bounds.size bytes p)
+HaveNumbers c next bounds bytes = (p : Progress (manner_of c.setting bounds) (history_of c) next 0 bounds.size bytes)
+    → ¬ (AreUsedUp (manner_of c.setting bounds) (history_of c) next 0 bounds.size bytes p)
 
 -- so it is where each line could have a number of its own
 abbrev pub FewLinesHaveNumbers : Type 0
@@ -89,14 +93,14 @@ module _ {H : Type 0} (moment : H → ℕ) (observed : H → ℕ → Observation
     pub obeyed : Obeys moment observed said reads may_leave words how before after old new
     pub none_rose : NoneRose before after
 
-  -- the input was read to its end, and all its lines are committed and answered
+  -- the input was read to its end, and all its lines are committed and answered; no number was skipped
   pub record AllAreAnswered (c : Contents) (bounds : RunBounds) (bytes : List ℕ) (after : Outside) (old new : H) : Type 0 where
     pub opened : H
     pub opening : IsOnlyRead moment observed said reads may_leave old opened
     pub next : ℕ
     pub is_next : IsNextOf c next
     pub spent : IsSpent after.source
-    pub serves : Serves moment observed said reads may_leave c next bounds bytes served.Finished opened new
+    pub serves : Serves moment observed said reads may_leave c next 0 bounds bytes served.Finished opened new
 
   -- this text was said
   abbrev pub Says : List ℕ → H → H → Type 0
@@ -139,3 +143,9 @@ module _ {H : Type 0} (moment : H → ℕ) (observed : H → ℕ → Observation
   abbrev pub RebuildSucceeds : Type 0
   RebuildSucceeds = (node : ℕ) (how : Ending) (before after : Outside) (old new : H) (c : Contents) → IsFaultless (Rebuild node) how before after old new → ReadsWithout node c (reads old)
       → DoneOrNoMemory how (RestsAs (HasRebuilt node c) (reads new) (may_leave new))
+
+  -- `query` of a good store, at one of its epochs, by fewer than 2^62 bytes: each line is answered by its rows at the end of that epoch
+  abbrev pub QuerySucceeds : Type 0
+  QuerySucceeds = (at readers : ℕ) (how : Ending) (before after : Outside) (old new : H) (c : Contents) (bytes : List ℕ) → IsFaultless (Query at readers) how before after old new → ReadsAs c (reads old)
+      → Gives before.source after.source bytes → length bytes < most_input_bytes → MayBeAsked (history_of c) at
+      → DoneOrNoMemory how (Says (answers_from (past_at c at) 1 (lines_of bytes)) old new)

@@ -1,6 +1,6 @@
 //! Which calls succeed.
 
-ghost use Rattle.coco.specs.Success.{CompactSucceeds, DumpSucceeds, FewLinesHaveNumbers, InitSucceeds, MigrateSucceeds, RebuildSucceeds, RunSucceeds, VerifySucceeds};
+ghost use Rattle.coco.specs.Success.{CompactSucceeds, DumpSucceeds, FewLinesHaveNumbers, InitSucceeds, MigrateSucceeds, QuerySucceeds, RebuildSucceeds, RunSucceeds, VerifySucceeds};
 
 use coco_commands::a_refused_store_is_not_run;
 use coco_host::Host;
@@ -10,7 +10,8 @@ use coco_store::a_refused_store_is_none;
 /// Where no count of faults rose, a command ends with status 0, or with 6 for want of memory: `run` on a good store of
 /// one node, by fewer than 2^62 bytes and with a number for each epoch, and then all lines are answered; `init` by an
 /// accepted text, where file 0 is empty; `dump`, `verify`, `migrate` and `compact` on a good store; `rebuild` on one that
-/// is good but for the node's file, where each partition of the node has another holder.
+/// is good but for the node's file, where each partition of the node has another holder; `query` on a good store at one of
+/// its epochs, by fewer than 2^62 bytes, and then all lines are answered.
 pub fn commands_succeed<H: Host>()
     ensures run { RunSucceeds H.moment H.observed H.said H.reads H.may_leave }
     ensures init { InitSucceeds H.moment H.observed H.said H.reads H.may_leave }
@@ -19,6 +20,7 @@ pub fn commands_succeed<H: Host>()
     ensures migrate { MigrateSucceeds H.moment H.observed H.said H.reads H.may_leave }
     ensures compact { CompactSucceeds H.moment H.observed H.said H.reads H.may_leave }
     ensures rebuild { RebuildSucceeds H.moment H.observed H.said H.reads H.may_leave }
+    ensures query { QuerySucceeds H.moment H.observed H.said H.reads H.may_leave }
     ensures numbers { FewLinesHaveNumbers }
 {
     a_refused_store_is_none();

@@ -5,15 +5,18 @@ ghost use Rattle.std.specs.String.{string_bytes};
 ghost use Rattle.coco_ending.specs.declared.ending.Ending.{Ending as CallEnding};
 ghost use Rattle.coco_words.specs.Commands.{numbers_of, options_of};
 ghost use Rattle.coco_words.specs.Options.{AreInRange};
+ghost use Rattle.coco_commands.specs.Serving.{around};
 ghost use Rattle.coco.specs.Commands.{Does, Inits, Obeys, bounds_of};
 ghost use Rattle.coco.specs.Reporting.{IsReported};
 
-use coco_commands::{RunBounds, compact, dump, migrate, rebuild, run, verify};
+use coco_commands::{QueryBounds, RunBounds, compact, dump, migrate, query, rebuild, run, verify};
 use coco_ending::Ending;
 use coco_gate::Gate;
 use coco_host::Host;
 use coco_init::init;
 use coco_io::{Sink, Source};
+use coco_net::Net;
+use coco_power::Power;
 use coco_types::OutFault;
 use coco_words::{Command, RunOptions, WordsFault, words as command_of};
 use std::alloc::Global;
@@ -32,12 +35,22 @@ pub struct Reported {
 
 /// Does what the words ask of the store in the host's files, and answers the program's status. A status other than 0
 /// has its line on the error stream, whose faults change nothing. Where several workers run, they pass the gate as an
-/// attempt begins and as one commits; one worker passes none.
-pub fn coco<R: Threads + Wait + Clock + Sync, H: Host, I: Source, E: Sink, G: Gate + Sync>(
+/// attempt begins and as one commits; one worker passes none. Readers pass it before each request and behind it.
+pub fn coco<
+    R: Threads + Wait + Clock + Sync,
+    H: Host,
+    N: Net + Sync,
+    P: Power,
+    I: Source,
+    E: Sink,
+    G: Gate + Sync,
+>(
     rt: &R,
     alloc: Global,
     words: &[String],
     host: &mut H,
+    net: &mut N,
+    power: &mut P,
     input: &mut I,
     errs: &mut E,
     gate: &G,
@@ -45,12 +58,12 @@ pub fn coco<R: Threads + Wait + Clock + Sync, H: Host, I: Source, E: Sink, G: Ga
     // The status and the line on the error stream are those of one ending, in which the words were obeyed.
     ensures obeys { (ending : CallEnding) × IsReported ending result (E.contents errs.old) (E.contents errs.new) (E.faults errs.old) (E.faults errs.new)
         × Obeys H.moment H.observed H.said H.reads H.may_leave (map string_bytes words.now) ending
-        (record { source = record { given = I.given input.old; left = I.remaining input.old; at_end = I.at_end input.old }; source_faults = I.faults input.old; say_faults = H.say_faults host.old; disk_faults = H.disk_faults host.old })
-        (record { source = record { given = I.given input.new; left = I.remaining input.new; at_end = I.at_end input.new }; source_faults = I.faults input.new; say_faults = H.say_faults host.new; disk_faults = H.disk_faults host.new })
+        (record { source = record { given = I.given input.old; left = I.remaining input.old; at_end = I.at_end input.old }; source_faults = I.faults input.old; say_faults = H.say_faults host.old; disk_faults = H.disk_faults host.old; around = around N.sent N.given N.faults N.last_seed P.stops_seen P.early_stops P.stopped P.begun P.asked net.old power.old })
+        (record { source = record { given = I.given input.new; left = I.remaining input.new; at_end = I.at_end input.new }; source_faults = I.faults input.new; say_faults = H.say_faults host.new; disk_faults = H.disk_faults host.new; around = around N.sent N.given N.faults N.last_seed P.stops_seen P.early_stops P.stopped P.begun P.asked net.new power.new })
         host.old host.new }
-    ensures untouched { result.status ≡ 1 → (host.new ≡ host.old) × (input.new ≡ input.old) }
+    ensures untouched { result.status ≡ 1 → (host.new ≡ host.old) × (net.new ≡ net.old) × (power.new ≡ power.old) × (input.new ≡ input.old) }
 {
-    let ending = obey(rt, alloc, words, host, input, gate);
+    let ending = obey(rt, alloc, words, host, net, power, input, gate);
     report(alloc, &ending, errs)
 }
 
@@ -66,40 +79,58 @@ pub fn report<E: Sink>(alloc: Global, ending: &Ending, errs: &mut E) -> Reported
 }
 
 // The same but for the error stream.
-fn obey<R: Threads + Wait + Clock + Sync, H: Host, I: Source, G: Gate + Sync>(
+fn obey<
+    R: Threads + Wait + Clock + Sync,
+    H: Host,
+    N: Net + Sync,
+    P: Power,
+    I: Source,
+    G: Gate + Sync,
+>(
     rt: &R,
     alloc: Global,
     words: &[String],
     host: &mut H,
+    net: &mut N,
+    power: &mut P,
     input: &mut I,
     gate: &G,
 ) -> Ending
     ensures obeys { Obeys H.moment H.observed H.said H.reads H.may_leave (map string_bytes words.now) result
-        (record { source = record { given = I.given input.old; left = I.remaining input.old; at_end = I.at_end input.old }; source_faults = I.faults input.old; say_faults = H.say_faults host.old; disk_faults = H.disk_faults host.old })
-        (record { source = record { given = I.given input.new; left = I.remaining input.new; at_end = I.at_end input.new }; source_faults = I.faults input.new; say_faults = H.say_faults host.new; disk_faults = H.disk_faults host.new })
+        (record { source = record { given = I.given input.old; left = I.remaining input.old; at_end = I.at_end input.old }; source_faults = I.faults input.old; say_faults = H.say_faults host.old; disk_faults = H.disk_faults host.old; around = around N.sent N.given N.faults N.last_seed P.stops_seen P.early_stops P.stopped P.begun P.asked net.old power.old })
+        (record { source = record { given = I.given input.new; left = I.remaining input.new; at_end = I.at_end input.new }; source_faults = I.faults input.new; say_faults = H.say_faults host.new; disk_faults = H.disk_faults host.new; around = around N.sent N.given N.faults N.last_seed P.stops_seen P.early_stops P.stopped P.begun P.asked net.new power.new })
         host.old host.new }
-    ensures untouched { result ≡ CallEnding.BadCommandLine → (host.new ≡ host.old) × (input.new ≡ input.old) }
+    ensures untouched { result ≡ CallEnding.BadCommandLine → (host.new ≡ host.old) × (net.new ≡ net.old) × (power.new ≡ power.old) × (input.new ≡ input.old) }
 {
     match command_of(alloc, words) {
-        Ok(command) => execute(rt, alloc, command, host, input, gate),
+        Ok(command) => execute(rt, alloc, command, host, net, power, input, gate),
         Err(WordsFault::Usage) => Ending::BadCommandLine,
         Err(WordsFault::NoMemory) => Ending::NoMemory,
     }
 }
 
 // Does what a command asks.
-fn execute<R: Threads + Wait + Clock + Sync, H: Host, I: Source, G: Gate + Sync>(
+fn execute<
+    R: Threads + Wait + Clock + Sync,
+    H: Host,
+    N: Net + Sync,
+    P: Power,
+    I: Source,
+    G: Gate + Sync,
+>(
     rt: &R,
     alloc: Global,
     command: Command,
     host: &mut H,
+    net: &mut N,
+    power: &mut P,
     input: &mut I,
     gate: &G,
 ) -> Ending
     requires { AreInRange (options_of command) (numbers_of command) }
     ensures { Does H.moment H.observed H.said H.reads H.may_leave command result
-        (record { source = record { given = I.given input.old; left = I.remaining input.old; at_end = I.at_end input.old }; source_faults = I.faults input.old; say_faults = H.say_faults host.old; disk_faults = H.disk_faults host.old })
-        (record { source = record { given = I.given input.new; left = I.remaining input.new; at_end = I.at_end input.new }; source_faults = I.faults input.new; say_faults = H.say_faults host.new; disk_faults = H.disk_faults host.new })
+        (record { source = record { given = I.given input.old; left = I.remaining input.old; at_end = I.at_end input.old }; source_faults = I.faults input.old; say_faults = H.say_faults host.old; disk_faults = H.disk_faults host.old; around = around N.sent N.given N.faults N.last_seed P.stops_seen P.early_stops P.stopped P.begun P.asked net.old power.old })
+        (record { source = record { given = I.given input.new; left = I.remaining input.new; at_end = I.at_end input.new }; source_faults = I.faults input.new; say_faults = H.say_faults host.new; disk_faults = H.disk_faults host.new; around = around N.sent N.given N.faults N.last_seed P.stops_seen P.early_stops P.stopped P.begun P.asked net.new power.new })
         host.old host.new }
 {
     match command {
@@ -111,12 +142,16 @@ fn execute<R: Threads + Wait + Clock + Sync, H: Host, I: Source, G: Gate + Sync>
             Ok(()) => Ending::Finished,
             Err(ending) => ending,
         },
-        Command::Run(options) => run(rt, alloc, host, input, bounds_of(options), gate),
+        Command::Run(options) => run(rt, alloc, host, net, power, input, bounds_of(options), gate),
         Command::Dump => dump(alloc, host),
         Command::Verify => verify(alloc, host),
         Command::Migrate { keep } => migrate(alloc, host, keep),
         Command::Compact => compact(alloc, host),
         Command::Rebuild { node } => rebuild(alloc, host, node),
+        Command::Query { at, readers } => {
+            let bounds = QueryBounds { epoch: at, readers };
+            query(rt, alloc, host, input, bounds, gate)
+        }
     }
 }
 

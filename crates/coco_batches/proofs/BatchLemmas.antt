@@ -80,6 +80,13 @@ pub takes_fault : (old new : ReaderState) (a b : SourceMoment) (e : LineFault) �
 takes_fault old new a b e r =
     record { bytes = r.bytes; gives = r.gives; taken = r.taken; none_behind = r.none_behind; text = none_first (old.pending ++ r.bytes) (old.pending ++ r.bytes) new.ended refl }
 
+-- some lines, and then the end
+pub takes_then_ends : (old mid new : ReaderState) (a b c : SourceMoment) (lines : List Line) (found : Option Given) → found ≡ None → Reads mid new b c (Ok found) → TakesLines old mid a b lines mid.pending
+    → TakesLines old new a c lines new.pending × (new.ended ≡ true) × (new.pending ≡ [])
+takes_then_ends old mid new a b c lines found is reads t =
+    let end = takes_end mid new b c found is reads in
+    (subst (λ ls. TakesLines old new a c ls new.pending) (append-nil lines) (takes_both old mid new a b c lines [] new.pending t end.0), end.1, end.2)
+
 -- ---- what a batch takes in
 
 pub taking_start : (procs : Procedures) (k : Known) (s : ReaderState) (m : SourceMoment) (batch : Batch) → batch.answers.items ≡ [] → batch.fresh ≡ [] → Taking procs k s s m m batch
@@ -160,12 +167,8 @@ taking_more procs held old mid new a b c batch grown line found is place reads t
 pub batch_ends : (procs : Procedures) (k : Known) (old mid new : ReaderState) (a b c : SourceMoment) (batch : Batch) (found : Option Given) → found ≡ None → Reads mid new b c (Ok found)
     → Taking procs k old mid a b batch → Taking procs k old new a c batch × (new.ended ≡ true) × (new.pending ≡ [])
 batch_ends procs k old mid new a b c batch found is reads t =
-    let end = takes_end mid new b c found is reads in
-    let takes : TakesLines old new a c t.lines new.pending = subst (λ ls. TakesLines old new a c ls new.pending) (append-nil t.lines) (takes_both old mid new a b c t.lines [] new.pending t.takes end.0) in (
-      record { lines = t.lines; classes = t.classes; takes = takes; as_many = t.as_many; are = t.are; answers = t.answers; fresh = t.fresh },
-      end.1,
-      end.2,
-    )
+    let end = takes_then_ends old mid new a b c t.lines found is reads t.takes in
+    (record { lines = t.lines; classes = t.classes; takes = end.0; as_many = t.as_many; are = t.are; answers = t.answers; fresh = t.fresh }, end.1, end.2)
 
 cut_off : (mid new : ReaderState) (b c : SourceMoment) (size : ℕ) (lines : List Line) (e : LineFault) → (r : Reads mid new b c (Err e)) → Stops e mid new → length lines < size
     → IsCutOff e size lines (mid.pending ++ r.bytes) new.ended
@@ -175,20 +178,20 @@ cut_off mid new b c size lines fault.TooMuch r stops few =
     (few, subst HasNoFeed (sym (r.next.2 ∙ ap (λ p. r.next.0 ++ p) stops.1 ∙ append-nil r.next.0)) r.next.1, stops.2)
 cut_off mid new b c size lines fault.NoMemory r stops few = tt
 
-pub breaks_at_read : (procs : Procedures) (k : Known) (old mid new : ReaderState) (a b c : SourceMoment) (batch : Batch) (size : ℕ) (e : LineFault) → Reads mid new b c (Err e) → Stops e mid new
-    → length batch.answers.items < size → Taking procs k old mid a b batch → BreaksOff old new a c size e
-breaks_at_read procs k old mid new a b c batch size e r stops few t = record {
-  lines = t.lines;
+pub breaks_at_read : (old mid new : ReaderState) (a b c : SourceMoment) (lines : List Line) (size : ℕ) (e : LineFault) → Reads mid new b c (Err e) → Stops e mid new → length lines < size
+    → TakesLines old mid a b lines mid.pending → BreaksOff old new a c size e
+breaks_at_read old mid new a b c lines size e r stops few t = record {
+  lines = lines;
   rest = mid.pending ++ r.bytes;
-  takes = subst (λ ls. TakesLines old new a c ls (mid.pending ++ r.bytes)) (append-nil t.lines) (takes_both old mid new a b c t.lines [] (mid.pending ++ r.bytes) t.takes (takes_fault mid new b c e r));
-  cut_off = cut_off mid new b c size t.lines e r stops (omega (arith, t.as_many, few));
+  takes = subst (λ ls. TakesLines old new a c ls (mid.pending ++ r.bytes)) (append-nil lines) (takes_both old mid new a b c lines [] (mid.pending ++ r.bytes) t (takes_fault mid new b c e r));
+  cut_off = cut_off mid new b c size lines e r stops few;
 }
 
-pub breaks_at_line : (procs : Procedures) (k : Known) (old mid new : ReaderState) (a b c : SourceMoment) (batch : Batch) (size : ℕ) (line : Given) (found : Option Given) → found ≡ Some line
-    → Reads mid new b c (Ok found) → Taking procs k old mid a b batch → BreaksOff old new a c size fault.NoMemory
-breaks_at_line procs k old mid new a b c batch size line found is reads t =
+pub breaks_at_line : (old mid new : ReaderState) (a b c : SourceMoment) (lines : List Line) (size : ℕ) (line : Given) (found : Option Given) → found ≡ Some line → Reads mid new b c (Ok found)
+    → TakesLines old mid a b lines mid.pending → BreaksOff old new a c size fault.NoMemory
+breaks_at_line old mid new a b c lines size line found is reads t =
     let read = takes_line mid new b c line found is reads in
-    record { lines = t.lines ++ read.0 ∷ []; rest = new.pending; takes = takes_both old mid new a b c t.lines (read.0 ∷ []) new.pending t.takes read.1; cut_off = tt }
+    record { lines = lines ++ read.0 ∷ []; rest = new.pending; takes = takes_both old mid new a b c lines (read.0 ∷ []) new.pending t read.1; cut_off = tt }
 
 pub breaks_at_start : (s : ReaderState) (m : SourceMoment) (size : ℕ) → BreaksOff s s m m size fault.NoMemory
 breaks_at_start s m size = record { lines = []; rest = s.pending; takes = takes_none s m; cut_off = tt }

@@ -1,13 +1,14 @@
 -- What reading a batch of lines gives, by the bytes that were pending and those that the source gave.
-use Rattle.std.specs.Prelude.{◌≡◌, ⊤, ℕ, ◌+◌, ◌<◌, ◌≤◌, List, [], ◌++◌, length, Bool, true, false}
+use Rattle.std.specs.Prelude.{◌≡◌, ⊤, ℕ, ◌+◌, ◌<◌, ◌≤◌, List, [], ◌∷◌, ◌++◌, length, Bool, true, false}
 use Rattle.coco_ast.specs.Tree.{Procedures}
 use Rattle.coco_lines.specs.Classes.{AreClasses, Known, new_of}
 use Rattle.coco_lines.specs.Lines.{Line}
 use Rattle.coco_lines.specs.ReaderState.{ReaderState}
-use Rattle.coco_lines.specs.Reads.{AreFirstLines, Gives, HasNoFeed, SourceMoment}
+use Rattle.coco_lines.specs.Reads.{AreFirstLines, Gives, HasNoFeed, SourceMoment, body_of}
 use Rattle.coco_lines.specs.declared.class.Class.{Class}
 use Rattle.coco_lines.specs.declared.error.LineFault.{LineFault}
 use Rattle.coco_lines.specs.declared.error.LineFault.TheVariants as fault
+use Rattle.coco_lines.specs.declared.reader.Line.{Line as Given}
 use Rattle.coco_batches.specs.declared.batch.Batch.{Batch}
 use Rattle.coco_batches.specs.Answering.{answers_from}
 
@@ -34,6 +35,23 @@ pub record ReadsBatch (procs : Procedures) (known : Known) (old new : ReaderStat
   pub taking : Taking procs known old new before after batch
   pub few : length batch.answers.items ≤ size
   pub ends : length batch.answers.items < size → (new.ended ≡ true) × (new.pending ≡ [])
+
+-- these lines as a reader gives them, numbered from n on
+abbrev pub numbered : ℕ → List Line → List Given
+numbered n [] = []
+numbered n (line ∷ lines) = record { number = n; body = body_of line } ∷ numbered (n + 1) lines
+
+-- the lines so far are given with their numbers
+pub record AreGiven (old new : ReaderState) (before after : SourceMoment) (given : List Given) : Type 0 where
+  pub lines : List Line
+  pub takes : TakesLines old new before after lines new.pending
+  pub are : given ≡ numbered (old.given + 1) lines
+
+-- at most so many lines; fewer only where the input ends
+pub record ReadsLines (old new : ReaderState) (before after : SourceMoment) (size : ℕ) (given : List Given) : Type 0 where
+  pub reading : AreGiven old new before after given
+  pub few : length given ≤ size
+  pub ends : length given < size → (new.ended ≡ true) × (new.pending ≡ [])
 
 -- at a fault of reading no whole line is left, and there are too few for a batch
 abbrev pub IsCutOff : LineFault → ℕ → List Line → List ℕ → Bool → Type 0

@@ -4,8 +4,10 @@
 pub mod answer;
 pub mod batch;
 pub mod classify;
+pub mod lines;
 pub mod new_requests;
 
 pub use answer::{LineAnswer, write_answers};
 pub use batch::{Batch, read_batch};
+pub use lines::read_lines;
 pub use new_requests::NewRequests;

@@ -3,3 +3,4 @@ pub mod Counts
 pub mod Keeping
 pub mod Making
 pub mod Closing
+pub mod Drawing

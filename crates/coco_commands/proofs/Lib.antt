@@ -1,3 +1,4 @@
+pub mod AskingLemmas
 pub mod BaseLemmas
 pub mod Holding
 pub mod KeepLemmas

@@ -1,6 +1,7 @@
 -- What is carried from the opening of a store to the end of its run.
 use Rattle.std.proofs.Common.{◌≡◌, ℕ, List, Option, None, Some, refl, subst}
 use Rattle.std.specs.Option.{IfSome}
+use Rattle.coco_cluster.specs.Around.{Around}
 use Rattle.coco_lines.specs.Reads.{SourceMoment}
 use Rattle.coco_serve.specs.Serving.{HasCause, Outside}
 use Rattle.coco_serve.specs.declared.ending.Served.{Served}
@@ -11,9 +12,9 @@ if_some P None each = tt
 if_some P (Some y) each = each y refl
 
 -- a cause since the opening is one since entry, where no count of the host's moved before
-pub cause_from : (next : ℕ) (bytes : List ℕ) (source : SourceMoment) (faults say disk later_say later_disk : ℕ) (after : Outside) (served : Served) → later_say ≡ say → later_disk ≡ disk
-    → HasCause next bytes (record { source = source; source_faults = faults; say_faults = later_say; disk_faults = later_disk }) after served
-    → HasCause next bytes (record { source = source; source_faults = faults; say_faults = say; disk_faults = disk }) after served
-cause_from next bytes source faults say disk later_say later_disk after served same_say same_disk cause =
-    subst (λ (n : ℕ). HasCause next bytes (record { source = source; source_faults = faults; say_faults = n; disk_faults = disk }) after served) same_say
-    (subst (λ (n : ℕ). HasCause next bytes (record { source = source; source_faults = faults; say_faults = later_say; disk_faults = n }) after served) same_disk cause)
+pub cause_from : (next : ℕ) (bytes : List ℕ) (source : SourceMoment) (faults say disk later_say later_disk : ℕ) (around : Around) (after : Outside) (served : Served) → later_say ≡ say → later_disk ≡ disk
+    → HasCause next bytes (record { source = source; source_faults = faults; say_faults = later_say; disk_faults = later_disk; around = around }) after served
+    → HasCause next bytes (record { source = source; source_faults = faults; say_faults = say; disk_faults = disk; around = around }) after served
+cause_from next bytes source faults say disk later_say later_disk around after served same_say same_disk cause =
+    subst (λ (n : ℕ). HasCause next bytes (record { source = source; source_faults = faults; say_faults = n; disk_faults = disk; around = around }) after served) same_say
+    (subst (λ (n : ℕ). HasCause next bytes (record { source = source; source_faults = faults; say_faults = later_say; disk_faults = n; around = around }) after served) same_disk cause)

@@ -1,2 +1,3 @@
 -- Lemmas of serving that those who call the commands use.
-pub use Rattle.coco_serve.proofs.RunLemmas.{added_by, few_new, joined-more}
+pub use Rattle.coco_serve.proofs.NumberLemmas.{added_by, none_spare}
+pub use Rattle.coco_serve.proofs.RunLemmas.{few_new, joined-more}

@@ -2,6 +2,7 @@ pub mod Compacting
 pub mod Keeping
 pub mod Migrating
 pub mod Opening
+pub mod Querying
 pub mod Rebuilding
 pub mod Running
 pub mod Served

@@ -55,11 +55,12 @@ FailsToOpen Refused (ending.NotAStore file at) reads old new = (new ≡ old) × 
 FailsToOpen Refused ending.NoMemory reads old new = new ≡ old
 FailsToOpen Refused _ reads old new = ⊥
 
--- a command whose store isn't opened only reads, says nothing and takes nothing of its input
+-- a command whose store isn't opened only reads, says nothing, takes nothing of its input, and leaves net and power as they are
 pub record IsUnopened {H : Type 0} (moment : H → ℕ) (observed : H → ℕ → Observation → Type 0) (said : H → Option (List ℕ)) (reads : H → Option Files) (may_leave : H → Files → Type 0)
     (Refused : Files → ℕ → ℕ → Type 0) (ending : Ending) (before after : Outside) (old new : H) : Type 0 where
   pub read : IsOnlyRead moment observed said reads may_leave old new
   pub source : after.source ≡ before.source
   pub reading : after.source_faults ≡ before.source_faults
   pub stream : after.say_faults ≡ before.say_faults
+  pub around : after.around ≡ before.around
   pub cause : FailsToOpen Refused ending (reads old) before.disk_faults after.disk_faults

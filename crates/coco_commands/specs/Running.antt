@@ -1,5 +1,6 @@
 -- What the command `run` does with the store in a host's files, and what is seen of it.
 use Rattle.std.specs.Prelude.{◌≡◌, ◌⊎◌, ℕ, List, Option, Some}
+use Rattle.coco_cluster.specs.Around.{IsLater}
 use Rattle.coco_host.specs.Files.{Files}
 use Rattle.coco_host.specs.Moments.{Observation}
 use Rattle.coco_ending.specs.declared.ending.Ending.{Ending}
@@ -7,7 +8,7 @@ use Rattle.coco_ending.specs.declared.ending.Ending.TheVariants as ending
 use Rattle.coco_lines.specs.Reads.{Gives}
 use Rattle.coco_load.specs.Epochs.{IsNextOf}
 use Rattle.coco_log.specs.LogState.{IsOnlyRead}
-use Rattle.coco_serve.specs.Serving.{HasCause, Outside, Serves}
+use Rattle.coco_serve.specs.Serving.{HasCause, Outside, Serves, spare_of}
 use Rattle.coco_serve.specs.declared.ending.Served.{Served}
 use Rattle.coco_serve.specs.declared.ending.Served.TheVariants as served
 use Rattle.coco_serve.specs.declared.bounds.RunBounds.{RunBounds}
@@ -27,7 +28,7 @@ ending_of_run served.NoMemory = ending.NoMemory
 -- at entry. Only files that are a store of one node are opened, and such files are never refused (`a_refused_store_is_not_run`): so `NotAStore` comes exactly
 -- where the files are refused, at that place, and neither a fault of the disk nor want of memory ended the opening. After it, where the files read at entry
 -- as a good store, each moment shows a good store whose history is that of entry grown by first batches of the bytes that the source gave, its new epochs
--- numbered from `next` on, with a front of their answers said
+-- numbered from `next` on with few numbers skipped, with a front of their answers said
 pub record Opens {H : Type 0} (moment : H → ℕ) (observed : H → ℕ → Observation → Type 0) (said : H → Option (List ℕ)) (reads : H → Option Files) (may_leave : H → Files → Type 0)
     (bounds : RunBounds) (ending : Ending) (before after : Outside) (old new : H) : Type 0 where
   pub opened : H
@@ -39,9 +40,10 @@ pub record Opens {H : Type 0} (moment : H → ℕ) (observed : H → ℕ → Obs
   pub is_next : (files : Files) (c : Contents) → reads old ≡ Some files → Holds files c → IsNextOf c next
   pub served : Served
   pub ends : ending ≡ ending_of_run served
+  pub later : IsLater before.around after.around
   pub cause : HasCause next bytes before after served
   pub serves : (files : Files) (c : Contents) → reads old ≡ Some files → IsGoodStore files c
-      → Serves moment observed said reads may_leave c next bounds bytes served opened new
+      → Serves moment observed said reads may_leave c next (spare_of before after) bounds bytes served opened new
 
 -- the store isn't opened, or it is
 abbrev pub RunsOn : {H : Type 0} (moment : H → ℕ) (observed : H → ℕ → Observation → Type 0) (said : H → Option (List ℕ)) (reads : H → Option Files) (may_leave : H → Files → Type 0)

@@ -1,5 +1,5 @@
-//! The commands on a store that is there: requests are run on it, what it has is told, it is given a keep number, it is
-//! made small, a lost file of it is made again.
+//! The commands on a store that is there: requests are run on it, what it has is told, lines that only read are answered
+//! as it was at one of its epochs, it is given a keep number, it is made small, a lost file of it is made again.
 #![tactic(auto)]
 
 mod compacting;
@@ -8,11 +8,13 @@ mod laws;
 mod migrating;
 mod open;
 mod opening;
+mod querying;
 mod rebuilding;
 mod running;
 mod saying;
 mod verifying;
 
+pub use coco_asks::QueryBounds;
 pub use coco_recover::{Opened, read_without, recover, recover_whole};
 pub use coco_serve::RunBounds;
 pub use compacting::compact;
@@ -21,6 +23,7 @@ pub use laws::{a_layout_sets_the_keep_number, a_refused_store_is_not_run};
 pub use migrating::migrate;
 pub use open::cluster_of;
 pub use opening::{ending_of_opening, open_cluster};
+pub use querying::query;
 pub use rebuilding::rebuild;
 pub use running::run;
 pub use verifying::verify;

@@ -2,6 +2,7 @@
 
 ghost use Rattle.std.specs.Prelude.{◌≡◌, ◌<◌, ◌≤◌};
 ghost use Rattle.coco_types.specs.Limits.{most_batch_lines};
+ghost use Rattle.coco_cluster.specs.Around.{around};
 ghost use Rattle.coco_commands.specs.Running.{RunsOn, ending_of_run};
 
 use crate::opening::open_cluster;
@@ -9,6 +10,8 @@ use coco_ending::Ending;
 use coco_gate::Gate;
 use coco_host::Host;
 use coco_io::Source;
+use coco_net::Net;
+use coco_power::Power;
 use coco_serve::{RunBounds, Served, answer_lines};
 use std::alloc::Global;
 use std::sync::Wait;
@@ -16,10 +19,19 @@ use std::thread::Threads;
 use std::time::Clock;
 
 /// Opens the store, and answers request lines on it to the end of the input, within these bounds.
-pub fn run<R: Threads + Wait + Clock + Sync, H: Host, S: Source, G: Gate + Sync>(
+pub fn run<
+    R: Threads + Wait + Clock + Sync,
+    H: Host,
+    N: Net + Sync,
+    P: Power,
+    S: Source,
+    G: Gate + Sync,
+>(
     rt: &R,
     alloc: Global,
     host: &mut H,
+    net: &mut N,
+    power: &mut P,
     input: &mut S,
     bounds: RunBounds,
     gate: &G,
@@ -29,8 +41,8 @@ pub fn run<R: Threads + Wait + Clock + Sync, H: Host, S: Source, G: Gate + Sync>
     requires workers { 0 < bounds.workers }
     requires attempts { 0 < bounds.attempts }
     ensures { RunsOn H.moment H.observed H.said H.reads H.may_leave bounds result
-        (record { source = record { given = S.given input.old; left = S.remaining input.old; at_end = S.at_end input.old }; source_faults = S.faults input.old; say_faults = H.say_faults host.old; disk_faults = H.disk_faults host.old })
-        (record { source = record { given = S.given input.new; left = S.remaining input.new; at_end = S.at_end input.new }; source_faults = S.faults input.new; say_faults = H.say_faults host.new; disk_faults = H.disk_faults host.new })
+        (record { source = record { given = S.given input.old; left = S.remaining input.old; at_end = S.at_end input.old }; source_faults = S.faults input.old; say_faults = H.say_faults host.old; disk_faults = H.disk_faults host.old; around = around N.sent N.given N.faults N.last_seed P.stops_seen P.early_stops P.stopped P.begun P.asked net.old power.old })
+        (record { source = record { given = S.given input.new; left = S.remaining input.new; at_end = S.at_end input.new }; source_faults = S.faults input.new; say_faults = H.say_faults host.new; disk_faults = H.disk_faults host.new; around = around N.sent N.given N.faults N.last_seed P.stops_seen P.early_stops P.stopped P.begun P.asked net.new power.new })
         host.old host.new }
 {
     match open_cluster(alloc, host) {
@@ -38,6 +50,8 @@ pub fn run<R: Threads + Wait + Clock + Sync, H: Host, S: Source, G: Gate + Sync>
             rt,
             alloc,
             host,
+            net,
+            power,
             &mut cluster,
             input,
             bounds,

@@ -17,12 +17,12 @@ map_set f [] i y d is = refl
 map_set f (x ∷ xs) zero y d is = ap (λ z. z ∷ map f xs) is
 map_set f (x ∷ xs) (suc i) y d is = ap (λ zs. f x ∷ zs) (map_set f xs i y d is)
 
-get_set_same : {X : Type 0} (xs : List X) (i : ℕ) (y : X) → i < length xs → slice_get (slice_set xs i y) i ≡ Some y
+pub get_set_same : {X : Type 0} (xs : List X) (i : ℕ) (y : X) → i < length xs → slice_get (slice_set xs i y) i ≡ Some y
 get_set_same [] i y lt = absurd (omega arith)
 get_set_same (z ∷ xs) zero y lt = refl
 get_set_same (z ∷ xs) (suc i) y lt = get_set_same xs i y (omega arith)
 
-get_set_other : {X : Type 0} (xs : List X) (i k : ℕ) (y : X) → (i ≡ k → ⊥) → slice_get (slice_set xs i y) k ≡ slice_get xs k
+pub get_set_other : {X : Type 0} (xs : List X) (i k : ℕ) (y : X) → (i ≡ k → ⊥) → slice_get (slice_set xs i y) k ≡ slice_get xs k
 get_set_other [] i k y apart = refl
 get_set_other (z ∷ xs) zero zero y apart = absurd (apart refl)
 get_set_other (z ∷ xs) zero (suc k) y apart = refl

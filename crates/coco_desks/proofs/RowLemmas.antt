@@ -2,7 +2,7 @@
 use Rattle.std.proofs.Common.{◌≡◌, ◌⊎◌, inl, inr, ℕ, zero, suc, Option, None, Some, append_assoc, vec_len, vec_capacity, ◌-◌, ◌+◌, ◌<◌, ◌≤◌, List, [], ◌∷◌, ◌++◌, length, take, slice_index_or, slice_set, refl, sym, ap, ◌∙◌, subst, arith}
 use Rattle.std.specs.Global.{Vec}
 use Rattle.std.proofs.lemmas.List.Elements.{filter_map-append}
-use Rattle.std.specs.List.{cons_option, slice_get}
+use Rattle.std.specs.List.{AllByRecursion, cons_option, slice_get}
 use Rattle.std.proofs.lemmas.List.{append-nil, get_or-set_other, get_or-set_same, get_or-take, length-append, length-take, take_more}
 use Rattle.std.proofs.lemmas.Option.{get_or_from_slice_get, same_Some, slice_get-get_or}
 use Rattle.coco_desks.specs.Rows.{GainsOne, column}
@@ -132,3 +132,16 @@ module _ {T : Type 0} (first before : List (Vec T)) where
           ∙ ap (λ (ys : List T). (slice_index_or before place d).items ++ ys)
           (ap (λ (o : Option T). column place (take turned first) ++ cons_option o []) (sym (item place lt).1)
           ∙ sym (column_append place (take turned first) (slice_index_or first turned e ∷ [])) ∙ ap (column place) (sym (take_more first turned e more)))
+
+-- ---- an item of a column
+
+module _ {T : Type 0} (P : T → Type 0) (place : ℕ) where
+  all_behind : (o : Option T) (ps : List T) → AllByRecursion P (cons_option o ps) → AllByRecursion P ps
+  all_behind None ps all = all
+  all_behind (Some p) ps all = all.1
+
+  -- what holds of each item of a column holds of that of each row
+  pub in_column : (rows : List (Vec T)) → AllByRecursion P (column place rows) → (n : ℕ) (d : Vec T) → n < length rows → (p : T) → slice_get (slice_index_or rows n d).items place ≡ Some p → P p
+  in_column [] all n d lt p at = absurd (omega (arith, lt))
+  in_column (row ∷ rows) all zero d lt p at = (subst (λ (o : Option T). AllByRecursion P (cons_option o (column place rows))) at all).0
+  in_column (row ∷ rows) all (suc n) d lt p at = in_column rows (all_behind (slice_get row.items place) (column place rows) all) n d (omega (arith, lt)) p at

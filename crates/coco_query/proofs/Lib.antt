@@ -3,3 +3,7 @@ mod FrozenLemmas
 mod NewestLemmas
 mod ReadingLemmas
 mod ReplayLemmas
+mod ServingLemmas
+mod PlacingLemmas
+mod CrewLemmas
+mod RunLemmas

@@ -1,5 +1,9 @@
+pub mod Answers
+pub mod Crews
 pub mod Frozen
 pub mod Packed
+pub mod Placing
+pub mod Readers
 pub mod Reading
 pub mod Replaying
 pub mod Tables

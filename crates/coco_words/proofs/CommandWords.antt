@@ -17,7 +17,7 @@ use Rattle.coco_words.specs.Commands.{Agree, IsCommand, IsOnlyCommand, kind_of, 
 use Rattle.coco_words.specs.Matches.{HasValuesOf, app_for}
 use Rattle.coco_words.specs.Options.{AreNumbersOf, GivesNumbers, GivesOptions, names_in, value_of}
 use Rattle.coco_words.specs.declared.Command.{Command}
-use Rattle.coco_words.specs.declared.Command.TheVariants.{Init, Run, Dump, Verify, Migrate, Compact, Rebuild}
+use Rattle.coco_words.specs.declared.Command.TheVariants.{Init, Run, Dump, Verify, Migrate, Compact, Rebuild, Query}
 use Rattle.coco_words.specs.declared.Kind.{Kind}
 use Rattle.coco_words.specs.declared.Kind.TheVariants as kind
 use Rattle.coco_words.proofs.ClapOptions.{at, check-nil, dash, defaults-nil, finished-is, first_of-rows, or_else-nil, rows, rule, shape, spelled}
@@ -41,6 +41,7 @@ is_free kind.Verify = refl
 is_free kind.Migrate = refl
 is_free kind.Compact = refl
 is_free kind.Rebuild = refl
+is_free kind.Query = refl
 
 pub is_plain_parser : (k : Kind) → is_simple (app_for (names_for k)) ≡ true
 unfolding clap_on_literals
@@ -51,6 +52,7 @@ is_plain_parser kind.Verify = refl
 is_plain_parser kind.Migrate = refl
 is_plain_parser kind.Compact = refl
 is_plain_parser kind.Rebuild = refl
+is_plain_parser kind.Query = refl
 
 module _ (ns : List Text) where
   abbrev built : App
@@ -78,6 +80,7 @@ fault-is kind.Verify words = level-is (names_for kind.Verify) words
 fault-is kind.Migrate words = level-is (names_for kind.Migrate) words
 fault-is kind.Compact words = level-is (names_for kind.Compact) words
 fault-is kind.Rebuild words = level-is (names_for kind.Rebuild) words
+fault-is kind.Query words = level-is (names_for kind.Query) words
 
 finished : (ns words : List Text) → fold with_default (found own ns (ended own ns (at [] None idle) words)) (map rule ns) ≡ found own ns (ended own ns (at [] None idle) words)
 finished ns words = finished-is (found own ns (ended own ns (at [] None idle) words)) ns
@@ -90,6 +93,7 @@ matches-is kind.Verify words = finished (names_for kind.Verify) words
 matches-is kind.Migrate words = finished (names_for kind.Migrate) words
 matches-is kind.Compact words = finished (names_for kind.Compact) words
 matches-is kind.Rebuild words = finished (names_for kind.Rebuild) words
+matches-is kind.Query words = finished (names_for kind.Query) words
 
 -- what may be wrong with the words, in turn
 level-parts : (k : Kind) (words : List Text) → let ns = names_for k in let end = found own ns (ended own ns (at [] None idle) words) in
@@ -103,6 +107,7 @@ level-parts kind.Verify words = refl
 level-parts kind.Migrate words = refl
 level-parts kind.Compact words = refl
 level-parts kind.Rebuild words = refl
+level-parts kind.Query words = refl
 
 -- ---- what is read
 
@@ -150,6 +155,14 @@ spells-node : Spells (codes "node")
 spells-node None = refl
 spells-node (Some v) = refl
 
+spells-at : Spells (codes "at")
+spells-at None = refl
+spells-at (Some v) = refl
+
+spells-readers : Spells (codes "readers")
+spells-readers None = refl
+spells-readers (Some v) = refl
+
 spells : (k : Kind) → AllByRecursion Spells (names_for k)
 spells kind.Init = (spells-nodes, (spells-partitions, (spells-copies, tt)))
 spells kind.Run = (spells-epoch, (spells-workers, (spells-attempts, tt)))
@@ -158,6 +171,7 @@ spells kind.Verify = tt
 spells kind.Migrate = (spells-keep, tt)
 spells kind.Compact = tt
 spells kind.Rebuild = (spells-node, tt)
+spells kind.Query = (spells-at, (spells-readers, tt))
 
 readable : (k : Kind) → IsReadable own (names_for k)
 readable k = contained Spells (names_for k) (spells k)
@@ -214,6 +228,7 @@ made kind.Verify ns = Verify
 made kind.Migrate (Some n ∷ []) = Migrate n
 made kind.Compact ns = Compact
 made kind.Rebuild (Some n ∷ []) = Rebuild n
+made kind.Query (Some e ∷ Some n ∷ []) = Query e n
 made k ns = Dump
 
 made-is : (command : Command) → made (kind_of command) (numbers_of command) ≡ command
@@ -225,6 +240,7 @@ made-is Verify = refl
 made-is (Migrate keep) = refl
 made-is Compact = refl
 made-is (Rebuild node) = refl
+made-is (Query at readers) = refl
 
 same_command : (c d : Command) → kind_of c ≡ kind_of d → numbers_of c ≡ numbers_of d → c ≡ d
 same_command c d k n = sym (made-is c) ∙ (λ i. made (k i) (n i)) ∙ made-is d
@@ -239,6 +255,7 @@ kind_at name =
     else if bytes_eq name (codes "migrate") then Some kind.Migrate
     else if bytes_eq name (codes "compact") then Some kind.Compact
     else if bytes_eq name (codes "rebuild") then Some kind.Rebuild
+    else if bytes_eq name (codes "query") then Some kind.Query
     else None
 
 kind-at : (k : Kind) → kind_at (name_of k) ≡ Some k
@@ -250,6 +267,7 @@ kind-at kind.Verify = refl
 kind-at kind.Migrate = refl
 kind-at kind.Compact = refl
 kind-at kind.Rebuild = refl
+kind-at kind.Query = refl
 
 same_kind : (j k : Kind) → name_of j ≡ name_of k → j ≡ k
 same_kind j k e = let same : Some j ≡ Some k = sym (kind-at j) ∙ ap kind_at e ∙ kind-at k in cc

@@ -1,9 +1,9 @@
 -- The commands of the program.
-use Rattle.std.specs.Prelude.{◌≡◌, ⊤, ◌<◌, ◌-◌, ℕ, List, [], ◌∷◌, Option, Some, codes}
-use Rattle.coco_types.specs.Limits.{most_attempts, most_batch_lines, most_keep, most_nodes, most_partitions, most_workers}
+use Rattle.std.specs.Prelude.{◌≡◌, ⊤, ◌<◌, ◌-◌, ℕ, Bool, true, false, List, [], ◌∷◌, Option, Some, codes}
+use Rattle.coco_types.specs.Limits.{epochs_end, most_attempts, most_batch_lines, most_keep, most_nodes, most_partitions, most_workers}
 use Rattle.coco_words.specs.Options.{Text, NumberOption, GivesNumbers, Refused, Taken}
 use Rattle.coco_words.specs.declared.Command.{Command}
-use Rattle.coco_words.specs.declared.Command.TheVariants.{Init, Run, Dump, Verify, Migrate, Compact, Rebuild}
+use Rattle.coco_words.specs.declared.Command.TheVariants.{Init, Run, Dump, Verify, Migrate, Compact, Rebuild, Query}
 use Rattle.coco_words.specs.declared.Kind.{Kind}
 use Rattle.coco_words.specs.declared.Kind.TheVariants as kind
 
@@ -15,6 +15,7 @@ kind_of Verify = kind.Verify
 kind_of (Migrate keep) = kind.Migrate
 kind_of Compact = kind.Compact
 kind_of (Rebuild node) = kind.Rebuild
+kind_of (Query at readers) = kind.Query
 
 -- the word that a command begins with
 abbrev pub name_of : Kind → Text
@@ -25,6 +26,18 @@ name_of kind.Verify = codes "verify"
 name_of kind.Migrate = codes "migrate"
 name_of kind.Compact = codes "compact"
 name_of kind.Rebuild = codes "rebuild"
+name_of kind.Query = codes "query"
+
+-- whether a command only reads its store
+abbrev pub reads_alone : Kind → Bool
+reads_alone kind.Init = false
+reads_alone kind.Run = false
+reads_alone kind.Dump = true
+reads_alone kind.Verify = true
+reads_alone kind.Migrate = false
+reads_alone kind.Compact = false
+reads_alone kind.Rebuild = false
+reads_alone kind.Query = true
 
 -- an option that needn't be given
 abbrev pub optional : Text → ℕ → ℕ → ℕ → NumberOption
@@ -34,7 +47,7 @@ optional name default least most = record { name = name; missing = Taken default
 abbrev pub wanted : Text → ℕ → ℕ → NumberOption
 wanted name least most = record { name = name; missing = Refused; least = least; most = most }
 
--- the options of a command. A store has one node and no copies until there can be several
+-- the options of a command. A store has one node and no copies until there can be several; as many readers may read as workers may run an epoch
 abbrev pub options_for : Kind → List NumberOption
 options_for kind.Init = optional (codes "nodes") 1 1 1 ∷ optional (codes "partitions") 1 1 most_partitions ∷ optional (codes "copies") 0 0 0 ∷ []
 options_for kind.Run = optional (codes "epoch") 100 1 most_batch_lines ∷ optional (codes "workers") 1 1 most_workers ∷ optional (codes "attempts") 3 1 most_attempts ∷ []
@@ -43,6 +56,7 @@ options_for kind.Verify = []
 options_for kind.Migrate = wanted (codes "keep") 1 most_keep ∷ []
 options_for kind.Compact = []
 options_for kind.Rebuild = wanted (codes "node") 0 (most_nodes - 1) ∷ []
+options_for kind.Query = wanted (codes "at") 0 (epochs_end - 1) ∷ optional (codes "readers") 1 1 most_workers ∷ []
 
 abbrev pub options_of : Command → List NumberOption
 options_of command = options_for (kind_of command)
@@ -56,6 +70,7 @@ numbers_of Verify = []
 numbers_of (Migrate keep) = Some keep ∷ []
 numbers_of Compact = []
 numbers_of (Rebuild node) = Some node ∷ []
+numbers_of (Query at readers) = Some at ∷ Some readers ∷ []
 
 -- the numbers go together: a copy stands on each other node at most
 abbrev pub Agree : Kind → List (Option ℕ) → Type 0

@@ -7,13 +7,14 @@ mod reading;
 ghost use Rattle.std.specs.Prelude.{◌≡◌, ℕ, List, map, Option, MatchOption, IfOk};
 ghost use Rattle.std.specs.String.{string_bytes};
 ghost use Rattle.clap.specs.Words.{first_value, found_of};
-ghost use Rattle.coco_words.specs.Commands.{Agree, IsCommand, IsOnlyCommand, kind_of, name_of, numbers_of, options_for, options_of};
+ghost use Rattle.coco_words.specs.Commands.{Agree, IsCommand, IsOnlyCommand, kind_of, name_of, numbers_of, options_for, options_of, reads_alone};
 ghost use Rattle.coco_words.specs.Options.{AreInRange, AreNumbersOf};
 ghost use Rattle.coco_words.specs.declared.Command.{Command as Asked};
 
 use clap::ArgMatches;
 use coco_types::limits::{
-    MOST_ATTEMPTS, MOST_BATCH_LINES, MOST_KEEP, MOST_NODES, MOST_PARTITIONS, MOST_WORKERS,
+    EPOCHS_END, MOST_ATTEMPTS, MOST_BATCH_LINES, MOST_KEEP, MOST_NODES, MOST_PARTITIONS,
+    MOST_WORKERS,
 };
 use numbers::number_of;
 use reading::options_in;
@@ -45,6 +46,11 @@ pub enum Command {
     /// Make the file of a node again, 0 to 7.
     Rebuild {
         node: u8,
+    },
+    /// Answer request lines that only read, as the store was at the end of an epoch, by 1 to 16 readers.
+    Query {
+        at: u64,
+        readers: u8,
     },
 }
 
@@ -78,6 +84,7 @@ pub enum Kind {
     Migrate,
     Compact,
     Rebuild,
+    Query,
 }
 
 /// The command that the words are: its name, and then its options.
@@ -99,6 +106,31 @@ pub fn words(alloc: Global, words: &[String]) -> Result<Command, WordsFault>
     }
 }
 
+/// Whether the words ask for a command that only reads its store. Of words that are no command nothing is said.
+pub fn only_reads(words: &[String]) -> bool
+    ensures { (command : Asked) → IsCommand (map string_bytes words.now) command → result ≡ reads_alone (kind_of command) }
+{
+    let Some(name) = words.first() else {
+        return false;
+    };
+    match kind_named(name.as_str()) {
+        Some(kind) => kind.reads_alone(),
+        None => false,
+    }
+}
+
+impl Kind {
+    // Whether the command only reads its store.
+    fn reads_alone(self) -> bool
+        ensures { result ≡ reads_alone self }
+    {
+        match self {
+            Kind::Dump | Kind::Verify | Kind::Query => true,
+            Kind::Init | Kind::Run | Kind::Migrate | Kind::Compact | Kind::Rebuild => false,
+        }
+    }
+}
+
 // The command that begins with this word.
 fn kind_named(name: &str) -> Option<Kind>
     ensures { MatchOption result ((command : Asked) → name.now ≡ name_of (kind_of command) → ⊥) (λ kind. name.now ≡ name_of kind) }
@@ -111,6 +143,7 @@ fn kind_named(name: &str) -> Option<Kind>
         "migrate" => Some(Kind::Migrate),
         "compact" => Some(Kind::Compact),
         "rebuild" => Some(Kind::Rebuild),
+        "query" => Some(Kind::Query),
         _ => None,
     }
 }
@@ -136,6 +169,7 @@ fn command_with(kind: Kind, matches: &ArgMatches<'_>) -> Option<Command>
             let node = number_of(matches, "node", None, 0, MOST_NODES as u64 - 1)?;
             Some(Command::Rebuild { node: node as u8 })
         }
+        Kind::Query => epoch_to_ask(matches),
     }
 }
 
@@ -154,6 +188,21 @@ fn lines_to_run(matches: &ArgMatches<'_>) -> Option<Command>
         workers: workers as u8,
         attempts: attempts as u8,
     }))
+}
+
+// The command `query` whose options have these values.
+fn epoch_to_ask(matches: &ArgMatches<'_>) -> Option<Command>
+    ensures { MatchOption result
+        ((numbers : List (Option ℕ)) → AreNumbersOf (first_value (found_of matches.now)) (options_for Kind.Query) numbers → Agree Kind.Query numbers → ⊥)
+        (λ command. (kind_of command ≡ Kind.Query) × AreNumbersOf (first_value (found_of matches.now)) (options_for Kind.Query) (numbers_of command)
+        × AreInRange (options_for Kind.Query) (numbers_of command) × Agree Kind.Query (numbers_of command)) }
+{
+    let at = number_of(matches, "at", None, 0, EPOCHS_END - 1)?;
+    let readers = number_of(matches, "readers", Some(1), 1, MOST_WORKERS as u64)?;
+    Some(Command::Query {
+        at,
+        readers: readers as u8,
+    })
 }
 
 // The command `init` whose options have these values. A store has one node and no copies until there can be several.

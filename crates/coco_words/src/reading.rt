@@ -63,6 +63,10 @@ fn parser_for<'a>(alloc: Global, kind: Kind) -> Result<Command<'a>, AllocError>
         Kind::Migrate => with_option(alloc, none, "keep"),
         Kind::Compact => Ok(none),
         Kind::Rebuild => with_option(alloc, none, "node"),
+        Kind::Query => {
+            let at = with_option(alloc, none, "at")?;
+            with_option(alloc, at, "readers")
+        }
     }
 }
 

@@ -16,3 +16,9 @@ returns-in-Run c =
     subst (λ (k : Kind). MatchOption c.lines_to_run.result ((numbers : List (Option ℕ)) → AreNumbersOf (first_value (found_of c.args.matches.now)) (options_for k) numbers → Agree k numbers → ⊥)
     (λ command. (kind_of command ≡ k) × AreNumbersOf (first_value (found_of c.args.matches.now)) (options_for k) (numbers_of command) × AreInRange (options_for k) (numbers_of command) × Agree k (numbers_of command)))
     (sym c.in-Run.is) c.lines_to_run.ensures
+
+pub returns-in-Query : goal.returns-in-Query
+returns-in-Query c =
+    subst (λ (k : Kind). MatchOption c.epoch_to_ask.result ((numbers : List (Option ℕ)) → AreNumbersOf (first_value (found_of c.args.matches.now)) (options_for k) numbers → Agree k numbers → ⊥)
+    (λ command. (kind_of command ≡ k) × AreNumbersOf (first_value (found_of c.args.matches.now)) (options_for k) (numbers_of command) × AreInRange (options_for k) (numbers_of command) × Agree k (numbers_of command)))
+    (sym c.in-Query.is) c.epoch_to_ask.ensures

@@ -1,4 +1,4 @@
-use Rattle.coco.proofs.SuccessLemmas.{compact_succeeds, dump_succeeds, few_lines_have_numbers, init_succeeds, migrate_succeeds, rebuild_succeeds, run_succeeds, verify_succeeds}
+use Rattle.coco.proofs.SuccessLemmas.{compact_succeeds, dump_succeeds, few_lines_have_numbers, init_succeeds, migrate_succeeds, query_succeeds, rebuild_succeeds, run_succeeds, verify_succeeds}
 use Rattle.coco.proofs.laws.commands_succeed.Goals as goal
 
 pub returns-clause-run : goal.returns-clause-run
@@ -21,6 +21,9 @@ returns-clause-compact g c = compact_succeeds g.H.Host.moment g.H.Host.observed 
 
 pub returns-clause-rebuild : goal.returns-clause-rebuild
 returns-clause-rebuild g c = rebuild_succeeds g.H.Host.moment g.H.Host.observed g.H.Host.said g.H.Host.reads g.H.Host.may_leave
+
+pub returns-clause-query : goal.returns-clause-query
+returns-clause-query g c = query_succeeds g.H.Host.moment g.H.Host.observed g.H.Host.said g.H.Host.reads g.H.Host.may_leave c.a_refused_store_is_none.ensures.none
 
 pub returns-clause-numbers : goal.returns-clause-numbers
 returns-clause-numbers g c = few_lines_have_numbers

@@ -5,12 +5,12 @@ use Rattle.coco_words.specs.declared.Command.{Command}
 use Rattle.coco.specs.Commands.{Does}
 use Rattle.coco.proofs.EndingLemmas.{needs}
 use Rattle.coco.proofs.top.obey.Goals as goal
-use Rattle.coco_commands.specs.Serving.{Outside}
+use Rattle.coco_commands.specs.Serving.{Outside, around}
 
 pub returns-in-Ok-clause-obeys : goal.returns-in-Ok-clause-obeys
 returns-in-Ok-clause-obeys g c =
-    let before : Outside = record { source = record { given = g.I.Source.given c.args.input.now; left = g.I.Source.remaining c.args.input.now; at_end = g.I.Source.at_end c.args.input.now }; source_faults = g.I.Source.faults c.args.input.now; say_faults = g.H.Host.say_faults c.args.host.now; disk_faults = g.H.Host.disk_faults c.args.host.now } in
-    let after : Outside = record { source = record { given = g.I.Source.given c.execute.new.input; left = g.I.Source.remaining c.execute.new.input; at_end = g.I.Source.at_end c.execute.new.input }; source_faults = g.I.Source.faults c.execute.new.input; say_faults = g.H.Host.say_faults c.execute.new.host; disk_faults = g.H.Host.disk_faults c.execute.new.host } in
+    let before : Outside = record { source = record { given = g.I.Source.given c.args.input.now; left = g.I.Source.remaining c.args.input.now; at_end = g.I.Source.at_end c.args.input.now }; source_faults = g.I.Source.faults c.args.input.now; say_faults = g.H.Host.say_faults c.args.host.now; disk_faults = g.H.Host.disk_faults c.args.host.now; around = around g.N.Net.sent g.N.Net.given g.N.Net.faults g.N.Net.last_seed g.P.Power.stops_seen g.P.Power.early_stops g.P.Power.stopped g.P.Power.begun g.P.Power.asked c.args.net.now c.args.power.now } in
+    let after : Outside = record { source = record { given = g.I.Source.given c.execute.new.input; left = g.I.Source.remaining c.execute.new.input; at_end = g.I.Source.at_end c.execute.new.input }; source_faults = g.I.Source.faults c.execute.new.input; say_faults = g.H.Host.say_faults c.execute.new.host; disk_faults = g.H.Host.disk_faults c.execute.new.host; around = around g.N.Net.sent g.N.Net.given g.N.Net.faults g.N.Net.last_seed g.P.Power.stops_seen g.P.Power.early_stops g.P.Power.stopped g.P.Power.begun g.P.Power.asked c.execute.new.net c.execute.new.power } in
     record {
       command = λ command is.
           inl (subst (λ (k : Command). Does g.H.Host.moment g.H.Host.observed g.H.Host.said g.H.Host.reads g.H.Host.may_leave k c.execute.result before after c.args.host.now c.execute.new.host)

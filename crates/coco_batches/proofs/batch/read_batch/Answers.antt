@@ -52,11 +52,10 @@ returns-in_err-line-clause-breaks g c =
     let b : SourceMoment = (record { given = g.S.Source.given c.loop-place.source; left = g.S.Source.remaining c.loop-place.source; at_end = g.S.Source.at_end c.loop-place.source }) in
     let n : SourceMoment = (record { given = g.S.Source.given c.next.new.source; left = g.S.Source.remaining c.next.new.source; at_end = g.S.Source.at_end c.next.new.source }) in
     let p = err_from_is_err_and c.from_residual-in_err-line.result c.from_residual-in_err-line.ensures.1 in
-    let few : length c.loop-place.batch.answers.items < c.args.size = omega (arith, old.count, c.loop-place-test.true) in
+    let few : length old.taking.lines < c.args.size = omega (arith, old.count, old.taking.as_many, c.loop-place-test.true) in
     subst (λ r. IfErr r (BreaksOff c.args.reader.now c.next.new.self a n c.args.size)) (sym p.1)
     (subst (BreaksOff c.args.reader.now c.next.new.self a n c.args.size) (sym p.2)
-    (breaks_at_read c.args.procs.now (known_of c.args.kept.now []) c.args.reader.now c.loop-place.reader c.next.new.self a b n c.loop-place.batch c.args.size c.in_err-line.field-0.0
-    c.in_err-line.ensures.reads c.in_err-line.ensures.stops few old.taking))
+    (breaks_at_read c.args.reader.now c.loop-place.reader c.next.new.self a b n old.taking.lines c.args.size c.in_err-line.field-0.0 c.in_err-line.ensures.reads c.in_err-line.ensures.stops few old.taking.takes))
 
 pub returns-in_err-take-in-Some-clause-breaks : goal.returns-in_err-take-in-Some-clause-breaks
 returns-in_err-take-in-Some-clause-breaks g c =
@@ -66,8 +65,8 @@ returns-in_err-take-in-Some-clause-breaks g c =
     let p = err_from_is_err_and c.from_residual-in_err-take-in-Some.result c.from_residual-in_err-take-in-Some.ensures.1 in
     subst (λ r. IfErr r (BreaksOff c.args.reader.now c.next.new.self a n c.args.size)) (sym p.1)
     (subst (BreaksOff c.args.reader.now c.next.new.self a n c.args.size) (sym p.2)
-    (breaks_at_line c.args.procs.now (known_of c.args.kept.now []) c.args.reader.now c.loop-place.reader c.next.new.self a b n c.loop-place.batch c.args.size c.in-Some.line _ c.in-Some.is
-    c.in_ok-line.ensures.reads c.loop-place.invariant.taking))
+    (breaks_at_line c.args.reader.now c.loop-place.reader c.next.new.self a b n c.loop-place.invariant.taking.lines c.args.size c.in-Some.line _ c.in-Some.is c.in_ok-line.ensures.reads
+    c.loop-place.invariant.taking.takes))
 
 pub returns-in_err-take-in-Some-clause-end : goal.returns-in_err-take-in-Some-clause-end
 returns-in_err-take-in-Some-clause-end g c = λ met. c.in_ok-line.ensures.end (c.loop-place.invariant.end met)

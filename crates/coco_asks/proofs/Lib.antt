@@ -1,0 +1,4 @@
+pub mod AskLemmas
+pub mod EndLemmas
+pub mod HostLemmas
+pub mod SortLemmas
