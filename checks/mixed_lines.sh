@@ -150,6 +150,7 @@ batch() {
     done
 }
 
+echo "seed ${SEED:-1 2 3}"
 for seed in ${SEED:-1 2 3}; do
     for size in 1 5 100 500; do
         RANDOM=$((seed * 1000 + size))
