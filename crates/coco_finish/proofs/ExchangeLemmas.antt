@@ -1,11 +1,11 @@
 -- What rounds of letters come to, one behind another.
-use Rattle.std.proofs.Common.{◌≡◌, ◌≢◌, ◌⊎◌, inl, inr, ℕ, zero, suc, ◌+◌, ◌<◌, ◌≤◌, ◌^◌, Bool, true, false, eqb, List, [], ◌∷◌, ◌++◌, length, get_or, refl, sym, ap, subst, ◌∙◌, arith, append_assoc, append-nil}
+use Rattle.std.proofs.Common.{◌≡◌, ◌≢◌, ◌⊎◌, inl, inr, ℕ, zero, suc, ◌+◌, ◌<◌, ◌≤◌, ◌^◌, Bool, true, false, eqb, List, [], ◌∷◌, ◌++◌, get_or, refl, sym, ap, subst, ◌∙◌, arith, append_assoc, append-nil}
 use Rattle.std.specs.Prelude.{◌||◌, if◌then◌else◌, replicate}
 use Rattle.std.specs.Bool.{MatchBool}
-use Rattle.std.specs.List.{All, Contains}
+use Rattle.std.specs.List.{Contains}
 use Rattle.std.proofs.lemmas.Bool.{eq-eqb, eqb-true, eqb-false, ne_eqb}
 use Rattle.std.proofs.lemmas.List.{append_cancel_left}
-use Rattle.std.proofs.lemmas.List.Elements.{All-cons, All-contains, All-nil, Contains-append_cases, Contains-append_left, Contains-append_right}
+use Rattle.std.proofs.lemmas.List.Elements.{All-contains, Contains-append_cases, Contains-append_left, Contains-append_right}
 use Rattle.coco_chief.specs.Chief.{Chief}
 use Rattle.coco_chief.specs.Table.{forced, has_finished, is_voting, reminds, to_each, to_unfinished}
 use Rattle.coco_msg.specs.declared.action.Action.TheVariants.{Send}
@@ -18,47 +18,31 @@ use Rattle.coco_node.specs.Node.{Node}
 use Rattle.coco_letters.specs.Counting.{CountsFinished, CountsVotes, IsSaidBy}
 use Rattle.coco_letters.specs.Turns.{AreFresh, AreSent, ChiefTurns}
 use Rattle.coco_letters.specs.Saying.{posted, posts_of}
-use Rattle.coco_letters.specs.Taking.{SaysFrom}
-use Rattle.coco_letters.proofs.CountingLemmas.{posts_from}
+use Rattle.coco_letters.specs.Telling.{Adds, IsOfChief, IsOfFinish}
+use Rattle.coco_letters.proofs.TellingLemmas.{adds_cases, not_chief}
 use Rattle.coco_letters.proofs.SayingLemmas.{posts_append}
 use Rattle.coco_letters.proofs.WaitingLemmas.{given_waits, waits_given}
 use Rattle.coco_finish.specs.declared.tables.NodeTables.{NodeTables}
 use Rattle.coco_finish.specs.Exchanges.{commit_of, AreReminded, AreUp, AsksAll, HaveAllFinished, HearsGiven, IsSilent, OneHasNot, StaysSilent, UnlessFault}
-use Rattle.coco_finish.specs.Finishing.{finished_of, is_behind, AreTold, Finish, IsOfFinish, SaysOnly, TellsCommitted}
+use Rattle.coco_finish.specs.Finishing.{finished_of, AreTold, Finish, TellsCommitted}
 use Rattle.coco_finish.proofs.HearLemmas.{none_in}
 
 -- ---- letters
 
--- the coordinator's letters are such letters
-each_of_chief : (e : ℕ) (ps : List Posted) → ((p : Posted) → Contains ps p → p.letter.from ≡ 8) → All (IsOfFinish e) ps
-each_of_chief e [] h = All-nil (IsOfFinish e)
-each_of_chief e (p ∷ ps) h = All-cons (IsOfFinish e) p ps (inl (h p (0, omega arith, refl))) (each_of_chief e ps (λ q among. h q (Contains-append_right (p ∷ []) ps q among)))
-
-pub says_of_chief : (e : ℕ) (sent sent_new : List Posted) → SaysFrom 8 sent sent_new → SaysOnly e sent sent_new
-says_of_chief e sent sent_new says = record { posts = says.posts; sent_is = says.sent_is; only = each_of_chief e says.posts says.from }
-
 -- what is new to the next round still is
 pub fresh_more : (sent fresh sent_new fresh_new : List Posted) → AreFresh sent fresh sent_new fresh_new → (p : Posted) → Contains fresh p → Contains fresh_new p
 fresh_more sent fresh sent_new fresh_new are p among = subst (λ (ps : List Posted). Contains ps p) (sym are.fresh_is) (Contains-append_left fresh are.posts p among)
-
--- a node that is behind is one of those that are marked
-marked : (behind : List Bool) (n : ℕ) → get_or behind n false ≡ true → n < length behind
-marked [] n is = absurd (let no : ◌≡◌ {A = Bool} false true = is in cc)
-marked (b ∷ behind) zero is = omega arith
-marked (b ∷ behind) (suc n) is = let less : n < length behind = marked behind n is in omega (arith, less)
 
 by_flag : (P : Type 0) (b : Bool) → (b ≡ true → P) → (b ≡ false → P) → P
 by_flag P true up down = up refl
 by_flag P false up down = down refl
 
 -- what the coordinator says tells of no node that it has finished
-pub told_by_chief : (e : ℕ) (sent sent_new : List Posted) (behind : List Bool) → length behind ≤ 8 → SaysFrom 8 sent sent_new → AreTold e sent behind → AreTold e sent_new behind
-told_by_chief e sent sent_new behind few says told n among = by_flag (is_behind behind n ≡ false) (is_behind behind n)
-    (λ is. elim (Contains-append_cases sent says.posts (finished_of n e) (subst (λ (ps : List Posted). Contains ps (finished_of n e)) says.sent_is among)) [
-      | inl was ↦ told n was
-      | inr now ↦ (let less : n < length behind = marked behind n is in let at : n ≡ 8 = says.from (finished_of n e) now in absurd (omega (arith, few, less, at)))
-    ])
-    (λ is. is)
+pub told_by_chief : (e : ℕ) (sent sent_new : List Posted) (behind : List Bool) → Adds IsOfChief sent sent_new → AreTold e sent behind → AreTold e sent_new behind
+told_by_chief e sent sent_new behind says told n among = elim (adds_cases sent sent_new (finished_of n e) says among) [
+  | inl was ↦ told n was
+  | inr now ↦ not_chief n (Finished e) now
+]
 
 -- those that have finished aren't behind, where no letter tells so of one that is
 pub up_so : (e : ℕ) (chief chief_new : Chief) (marks : List Bool) (sent : List Posted) (waiting : ℕ → List Letter) → chief.last ≡ e → AreSent sent waiting → CountsFinished (waiting 8) chief chief_new → AreTold e sent marks → AreUp chief marks → AreUp chief_new marks
@@ -189,10 +173,7 @@ module _ (e : ℕ) (chief : Chief) (sent sent_new : List Posted) (some : 0 < e) 
       subst (λ (ps : List Posted). Contains ps (commit_of n e)) (sym (are.fresh_is ∙ ap (λ (ps : List Posted). fresh ++ ps) same))
       (Contains-append_right fresh (posts_of 8 (reminds chief)) (commit_of n e) (reminds_each e chief some last n lt down))
 
-  pub reminded_from : SaysFrom 8 sent sent_new
-  reminded_from = record { posts = posts_of 8 (reminds chief); sent_is = turns.sent_is; from = posts_from 8 (reminds chief) }
-
-  pub reminded_asks : (later : List Posted) → SaysOnly e sent_new later → AsksAll e chief sent later
+  pub reminded_asks : (later : List Posted) → Adds (IsOfFinish e) sent_new later → AsksAll e chief sent later
   reminded_asks later says = record {
     posts = posts_of 8 (reminds chief) ++ says.posts;
     sent_is = says.sent_is ∙ ap (λ (ps : List Posted). ps ++ says.posts) turns.sent_is ∙ append_assoc sent (posts_of 8 (reminds chief)) says.posts;
@@ -206,7 +187,7 @@ not_before a b n stays down = by_flag (has_finished n a ≡ false) (has_finished
     both_ways_up : ◌≡◌ {A = Bool} true false → has_finished n a ≡ false
     both_ways_up both = absurd cc
 
-pub asks_later : (e : ℕ) (a b : Chief) (r s t : List Posted) → SaysOnly e r s → AsksAll e a s t → b.nodes ≡ a.nodes → ((k : ℕ) → has_finished k a ≡ true → has_finished k b ≡ true) → AsksAll e b r t
+pub asks_later : (e : ℕ) (a b : Chief) (r s t : List Posted) → Adds (IsOfFinish e) r s → AsksAll e a s t → b.nodes ≡ a.nodes → ((k : ℕ) → has_finished k a ≡ true → has_finished k b ≡ true) → AsksAll e b r t
 asks_later e a b r s t says asks nodes stays = record {
   posts = says.posts ++ asks.posts;
   sent_is = asks.sent_is ∙ ap (λ (ps : List Posted). ps ++ asks.posts) says.sent_is ∙ append_assoc r says.posts asks.posts;
@@ -223,7 +204,7 @@ lost_more count f g h chief chief_new one (inl lost) (inr all) = inr all
 lost_more count f g h chief chief_new one (inl lost) (inl more) = inl (omega (arith, lost, more))
 
 -- after the first exchange, and those behind it
-pub silent_so : (e : ℕ) (a b c : Chief) (r s t : List Posted) (given middle given_new : List Posted) (f g h : ℕ) → a.last ≡ e → SaysOnly e r s → UnlessFault f g (HaveAllFinished b) → HearsGiven b middle c given_new → HearsGiven a given c given_new
+pub silent_so : (e : ℕ) (a b c : Chief) (r s t : List Posted) (given middle given_new : List Posted) (f g h : ℕ) → a.last ≡ e → Adds (IsOfFinish e) r s → UnlessFault f g (HaveAllFinished b) → HearsGiven b middle c given_new → HearsGiven a given c given_new
     → StaysSilent 15 e c s t g h → IsSilent e c r given t given_new f h
 silent_so e a b c r s t given middle given_new f g h last says (inr all) second whole stays = not_all c stays.one (λ n lt. second.stays n (all n (omega (arith, lt, second.nodes))))
 silent_so e a b c r s t given middle given_new f g h last says (inl lost) second whole stays = record {
@@ -243,7 +224,7 @@ silent_so e a b c r s t given middle given_new f g h last says (inl lost) second
     not_up : (chief : Chief) (one : OneHasNot chief) → has_finished one.node chief ≡ true → ⊥
     not_up chief one up = let no : ◌≡◌ {A = Bool} true false = sym up ∙ one.yet in cc
 
-pub all_or_silent : (all : Bool) (e : ℕ) (a b c : Chief) (r s t : List Posted) (given middle given_new : List Posted) (f g h : ℕ) → a.last ≡ e → SaysOnly e r s → UnlessFault f g (HaveAllFinished b) → HearsGiven b middle c given_new → HearsGiven a given c given_new
+pub all_or_silent : (all : Bool) (e : ℕ) (a b c : Chief) (r s t : List Posted) (given middle given_new : List Posted) (f g h : ℕ) → a.last ≡ e → Adds (IsOfFinish e) r s → UnlessFault f g (HaveAllFinished b) → HearsGiven b middle c given_new → HearsGiven a given c given_new
     → MatchBool all (HaveAllFinished c) (StaysSilent 15 e c s t g h) → MatchBool all (HaveAllFinished c) (IsSilent e c r given t given_new f h)
 all_or_silent true e a b c r s t given middle given_new f g h last says ends second whole so = so
 all_or_silent false e a b c r s t given middle given_new f g h last says ends second whole so = silent_so e a b c r s t given middle given_new f g h last says ends second whole so

@@ -1,14 +1,16 @@
 -- Letters that a node takes one behind another.
-use Rattle.std.proofs.Common.{◌≡◌, ◌≢◌, ◌⊎◌, inl, inr, ℕ, ◌+◌, ◌<◌, Bool, true, false, eqb, List, [], ◌∷◌, ◌++◌, refl, sym, ap, subst, ◌∙◌, arith, append_assoc, append-nil}
+use Rattle.std.proofs.Common.{◌≡◌, ◌≢◌, ◌⊎◌, inl, inr, ℕ, ◌+◌, ◌<◌, Bool, true, false, eqb, List, [], ◌∷◌, refl, sym, subst, ◌∙◌, arith}
 use Rattle.std.specs.List.{Contains}
 use Rattle.std.proofs.lemmas.Bool.{eqb-true, eqb-false}
-use Rattle.std.proofs.lemmas.List.Elements.{All-append, All-cons, All-nil, Contains-append_left}
+use Rattle.std.proofs.lemmas.List.Elements.{Contains-append_left}
 use Rattle.coco_net.specs.declared.letter.Letter.{Letter}
 use Rattle.coco_net.specs.declared.letter.Posted.{Posted}
 use Rattle.coco_node.specs.Node.{Node}
+use Rattle.coco_letters.specs.Telling.{Adds, IsOfFinish}
 use Rattle.coco_letters.specs.Turns.{AreFresh}
+use Rattle.coco_letters.proofs.TellingLemmas.{adds_none, adds_one}
 use Rattle.coco_letters.proofs.WorldLemmas.{contains_cases}
-use Rattle.coco_finish.specs.Finishing.{finished_of, FinishesSo, IsOfFinish, SaysOnly, TellsCommitted}
+use Rattle.coco_finish.specs.Finishing.{finished_of, FinishesSo, TellsCommitted}
 
 -- each letter that waited at first waits still, or has its answer
 pub answered_next : (Told : Letter → Type 0) (answer : Posted) (q letter : Letter) (before after rest : List Letter) (sent fresh sent_new fresh_new : List Posted) → before ≡ letter ∷ rest → after ≡ rest → AreFresh sent fresh sent_new fresh_new
@@ -23,21 +25,15 @@ answered_next Told answer q letter before after rest sent fresh sent_new fresh_n
 
 -- ---- what is sent
 
-pub says_none : (e : ℕ) (sent : List Posted) → SaysOnly e sent sent
-says_none e sent = record { posts = []; sent_is = sym (append-nil sent); only = All-nil (IsOfFinish e) }
-
-pub says_then : (e : ℕ) (a b c : List Posted) → SaysOnly e a b → SaysOnly e b c → SaysOnly e a c
-says_then e a b c one two = record {
-  posts = one.posts ++ two.posts;
-  sent_is = two.sent_is ∙ ap (λ (ps : List Posted). ps ++ two.posts) one.sent_is ∙ append_assoc a one.posts two.posts;
-  only = All-append (IsOfFinish e) one.posts two.posts one.only two.only;
-}
+of_finish : (e n : ℕ) → n < 8 → IsOfFinish e (finished_of n e)
+of_finish e n few = inr (inl (record { node = n; few = few; is = refl }))
 
 -- a letter that one node takes
-pub says_by_one : (first : Bool) (e n : ℕ) (letter : Letter) (cores : List Node) (sent : List Posted) (cores_new : List Node) (sent_new : List Posted) → FinishesSo first e n letter cores sent cores_new sent_new → SaysOnly e sent sent_new
-says_by_one true e n letter cores sent cores_new sent_new so = record { posts = finished_of n e ∷ []; sent_is = so.2; only = All-cons (IsOfFinish e) (finished_of n e) [] (inr (n, refl)) (All-nil (IsOfFinish e)) }
-says_by_one false e n letter cores sent cores_new sent_new (inl again) = record { posts = finished_of n e ∷ []; sent_is = again.2; only = All-cons (IsOfFinish e) (finished_of n e) [] (inr (n, refl)) (All-nil (IsOfFinish e)) }
-says_by_one false e n letter cores sent cores_new sent_new (inr none) = record { posts = []; sent_is = none.2 ∙ sym (append-nil sent); only = All-nil (IsOfFinish e) }
+pub says_by_one : (first : Bool) (e n : ℕ) (letter : Letter) (cores : List Node) (sent : List Posted) (cores_new : List Node) (sent_new : List Posted) → n < 8 → FinishesSo first e n letter cores sent cores_new sent_new
+    → Adds (IsOfFinish e) sent sent_new
+says_by_one true e n letter cores sent cores_new sent_new few so = adds_one sent sent_new (finished_of n e) so.2 (of_finish e n few)
+says_by_one false e n letter cores sent cores_new sent_new few (inl again) = adds_one sent sent_new (finished_of n e) again.2 (of_finish e n few)
+says_by_one false e n letter cores sent cores_new sent_new few (inr none) = adds_none sent sent_new none.2
 
 -- ---- nodes one after another
 

@@ -14,6 +14,8 @@ use Rattle.coco_node.specs.declared.machine.Decision.TheVariants.{Unknown, Abort
 use Rattle.coco_node.specs.Node.{restarted, Node}
 use Rattle.coco_letters.specs.declared.voter.Voter.{Voter}
 use Rattle.coco_letters.proofs.SayingLemmas.{same_message}
+use Rattle.coco_letters.specs.Telling.{Adds, IsOfFinish}
+use Rattle.coco_letters.proofs.TellingLemmas.{adds_none, adds_one}
 use Rattle.coco_letters.proofs.WorldLemmas.{contains_cases, contains_here}
 use Rattle.coco_finish.specs.Exchanges.{AreInStep}
 use Rattle.coco_finish.specs.Finishing.{finished_of, is_behind, AllCanFinish, AreTold, CanFinish, HasYetToHear}
@@ -65,6 +67,13 @@ module _ (epoch k : ℕ) (stopped stopped_new : ℕ → ℕ) (cores : List Node)
 
   pub can_step : AllCanFinish epoch cores → AllCanFinish epoch cores_new
   can_step = each_core (λ n core. CanFinish epoch core) (record { has = omega (arith, max_none epoch); stands = λ _. unknown_not })
+
+  -- it asks, or says nothing
+  pub says_step : k < 8 → Adds (IsOfFinish epoch) sent sent_new
+  says_step eight = elim here [
+    | inl stops ↦ adds_one sent sent_new (query_of k epoch) stops.3 (inr (inr (record { node = k; few = eight; is = refl })))
+    | inr goes ↦ adds_none sent sent_new goes.3
+  ]
 
   told_step : (marks : List Bool) → epoch < 2 ^ 64 → AreTold epoch sent marks → AreTold epoch sent_new marks
   told_step marks fits told n among = elim here [

@@ -1,5 +1,5 @@
 -- What nodes do that are to finish a committed epoch.
-use Rattle.std.specs.Prelude.{◌≡◌, ◌≢◌, ◌⊎◌, ℕ, ◌≤◌, Bool, true, false, List, [], ◌∷◌, ◌++◌, Some, All, Contains, slice_set, slice_index_or}
+use Rattle.std.specs.Prelude.{◌≡◌, ◌≢◌, ◌⊎◌, ℕ, ◌≤◌, Bool, true, false, List, [], ◌∷◌, ◌++◌, Some, Contains, slice_set, slice_index_or}
 use Rattle.std.specs.List.{slice_get}
 use Rattle.coco_ast.specs.Keyed.{Rows}
 use Rattle.coco_msg.specs.declared.message.Message.{Message}
@@ -97,16 +97,6 @@ FinishesSo false epoch n letter cores sent cores_new sent_new =
 -- no node that is behind is told to have finished
 abbrev pub AreTold : ℕ → List Posted → List Bool → Type 0
 AreTold epoch sent behind = (n : ℕ) → Contains sent (finished_of n epoch) → is_behind behind n ≡ false
-
--- a letter that is sent while an epoch is finished: a node says that it has finished, or the coordinator says something
-abbrev pub IsOfFinish : ℕ → Posted → Type 0
-IsOfFinish epoch p = (p.letter.from ≡ COORDINATOR) ⊎ ((n : ℕ) × (p ≡ finished_of n epoch))
-
--- only such letters are sent
-pub record SaysOnly (epoch : ℕ) (sent sent_new : List Posted) : Type 0 where
-  pub posts : List Posted
-  pub sent_is : sent_new ≡ sent ++ posts
-  pub only : All (IsOfFinish epoch) posts
 
 -- ---- all nodes
 

@@ -4,10 +4,11 @@ ghost use Rattle.std.specs.Prelude.{◌≡◌, ◌<◌, ◌≤◌, length, IfOk,
 ghost use Rattle.std.specs.Bool.{MatchBool};
 ghost use Rattle.coco_ast.specs.Keyed.{Rows};
 ghost use Rattle.coco_chief.specs.Shown.{chief_of};
+ghost use Rattle.coco_letters.specs.Telling.{Adds, IsOfFinish};
 ghost use Rattle.coco_letters.specs.Turns.{AreSent};
 ghost use Rattle.coco_letters.specs.Worlds.{GoesOn};
 ghost use Rattle.coco_finish.specs.Exchanges.{AreInStep, AreReminded, AsksAll, HaveAllFinished, HearsGiven, IsSilent, OneHasNot, StaysSilent, UnlessFault};
-ghost use Rattle.coco_finish.specs.Finishing.{AllCanFinish, AreWhole, Finish, HaveMap, SaysOnly};
+ghost use Rattle.coco_finish.specs.Finishing.{AllCanFinish, AreWhole, Finish, HaveMap};
 
 use crate::NodeTables;
 use crate::rounds::exchange;
@@ -64,7 +65,7 @@ fn remind_and_exchange<N: Net>(
     ensures hears { OnOk result (HearsGiven (chief_of chief.old) (N.given net.old) (chief_of chief.new) (N.given net.new)) }
     ensures asks { OnOk result (AsksAll epoch (chief_of chief.old) (N.sent net.old) (N.sent net.new)) }
     ensures ends { OnOk result (UnlessFault (N.faults net.old) (N.faults net.new) (HaveAllFinished (chief_of chief.new))) }
-    ensures said { OnOk result (SaysOnly epoch (N.sent net.old) (N.sent net.new)) }
+    ensures said { OnOk result (Adds (IsOfFinish epoch) (N.sent net.old) (N.sent net.new)) }
     ensures world { OnOk result (GoesOn (record { cores = cores.old; chief = chief_of chief.old; sent = N.sent net.old }) (record { cores = cores.new; chief = chief_of chief.new; sent = N.sent net.new })) }
     ensures sent { OnOk result (AreSent (N.sent net.new) (N.waiting net.new)) }
     ensures nodes { (chief_of chief.new).nodes ≡ (chief_of chief.old).nodes }
@@ -101,7 +102,7 @@ fn remind<N: Net>(
     ensures in_step { OnOk result (AreInStep epoch cores.old (chief_of chief.old) (N.sent net.old) tables.old.behind.items → AreInStep epoch cores.new (chief_of chief.new) (N.sent net.new) tables.new.behind.items) }
     ensures hears { OnOk result (HearsGiven (chief_of chief.old) (N.given net.old) (chief_of chief.new) (N.given net.new)) }
     ensures all { IfOk result (λ all. MatchBool all (HaveAllFinished (chief_of chief.new)) (StaysSilent 15 epoch (chief_of chief.new) (N.sent net.old) (N.sent net.new) (N.faults net.old) (N.faults net.new))) }
-    ensures said { OnOk result (SaysOnly epoch (N.sent net.old) (N.sent net.new)) }
+    ensures said { OnOk result (Adds (IsOfFinish epoch) (N.sent net.old) (N.sent net.new)) }
     ensures world { OnOk result (GoesOn (record { cores = cores.old; chief = chief_of chief.old; sent = N.sent net.old }) (record { cores = cores.new; chief = chief_of chief.new; sent = N.sent net.new })) }
     ensures sent { OnOk result (AreSent (N.sent net.new) (N.waiting net.new)) }
     ensures nodes { (chief_of chief.new).nodes ≡ (chief_of chief.old).nodes }
@@ -148,7 +149,7 @@ pub fn finish<N: Net>(
     ensures nodes { (chief_of chief.new).nodes ≡ (chief_of chief.old).nodes }
     ensures all { IfOk result (λ all. MatchBool all (HaveAllFinished (chief_of chief.new)) (IsSilent epoch (chief_of chief.new) (N.sent net.old) (N.given net.old) (N.sent net.new) (N.given net.new) (N.faults net.old) (N.faults net.new))) }
     // The letters and the world.
-    ensures said { OnOk result (SaysOnly epoch (N.sent net.old) (N.sent net.new)) }
+    ensures said { OnOk result (Adds (IsOfFinish epoch) (N.sent net.old) (N.sent net.new)) }
     ensures world { OnOk result (GoesOn (record { cores = cores.old; chief = chief_of chief.old; sent = N.sent net.old }) (record { cores = cores.new; chief = chief_of chief.new; sent = N.sent net.new })) }
     ensures sent { OnOk result (AreSent (N.sent net.new) (N.waiting net.new)) }
     ensures faults { N.faults net.old ≤ N.faults net.new }

@@ -4,13 +4,12 @@ ghost use Rattle.std.specs.Prelude.{◌≡◌, ◌<◌, ◌≤◌, ℕ, Bool, tr
 ghost use Rattle.coco_ast.specs.Keyed.{Rows};
 ghost use Rattle.coco_chief.specs.Shown.{chief_of};
 ghost use Rattle.coco_chief.specs.Table.{has_finished};
-ghost use Rattle.coco_letters.specs.Taking.{SaysFrom};
+ghost use Rattle.coco_letters.specs.Telling.{Adds, IsOfChief, IsOfFinish};
 ghost use Rattle.coco_letters.specs.Turns.{AreSent};
 ghost use Rattle.coco_letters.specs.Worlds.{GoesOn};
 ghost use Rattle.coco_node.specs.Node.{Node as NodeState};
-ghost use Rattle.coco_node.specs.declared.machine.TheConstants.{COORDINATOR as Chiefs};
 ghost use Rattle.coco_finish.specs.Exchanges.{commit_of, AreInStep, AreReminded, HaveAllFinished, HearsGiven, UnlessFault};
-ghost use Rattle.coco_finish.specs.Finishing.{finished_of, AllCanFinish, AreWhole, Finish, HaveMap, SaysOnly};
+ghost use Rattle.coco_finish.specs.Finishing.{finished_of, AllCanFinish, AreWhole, Finish, HaveMap};
 
 use crate::NodeTables;
 use crate::taking::nodes_finish;
@@ -32,8 +31,8 @@ fn answer_round<N: Net>(
     requires last { (chief_of chief.old).last ≡ epoch }
     ensures hears { OnOk result (HearsGiven (chief_of chief.old) (N.given net.old) (chief_of chief.new) (N.given net.new)) }
     ensures came { OnOk result (UnlessFault (N.faults net.old) (N.faults net.new) ((n : ℕ) → n < (chief_of chief.old).nodes → Contains (N.fresh net.old) (finished_of n epoch) → has_finished n (chief_of chief.new) ≡ true)) }
-    ensures in_step { OnOk result ((cores : List NodeState) (marks : List Bool) → length marks ≤ 8 → AreInStep epoch cores (chief_of chief.old) (N.sent net.old) marks → AreInStep epoch cores (chief_of chief.new) (N.sent net.new) marks) }
-    ensures says { OnOk result (SaysFrom Chiefs (N.sent net.old) (N.sent net.new)) }
+    ensures in_step { OnOk result ((cores : List NodeState) (marks : List Bool) → AreInStep epoch cores (chief_of chief.old) (N.sent net.old) marks → AreInStep epoch cores (chief_of chief.new) (N.sent net.new) marks) }
+    ensures says { OnOk result (Adds IsOfChief (N.sent net.old) (N.sent net.new)) }
     ensures world { OnOk result ((cores : List NodeState) → GoesOn (record { cores = cores; chief = chief_of chief.old; sent = N.sent net.old }) (record { cores = cores; chief = chief_of chief.new; sent = N.sent net.new })) }
     ensures sent { OnOk result (AreSent (N.sent net.new) (N.waiting net.new)) }
     ensures nodes { (chief_of chief.new).nodes ≡ (chief_of chief.old).nodes }
@@ -70,7 +69,7 @@ fn tell_round<N: Net>(
     ensures hears { OnOk result (HearsGiven (chief_of chief.old) (N.given net.old) (chief_of chief.new) (N.given net.new)) }
     // Each node that is told answers.
     ensures answers { OnOk result (UnlessFault (N.faults net.old) (N.faults net.new) ((n : ℕ) → n < length cores.old → Contains (N.fresh net.old) (commit_of n epoch) → Contains (N.fresh net.new) (finished_of n epoch))) }
-    ensures said { OnOk result (SaysOnly epoch (N.sent net.old) (N.sent net.new)) }
+    ensures said { OnOk result (Adds (IsOfFinish epoch) (N.sent net.old) (N.sent net.new)) }
     ensures world { OnOk result (GoesOn (record { cores = cores.old; chief = chief_of chief.old; sent = N.sent net.old }) (record { cores = cores.new; chief = chief_of chief.new; sent = N.sent net.new })) }
     ensures nodes { (chief_of chief.new).nodes ≡ (chief_of chief.old).nodes }
     ensures faults { N.faults net.old ≤ N.faults net.new }
@@ -108,7 +107,7 @@ pub fn exchange<N: Net>(
     ensures hears { OnOk result (HearsGiven (chief_of chief.old) (N.given net.old) (chief_of chief.new) (N.given net.new)) }
     // An exchange without a fault, before which each node that hasn't finished was told, finishes all.
     ensures ends { OnOk result (AreReminded epoch (chief_of chief.old) (N.fresh net.old) → UnlessFault (N.faults net.old) (N.faults net.new) (HaveAllFinished (chief_of chief.new))) }
-    ensures said { OnOk result (SaysOnly epoch (N.sent net.old) (N.sent net.new)) }
+    ensures said { OnOk result (Adds (IsOfFinish epoch) (N.sent net.old) (N.sent net.new)) }
     ensures world { OnOk result (GoesOn (record { cores = cores.old; chief = chief_of chief.old; sent = N.sent net.old }) (record { cores = cores.new; chief = chief_of chief.new; sent = N.sent net.new })) }
     ensures sent { OnOk result (AreSent (N.sent net.new) (N.waiting net.new)) }
     ensures nodes { (chief_of chief.new).nodes ≡ (chief_of chief.old).nodes }

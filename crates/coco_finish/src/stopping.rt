@@ -2,6 +2,7 @@
 
 ghost use Rattle.std.specs.Prelude.{◌≡◌, ◌≢◌, ◌<◌, ◌≤◌, ℕ, Bool, true, List, length, OnOk};
 ghost use Rattle.coco_chief.specs.Chief.{Chief as ChiefState};
+ghost use Rattle.coco_letters.specs.Telling.{Adds, IsOfFinish};
 ghost use Rattle.coco_letters.specs.Turns.{AreFresh, Counts};
 ghost use Rattle.coco_letters.specs.Worlds.{GoesBetween, SameEntries};
 ghost use Rattle.coco_vote.specs.Asking.{IsLater};
@@ -64,6 +65,7 @@ pub fn stop_last<N: Net, P: Power>(
     requires some { 0 < epoch }
     requires newest { AllHaveNewest epoch cores.old }
     ensures stops { OnOk result (StopSome epoch (length cores.old) (P.stopped power.old) (P.stopped power.new) cores.old voters.old (N.sent net.old) cores.new voters.new (N.sent net.new)) }
+    ensures said { OnOk result (Adds (IsOfFinish epoch) (N.sent net.old) (N.sent net.new)) }
     ensures newest { OnOk result (AllHaveNewest epoch cores.new) }
     ensures can { OnOk result (AllCanFinish epoch cores.old → AllCanFinish epoch cores.new) }
     ensures in_step { OnOk result ((chief : ChiefState) (marks : List Bool) → AreInStep epoch cores.old chief (N.sent net.old) marks → AreInStep epoch cores.new chief (N.sent net.new) marks) }

@@ -1,12 +1,13 @@
 //! What a node does with a letter that waits at it while it finishes an epoch.
 
-ghost use Rattle.std.specs.Prelude.{◌≡◌, ◌≢◌, ℕ, ◌<◌, ◌≤◌, List, [], Contains, length, IfOk, OnOk};
+ghost use Rattle.std.specs.Prelude.{◌≡◌, ◌≢◌, ℕ, ◌<◌, ◌≤◌, [], Contains, length, IfOk, OnOk};
 ghost use Rattle.coco_ast.specs.Keyed.{Rows};
 ghost use Rattle.coco_chief.specs.Chief.{Chief as ChiefState};
+ghost use Rattle.coco_letters.specs.Telling.{Adds, IsOfFinish};
 ghost use Rattle.coco_letters.specs.Turns.{AreFresh, AreSent, Counts};
 ghost use Rattle.coco_letters.specs.Worlds.{GoesOn};
 ghost use Rattle.coco_net.specs.declared.letter.Letter.{Letter as Mail};
-ghost use Rattle.coco_finish.specs.Finishing.{finished_of, AllCanFinish, AreBehind, AreTold, AreWhole, CatchesUpIf, Finish, FinishesSo, HaveMap, SaysOnly, TellsCommitted};
+ghost use Rattle.coco_finish.specs.Finishing.{finished_of, AllCanFinish, AreBehind, AreTold, AreWhole, CatchesUpIf, Finish, FinishesSo, HaveMap, TellsCommitted};
 
 use crate::NodeTables;
 use crate::tables::catch_up;
@@ -105,7 +106,7 @@ pub fn finish_at<N: Net>(
     ensures can { OnOk result (AllCanFinish epoch cores.new) }
     ensures are_behind { OnOk result (AreBehind epoch cores.old tables.old.behind.items → AreBehind epoch cores.new tables.new.behind.items) }
     ensures told { OnOk result (AreBehind epoch cores.old tables.old.behind.items → AreTold epoch (N.sent net.old) tables.old.behind.items → AreTold epoch (N.sent net.new) tables.new.behind.items) }
-    ensures said { OnOk result (SaysOnly epoch (N.sent net.old) (N.sent net.new)) }
+    ensures said { OnOk result (Adds (IsOfFinish epoch) (N.sent net.old) (N.sent net.new)) }
     // Told that the epoch is committed, it answers.
     ensures answers { OnOk result ((l : Mail) → Contains (N.waiting net.old node) l → TellsCommitted epoch l → Contains (N.fresh net.new) (finished_of node epoch)) }
     ensures world { OnOk result ((chief : ChiefState) → GoesOn (record { cores = cores.old; chief = chief; sent = N.sent net.old }) (record { cores = cores.new; chief = chief; sent = N.sent net.new })) }
@@ -143,7 +144,7 @@ pub fn nodes_finish<N: Net>(
     ensures can { OnOk result (AllCanFinish epoch cores.new) }
     ensures are_behind { OnOk result (AreBehind epoch cores.old tables.old.behind.items → AreBehind epoch cores.new tables.new.behind.items) }
     ensures told { OnOk result (AreBehind epoch cores.old tables.old.behind.items → AreTold epoch (N.sent net.old) tables.old.behind.items → AreTold epoch (N.sent net.new) tables.new.behind.items) }
-    ensures said { OnOk result (SaysOnly epoch (N.sent net.old) (N.sent net.new)) }
+    ensures said { OnOk result (Adds (IsOfFinish epoch) (N.sent net.old) (N.sent net.new)) }
     // Each that is told that the epoch is committed answers.
     ensures answers { OnOk result ((n : ℕ) (l : Mail) → n < length cores.old → Contains (N.waiting net.old n) l → TellsCommitted epoch l → Contains (N.fresh net.new) (finished_of n epoch)) }
     ensures world { OnOk result ((chief : ChiefState) → GoesOn (record { cores = cores.old; chief = chief; sent = N.sent net.old }) (record { cores = cores.new; chief = chief; sent = N.sent net.new })) }

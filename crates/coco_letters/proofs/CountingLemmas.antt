@@ -1,13 +1,12 @@
 -- What the coordinator keeps of letters, one by one and of many.
-use Rattle.std.proofs.Common.{◌≡◌, ◌≢◌, ◌⊎◌, inl, inr, ℕ, zero, suc, ◌<◌, Bool, true, false, eqb, ltb, List, [], ◌∷◌, ◌++◌, length, get_or, refl, sym, ap, subst, ◌∙◌, arith, append_assoc, append-nil, length-set}
+use Rattle.std.proofs.Common.{◌≡◌, ◌≢◌, ◌⊎◌, inl, inr, ℕ, zero, suc, ◌<◌, Bool, true, false, eqb, ltb, List, [], ◌∷◌, ◌++◌, length, get_or, refl, sym, ap, subst, ◌∙◌, arith, length-set, append_assoc, append-nil}
 use Rattle.std.specs.Prelude.{◌&&◌, ◌||◌, if◌then◌else◌}
 use Rattle.std.specs.List.{list_all, Contains}
 use Rattle.std.proofs.Math.ListN.{set}
 use Rattle.std.proofs.lemmas.Bool.{and_parts, eq-eqb, eqb-true, eqb-false, lt-ltb, ltb-true, or_left}
 use Rattle.std.proofs.lemmas.List.{get_or-set_same, get_or-set_other}
 use Rattle.std.proofs.lemmas.List.Elements.{Contains-append_cases, Contains-append_left, Contains-append_right}
-use Rattle.coco_msg.specs.declared.action.Action.{Action}
-use Rattle.coco_msg.specs.declared.action.Action.TheVariants.{Send, Force, Promote, Revert}
+use Rattle.coco_msg.specs.declared.action.Action.TheVariants.{Force, Send, Promote, Revert}
 use Rattle.coco_msg.specs.declared.message.Message.{Message}
 use Rattle.coco_msg.specs.declared.message.Message.TheVariants.{Ship, Total, Missing, All, Prepare, Vote, Commit, Finished, Abort, Query, Tell}
 use Rattle.coco_msg.specs.Bytes.{epoch_of}
@@ -19,9 +18,10 @@ use Rattle.coco_chief.specs.Table.{handled, has_finished, has_voted, is_voting, 
 use Rattle.coco_chief.specs.declared.machine.Phase.{Phase}
 use Rattle.coco_chief.specs.declared.machine.Phase.TheVariants.{Rest, Voting, Forcing}
 use Rattle.coco_world.proofs.Tools.{by_test, or_cases, or_right}
-use Rattle.coco_letters.specs.Counting.{CountsFinished, CountsVotes, IsSaidBy, IsWaiting, VotesSo}
+use Rattle.coco_msg.specs.declared.action.Action.{Action}
 use Rattle.coco_letters.specs.Saying.{posted, posts_of}
-use Rattle.coco_letters.specs.Taking.{ChiefTakes, SaysFrom}
+use Rattle.coco_letters.specs.Counting.{CountsFinished, CountsVotes, IsSaidBy, IsWaiting, VotesSo}
+use Rattle.coco_letters.specs.Taking.{ChiefTakes}
 use Rattle.coco_letters.specs.Turns.{ChiefHears, IsFrom}
 use Rattle.coco_letters.proofs.WorldLemmas.{contains_cases, contains_here}
 
@@ -442,32 +442,6 @@ takes_votes (letter ∷ letters) a c sent said long some (b, middle, hears, rest
     later : CountsVotes (letter ∷ []) a b → 0 < a.current ⊎ (is_voting a.phase ≡ false) → 0 < b.current ⊎ (is_voting b.phase ≡ false)
     later counts (inl positive) = inl (omega (arith, positive, counts.current))
     later counts (inr not) = inr (ap is_voting (counts.rests not) ∙ not)
-
--- ---- what the coordinator says
-
-pub posts_from : (from : ℕ) (actions : List Action) (p : Posted) → Contains (posts_of from actions) p → p.letter.from ≡ from
-posts_from from [] p among = absurd (none_here p among)
-posts_from from (Send to m ∷ actions) p among = elim (contains_cases (posted from to m) p (posts_of from actions) among) [
-  | inl here ↦ sym (ap (λ (s : Posted). s.letter.from) here)
-  | inr behind ↦ posts_from from actions p behind
-]
-posts_from from (Force e ∷ actions) p among = posts_from from actions p among
-posts_from from (Promote e ∷ actions) p among = posts_from from actions p among
-posts_from from (Revert e ∷ actions) p among = posts_from from actions p among
-
-says_before : (sent middle said posts : List Posted) → middle ≡ sent ++ posts → ((p : Posted) → Contains posts p → p.letter.from ≡ 8) → SaysFrom 8 middle said → SaysFrom 8 sent said
-says_before sent middle said posts is of more = record {
-  posts = posts ++ more.posts;
-  sent_is = more.sent_is ∙ ap (λ (ps : List Posted). ps ++ more.posts) is ∙ append_assoc sent posts more.posts;
-  from = λ p among. elim (Contains-append_cases posts more.posts p among) [ inl first ↦ of p first | inr next ↦ more.from p next ];
-}
-
-pub takes_say : (letters : List Letter) (a c : Chief) (sent said : List Posted) → ChiefTakes letters a sent c said → SaysFrom 8 sent said
-takes_say [] a c sent said takes = record { posts = []; sent_is = takes.1 ∙ sym (append-nil sent); from = λ p none. absurd (none_here p none) }
-takes_say (letter ∷ letters) a c sent said (b, middle, hears, rest) = elim hears.either [
-  | inl such ↦ says_before sent middle said (posts_of 8 (handled letter.from such.0 a).0) (hears.takes such.0 such.1).1 (posts_from 8 (handled letter.from such.0 a).0) (takes_say letters b c middle said rest)
-  | inr none ↦ says_before sent middle said [] ((hears.drops (λ m from. none m from from.say.commit)).1 ∙ sym (append-nil sent)) (λ p nothing. absurd (none_here p nothing)) (takes_say letters b c middle said rest)
-]
 
 -- an epoch that is voting is one
 pub some_or_not : (p : Phase) (last current : ℕ) → (chiefs.is_open p ≡ true → last < current) → 0 < current ⊎ (is_voting p ≡ false)

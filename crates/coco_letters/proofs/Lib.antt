@@ -4,3 +4,5 @@ pub mod WorldLemmas
 pub mod WaitingLemmas
 pub mod TakingLemmas
 pub mod CountingLemmas
+pub mod AroundLemmas
+pub mod TellingLemmas

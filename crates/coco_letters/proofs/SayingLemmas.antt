@@ -1,6 +1,6 @@
 -- Messages that places say, and the letters that they are.
-use Rattle.std.proofs.Common.{◌≡◌, ◌⊎◌, inl, inr, ℕ, zero, suc, ◌+◌, ◌<◌, ◌≤◌, ◌^◌, Bool, true, false, eqb, ltb, List, [], ◌∷◌, ◌++◌, length, take, drop, get_or, Result, Ok, Err, refl, sym, ap, subst, ◌∙◌, arith, append_assoc, append-nil}
-use Rattle.std.specs.Prelude.{◌&&◌, ◌||◌, if◌then◌else◌, slice_index_or, slice_set}
+use Rattle.std.proofs.Common.{◌≡◌, ℕ, zero, suc, ◌+◌, ◌<◌, ◌≤◌, ◌^◌, Bool, true, false, eqb, ltb, List, [], ◌∷◌, ◌++◌, length, take, drop, get_or, Result, Ok, refl, sym, ap, subst, ◌∙◌, arith, append_assoc, ◌⊎◌, inl, inr, Err, append-nil}
+use Rattle.std.specs.Prelude.{⊤, ◌&&◌, ◌||◌, if◌then◌else◌, slice_index_or, slice_set}
 use Rattle.std.specs.List.{list_all, Contains}
 use Rattle.std.proofs.lemmas.Bool.{and_parts, eqb-true, ltb-true}
 use Rattle.std.proofs.lemmas.List.{take_more, take_all, take-append-drop}
@@ -15,9 +15,9 @@ use Rattle.coco_node.specs.Node.{Node, is_committed, is_unknown}
 use Rattle.coco_node.specs.Table as nodes
 use Rattle.coco_chief.specs.Chief.{Chief}
 use Rattle.coco_chief.specs.Table as chiefs
-use Rattle.coco_world.specs.World.{Letter, Among, sent}
 use Rattle.coco_world.proofs.Tools.{by_test}
-use Rattle.coco_letters.specs.Saying.{is_of_commit, posted, posts_of, AreToSay, IsToSay}
+use Rattle.coco_world.specs.World.{Letter, Among, sent}
+use Rattle.coco_letters.specs.Saying.{posted, posts_of, AreToSay, IsToSay, is_of_commit}
 
 -- ---- messages
 
@@ -156,58 +156,89 @@ asks_says core fits =
 
 -- ---- what the coordinator says
 
-pub each_says : (n : ℕ) (m : Message) → n ≤ 8 → IsToSay m → AreToSay (chiefs.to_each n m)
-each_says zero m le say = tt
-each_says (suc n) m le say = say_append (chiefs.to_each n m) (Send n m ∷ []) (each_says n m (omega arith) say) (omega arith, say, tt)
+-- what its actions send are messages of a commit to nodes
+abbrev pub AreForNodes : List Action → Type 0
+AreForNodes [] = ⊤
+AreForNodes (Send to m ∷ actions) = (to < 8) × IsToSay m × AreForNodes actions
+AreForNodes (Force e ∷ actions) = AreForNodes actions
+AreForNodes (Promote e ∷ actions) = AreForNodes actions
+AreForNodes (Revert e ∷ actions) = AreForNodes actions
 
-pub unfinished_says : (n : ℕ) (finished : List Bool) (m : Message) → n ≤ 8 → IsToSay m → AreToSay (chiefs.to_unfinished n finished m)
-unfinished_says zero finished m le say = tt
-unfinished_says (suc n) finished m le say =
-    say_append (chiefs.to_unfinished n finished m) (if slice_index_or finished n false then [] else Send n m ∷ []) (unfinished_says n finished m (omega arith) say)
-    (by_test AreToSay (slice_index_or finished n false) [] (Send n m ∷ []) (λ _. tt) (λ _. (omega arith, say, tt)))
+for_nodes : (actions : List Action) → AreForNodes actions → AreToSay actions
+for_nodes [] all = tt
+for_nodes (Send to m ∷ actions) all = (let lt : to < 8 = all.0 in omega (arith, lt), all.1, for_nodes actions all.2)
+for_nodes (Force e ∷ actions) all = for_nodes actions all
+for_nodes (Promote e ∷ actions) all = for_nodes actions all
+for_nodes (Revert e ∷ actions) all = for_nodes actions all
+
+for_append : (xs ys : List Action) → AreForNodes xs → AreForNodes ys → AreForNodes (xs ++ ys)
+for_append [] ys first next = next
+for_append (Send to m ∷ xs) ys first next = (first.0, first.1, for_append xs ys first.2 next)
+for_append (Force e ∷ xs) ys first next = for_append xs ys first next
+for_append (Promote e ∷ xs) ys first next = for_append xs ys first next
+for_append (Revert e ∷ xs) ys first next = for_append xs ys first next
+
+pub each_for : (n : ℕ) (m : Message) → n ≤ 8 → IsToSay m → AreForNodes (chiefs.to_each n m)
+each_for zero m le say = tt
+each_for (suc n) m le say = for_append (chiefs.to_each n m) (Send n m ∷ []) (each_for n m (omega arith) say) (omega arith, say, tt)
+
+pub each_says : (n : ℕ) (m : Message) → n ≤ 8 → IsToSay m → AreToSay (chiefs.to_each n m)
+each_says n m le say = for_nodes (chiefs.to_each n m) (each_for n m le say)
+
+unfinished_for : (n : ℕ) (finished : List Bool) (m : Message) → n ≤ 8 → IsToSay m → AreForNodes (chiefs.to_unfinished n finished m)
+unfinished_for zero finished m le say = tt
+unfinished_for (suc n) finished m le say =
+    for_append (chiefs.to_unfinished n finished m) (if slice_index_or finished n false then [] else Send n m ∷ []) (unfinished_for n finished m (omega arith) say)
+    (by_test AreForNodes (slice_index_or finished n false) [] (Send n m ∷ []) (λ _. tt) (λ _. (omega arith, say, tt)))
+
+pub reminds_for : (core : Chief) → core.nodes ≤ 8 → core.last < 2 ^ 64 → AreForNodes (chiefs.reminds core)
+reminds_for core few fits =
+    by_test AreForNodes (eqb core.last 0) [] (chiefs.to_unfinished core.nodes core.finished (Commit core.last)) (λ _. tt)
+    (λ _. unfinished_for core.nodes core.finished (Commit core.last) few (record { is = fits; commit = refl }))
 
 pub reminds_says : (core : Chief) → core.nodes ≤ 8 → core.last < 2 ^ 64 → AreToSay (chiefs.reminds core)
-reminds_says core few fits =
-    by_test AreToSay (eqb core.last 0) [] (chiefs.to_unfinished core.nodes core.finished (Commit core.last)) (λ _. tt)
-    (λ _. unfinished_says core.nodes core.finished (Commit core.last) few (record { is = fits; commit = refl }))
+reminds_says core few fits = for_nodes (chiefs.reminds core) (reminds_for core few fits)
 
-counts_says : (voted : List Bool) (core : Chief) → AreToSay (chiefs.counts voted core).0
-counts_says voted core = by_test (λ (turn : chiefs.Turn). AreToSay turn.0) (list_all (λ counted. counted) voted) _ _ (λ _. tt) (λ _. tt)
+counts_for : (voted : List Bool) (core : Chief) → AreForNodes (chiefs.counts voted core).0
+counts_for voted core = by_test (λ (turn : chiefs.Turn). AreForNodes turn.0) (list_all (λ counted. counted) voted) _ _ (λ _. tt) (λ _. tt)
 
-on_vote_says : (from e : ℕ) (vote : Bool) (core : Chief) → core.nodes ≤ 8 → e < 2 ^ 64 → AreToSay (chiefs.on_vote from e vote core).0
-on_vote_says from e vote core few fits =
-    by_test (λ (turn : chiefs.Turn). AreToSay turn.0) (eqb e core.current && chiefs.is_voting core.phase) _ _
-    (λ both. by_test (λ (turn : chiefs.Turn). AreToSay turn.0) vote _ _ (λ _. counts_says (slice_set core.voted from true) core)
+on_vote_for : (from e : ℕ) (vote : Bool) (core : Chief) → core.nodes ≤ 8 → e < 2 ^ 64 → AreForNodes (chiefs.on_vote from e vote core).0
+on_vote_for from e vote core few fits =
+    by_test (λ (turn : chiefs.Turn). AreForNodes turn.0) (eqb e core.current && chiefs.is_voting core.phase) _ _
+    (λ both. by_test (λ (turn : chiefs.Turn). AreForNodes turn.0) vote _ _ (λ _. counts_for (slice_set core.voted from true) core)
     (λ _. let same : e ≡ core.current = eqb-true e core.current (and_parts (eqb e core.current) (chiefs.is_voting core.phase) both).0 in
-    each_says core.nodes (Abort core.current) few (record { is = omega (arith, same, fits); commit = refl })))
+    each_for core.nodes (Abort core.current) few (record { is = omega (arith, same, fits); commit = refl })))
     (λ _. tt)
 
-on_finished_says : (from e : ℕ) (core : Chief) → AreToSay (chiefs.on_finished from e core).0
-on_finished_says from e core = by_test (λ (turn : chiefs.Turn). AreToSay turn.0) (eqb e core.last) _ _ (λ _. tt) (λ _. tt)
+on_finished_for : (from e : ℕ) (core : Chief) → AreForNodes (chiefs.on_finished from e core).0
+on_finished_for from e core = by_test (λ (turn : chiefs.Turn). AreForNodes turn.0) (eqb e core.last) _ _ (λ _. tt) (λ _. tt)
 
-on_query_says : (from e : ℕ) (core : Chief) → from ≤ 8 → e < 2 ^ 64 → AreToSay (chiefs.on_query from e core).0
-on_query_says from e core le fits =
-    by_test (λ (turn : chiefs.Turn). AreToSay turn.0) (core.committed e) _ _ (λ _. (le, record { is = fits; commit = refl }, tt))
-    (λ _. by_test (λ (turn : chiefs.Turn). AreToSay turn.0) (eqb e core.current && chiefs.is_open core.phase) _ _ (λ _. tt) (λ _. (le, record { is = fits; commit = refl }, tt)))
+on_query_for : (from e : ℕ) (core : Chief) → from < 8 → e < 2 ^ 64 → AreForNodes (chiefs.on_query from e core).0
+on_query_for from e core lt fits =
+    by_test (λ (turn : chiefs.Turn). AreForNodes turn.0) (core.committed e) _ _ (λ _. (lt, record { is = fits; commit = refl }, tt))
+    (λ _. by_test (λ (turn : chiefs.Turn). AreForNodes turn.0) (eqb e core.current && chiefs.is_open core.phase) _ _ (λ _. tt) (λ _. (lt, record { is = fits; commit = refl }, tt)))
 
-chief_message_says : (from : ℕ) (m : Message) (core : Chief) → from ≤ 8 → core.nodes ≤ 8 → epoch_of m < 2 ^ 64 → AreToSay (chiefs.on_message from m core).0
-chief_message_says from (Vote e vote) core le few fits = on_vote_says from e vote core few fits
-chief_message_says from (Finished e) core le few fits = on_finished_says from e core
-chief_message_says from (Query e) core le few fits = on_query_says from e core le fits
-chief_message_says from (Ship e p place time writes) core le few fits = tt
-chief_message_says from (Total e p places) core le few fits = tt
-chief_message_says from (Missing e p places) core le few fits = tt
-chief_message_says from (All e p) core le few fits = tt
-chief_message_says from (Prepare e) core le few fits = tt
-chief_message_says from (Commit e) core le few fits = tt
-chief_message_says from (Abort e) core le few fits = tt
-chief_message_says from (Tell e committed) core le few fits = tt
+chief_message_for : (from : ℕ) (m : Message) (core : Chief) → from < 8 → core.nodes ≤ 8 → epoch_of m < 2 ^ 64 → AreForNodes (chiefs.on_message from m core).0
+chief_message_for from (Vote e vote) core lt few fits = on_vote_for from e vote core few fits
+chief_message_for from (Finished e) core lt few fits = on_finished_for from e core
+chief_message_for from (Query e) core lt few fits = on_query_for from e core lt fits
+chief_message_for from (Ship e p place time writes) core lt few fits = tt
+chief_message_for from (Total e p places) core lt few fits = tt
+chief_message_for from (Missing e p places) core lt few fits = tt
+chief_message_for from (All e p) core lt few fits = tt
+chief_message_for from (Prepare e) core lt few fits = tt
+chief_message_for from (Commit e) core lt few fits = tt
+chief_message_for from (Abort e) core lt few fits = tt
+chief_message_for from (Tell e committed) core lt few fits = tt
+
+pub chief_for : (from : ℕ) (m : Message) (core : Chief) → core.nodes ≤ 8 → IsToSay m → AreForNodes (chiefs.handled from m core).0
+chief_for from m core few say =
+    by_test (λ (turn : chiefs.Turn). AreForNodes turn.0) (ltb from core.nodes && ltb 0 (epoch_of m)) _ _
+    (λ both. let lt : from < core.nodes = ltb-true from core.nodes (and_parts (ltb from core.nodes) (ltb 0 (epoch_of m)) both).0 in chief_message_for from m core (omega (arith, lt, few)) few (epoch_fits m say))
+    (λ _. tt)
 
 pub chief_says : (from : ℕ) (m : Message) (core : Chief) → core.nodes ≤ 8 → IsToSay m → AreToSay (chiefs.handled from m core).0
-chief_says from m core few say =
-    by_test (λ (turn : chiefs.Turn). AreToSay turn.0) (ltb from core.nodes && ltb 0 (epoch_of m)) _ _
-    (λ both. let lt : from < core.nodes = ltb-true from core.nodes (and_parts (ltb from core.nodes) (ltb 0 (epoch_of m)) both).0 in chief_message_says from m core (omega (arith, lt, few)) few (epoch_fits m say))
-    (λ _. tt)
+chief_says from m core few say = for_nodes (chiefs.handled from m core).0 (chief_for from m core few say)
 
 -- the coordinator's nodes stay as many
 pub nodes_stay : (from : ℕ) (m : Message) (core : Chief) → (chiefs.handled from m core).1.nodes ≡ core.nodes

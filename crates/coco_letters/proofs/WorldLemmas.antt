@@ -1,5 +1,5 @@
 -- Worlds of scenes: what letters and stops do to them, and one way behind another.
-use Rattle.std.proofs.Common.{◌≡◌, ◌⊎◌, inl, inr, ℕ, zero, suc, ◌+◌, ◌^◌, ◌<◌, ◌≤◌, max, Bool, true, false, eqb, List, [], ◌∷◌, ◌++◌, length, get_or, Option, Some, None, refl, sym, ap, subst, ◌∙◌, arith}
+use Rattle.std.proofs.Common.{◌≡◌, ◌⊎◌, inl, inr, ℕ, zero, suc, ◌+◌, ◌^◌, ◌<◌, ◌≤◌, max, Bool, true, false, eqb, List, [], ◌∷◌, ◌++◌, length, get_or, Option, Some, refl, sym, ap, subst, ◌∙◌, arith, None}
 use Rattle.std.specs.Prelude.{if◌then◌else◌, slice_set}
 use Rattle.std.specs.List.{slice_get, AllByRecursion, Contains}
 use Rattle.std.proofs.Math.ListN.{set, length-set}
@@ -11,7 +11,6 @@ use Rattle.coco_msg.specs.declared.action.Action.{Action}
 use Rattle.coco_msg.specs.declared.action.Action.TheVariants.{Send, Force, Promote, Revert}
 use Rattle.coco_msg.specs.declared.message.Message.{Message}
 use Rattle.coco_msg.specs.declared.message.Message.TheVariants.{Abort, Commit, Prepare}
-use Rattle.coco_msg.specs.Bytes.{bytes_of}
 use Rattle.coco_net.specs.declared.letter.Posted.{Posted}
 use Rattle.coco_node.specs.Node.{Node, greatest, restarted}
 use Rattle.coco_node.specs.Table as nodes
@@ -19,12 +18,13 @@ use Rattle.coco_chief.specs.Chief.{Chief}
 use Rattle.coco_chief.specs.Table as chiefs
 use Rattle.coco_chief.specs.declared.machine.Phase.TheVariants.{Rest, Forcing}
 use Rattle.coco_world.specs.World.{World, Letter, Among, put, sent}
-use Rattle.coco_world.specs.Steps.{Event, NodeTakes, ChiefTakes, NodeForces, ChiefForces, Begins, Aborts, Stops, Asks, Reminds, Crashes, CanRun, IsAbove, after_chief, after_node, happens, run}
+use Rattle.coco_world.specs.Steps.{Event, NodeTakes, ChiefTakes, NodeForces, ChiefForces, Begins, Aborts, Stops, Asks, Reminds, Crashes, CanRun, after_chief, happens, run, IsAbove, after_node}
 use Rattle.coco_world.proofs.NodeTurns.{handled_holds}
 use Rattle.coco_world.proofs.Tools.{put_both, put_one, Among-append, Among-right}
+use Rattle.coco_msg.specs.Bytes.{bytes_of}
 use Rattle.coco_letters.specs.Saying.{posted, posts_of, AreToSay, IsToSay}
 use Rattle.coco_letters.specs.Turns.{ChiefTurns, IsForcing, NodeAsks, NodeTurns, Takes}
-use Rattle.coco_letters.specs.Worlds.{Arrives, Commits, Goes, GoesBetween, GoesOn, GoesOnAbove, GoesOnStopped, GoesOnWith, IsOnlySaid, IsSaid, IsWorld, Prepares, SameEntries, Scene, Starts, StopIsTold}
+use Rattle.coco_letters.specs.Worlds.{Arrives, Commits, Goes, GoesBetween, GoesOn, GoesOnAbove, GoesOnStopped, GoesOnWith, IsOnlySaid, IsSaid, IsWorld, Prepares, SameEntries, Scene, StopIsTold, Starts}
 use Rattle.coco_letters.proofs.SayingLemmas.{asks_says, chief_says, each_says, node_says, reminds_says, same_message, vote_says}
 
 -- ---- elements
@@ -35,7 +35,7 @@ contains_here x xs = (0, omega arith, refl)
 pub contains_behind : {X : Type 0} (x y : X) (xs : List X) → Contains xs y → Contains (x ∷ xs) y
 contains_behind x y xs h = Contains-append_right (x ∷ []) xs y h
 
-one_is : {X : Type 0} (x y : X) → Contains (x ∷ []) y → x ≡ y
+pub one_is : {X : Type 0} (x y : X) → Contains (x ∷ []) y → x ≡ y
 one_is x y (zero, lt, is) = is
 one_is x y (suc k, lt, is) = absurd (omega arith)
 

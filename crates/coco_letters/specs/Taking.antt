@@ -1,5 +1,5 @@
 -- Letters that the coordinator takes one behind another.
-use Rattle.std.specs.Prelude.{◌≡◌, ℕ, List, [], ◌∷◌, ◌++◌, Contains}
+use Rattle.std.specs.Prelude.{◌≡◌, List, [], ◌∷◌}
 use Rattle.coco_net.specs.declared.letter.Letter.{Letter}
 use Rattle.coco_net.specs.declared.letter.Posted.{Posted}
 use Rattle.coco_chief.specs.Chief.{Chief}
@@ -10,9 +10,3 @@ abbrev pub ChiefTakes : List Letter → Chief → List Posted → Chief → List
 ChiefTakes [] chief sent chief_new sent_new = (chief_new ≡ chief) × (sent_new ≡ sent)
 ChiefTakes (letter ∷ letters) chief sent chief_new sent_new =
     (next : Chief) × (said : List Posted) × ChiefHears letter chief sent next said × ChiefTakes letters next said chief_new sent_new
-
--- only letters from this place are sent
-pub record SaysFrom (place : ℕ) (sent sent_new : List Posted) : Type 0 where
-  pub posts : List Posted
-  pub sent_is : sent_new ≡ sent ++ posts
-  pub from : (p : Posted) → Contains posts p → p.letter.from ≡ place

@@ -6,6 +6,7 @@ ghost use Rattle.coco_chief.specs.Table.{aborted, begun, forced, is_open, remind
 ghost use Rattle.coco_chief.specs.declared.machine.Phase.TheVariants.{Forcing, Rest as Still};
 ghost use Rattle.coco_node.specs.Node.{Node as NodeState};
 ghost use Rattle.coco_node.specs.declared.machine.TheConstants.{COORDINATOR as Chiefs};
+ghost use Rattle.coco_letters.specs.Telling.{Adds, IsOfChief};
 ghost use Rattle.coco_letters.specs.Turns.{AreFresh, ChiefHears, ChiefTurns, Counts};
 ghost use Rattle.coco_letters.specs.Worlds.{Commits, GoesOn, GoesOnAbove, GoesOnWith};
 
@@ -28,6 +29,7 @@ pub fn chief_hears<N: Net>(
     requires few { (chief_of chief.old).nodes ≤ 8 }
     requires sent { Contains (N.sent net.old) (record { to = Chiefs; letter = letter.now }) }
     ensures heard { OnOk result (ChiefHears letter.now (chief_of chief.old) (N.sent net.old) (chief_of chief.new) (N.sent net.new)) }
+    ensures says { OnOk result (Adds IsOfChief (N.sent net.old) (N.sent net.new)) }
     ensures world { OnOk result ((cores : List NodeState) → GoesOn (record { cores = cores; chief = chief_of chief.old; sent = N.sent net.old }) (record { cores = cores; chief = chief_of chief.new; sent = N.sent net.new })) }
     ensures nodes { (chief_of chief.new).nodes ≡ (chief_of chief.old).nodes }
     ensures fresh { OnOk result (AreFresh (N.sent net.old) (N.fresh net.old) (N.sent net.new) (N.fresh net.new)) }
@@ -56,6 +58,7 @@ pub fn chief_begins<N: Net>(
     requires above_begun { (chief_of chief.old).current < epoch }
     requires above_committed { (chief_of chief.old).last < epoch }
     ensures turns { OnOk result (ChiefTurns (begun epoch (chief_of chief.old)) (N.sent net.old) (chief_of chief.new) (N.sent net.new)) }
+    ensures says { OnOk result (Adds IsOfChief (N.sent net.old) (N.sent net.new)) }
     ensures world { OnOk result ((cores : List NodeState) → GoesOnAbove epoch (record { cores = cores; chief = chief_of chief.old; sent = N.sent net.old }) (record { cores = cores; chief = chief_of chief.new; sent = N.sent net.new })) }
     ensures nodes { (chief_of chief.new).nodes ≡ (chief_of chief.old).nodes }
     ensures fresh { OnOk result (AreFresh (N.sent net.old) (N.fresh net.old) (N.sent net.new) (N.fresh net.new)) }
@@ -77,6 +80,7 @@ pub fn chief_forced<N: Net>(
     requires phase { (chief_of chief.old).phase ≡ Forcing }
     requires epoch { (chief_of chief.old).current ≡ epoch }
     ensures turns { OnOk result (ChiefTurns (forced epoch (chief_of chief.old)) (N.sent net.old) (chief_of chief.new) (N.sent net.new)) }
+    ensures says { OnOk result (Adds IsOfChief (N.sent net.old) (N.sent net.new)) }
     ensures world { OnOk result ((cores : List NodeState) → GoesOnWith (Commits epoch) (record { cores = cores; chief = chief_of chief.old; sent = N.sent net.old }) (record { cores = cores; chief = chief_of chief.new; sent = N.sent net.new })) }
     ensures nodes { (chief_of chief.new).nodes ≡ (chief_of chief.old).nodes }
     ensures fresh { OnOk result (AreFresh (N.sent net.old) (N.fresh net.old) (N.sent net.new) (N.fresh net.new)) }
@@ -96,6 +100,7 @@ pub fn chief_aborts<N: Net>(
     requires few { (chief_of chief.old).nodes ≤ 8 }
     requires undecided { IsTrue (is_open (chief_of chief.old).phase) }
     ensures turns { OnOk result (ChiefTurns (aborted (chief_of chief.old)) (N.sent net.old) (chief_of chief.new) (N.sent net.new)) }
+    ensures says { OnOk result (Adds IsOfChief (N.sent net.old) (N.sent net.new)) }
     ensures world { OnOk result ((cores : List NodeState) → GoesOn (record { cores = cores; chief = chief_of chief.old; sent = N.sent net.old }) (record { cores = cores; chief = chief_of chief.new; sent = N.sent net.new })) }
     ensures nodes { (chief_of chief.new).nodes ≡ (chief_of chief.old).nodes }
     ensures fresh { OnOk result (AreFresh (N.sent net.old) (N.fresh net.old) (N.sent net.new) (N.fresh net.new)) }
@@ -111,6 +116,7 @@ pub fn chief_aborts<N: Net>(
 pub fn chief_reminds<N: Net>(alloc: Global, net: &mut N, chief: &ChiefCore) -> Result<(), NoMemory>
     requires few { (chief_of chief.now).nodes ≤ 8 }
     ensures turns { OnOk result (ChiefTurns (reminds (chief_of chief.now), chief_of chief.now) (N.sent net.old) (chief_of chief.now) (N.sent net.new)) }
+    ensures says { OnOk result (Adds IsOfChief (N.sent net.old) (N.sent net.new)) }
     ensures world { OnOk result ((cores : List NodeState) → GoesOn (record { cores = cores; chief = chief_of chief.now; sent = N.sent net.old }) (record { cores = cores; chief = chief_of chief.now; sent = N.sent net.new })) }
     ensures fresh { OnOk result (AreFresh (N.sent net.old) (N.fresh net.old) (N.sent net.new) (N.fresh net.new)) }
     ensures waiting { (p : ℕ) → N.waiting net.new p ≡ N.waiting net.old p }

@@ -5,7 +5,8 @@ ghost use Rattle.coco_chief.specs.Shown.{chief_of};
 ghost use Rattle.coco_node.specs.Node.{Node as NodeState};
 ghost use Rattle.coco_node.specs.declared.machine.TheConstants.{COORDINATOR as Chiefs};
 ghost use Rattle.coco_letters.specs.Counting.{CountsFinished, CountsVotes};
-ghost use Rattle.coco_letters.specs.Taking.{ChiefTakes, SaysFrom};
+ghost use Rattle.coco_letters.specs.Taking.{ChiefTakes};
+ghost use Rattle.coco_letters.specs.Telling.{Adds, IsOfChief};
 ghost use Rattle.coco_letters.specs.Turns.{AreFresh, AreSent, Counts};
 ghost use Rattle.coco_letters.specs.Worlds.{GoesOn};
 
@@ -27,7 +28,7 @@ pub fn chief_takes<N: Net>(
     ensures heard { OnOk result (ChiefTakes (N.waiting net.old Chiefs) (chief_of chief.old) (N.sent net.old) (chief_of chief.new) (N.sent net.new)) }
     ensures finished { OnOk result (CountsFinished (N.waiting net.old Chiefs) (chief_of chief.old) (chief_of chief.new)) }
     ensures votes { OnOk result (CountsVotes (N.waiting net.old Chiefs) (chief_of chief.old) (chief_of chief.new)) }
-    ensures says { OnOk result (SaysFrom Chiefs (N.sent net.old) (N.sent net.new)) }
+    ensures says { OnOk result (Adds IsOfChief (N.sent net.old) (N.sent net.new)) }
     ensures world { OnOk result ((cores : List NodeState) → GoesOn (record { cores = cores; chief = chief_of chief.old; sent = N.sent net.old }) (record { cores = cores; chief = chief_of chief.new; sent = N.sent net.new })) }
     ensures nodes { (chief_of chief.new).nodes ≡ (chief_of chief.old).nodes }
     ensures sent { OnOk result (AreSent (N.sent net.new) (N.waiting net.new)) }

@@ -1,5 +1,5 @@
 -- The beginning of a vote: nodes to which the epoch is new, and a coordinator that asks each.
-use Rattle.std.proofs.Common.{◌≡◌, ◌≢◌, ◌⊎◌, inl, ℕ, zero, suc, ◌^◌, ◌<◌, Bool, true, false, eqb, List, [], ◌∷◌, ◌++◌, length, get_or, Option, Some, None, refl, sym, ap, subst, ◌∙◌, arith}
+use Rattle.std.proofs.Common.{◌≡◌, ◌≢◌, ◌⊎◌, inl, ℕ, zero, suc, ◌<◌, Bool, true, false, eqb, List, [], ◌∷◌, ◌++◌, length, get_or, Option, Some, None, refl, sym, ap, subst, ◌∙◌, arith}
 use Rattle.std.specs.Prelude.{replicate, unwrap_or}
 use Rattle.std.specs.List.{slice_get, list_all, Contains}
 use Rattle.std.specs.Option.{option_map}
@@ -21,11 +21,10 @@ use Rattle.coco_letters.specs.Worlds.{Arrives, GoesBetween, GoesOnAbove, Scene, 
 use Rattle.coco_letters.proofs.SayingLemmas.{posts_append}
 use Rattle.coco_letters.proofs.WorldLemmas.{contains_here, goes_then}
 use Rattle.coco_vote.specs.Beginning.{AreNew, GoesOnVoted}
-use Rattle.coco_vote.specs.Counting.{prepare_of, AddsNoVote, HasCounted, IsAye}
+use Rattle.coco_vote.specs.Counting.{prepare_of, HasCounted, IsAye}
 use Rattle.coco_vote.specs.Preparing.{durable_at, have_durable, Ballot, RestsVoted}
 use Rattle.coco_vote.specs.Taking.{vote_of, AreTold, AreVoting}
 use Rattle.coco_vote.specs.Voting.{GainsNewest, PreparesOnly}
-use Rattle.coco_vote.proofs.CountingLemmas.{NoVote, more_no_vote, prepare_no_vote, silence}
 
 -- ---- nodes
 
@@ -101,13 +100,6 @@ tells_each (suc n) k m less = subst (λ (ps : List Posted). Contains ps (posted 
 
 pub asks_each : (n k e : ℕ) → k < n → Contains (posts_of 8 (to_each n (Prepare e))) (prepare_of k e)
 asks_each n k e less = tells_each n k (Prepare e) less
-
-asks_no_vote : (n e : ℕ) → e < 2 ^ 64 → NoVote (posts_of 8 (to_each n (Prepare e)))
-asks_no_vote zero e fits = silence
-asks_no_vote (suc n) e fits = subst NoVote (sym (posts_append 8 (to_each n (Prepare e)) (Send n (Prepare e) ∷ []))) (more_no_vote (posts_of 8 (to_each n (Prepare e))) (prepare_of n e ∷ []) (asks_no_vote n e fits) (prepare_no_vote n e fits))
-
-pub adds_asking : (n e : ℕ) (sent after : List Posted) → e < 2 ^ 64 → after ≡ sent ++ posts_of 8 (to_each n (Prepare e)) → AddsNoVote sent after
-adds_asking n e sent after fits is = record { posts = posts_of 8 (to_each n (Prepare e)); is = is; none = asks_no_vote n e fits }
 
 -- ---- the world
 

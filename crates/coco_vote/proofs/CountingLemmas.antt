@@ -1,5 +1,5 @@
 -- Letters that the coordinator takes while nodes vote: what it counts of them, and what it says.
-use Rattle.std.proofs.Common.{◌≡◌, ◌⊎◌, inl, inr, ℕ, zero, suc, ◌^◌, ◌<◌, Bool, true, false, eqb, ltb, List, [], ◌∷◌, ◌++◌, length, get_or, refl, sym, ap, subst, ◌∙◌, arith, append_assoc, append-nil}
+use Rattle.std.proofs.Common.{◌≡◌, ◌⊎◌, inl, inr, ℕ, zero, suc, ◌^◌, ◌<◌, ◌≤◌, Bool, true, false, eqb, ltb, List, [], ◌∷◌, ◌++◌, length, get_or, refl, sym, ap, subst, ◌∙◌, arith}
 use Rattle.std.specs.Prelude.{◌&&◌, if◌then◌else◌, ◌==◌}
 use Rattle.std.specs.List.{Contains, list_all}
 use Rattle.std.proofs.Math.ListN.{set, length-set}
@@ -7,7 +7,7 @@ use Rattle.std.proofs.lemmas.Bool.{and_parts, eqb-true, eqb-false, ltb-true, lt-
 use Rattle.std.proofs.lemmas.List.{get_or-set_same, get_or-set_other}
 use Rattle.std.proofs.lemmas.List.Elements.{Contains-append_cases, Contains-append_left, Contains-append_right}
 use Rattle.coco_chief.specs.Chief.{Chief}
-use Rattle.coco_chief.specs.Table.{aborted, counts, handled, has_voted, is_open, is_voting, nothing, on_message, on_query, to_each, Turn}
+use Rattle.coco_chief.specs.Table.{aborted, counts, handled, has_voted, is_open, is_voting, nothing, on_message, on_query, Turn}
 use Rattle.coco_chief.specs.declared.machine.Phase.{Phase}
 use Rattle.coco_chief.specs.declared.machine.Phase.TheVariants.{Rest, Voting, Forcing}
 use Rattle.coco_msg.specs.declared.action.Action.TheVariants.{Send, Force}
@@ -18,13 +18,13 @@ use Rattle.coco_net.specs.declared.letter.Letter.{Letter}
 use Rattle.coco_net.specs.declared.letter.Posted.{Posted}
 use Rattle.coco_node.specs.Node.{Node}
 use Rattle.coco_world.proofs.Tools.{by_test, not_both}
-use Rattle.coco_letters.specs.Saying.{posted, posts_of, IsToSay}
 use Rattle.coco_letters.specs.Taking.{ChiefTakes}
+use Rattle.coco_letters.specs.Telling.{Adds, IsOfChief}
 use Rattle.coco_letters.specs.Turns.{ChiefHears, IsFrom}
 use Rattle.coco_letters.proofs.HearingLemmas.{posted_is, same_heard}
-use Rattle.coco_letters.proofs.SayingLemmas.{posts_append, same_message}
+use Rattle.coco_letters.proofs.TellingLemmas.{adds_cases, hears_nodes, hears_says, not_chief}
 use Rattle.coco_letters.proofs.WorldLemmas.{contains_behind, contains_cases, contains_here}
-use Rattle.coco_vote.specs.Counting.{prepare_of, AddsNoVote, FitsPhase, HasCounted, IsAye}
+use Rattle.coco_vote.specs.Counting.{prepare_of, FitsPhase, HasCounted, IsAye}
 use Rattle.coco_vote.specs.Taking.{vote_of, AreTold}
 
 -- ---- flags
@@ -205,83 +205,14 @@ module _ (e : ℕ) (some : 0 < e) (fits : e < 2 ^ 64) (Given : ℕ → Type 0) (
         (counted_stays e Given New chief chief (stays_same chief) counted (λ n less is. absurd (none (Vote e true) (is_vote n e l fits is) refl)))
   ]
 
--- ---- what the coordinator says
-
--- no vote is among the letters of these actions
-abbrev pub NoVote : List Posted → Type 0
-NoVote posts = (n e : ℕ) (v : Bool) → e < 2 ^ 64 → Contains posts (vote_of n e v) → ⊥
+-- ---- what is told of votes
 
 none_in : {X : Type 0} {Y : Type 0} (x : X) → Contains [] x → Y
 none_in x h = absurd (omega (arith, h.1))
 
-pub silence : NoVote []
-silence n e v fits among = none_in (vote_of n e v) among
-
-pub more_no_vote : (xs ys : List Posted) → NoVote xs → NoVote ys → NoVote (xs ++ ys)
-more_no_vote xs ys one two n e v fits among = elim (Contains-append_cases xs ys (vote_of n e v) among) [ inl left ↦ one n e v fits left | inr right ↦ two n e v fits right ]
-
-tell_no_vote : (to of : ℕ) (committed : Bool) → of < 2 ^ 64 → NoVote (posted 8 to (Tell of committed) ∷ [])
-tell_no_vote to of committed of_fits n e v fits among = elim (contains_cases (posted 8 to (Tell of committed)) (vote_of n e v) [] among) [
-  | inl same ↦ (let is : ◌≡◌ {A = Message} (Tell of committed) (Vote e v) = same_message (Tell of committed) (Vote e v) of_fits fits (ap (λ (s : Posted). s.letter.bytes) same) in absurd cc)
-  | inr none ↦ none_in (vote_of n e v) none
-]
-
-abort_no_vote : (to of : ℕ) → of < 2 ^ 64 → NoVote (posted 8 to (Abort of) ∷ [])
-abort_no_vote to of of_fits n e v fits among = elim (contains_cases (posted 8 to (Abort of)) (vote_of n e v) [] among) [
-  | inl same ↦ (let is : ◌≡◌ {A = Message} (Abort of) (Vote e v) = same_message (Abort of) (Vote e v) of_fits fits (ap (λ (s : Posted). s.letter.bytes) same) in absurd cc)
-  | inr none ↦ none_in (vote_of n e v) none
-]
-
-aborts_no_vote : (n of : ℕ) → of < 2 ^ 64 → NoVote (posts_of 8 (to_each n (Abort of)))
-aborts_no_vote zero of fits = silence
-aborts_no_vote (suc n) of fits = subst NoVote (sym (posts_append 8 (to_each n (Abort of)) (Send n (Abort of) ∷ []))) (more_no_vote (posts_of 8 (to_each n (Abort of))) (posted 8 n (Abort of) ∷ []) (aborts_no_vote n of fits) (abort_no_vote n of fits))
-
-abbrev SaysNoVote : Turn → Type 0
-SaysNoVote turn = NoVote (posts_of 8 turn.0)
-
-message_no_vote : (from : ℕ) (m : Message) (chief : Chief) → IsToSay m → SaysNoVote (on_message from m chief)
-message_no_vote from (Vote of vote) chief say =
-    by_test SaysNoVote (of == chief.current && is_voting chief.phase) (if vote then counts (set chief.voted from true) chief else aborted chief) ([], chief)
-    (λ both. by_test SaysNoVote vote (counts (set chief.voted from true) chief) (aborted chief)
-    (λ _. by_test SaysNoVote (list_all (λ c. c) (set chief.voted from true)) (Force chief.current ∷ [], record chief { voted = set chief.voted from true; phase = Forcing }) ([], record chief { voted = set chief.voted from true }) (λ _. silence) (λ _. silence))
-    (λ _. let same : of ≡ chief.current = eqb-true of chief.current (and_parts (of == chief.current) (is_voting chief.phase) both).0 in
-    let fits : of < 2 ^ 64 = say.is in
-    aborts_no_vote chief.nodes chief.current (omega (arith, same, fits))))
-    (λ _. silence)
-message_no_vote from (Finished of) chief say = by_test SaysNoVote (of == chief.last) ([], record chief { finished = set chief.finished from true }) ([], chief) (λ _. silence) (λ _. silence)
-message_no_vote from (Query of) chief say =
-    by_test SaysNoVote (chief.committed of) (Send from (Tell of true) ∷ [], chief) (if of == chief.current && is_open chief.phase then ([], chief) else (Send from (Tell of false) ∷ [], chief))
-    (λ _. tell_no_vote from of true say.is)
-    (λ _. by_test SaysNoVote (of == chief.current && is_open chief.phase) ([], chief) (Send from (Tell of false) ∷ [], chief) (λ _. silence) (λ _. tell_no_vote from of false say.is))
-message_no_vote from (Ship of p place time writes) chief say = silence
-message_no_vote from (Total of p places) chief say = silence
-message_no_vote from (Missing of p places) chief say = silence
-message_no_vote from (All of p) chief say = silence
-message_no_vote from (Prepare of) chief say = silence
-message_no_vote from (Commit of) chief say = silence
-message_no_vote from (Abort of) chief say = silence
-message_no_vote from (Tell of committed) chief say = silence
-
-heard_adds : (l : Letter) (chief new : Chief) (sent after : List Posted) → ChiefHears l chief sent new after → AddsNoVote sent after
-heard_adds l chief new sent after hears = elim hears.either [
-  | inl such ↦ record {
-    posts = posts_of 8 (handled l.from such.0 chief).0;
-    is = (hears.takes such.0 such.1).1;
-    none = by_test SaysNoVote (ltb l.from chief.nodes && ltb 0 (epoch_of such.0)) (on_message l.from such.0 chief) ([], chief) (λ _. message_no_vote l.from such.0 chief such.1.say) (λ _. silence);
-  }
-  | inr none ↦ record { posts = []; is = (hears.drops (λ m from. none m from from.say.commit)).1 ∙ sym (append-nil sent); none = silence }
-]
-
-pub takes_adds : (letters : List Letter) (chief new : Chief) (sent after : List Posted) → ChiefTakes letters chief sent new after → AddsNoVote sent after
-takes_adds [] chief new sent after takes = record { posts = []; is = takes.1 ∙ sym (append-nil sent); none = silence }
-takes_adds (l ∷ ls) chief new sent after takes =
-    let one = heard_adds l chief takes.0 sent takes.1 takes.2 in
-    let rest = takes_adds ls takes.0 new takes.1 after takes.3 in
-    record { posts = one.posts ++ rest.posts; is = rest.is ∙ ap (λ (ps : List Posted). ps ++ rest.posts) one.is ∙ append_assoc sent one.posts rest.posts; none = more_no_vote one.posts rest.posts one.none rest.none }
-
--- what is told of votes is told still
-pub told_still : (e : ℕ) (cores : List Node) (sent after : List Posted) (asked : ℕ → ℕ → Bool) → e < 2 ^ 64 → AddsNoVote sent after → AreTold e cores sent asked → AreTold e cores after asked
-told_still e cores sent after asked fits adds told = record {
+-- is told still where the coordinator says more
+pub told_still : (e : ℕ) (cores : List Node) (sent after : List Posted) (asked : ℕ → ℕ → Bool) → Adds IsOfChief sent after → AreTold e cores sent asked → AreTold e cores after asked
+told_still e cores sent after asked adds told = record {
   ayes = λ n among. told.ayes n (was n true among);
   noes = λ n among. told.noes n (was n false among);
   before = told.before;
@@ -289,11 +220,10 @@ told_still e cores sent after asked fits adds told = record {
 }
   where
     was : (n : ℕ) (v : Bool) → Contains after (vote_of n e v) → Contains sent (vote_of n e v)
-    was n v among = elim (Contains-append_cases sent adds.posts (vote_of n e v) (subst (λ (ps : List Posted). Contains ps (vote_of n e v)) adds.is among)) [ inl before ↦ before | inr now ↦ absurd (adds.none n e v fits now) ]
+    was n v among = elim (adds_cases sent after (vote_of n e v) adds among) [ inl before ↦ before | inr now ↦ not_chief n (Vote e v) now ]
 
-pub noes_still : (e : ℕ) (sent after : List Posted) → e < 2 ^ 64 → AddsNoVote sent after → ((n : ℕ) → Contains sent (vote_of n e false) → ⊥) → (n : ℕ) → Contains after (vote_of n e false) → ⊥
-noes_still e sent after fits adds noes n among =
-    elim (Contains-append_cases sent adds.posts (vote_of n e false) (subst (λ (ps : List Posted). Contains ps (vote_of n e false)) adds.is among)) [ inl before ↦ noes n before | inr now ↦ adds.none n e false fits now ]
+pub noes_still : (e : ℕ) (sent after : List Posted) → Adds IsOfChief sent after → ((n : ℕ) → Contains sent (vote_of n e false) → ⊥) → (n : ℕ) → Contains after (vote_of n e false) → ⊥
+noes_still e sent after adds noes n among = elim (adds_cases sent after (vote_of n e false) adds among) [ inl before ↦ noes n before | inr now ↦ not_chief n (Vote e false) now ]
 
 -- ---- all letters
 
@@ -307,18 +237,19 @@ counted_same e G H chief wider back counted = record {
 }
 
 -- it has counted the votes among the letters
-pub takes_counted : (e : ℕ) (Given : ℕ → Type 0) (letters : List Letter) (chief new : Chief) (sent after : List Posted) → 0 < e → e < 2 ^ 64 → HasCounted e Given chief → ((n : ℕ) → Contains sent (vote_of n e false) → ⊥)
+pub takes_counted : (e : ℕ) (Given : ℕ → Type 0) (letters : List Letter) (chief new : Chief) (sent after : List Posted) → chief.nodes ≤ 8 → 0 < e → e < 2 ^ 64 → HasCounted e Given chief → ((n : ℕ) → Contains sent (vote_of n e false) → ⊥)
     → ((l : Letter) → Contains letters l → Contains sent (record { to = 8; letter = l })) → ChiefTakes letters chief sent new after → HasCounted e (λ n. Given n ⊎ Contains letters (vote_of n e true).letter) new
-takes_counted e Given [] chief new sent after some fits counted noes were takes =
+takes_counted e Given [] chief new sent after few some fits counted noes were takes =
     subst (HasCounted e (λ n. Given n ⊎ Contains [] (letter_vote n e))) (sym takes.0)
     (counted_same e Given (λ n. Given n ⊎ Contains [] (letter_vote n e)) chief (λ n given. inl given) (λ n either. elim either [ inl given ↦ given | inr none ↦ none_in (letter_vote n e) none ]) counted)
-takes_counted e Given (l ∷ ls) chief new sent after some fits counted noes were takes =
+takes_counted e Given (l ∷ ls) chief new sent after few some fits counted noes were takes =
     let next : Chief = takes.0 in
     let said : List Posted = takes.1 in
-    let adds : AddsNoVote sent said = heard_adds l chief next sent said takes.2 in
+    let adds : Adds IsOfChief sent said = hears_says l chief next sent said few takes.2 in
+    let same : takes.0.nodes ≡ chief.nodes = hears_nodes l chief next sent said takes.2 in
     let one : HasCounted e (λ n. Given n ⊎ (l ≡ letter_vote n e)) next = counted_heard e some fits Given chief counted sent noes l (were l (contains_here l ls)) next said takes.2 in
-    let rest = takes_counted e (λ n. Given n ⊎ (l ≡ letter_vote n e)) ls next new said after some fits one (noes_still e sent said fits adds noes)
-    (λ k among. subst (λ (ps : List Posted). Contains ps (record { to = 8; letter = k })) (sym adds.is) (Contains-append_left sent adds.posts (record { to = 8; letter = k }) (were k (contains_behind l k ls among)))) takes.3 in
+    let rest = takes_counted e (λ n. Given n ⊎ (l ≡ letter_vote n e)) ls next new said after (omega (arith, same, few)) some fits one (noes_still e sent said adds noes)
+    (λ k among. subst (λ (ps : List Posted). Contains ps (record { to = 8; letter = k })) (sym adds.sent_is) (Contains-append_left sent adds.posts (record { to = 8; letter = k }) (were k (contains_behind l k ls among)))) takes.3 in
     counted_same e (λ n. (Given n ⊎ (l ≡ letter_vote n e)) ⊎ Contains ls (letter_vote n e)) (λ n. Given n ⊎ Contains (l ∷ ls) (letter_vote n e)) new
     (λ n either. elim either [
       | inl before ↦ elim before [
@@ -358,12 +289,6 @@ exchange_counted e given these more all waiting chief is waits gave counted =
     ])
     counted)
 
-pub adds_then : (a b c : List Posted) → AddsNoVote a b → AddsNoVote b c → AddsNoVote a c
-adds_then a b c one two = record { posts = one.posts ++ two.posts; is = two.is ∙ ap (λ (ps : List Posted). ps ++ two.posts) one.is ∙ append_assoc a one.posts two.posts; none = more_no_vote one.posts two.posts one.none two.none }
-
-pub adds_same : (a b : List Posted) → b ≡ a → AddsNoVote a b
-adds_same a b same = record { posts = []; is = same ∙ sym (append-nil a); none = silence }
-
 -- what a round gives
 pub round_counted : (e : ℕ) (Given : ℕ → Type 0) (waiting : List Letter) (these more : List Posted) (chief : Chief) → more ≡ these → ((n : ℕ) → Contains waiting (vote_of n e true).letter → IsAye e these n) → ((n : ℕ) → IsAye e these n → Contains waiting (vote_of n e true).letter)
     → HasCounted e (λ n. Given n ⊎ Contains waiting (vote_of n e true).letter) chief → HasCounted e (λ n. Given n ⊎ IsAye e more n) chief
@@ -378,9 +303,6 @@ round_counted e Given waiting these more chief is waits gave counted =
 pub asked_from : (n e : ℕ) → e < 2 ^ 64 → IsFrom 8 (prepare_of n e).letter (Prepare e)
 asked_from n e fits = record { from = refl; say = record { is = fits; commit = refl }; bytes = refl }
 
-pub adds_left : (sent after : List Posted) (p : Posted) → AddsNoVote sent after → Contains sent p → Contains after p
-adds_left sent after p adds among = subst (λ (ps : List Posted). Contains ps p) (sym adds.is) (Contains-append_left sent adds.posts p among)
-
 -- ---- asking
 
 fresh_end : {X : Type 0} (xs : List X) (x : X) → Contains (xs ++ x ∷ []) x
@@ -388,12 +310,3 @@ fresh_end xs x = Contains-append_right xs (x ∷ []) x (contains_here x [])
 
 pub fresh_new : (fresh after : List Posted) (p : Posted) → after ≡ fresh ++ p ∷ [] → Contains after p
 fresh_new fresh after p is = subst (λ (ps : List Posted). Contains ps p) (sym is) (fresh_end fresh p)
-
-pub prepare_no_vote : (to of : ℕ) → of < 2 ^ 64 → NoVote (prepare_of to of ∷ [])
-prepare_no_vote to of of_fits n e v fits among = elim (contains_cases (prepare_of to of) (vote_of n e v) [] among) [
-  | inl same ↦ (let is : ◌≡◌ {A = Message} (Prepare of) (Vote e v) = same_message (Prepare of) (Vote e v) of_fits fits (ap (λ (s : Posted). s.letter.bytes) same) in absurd cc)
-  | inr none ↦ none_in (vote_of n e v) none
-]
-
-pub adds_prepare : (n e : ℕ) (sent after : List Posted) → e < 2 ^ 64 → after ≡ sent ++ prepare_of n e ∷ [] → AddsNoVote sent after
-adds_prepare n e sent after fits is = record { posts = prepare_of n e ∷ []; is = is; none = prepare_no_vote n e fits }

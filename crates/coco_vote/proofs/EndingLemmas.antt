@@ -1,5 +1,5 @@
 -- Nodes that hear that an epoch is aborted.
-use Rattle.std.proofs.Common.{◌≡◌, ◌≢◌, ◌⊎◌, inl, inr, ℕ, ◌+◌, ◌^◌, ◌<◌, ◌≤◌, Bool, true, false, eqb, ltb, List, [], ◌∷◌, length, Some, refl, sym, ap, subst, ◌∙◌, arith}
+use Rattle.std.proofs.Common.{◌≡◌, ◌≢◌, ◌⊎◌, inl, inr, ℕ, ◌+◌, ◌^◌, ◌<◌, ◌≤◌, Bool, true, false, eqb, ltb, List, [], ◌∷◌, ◌++◌, length, Some, refl, sym, ap, subst, ◌∙◌, arith, append-nil}
 use Rattle.std.specs.Prelude.{◌&&◌, if◌then◌else◌, ◌==◌}
 use Rattle.std.specs.List.{slice_get, Contains}
 use Rattle.std.proofs.Math.ListN.{set, length-set}
@@ -17,7 +17,7 @@ use Rattle.coco_node.specs.Node.{Node, is_unknown}
 use Rattle.coco_node.specs.Table.{awaits, handled, on_abort, on_aborted, Turn}
 use Rattle.coco_world.proofs.Tools.{by_test, not_both}
 use Rattle.coco_letters.specs.declared.hearing.Phase.TheVariants.{GivingUp}
-use Rattle.coco_letters.specs.Saying.{posted}
+use Rattle.coco_letters.specs.Saying.{posted, posts_of}
 use Rattle.coco_letters.specs.Turns.{is_awaited, Hears, IsFrom}
 use Rattle.coco_letters.proofs.WorldLemmas.{contains_cases}
 use Rattle.coco_vote.specs.Ending.{GivesUp, GiveUp, IsOverAt}
@@ -66,6 +66,32 @@ message_gives e (Vote of vote) core awaited = absurd cc
 message_gives e (Commit of) core awaited = absurd cc
 message_gives e (Finished of) core awaited = absurd cc
 message_gives e (Query of) core awaited = absurd cc
+
+-- it says nothing of it
+abbrev SaysNothing : ℕ → Turn → Type 0
+SaysNothing n turn = posts_of n turn.0 ≡ []
+
+abort_silent : (n of : ℕ) (core : Node) → SaysNothing n (on_abort of core)
+abort_silent n of core =
+    by_test (SaysNothing n) (awaits of core) (Revert of ∷ [], record core { decision = Aborted }) (if of == core.forcing then ([], record core { forcing = 0 }) else ([], core)) (λ _. refl)
+    (λ _. by_test (SaysNothing n) (of == core.forcing) ([], record core { forcing = 0 }) ([], core) (λ _. refl) (λ _. refl))
+
+aborted_silent : (n of : ℕ) (core : Node) → SaysNothing n (on_aborted of core)
+aborted_silent n of core = by_test (SaysNothing n) (awaits of core) (Revert of ∷ [], record core { decision = Aborted }) ([], core) (λ _. refl) (λ _. refl)
+
+message_silent : (e n : ℕ) (m : Message) (core : Node) → is_awaited GivingUp e m ≡ true → SaysNothing n (handled 8 m core)
+message_silent e n (Abort of) core awaited = by_test (SaysNothing n) (ltb 0 of) (on_abort of core) ([], core) (λ _. abort_silent n of core) (λ _. refl)
+message_silent e n (Tell of true) core awaited = absurd cc
+message_silent e n (Tell of false) core awaited = by_test (SaysNothing n) (ltb 0 of) (on_aborted of core) ([], core) (λ _. aborted_silent n of core) (λ _. refl)
+message_silent e n (Ship of p place time writes) core awaited = absurd cc
+message_silent e n (Total of p places) core awaited = absurd cc
+message_silent e n (Missing of p places) core awaited = absurd cc
+message_silent e n (All of p) core awaited = absurd cc
+message_silent e n (Prepare of) core awaited = absurd cc
+message_silent e n (Vote of vote) core awaited = absurd cc
+message_silent e n (Commit of) core awaited = absurd cc
+message_silent e n (Finished of) core awaited = absurd cc
+message_silent e n (Query of) core awaited = absurd cc
 
 -- told that it is aborted, it knows it
 abbrev IsOver : ℕ → Node → Type 0
@@ -151,6 +177,13 @@ module _ (e n : ℕ) (letter : Letter) (cores cores_new : List Node) (sent sent_
     | inl such ↦ (let takes = hears.takes such.0 such.1 such.2 in
         subst (GiveUp e cores) (sym takes.cores_are) (give_set e cores n takes.core (handled 8 such.0 takes.core).1 takes.there (message_gives e such.0 takes.core such.2)))
     | inr none ↦ subst (GiveUp e cores) (sym (hears.drops none).0) (give_same e cores)
+  ]
+
+  pub heard_silent : sent_new ≡ sent
+  heard_silent = elim hears.either [
+    | inl such ↦ (let takes = hears.takes such.0 such.1 such.2 in
+        takes.sent_is ∙ ap (λ (ps : List Posted). sent ++ ps) (ap (posts_of n) takes.answered ∙ message_silent e n such.0 takes.core such.2) ∙ append-nil sent)
+    | inr none ↦ (hears.drops none).1
   ]
 
   pub heard_over : 0 < e → n < length cores → IsFrom 8 letter (Abort e) → IsOverAt e n cores_new

@@ -101,14 +101,6 @@ pub sent_still : (before sent fresh after fresh_new : List Posted) (p : Posted) 
 sent_still before sent fresh after fresh_new p same new among =
     subst (λ (ps : List Posted). Contains ps p) (sym new.sent_is) (Contains-append_left sent new.posts p (subst (λ (ps : List Posted). Contains ps p) (sym same) among))
 
--- ---- what was sent
-
-pub grown_then : (a b c : List Posted) → (xs : List Posted) × (b ≡ a ++ xs) → (ys : List Posted) × (c ≡ b ++ ys) → (zs : List Posted) × (c ≡ a ++ zs)
-grown_then a b c one two = (one.0 ++ two.0, two.1 ∙ ap (λ (ps : List Posted). ps ++ two.0) one.1 ∙ append_assoc a one.0 two.0)
-
-pub grown_has : (a b : List Posted) (p : Posted) → (xs : List Posted) × (b ≡ a ++ xs) → Contains a p → Contains b p
-grown_has a b p grown among = subst (λ (ps : List Posted). Contains ps p) (sym grown.1) (Contains-append_left a grown.0 p among)
-
 -- nothing was given yet
 pub nothing_given : {X : Type 0} (first given : List Posted) (p : Posted) → first ≡ first ++ given → Contains given p → X
 nothing_given first given p is among =

@@ -11,3 +11,4 @@ pub mod GivingLemmas
 pub mod PrepareLemmas
 pub mod BeginningLemmas
 pub mod EndingLemmas
+pub mod SayingLemmas

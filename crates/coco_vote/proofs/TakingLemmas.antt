@@ -12,6 +12,7 @@ use Rattle.coco_msg.specs.declared.message.Message.{Message}
 use Rattle.coco_msg.specs.declared.message.Message.TheVariants.{Prepare, Query, Vote}
 use Rattle.coco_net.specs.declared.letter.Letter.{Letter}
 use Rattle.coco_net.specs.declared.letter.Posted.{Posted}
+use Rattle.coco_node.specs.declared.machine.Decision.TheVariants.{Unknown}
 use Rattle.coco_node.specs.Node.{Node, is_unknown, restarted}
 use Rattle.coco_node.specs.Table.{awaits, handled, on_prepare, votes, Turn}
 use Rattle.coco_letters.specs.declared.hearing.Phase.TheVariants.{Voting}
@@ -30,7 +31,7 @@ use Rattle.coco_vote.specs.Nearing.{ahead_of, lacks, Nears}
 use Rattle.coco_vote.specs.Preparing.{durable_at, have_durable}
 use Rattle.coco_vote.specs.Steps.{core_behind, has_stopped, has_voted, is_early, letters_in, EndsVote, HasNewest, Marks, Steps}
 use Rattle.coco_vote.specs.Asking.{AreAsked}
-use Rattle.coco_vote.specs.Taking.{both_of, stops_of, vote_of, AreTold, AreVoting, HasGiven, HeardSo, IsSettled, IsVoting, KeepsCores, UnlessLost}
+use Rattle.coco_vote.specs.Taking.{both_of, stops_of, vote_of, AreTold, AreVoting, HasGiven, HeardSo, IsSettled, IsVoting, KeepsCores, KnowsNoMore, UnlessLost}
 use Rattle.coco_vote.specs.Voting.{PreparesOnly}
 use Rattle.coco_vote.proofs.PlaceLemmas.{has_older, durable_else, durable_here, durable_set, get_set_other, get_set_same, set_again}
 use Rattle.coco_vote.proofs.StopLemmas.{never_both}
@@ -286,8 +287,19 @@ settled_voting e core voting = record {
   unknown = λ is. elim voting.stands [ inl older ↦ absurd (omega (arith, older, is)) | inr newest ↦ newest.1 ];
 }
 
-pub cores_voting : (e : ℕ) (cores new : List Node) → AreVoting e new → ((n : ℕ) → durable_at new n ≡ durable_at cores n) → KeepsCores e cores new
-cores_voting e cores new voting same = record { settled = λ n core there. settled_voting e core (voting n core there); entries = λ n. inl (same n) }
+-- what nodes know where they are as before, or where one of them knows nothing
+pub knows_same : (cores new : List Node) → new ≡ cores → (k : ℕ) (found : Node) → slice_get new k ≡ Some found → KnowsNoMore k cores found
+knows_same cores new same k found there = inr (found, ap (λ (cs : List Node). slice_get cs k) (sym same) ∙ there, refl, refl)
+
+knows_set : (cores : List Node) (n : ℕ) (core : Node) → n < length cores → core.decision ≡ Unknown → (k : ℕ) (found : Node) → slice_get (set cores n core) k ≡ Some found → KnowsNoMore k cores found
+knows_set cores n core within unknown k found there = by_place (eqb k n) refl
+  where
+    by_place : (b : Bool) → eqb k n ≡ b → KnowsNoMore k cores found
+    by_place true is = inl (ap (λ (c : Node). c.decision) (sym (same_Some core found (sym (get_set_same cores n core within) ∙ ap (slice_get (set cores n core)) (sym (eqb-true k n is)) ∙ there))) ∙ unknown)
+    by_place false is = inr (found, sym (get_set_other cores n k core (eqb-false k n is)) ∙ there, refl, refl)
+
+pub cores_voting : (e : ℕ) (cores new : List Node) → AreVoting e new → ((n : ℕ) → durable_at new n ≡ durable_at cores n) → ((n : ℕ) (core : Node) → slice_get new n ≡ Some core → KnowsNoMore n cores core) → KeepsCores e cores new
+cores_voting e cores new voting same knows = record { settled = λ n core there. settled_voting e core (voting n core there); entries = λ n. inl (same n); decided = knows }
 
 pub cores_then : (e : ℕ) (a b c : List Node) → KeepsCores e a b → KeepsCores e b c → KeepsCores e a c
 cores_then e a b c one two = record {
@@ -295,6 +307,13 @@ cores_then e a b c one two = record {
   entries = λ n. elim (two.entries n) [
     | inl same ↦ elim (one.entries n) [ inl was ↦ inl (same ∙ was) | inr now ↦ inr (same ∙ now) ]
     | inr now ↦ inr now
+  ];
+  decided = λ n core there. elim (two.decided n core there) [
+    | inl unknown ↦ inl unknown
+    | inr mid ↦ elim (one.decided n mid.0 mid.1) [
+      | inl unknown ↦ inl (sym mid.3 ∙ unknown)
+      | inr was ↦ inr (was.0, was.1, was.2 ∙ mid.2, was.3 ∙ mid.3)
+    ]
   ];
 }
 
@@ -317,6 +336,13 @@ durable_ended (steps.Restarted true) n e cores new sent after within newest ends
     by_place false at = durable_else cores n m (restarted n (e ∷ []) None) (eqb-false m n at)
 durable_ended (steps.Restarted false) n e cores new sent after within newest ends m = absurd ends
 durable_ended steps.Stopped n e cores new sent after within newest ends m = absurd ends
+
+-- and knows no more
+pub knows_ended : (step : Step) (n e : ℕ) (cores new : List Node) (sent after : List Posted) → n < length cores → EndsVote step n e cores sent new after → (k : ℕ) (found : Node) → slice_get new k ≡ Some found → KnowsNoMore k cores found
+knows_ended steps.Voted n e cores new sent after within ends k found there = knows_same cores new ends.0 k found there
+knows_ended (steps.Restarted true) n e cores new sent after within ends k found there = knows_set cores n (restarted n (e ∷ []) None) within refl k found (ap (λ (cs : List Node). slice_get cs k) (sym ends.0) ∙ there)
+knows_ended (steps.Restarted false) n e cores new sent after within ends k found there = absurd ends
+knows_ended steps.Stopped n e cores new sent after within ends k found there = absurd ends
 
 -- its letters are those of a step
 ended_letters : (step : Step) (n e : ℕ) (cores new : List Node) (sent between after : List Posted) → between ≡ sent ++ vote_of n e true ∷ [] → EndsVote step n e cores between new after → after ≡ sent ++ letters_in step n e
@@ -448,7 +474,13 @@ module _ (step : Step) (n e : ℕ) (cores mid new : List Node) (sent between aft
   cores_stepped voting = record {
     settled = subst (λ (cs : List Node). (k : ℕ) (found : Node) → slice_get cs k ≡ Some found → IsSettled e found) (sym new_is) (settled_all voting);
     entries = entry_here;
+    decided = λ k found there. knows_set cores n (core_behind step n e stepped.core) within (unknown_behind step) k found (ap (λ (cs : List Node). slice_get cs k) (sym new_is) ∙ there);
   }
+    where
+      unknown_behind : (s : Step) → (core_behind s n e stepped.core).decision ≡ Unknown
+      unknown_behind steps.Voted = refl
+      unknown_behind (steps.Restarted voted) = refl
+      unknown_behind steps.Stopped = refl
 
   pub near_stepped : (voter voter_new : Voter) → Marks step voter voter_new → Nears (stops_of step) (ahead_of e cores n voter) (ahead_of e new n voter_new)
   near_stepped voter voter_new marks =

@@ -1,5 +1,5 @@
 -- Votes that the coordinator counts.
-use Rattle.std.specs.Prelude.{◌≡◌, ℕ, ◌<◌, ◌≤◌, ◌^◌, Bool, true, false, List, ◌++◌, Option, Contains, length}
+use Rattle.std.specs.Prelude.{◌≡◌, ℕ, ◌<◌, ◌≤◌, Bool, true, false, List, ◌++◌, Option, Contains, length}
 use Rattle.std.specs.List.{list_all}
 use Rattle.coco_chief.specs.Chief.{Chief}
 use Rattle.coco_chief.specs.Table.{has_voted}
@@ -32,12 +32,6 @@ pub record HasCounted (epoch : ℕ) (HasGiven : ℕ → Type 0) (chief : Chief) 
 -- the yes of a node is among these letters
 abbrev pub IsAye : ℕ → List Posted → ℕ → Type 0
 IsAye epoch posts n = Contains posts (vote_of n epoch true)
-
--- what was sent, and more in which there is no vote
-pub record AddsNoVote (sent after : List Posted) : Type 0 where
-  pub posts : List Posted
-  pub is : after ≡ sent ++ posts
-  pub none : (n epoch : ℕ) (yes : Bool) → epoch < 2 ^ 64 → Contains posts (vote_of n epoch yes) → ⊥
 
 -- a net later, whatever was answered: it has given more, faults don't fall, and it wasn't asked for disturbances
 pub record GivesOn (given : List Posted) (faults : ℕ) (seed : Option ℕ) (given_new : List Posted) (faults_new : ℕ) (seed_new : Option ℕ) : Type 0 where

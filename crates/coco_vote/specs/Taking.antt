@@ -39,10 +39,15 @@ pub record IsSettled (epoch : ℕ) (core : Node) : Type 0 where
   pub durable : core.durable ≤ epoch
   pub unknown : core.durable ≡ epoch → core.decision ≡ Unknown
 
+-- a node doesn't know what became of its newest entry, or it had that entry before and knew the same of it
+abbrev pub KnowsNoMore : ℕ → List Node → Node → Type 0
+KnowsNoMore n cores core = (core.decision ≡ Unknown) ⊎ ((was : Node) × (slice_get cores n ≡ Some was) × (was.durable ≡ core.durable) × (was.decision ≡ core.decision))
+
 -- so it is with all nodes, and each has its entries of before, or that of the epoch besides
 pub record KeepsCores (epoch : ℕ) (cores cores_new : List Node) : Type 0 where
   pub settled : (n : ℕ) (core : Node) → slice_get cores_new n ≡ Some core → IsSettled epoch core
   pub entries : (n : ℕ) → (durable_at cores_new n ≡ durable_at cores n) ⊎ (durable_at cores_new n ≡ epoch)
+  pub decided : (n : ℕ) (core : Node) → slice_get cores_new n ≡ Some core → KnowsNoMore n cores core
 
 abbrev pub vote_of : ℕ → ℕ → Bool → Posted
 vote_of n epoch vote = posted n COORDINATOR (Vote epoch vote)

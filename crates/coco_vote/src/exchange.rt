@@ -1,12 +1,12 @@
 //! An exchange of two rounds while nodes vote.
 
 ghost use Rattle.std.specs.Prelude.{◌≡◌, ◌⊎◌, ℕ, ◌<◌, ◌≤◌, ◌^◌, false, Bool, true, List, ◌++◌, Contains, length, IfOk, OnOk};
-ghost use Rattle.coco_chief.specs.Chief.{Chief as ChiefState};
 ghost use Rattle.coco_chief.specs.Shown.{chief_of};
 ghost use Rattle.coco_chief.specs.Table.{is_voting};
 ghost use Rattle.coco_net.specs.declared.letter.Posted.{Posted as Sent};
 ghost use Rattle.coco_node.specs.Node.{Node as NodeState};
 ghost use Rattle.coco_node.specs.declared.machine.TheConstants.{COORDINATOR as Chiefs};
+ghost use Rattle.coco_letters.specs.Telling.{Adds, IsOfChief, IsOfVote};
 ghost use Rattle.coco_letters.specs.Turns.{AreSent};
 ghost use Rattle.coco_letters.specs.Worlds.{GoesBetween, GoesOn};
 ghost use Rattle.coco_log.specs.Faults.{CountsFault};
@@ -14,7 +14,7 @@ ghost use Rattle.coco_log.specs.LogState.{LogState};
 ghost use Rattle.coco_store.specs.Contents.{Contents};
 ghost use Rattle.coco_append.specs.Gaining.{Stands};
 ghost use Rattle.coco_vote.specs.Asking.{IsLater};
-ghost use Rattle.coco_vote.specs.Counting.{prepare_of, AddsNoVote, GivesOn, HasCounted, IsAye};
+ghost use Rattle.coco_vote.specs.Counting.{prepare_of, GivesOn, HasCounted, IsAye};
 ghost use Rattle.coco_vote.specs.Nearing.{all_ahead, Nears};
 ghost use Rattle.coco_vote.specs.Preparing.{have_durable, Ballot, MayForce, RestsVoted, Votes};
 ghost use Rattle.coco_vote.specs.Taking.{has_lost, vote_of, AreApart, AreHeld, AreMarked, AreReady, AreTold, AreVoting, CountsStops, HaveLogs, IsElsewhere, KeepPlaces, KeepsCores, UnlessLost};
@@ -45,9 +45,11 @@ pub(crate) fn collect<N: Net>(
     ensures counted { OnOk result ((e : ℕ) (given more : List Sent) → 0 < e → e < 2 ^ 64 → HasCounted e (IsAye e given) (chief_of chief.old) → ((n : ℕ) → Contains (N.sent net.old) (vote_of n e false) → ⊥) → N.given net.new ≡ N.given net.old ++ more
         → HasCounted e (λ n. (IsAye e given n ⊎ Contains (N.waiting net.old Chiefs) (vote_of n e true).letter) ⊎ IsAye e more n) (chief_of chief.new)) }
     ensures nodes { (chief_of chief.new).nodes ≡ (chief_of chief.old).nodes }
+    ensures last { OnOk result ((chief_of chief.new).last ≡ (chief_of chief.old).last) }
+    ensures committed { OnOk result ((chief_of chief.new).committed ≡ (chief_of chief.old).committed) }
     // Where it doesn't wait for votes it stays in its phase.
     ensures rests { OnOk result (is_voting (chief_of chief.old).phase ≡ false → ((chief_of chief.new).phase ≡ (chief_of chief.old).phase) × ((chief_of chief.new).current ≡ (chief_of chief.old).current)) }
-    ensures adds { OnOk result (AddsNoVote (N.sent net.old) (N.sent net.new)) }
+    ensures says { OnOk result (Adds IsOfChief (N.sent net.old) (N.sent net.new)) }
     // What was fresh is given, where no letter was lost.
     ensures gives { OnOk result ((more : List Sent) (p : Sent) → N.given net.new ≡ N.given net.old ++ more → N.faults net.new ≡ N.faults net.old → Contains (N.fresh net.old) p → Contains more p) }
     ensures were_sent { OnOk result ((more : List Sent) (p : Sent) → N.given net.new ≡ N.given net.old ++ more → Contains more p → Contains (N.sent net.new) p) }
@@ -91,10 +93,12 @@ pub(crate) fn exchange<H: Host, N: Net, P: Power>(
     ensures counted { IfOk result (λ stops. UnlessLost stops ((given more : List Sent) → HasCounted epoch (IsAye epoch given) (chief_of chief.old) → N.given net.new ≡ N.given net.old ++ more → HasCounted epoch (IsAye epoch (given ++ more)) (chief_of chief.new))) }
     ensures lost { IfOk result (λ stops. has_lost stops ≡ true → chief_of chief.new ≡ chief_of chief.old) }
     ensures nodes { (chief_of chief.new).nodes ≡ (chief_of chief.old).nodes }
+    ensures last { OnOk result ((chief_of chief.new).last ≡ (chief_of chief.old).last) }
+    ensures committed { OnOk result ((chief_of chief.new).committed ≡ (chief_of chief.old).committed) }
     // Where no node has stopped and no letter was lost, the vote of each that was asked for it is given.
     ensures votes { IfOk result (λ stops. stops ≡ NoStop → (more : List Sent) → N.given net.new ≡ N.given net.old ++ more → N.faults net.new ≡ N.faults net.old → (n : ℕ) → n < length cores.old → Contains (N.fresh net.old) (prepare_of n epoch) → IsAye epoch more n) }
     ensures were_sent { OnOk result ((more : List Sent) (p : Sent) → N.given net.new ≡ N.given net.old ++ more → Contains more p → Contains (N.sent net.new) p) }
-    ensures sent { OnOk result ((posts : List Sent) × (N.sent net.new ≡ N.sent net.old ++ posts)) }
+    ensures says { OnOk result (Adds (IsOfVote epoch) (N.sent net.old) (N.sent net.new)) }
     ensures nears { IfOk result (λ stops. Nears stops (all_ahead epoch cores.old voters.old (length cores.old)) (all_ahead epoch cores.new voters.new (length cores.old))) }
     // The files.
     ensures files { (c : Contents) (hold : ℕ → List Bool) → let b : Ballot = record { epoch = epoch; pieces = pieces.now; held = hold } in

@@ -59,8 +59,8 @@ fn prepare_entry<H: Host>(
     add_prepared(host, log, epoch, rows.as_slice(), body)
 }
 
-// A node that has stopped before its entry begins anew without the rows of the epoch.
-fn lose_rows(
+/// A node that has stopped before its entry begins anew without the rows of the epoch. Its tables are lost.
+pub fn lose_rows(
     alloc: Global,
     cores: &mut [NodeCore],
     voter: &mut Voter,

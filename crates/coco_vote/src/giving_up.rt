@@ -1,14 +1,14 @@
 //! An epoch is given up.
 
-ghost use Rattle.std.specs.Prelude.{◌≡◌, ◌≢◌, ℕ, ◌<◌, ◌≤◌, List, ◌++◌, Contains, IsTrue, length, OnOk};
+ghost use Rattle.std.specs.Prelude.{◌≡◌, ◌≢◌, ℕ, ◌<◌, ◌≤◌, Contains, IsTrue, length, OnOk};
 ghost use Rattle.coco_chief.specs.Chief.{Chief as ChiefState};
 ghost use Rattle.coco_chief.specs.Shown.{chief_of};
 ghost use Rattle.coco_chief.specs.Table.{is_open};
 ghost use Rattle.coco_chief.specs.declared.machine.Phase.TheVariants.{Rest as Still};
 ghost use Rattle.coco_msg.specs.declared.message.Message.TheVariants.{Abort as Aborts};
 ghost use Rattle.coco_net.specs.declared.letter.Letter.{Letter as Mail};
-ghost use Rattle.coco_net.specs.declared.letter.Posted.{Posted as Sent};
 ghost use Rattle.coco_node.specs.declared.machine.TheConstants.{COORDINATOR as Chiefs};
+ghost use Rattle.coco_letters.specs.Telling.{Adds, IsOfChief};
 ghost use Rattle.coco_letters.specs.Turns.{AreFresh, AreSent, Counts, IsFrom};
 ghost use Rattle.coco_letters.specs.Worlds.{GoesOn};
 ghost use Rattle.coco_vote.specs.Counting.{GivesOn};
@@ -37,6 +37,7 @@ fn hear_end<N: Net>(
     requires sent { Contains (N.sent net.old) (record { to = node; letter = letter.now }) }
     ensures give_up { OnOk result (GiveUp epoch cores.old cores.new) }
     ensures told { OnOk result (IsFrom Chiefs letter.now (Aborts epoch) → IsOverAt epoch node cores.new) }
+    ensures silent { OnOk result (N.sent net.new ≡ N.sent net.old) }
     ensures world { OnOk result ((chief : ChiefState) → GoesOn (record { cores = cores.old; chief = chief; sent = N.sent net.old }) (record { cores = cores.new; chief = chief; sent = N.sent net.new })) }
     ensures fresh { OnOk result (AreFresh (N.sent net.old) (N.fresh net.old) (N.sent net.new) (N.fresh net.new)) }
     ensures waiting { (p : ℕ) → N.waiting net.new p ≡ N.waiting net.old p }
@@ -61,6 +62,7 @@ fn take_end<N: Net>(
     ensures give_up { OnOk result (GiveUp epoch cores.old cores.new) }
     // Told that the epoch is aborted it knows it.
     ensures told { OnOk result ((letter : Mail) → Contains (N.waiting net.old node) letter → IsFrom Chiefs letter (Aborts epoch) → IsOverAt epoch node cores.new) }
+    ensures silent { OnOk result (N.sent net.new ≡ N.sent net.old) }
     ensures world { OnOk result ((chief : ChiefState) → GoesOn (record { cores = cores.old; chief = chief; sent = N.sent net.old }) (record { cores = cores.new; chief = chief; sent = N.sent net.new })) }
     ensures sent { OnOk result (AreSent (N.sent net.new) (N.waiting net.new)) }
     ensures others { (p : ℕ) → p ≢ node → N.waiting net.new p ≡ N.waiting net.old p }
@@ -86,6 +88,7 @@ fn all_take_end<N: Net>(
     requires sent { AreSent (N.sent net.old) (N.waiting net.old) }
     ensures give_up { OnOk result (GiveUp epoch cores.old cores.new) }
     ensures told { OnOk result ((n : ℕ) (letter : Mail) → n < length cores.old → Contains (N.waiting net.old n) letter → IsFrom Chiefs letter (Aborts epoch) → IsOverAt epoch n cores.new) }
+    ensures silent { OnOk result (N.sent net.new ≡ N.sent net.old) }
     ensures world { OnOk result ((chief : ChiefState) → GoesOn (record { cores = cores.old; chief = chief; sent = N.sent net.old }) (record { cores = cores.new; chief = chief; sent = N.sent net.new })) }
     ensures sent { OnOk result (AreSent (N.sent net.new) (N.waiting net.new)) }
     ensures fresh { OnOk result (AreFresh (N.sent net.old) (N.fresh net.old) (N.sent net.new) (N.fresh net.new)) }
@@ -114,10 +117,12 @@ pub fn give_up<N: Net>(
     ensures rest { OnOk result ((chief_of chief.new).phase ≡ Still) }
     ensures current { OnOk result ((chief_of chief.new).current ≡ epoch) }
     ensures nodes { (chief_of chief.new).nodes ≡ (chief_of chief.old).nodes }
+    ensures last { OnOk result ((chief_of chief.new).last ≡ (chief_of chief.old).last) }
+    ensures committed { OnOk result ((chief_of chief.new).committed ≡ (chief_of chief.old).committed) }
     ensures give_up { OnOk result (GiveUp epoch cores.old cores.new) }
     // Where no letter was lost, each node knows that the epoch is aborted.
     ensures told { OnOk result (N.faults net.new ≡ N.faults net.old → (n : ℕ) → n < length cores.old → IsOverAt epoch n cores.new) }
-    ensures sent { OnOk result ((posts : List Sent) × (N.sent net.new ≡ N.sent net.old ++ posts)) }
+    ensures said { OnOk result (Adds IsOfChief (N.sent net.old) (N.sent net.new)) }
     ensures world { OnOk result (GoesOn (record { cores = cores.old; chief = chief_of chief.old; sent = N.sent net.old }) (record { cores = cores.new; chief = chief_of chief.new; sent = N.sent net.new })) }
     ensures net { GivesOn (N.given net.old) (N.faults net.old) (N.last_seed net.old) (N.given net.new) (N.faults net.new) (N.last_seed net.new) }
 {

@@ -9,7 +9,7 @@ mod phase;
 mod step;
 mod taking;
 
-pub use forcing::{begin_anew, force_and_vote};
+pub use forcing::{begin_anew, force_and_vote, lose_rows};
 pub use giving_up::give_up;
 pub use laws::voted_stores_keep_their_history;
 pub use phase::{Votes, prepare};

@@ -1,12 +1,13 @@
 //! The vote of all nodes on an epoch.
 
-ghost use Rattle.std.specs.Prelude.{◌≡◌, ◌⊎◌, ℕ, ◌+◌, ◌<◌, ◌≤◌, ◌^◌, ◌≢◌, Bool, false, true, List, [], ◌∷◌, ◌++◌, Contains, MatchOption, length, IfOk, OnOk};
+ghost use Rattle.std.specs.Prelude.{◌≡◌, ℕ, ◌+◌, ◌<◌, ◌≤◌, ◌≢◌, Bool, false, List, [], ◌++◌, Contains, MatchOption, length, IfOk, OnOk};
 ghost use Rattle.coco_chief.specs.Chief.{Chief as ChiefState};
 ghost use Rattle.coco_chief.specs.Shown.{chief_of};
 ghost use Rattle.coco_chief.specs.Table.{has_voted};
 ghost use Rattle.coco_chief.specs.declared.machine.Phase.TheVariants.{Rest as Still};
 ghost use Rattle.coco_net.specs.declared.letter.Posted.{Posted as Sent};
 ghost use Rattle.coco_node.specs.Node.{Node as NodeState};
+ghost use Rattle.coco_letters.specs.Telling.{Adds, IsOfChief, IsOfVote};
 ghost use Rattle.coco_letters.specs.Turns.{AreFresh, Counts};
 ghost use Rattle.coco_letters.specs.Worlds.{GoesBetween, GoesOn};
 ghost use Rattle.coco_log.specs.Faults.{CountsFault};
@@ -15,7 +16,7 @@ ghost use Rattle.coco_store.specs.Contents.{Contents};
 ghost use Rattle.coco_append.specs.Gaining.{RestsOn, Stands};
 ghost use Rattle.coco_vote.specs.Asking.{IsLater};
 ghost use Rattle.coco_vote.specs.Beginning.{AreNew, GoesOnVoted};
-ghost use Rattle.coco_vote.specs.Counting.{prepare_of, AddsNoVote, GivesOn, HasCounted, IsAye};
+ghost use Rattle.coco_vote.specs.Counting.{prepare_of, GivesOn, HasCounted, IsAye};
 ghost use Rattle.coco_vote.specs.Outcomes.{Comes, IsMissing, Settles};
 ghost use Rattle.coco_vote.specs.Preparing.{have_durable, Ballot, MayForce, RestsVoted, Votes as KeepsVotes};
 ghost use Rattle.coco_vote.specs.Taking.{vote_of, AreApart, AreHeld, AreMarked, AreReady, AreTold, AreVoting, HaveLogs, IsElsewhere, KeepPlaces, KeepsCores};
@@ -74,7 +75,7 @@ fn ask_once_more<N: Net>(
     requires node { node < 8 }
     requires asked { Contains (N.sent net.old) (prepare_of node epoch) }
     ensures asked { OnOk result (has_voted node (chief_of chief.now) ≡ false → Contains (N.fresh net.new) (prepare_of node epoch)) }
-    ensures adds { OnOk result (AddsNoVote (N.sent net.old) (N.sent net.new)) }
+    ensures says { OnOk result (Adds IsOfChief (N.sent net.old) (N.sent net.new)) }
     ensures world { OnOk result ((cores : List NodeState) (core : ChiefState) → GoesOn (record { cores = cores; chief = core; sent = N.sent net.old }) (record { cores = cores; chief = core; sent = N.sent net.new })) }
     ensures fresh { OnOk result (AreFresh (N.sent net.old) (N.fresh net.old) (N.sent net.new) (N.fresh net.new)) }
     ensures counts { Counts (N.given net.old) (N.faults net.old) (N.last_seed net.old) (N.given net.new) (N.faults net.new) (N.last_seed net.new) }
@@ -97,7 +98,7 @@ fn ask_again<N: Net>(
     requires few { nodes ≤ 8 }
     requires asked { (n : ℕ) → n < nodes → Contains (N.sent net.old) (prepare_of n epoch) }
     ensures asked { OnOk result ((n : ℕ) → n < nodes → has_voted n (chief_of chief.now) ≡ false → Contains (N.fresh net.new) (prepare_of n epoch)) }
-    ensures adds { OnOk result (AddsNoVote (N.sent net.old) (N.sent net.new)) }
+    ensures says { OnOk result (Adds IsOfChief (N.sent net.old) (N.sent net.new)) }
     ensures world { OnOk result ((cores : List NodeState) (core : ChiefState) → GoesOn (record { cores = cores; chief = core; sent = N.sent net.old }) (record { cores = cores; chief = core; sent = N.sent net.new })) }
     ensures counts { Counts (N.given net.old) (N.faults net.old) (N.last_seed net.old) (N.given net.new) (N.faults net.new) (N.last_seed net.new) }
 {
@@ -136,10 +137,14 @@ fn exchanges<H: Host, N: Net, P: Power>(
     ensures answer { IfOk result (λ votes. (given : List Sent) → N.given net.new ≡ N.given net.old ++ given
         → Comes votes epoch cores.new (chief_of chief.new) given (N.faults net.old) (N.faults net.new) (P.early_stops power.old) (P.early_stops power.new)) }
     ensures nodes { (chief_of chief.new).nodes ≡ (chief_of chief.old).nodes }
+    ensures last { OnOk result ((chief_of chief.new).last ≡ (chief_of chief.old).last) }
+    ensures committed { OnOk result ((chief_of chief.new).committed ≡ (chief_of chief.old).committed) }
     ensures cores { OnOk result (KeepsCores epoch cores.old cores.new) }
     ensures told { OnOk result (AreTold epoch cores.new (N.sent net.new) (P.asked power.new)) }
     ensures marked { OnOk result (AreMarked voters.new (P.asked power.new)) }
-    ensures sent { OnOk result ((posts : List Sent) × (N.sent net.new ≡ N.sent net.old ++ posts)) }
+    ensures says { OnOk result (Adds (IsOfVote epoch) (N.sent net.old) (N.sent net.new)) }
+    // What was given was sent.
+    ensures were_sent { OnOk result ((given : List Sent) (p : Sent) → N.given net.new ≡ N.given net.old ++ given → Contains given p → Contains (N.sent net.new) p) }
     // The files.
     ensures files { (c : Contents) (hold : ℕ → List Bool) → let b : Ballot = record { epoch = epoch; pieces = pieces.now; held = hold } in
         AreHeld hold voters.old → MayForce c b → c.setting.entry.layout.nodes ≡ length cores.old → HaveLogs c voters.old
@@ -202,10 +207,14 @@ pub fn prepare<H: Host, N: Net, P: Power>(
     // Each node was asked for its vote.
     ensures asked { OnOk result ((posts : List Sent) → N.sent net.new ≡ N.sent net.old ++ posts → (n : ℕ) → n < length cores.old → Contains posts (prepare_of n epoch)) }
     ensures nodes { (chief_of chief.new).nodes ≡ (chief_of chief.old).nodes }
+    ensures last { OnOk result ((chief_of chief.new).last ≡ (chief_of chief.old).last) }
+    ensures committed { OnOk result ((chief_of chief.new).committed ≡ (chief_of chief.old).committed) }
     ensures cores { OnOk result (KeepsCores epoch cores.old cores.new) }
     ensures told { OnOk result (AreTold epoch cores.new (N.sent net.new) (P.asked power.new)) }
     ensures marked { OnOk result (AreMarked voters.new (P.asked power.new)) }
-    ensures sent { OnOk result ((posts : List Sent) × (N.sent net.new ≡ N.sent net.old ++ posts)) }
+    ensures says { OnOk result (Adds (IsOfVote epoch) (N.sent net.old) (N.sent net.new)) }
+    // What was given was sent.
+    ensures were_sent { OnOk result ((given : List Sent) (p : Sent) → N.given net.new ≡ N.given net.old ++ given → Contains given p → Contains (N.sent net.new) p) }
     // The files.
     ensures files { (c : Contents) (hold : ℕ → List Bool) → let b : Ballot = record { epoch = epoch; pieces = pieces.now; held = hold } in
         AreHeld hold voters.old → MayForce c b → c.setting.entry.layout.nodes ≡ length cores.old → HaveLogs c voters.old

@@ -1,9 +1,10 @@
 //! What a node does with the letters that wait at it while it votes.
 
-ghost use Rattle.std.specs.Prelude.{◌≡◌, ◌≢◌, ◌⊎◌, ℕ, ◌<◌, ◌≤◌, Bool, true, false, List, [], ◌∷◌, Some, Contains, length, IfOk, OnOk};
+ghost use Rattle.std.specs.Prelude.{◌≡◌, ◌≢◌, ℕ, ◌<◌, ◌≤◌, Bool, true, false, List, [], Some, Contains, length, IfOk, OnOk};
 ghost use Rattle.coco_msg.specs.declared.message.Message.TheVariants.{Prepare as Asks};
 ghost use Rattle.coco_node.specs.declared.machine.TheConstants.{COORDINATOR as Chiefs};
 ghost use Rattle.coco_chief.specs.Chief.{Chief as ChiefState};
+ghost use Rattle.coco_letters.specs.Telling.{Adds, IsOfVote};
 ghost use Rattle.coco_letters.specs.Turns.{AreFresh, AreSent, Counts, IsFrom};
 ghost use Rattle.coco_letters.specs.Worlds.{GoesBetween, GoesOn, SameEntries};
 ghost use Rattle.coco_log.specs.Faults.{CountsFault};
@@ -117,6 +118,7 @@ fn take_letter<H: Host, N: Net, P: Power>(
     // Its entry, or being asked for a stop behind its vote, isn't ahead of it any more where it has stopped.
     ensures nears { IfOk result (λ stops. Nears stops (ahead_of epoch cores.old node voter.old) (ahead_of epoch cores.new node voter.new)) }
     ensures elsewhere { OnOk result ((m : ℕ) → m ≢ node → durable_at cores.new m ≡ durable_at cores.old m) }
+    ensures says { OnOk result (Adds (IsOfVote epoch) (N.sent net.old) (N.sent net.new)) }
     // The files.
     ensures files { (c : Contents) (hold : ℕ → List Bool) → let b : Ballot = record { epoch = epoch; pieces = pieces.now; held = hold } in
         hold node ≡ voter.old.held.items → MayForce c b → node < c.setting.entry.layout.nodes → IsNodeLog c node voter.old.log
@@ -184,6 +186,7 @@ pub(crate) fn take_letters<H: Host, N: Net, P: Power>(
     // Its entry, or being asked for a stop behind its vote, isn't ahead of it any more where it has stopped.
     ensures nears { IfOk result (λ stops. Nears stops (ahead_of epoch cores.old node voter.old) (ahead_of epoch cores.new node voter.new)) }
     ensures elsewhere { OnOk result ((m : ℕ) → m ≢ node → durable_at cores.new m ≡ durable_at cores.old m) }
+    ensures says { OnOk result (Adds (IsOfVote epoch) (N.sent net.old) (N.sent net.new)) }
     // The files.
     ensures files { (c : Contents) (hold : ℕ → List Bool) → let b : Ballot = record { epoch = epoch; pieces = pieces.now; held = hold } in
         hold node ≡ voter.old.held.items → MayForce c b → node < c.setting.entry.layout.nodes → IsNodeLog c node voter.old.log
@@ -248,6 +251,7 @@ pub(crate) fn nodes_take<H: Host, N: Net, P: Power>(
     ensures votes { IfOk result (λ stops. stops ≡ NoStop → (n : ℕ) → n < length cores.old → HasGiven epoch n (N.waiting net.old n) (N.fresh net.new)) }
     ensures sent { OnOk result (AreSent (N.sent net.new) (N.waiting net.new)) }
     ensures nears { IfOk result (λ stops. Nears stops (all_ahead epoch cores.old voters.old (length cores.old)) (all_ahead epoch cores.new voters.new (length cores.old))) }
+    ensures says { OnOk result (Adds (IsOfVote epoch) (N.sent net.old) (N.sent net.new)) }
     // The files.
     ensures files { (c : Contents) (hold : ℕ → List Bool) → let b : Ballot = record { epoch = epoch; pieces = pieces.now; held = hold } in
         AreHeld hold voters.old → MayForce c b → c.setting.entry.layout.nodes ≡ length cores.old → HaveLogs c voters.old

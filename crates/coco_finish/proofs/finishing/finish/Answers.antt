@@ -4,10 +4,10 @@ use Rattle.coco_chief.specs.Chief.{Chief}
 use Rattle.coco_net.specs.declared.letter.Posted.{Posted}
 use Rattle.coco_node.specs.Node.{Node}
 use Rattle.coco_letters.specs.Worlds.{Scene}
+use Rattle.coco_letters.proofs.TellingLemmas.{adds_then}
 use Rattle.coco_letters.proofs.WorldLemmas.{goes_on_then}
 use Rattle.coco_finish.proofs.ExchangeLemmas.{all_or_silent, hears_then}
 use Rattle.coco_finish.proofs.FinishLemmas.{finish_then}
-use Rattle.coco_finish.proofs.LoopLemmas.{says_then}
 use Rattle.coco_finish.proofs.finishing.finish.Goals as goal
 
 pub remind-requires-clause-nodes : goal.remind-requires-clause-nodes
@@ -36,7 +36,7 @@ returns-clause-all g c =
     c.in_ok-all.ensures.all
 
 pub returns-clause-said : goal.returns-clause-said
-returns-clause-said g c = says_then c.args.epoch (g.N.Net.sent c.args.net.now) (g.N.Net.sent c.exchange.new.net) (g.N.Net.sent c.remind.new.net) c.in_ok-exchange.ensures.said c.in_ok-all.ensures.said
+returns-clause-said g c = adds_then (g.N.Net.sent c.args.net.now) (g.N.Net.sent c.exchange.new.net) (g.N.Net.sent c.remind.new.net) c.in_ok-exchange.ensures.said c.in_ok-all.ensures.said
 
 pub returns-clause-world : goal.returns-clause-world
 returns-clause-world g c =

@@ -4,10 +4,10 @@ use Rattle.coco_chief.specs.Chief.{Chief}
 use Rattle.coco_net.specs.declared.letter.Posted.{Posted}
 use Rattle.coco_node.specs.Node.{Node}
 use Rattle.coco_letters.specs.Worlds.{Scene}
+use Rattle.coco_letters.proofs.TellingLemmas.{adds_same, adds_then}
 use Rattle.coco_letters.proofs.WorldLemmas.{goes_on_then, nothing_goes}
 use Rattle.coco_finish.proofs.ExchangeLemmas.{asks_later, hears_same, hears_then, lost_all, lost_more}
 use Rattle.coco_finish.proofs.FinishLemmas.{finish_same, finish_then}
-use Rattle.coco_finish.proofs.LoopLemmas.{says_none, says_then}
 use Rattle.coco_finish.proofs.finishing.remind.Goals as goal
 
 pub loop-exchange-init : goal.loop-exchange-init
@@ -21,7 +21,7 @@ loop-exchange-init g c = record {
   hears = hears_same (chief_of c.args.chief.now) (g.N.Net.given c.args.net.now);
   asks = λ more. absurd (omega (arith, more));
   lost = inl (omega arith);
-  said = says_none c.args.epoch (g.N.Net.sent c.args.net.now);
+  said = adds_same (g.N.Net.sent c.args.net.now);
   world = nothing_goes (record { cores = c.args.cores.now; chief = chief_of c.args.chief.now; sent = g.N.Net.sent c.args.net.now });
   sent = c.requires.sent;
   faults = omega arith;
@@ -59,7 +59,7 @@ loop-exchange-preserved g c =
       hears = hears_then (chief_of start.chief.now) (chief_of now.chief) (chief_of after.chief) (g.N.Net.given start.net.now) (g.N.Net.given now.net) (g.N.Net.given after.net) before.hears did.hears;
       asks = λ more. asks_later e (chief_of now.chief) (chief_of after.chief) (g.N.Net.sent start.net.now) (g.N.Net.sent now.net) (g.N.Net.sent after.net) before.said did.asks did.hears.nodes did.hears.stays;
       lost = lost_more c.loop-exchange._exchange (g.N.Net.faults start.net.now) (g.N.Net.faults now.net) (g.N.Net.faults after.net) (chief_of now.chief) (chief_of after.chief) c.if-have_all_finished.ensures before.lost did.ends;
-      said = says_then e (g.N.Net.sent start.net.now) (g.N.Net.sent now.net) (g.N.Net.sent after.net) before.said did.said;
+      said = adds_then (g.N.Net.sent start.net.now) (g.N.Net.sent now.net) (g.N.Net.sent after.net) before.said did.said;
       world = goes_on_then (scene start.cores.now (chief_of start.chief.now) (g.N.Net.sent start.net.now)) (scene now.cores (chief_of now.chief) (g.N.Net.sent now.net)) (scene after.cores (chief_of after.chief) (g.N.Net.sent after.net)) before.world did.world;
       sent = did.sent;
       faults = omega (arith, before.faults, c.remind_and_exchange.ensures.faults);

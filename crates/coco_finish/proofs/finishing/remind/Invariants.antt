@@ -1,10 +1,11 @@
 use Rattle.std.proofs.Common.{◌≡◌, ◌⊎◌, ◌+◌, ◌<◌, ◌≤◌, length}
 use Rattle.coco_ast.specs.Keyed.{Rows}
 use Rattle.coco_chief.specs.Shown.{chief_of}
+use Rattle.coco_letters.specs.Telling.{Adds, IsOfFinish}
 use Rattle.coco_letters.specs.Turns.{AreSent}
 use Rattle.coco_letters.specs.Worlds.{GoesOn}
 use Rattle.coco_finish.specs.Exchanges.{AreInStep, AsksAll, HaveAllFinished, HearsGiven}
-use Rattle.coco_finish.specs.Finishing.{AllCanFinish, AreWhole, Finish, HaveMap, SaysOnly}
+use Rattle.coco_finish.specs.Finishing.{AllCanFinish, AreWhole, Finish, HaveMap}
 use Rattle.coco_finish.proofs.finishing.remind.Given as goal
 
 -- what the exchanges so far did: a round of each lost a letter, or all have finished
@@ -19,7 +20,7 @@ invariant-loop-exchange g l = record {
   hears : HearsGiven (chief_of l.initial.chief) (g.N.Net.given l.initial.net) (chief_of l.chief) (g.N.Net.given l.net);
   asks : 1 < l._exchange → AsksAll l.epoch (chief_of l.chief) (g.N.Net.sent l.initial.net) (g.N.Net.sent l.net);
   lost : (g.N.Net.faults l.initial.net + l._exchange ≤ g.N.Net.faults l.net + 1) ⊎ HaveAllFinished (chief_of l.chief);
-  said : SaysOnly l.epoch (g.N.Net.sent l.initial.net) (g.N.Net.sent l.net);
+  said : Adds (IsOfFinish l.epoch) (g.N.Net.sent l.initial.net) (g.N.Net.sent l.net);
   world : GoesOn (record { cores = l.initial.cores; chief = chief_of l.initial.chief; sent = g.N.Net.sent l.initial.net }) (record { cores = l.cores; chief = chief_of l.chief; sent = g.N.Net.sent l.net });
   sent : AreSent (g.N.Net.sent l.net) (g.N.Net.waiting l.net);
   faults : g.N.Net.faults l.initial.net ≤ g.N.Net.faults l.net;

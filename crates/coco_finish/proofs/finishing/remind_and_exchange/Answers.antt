@@ -1,22 +1,20 @@
-use Rattle.std.proofs.Common.{◌≤◌, ℕ, List, length, subst, arith}
+use Rattle.std.proofs.Common.{ℕ, List, subst}
 use Rattle.coco_chief.specs.Shown.{chief_of}
 use Rattle.coco_chief.specs.Chief.{Chief}
 use Rattle.coco_net.specs.declared.letter.Posted.{Posted}
 use Rattle.coco_node.specs.Node.{Node}
 use Rattle.coco_letters.specs.Worlds.{Scene}
+use Rattle.coco_letters.proofs.TellingLemmas.{adds_finish, adds_then}
 use Rattle.coco_letters.proofs.WorldLemmas.{goes_on_then}
 use Rattle.coco_finish.specs.Exchanges.{HaveAllFinished, HearsGiven, UnlessFault}
-use Rattle.coco_finish.proofs.ExchangeLemmas.{reminded_asks, reminded_fresh, reminded_from, says_of_chief, told_by_chief}
-use Rattle.coco_finish.proofs.LoopLemmas.{says_then}
+use Rattle.coco_finish.proofs.ExchangeLemmas.{reminded_asks, reminded_fresh, told_by_chief}
 use Rattle.coco_finish.proofs.finishing.remind_and_exchange.Goals as goal
 
 pub returns-clause-in_step : goal.returns-clause-in_step
 returns-clause-in_step g c = λ step.
-    let few : length c.args.tables.now.behind.items ≤ 8 = omega (arith, c.requires.few, c.requires.behind) in
     c.in_ok-exchange.ensures.in_step (record {
       behind = step.behind;
-      told = told_by_chief c.args.epoch (g.N.Net.sent c.args.net.now) (g.N.Net.sent c.chief_reminds.new.net) c.args.tables.now.behind.items few
-          (reminded_from c.args.epoch (chief_of c.args.chief.now) (g.N.Net.sent c.args.net.now) (g.N.Net.sent c.chief_reminds.new.net) c.requires.some c.requires.last c.in_ok-chief_reminds.ensures.turns) step.told;
+      told = told_by_chief c.args.epoch (g.N.Net.sent c.args.net.now) (g.N.Net.sent c.chief_reminds.new.net) c.args.tables.now.behind.items c.in_ok-chief_reminds.ensures.says step.told;
       up = step.up;
     })
 
@@ -37,9 +35,8 @@ returns-clause-ends g c =
 
 pub returns-clause-said : goal.returns-clause-said
 returns-clause-said g c =
-    says_then c.args.epoch (g.N.Net.sent c.args.net.now) (g.N.Net.sent c.chief_reminds.new.net) (g.N.Net.sent c.exchange.new.net)
-    (says_of_chief c.args.epoch (g.N.Net.sent c.args.net.now) (g.N.Net.sent c.chief_reminds.new.net)
-    (reminded_from c.args.epoch (chief_of c.args.chief.now) (g.N.Net.sent c.args.net.now) (g.N.Net.sent c.chief_reminds.new.net) c.requires.some c.requires.last c.in_ok-chief_reminds.ensures.turns))
+    adds_then (g.N.Net.sent c.args.net.now) (g.N.Net.sent c.chief_reminds.new.net) (g.N.Net.sent c.exchange.new.net)
+    (adds_finish c.args.epoch (g.N.Net.sent c.args.net.now) (g.N.Net.sent c.chief_reminds.new.net) c.in_ok-chief_reminds.ensures.says)
     c.in_ok-exchange.ensures.said
 
 pub returns-clause-world : goal.returns-clause-world

@@ -4,7 +4,7 @@ use Rattle.coco_chief.specs.Shown.{chief_of}
 use Rattle.coco_chief.specs.Chief.{Chief}
 use Rattle.coco_chief.specs.Table.{has_finished}
 use Rattle.coco_net.specs.declared.letter.Posted.{Posted}
-use Rattle.coco_letters.specs.Taking.{SaysFrom}
+use Rattle.coco_letters.specs.Telling.{Adds, IsOfChief}
 use Rattle.coco_letters.specs.Turns.{AreSent}
 use Rattle.coco_letters.specs.Worlds.{GoesOn}
 use Rattle.coco_letters.proofs.WaitingLemmas.{round_sent}
@@ -40,7 +40,7 @@ returns-clause-came g c =
     gives.0 (g.N.Net.given c.args.net.now) (g.N.Net.given c.chief_takes.new.net) fits (c.chief_takes.ensures.counts.given_stays ∙ gives.1) gives.2 did.finished did.votes c.in_ok-round.ensures.faults))
 
 pub returns-clause-says : goal.returns-clause-says
-returns-clause-says g c = subst (λ (ps : List Posted). SaysFrom 8 ps (g.N.Net.sent c.chief_takes.new.net)) c.round.ensures.sent c.in_ok-chief_takes.ensures.says
+returns-clause-says g c = subst (λ (ps : List Posted). Adds IsOfChief ps (g.N.Net.sent c.chief_takes.new.net)) c.round.ensures.sent c.in_ok-chief_takes.ensures.says
 
 pub returns-clause-world : goal.returns-clause-world
 returns-clause-world g c = λ cores.
@@ -48,12 +48,12 @@ returns-clause-world g c = λ cores.
     (c.in_ok-chief_takes.ensures.world cores)
 
 pub returns-clause-in_step : goal.returns-clause-in_step
-returns-clause-in_step g c = λ cores marks few step.
+returns-clause-in_step g c = λ cores marks step.
     let sent : AreSent (g.N.Net.sent c.args.net.now) (g.N.Net.waiting c.round.new.self) =
     round_sent (g.N.Net.sent c.args.net.now) (g.N.Net.fresh c.args.net.now) (g.N.Net.faults c.args.net.now) (g.N.Net.faults c.round.new.self) (g.N.Net.waiting c.round.new.self) (g.N.Net.given c.args.net.now) (g.N.Net.given c.round.new.self) c.in_ok-round.ensures.ok in
-    let says : SaysFrom 8 (g.N.Net.sent c.args.net.now) (g.N.Net.sent c.chief_takes.new.net) = subst (λ (ps : List Posted). SaysFrom 8 ps (g.N.Net.sent c.chief_takes.new.net)) c.round.ensures.sent c.in_ok-chief_takes.ensures.says in
+    let says : Adds IsOfChief (g.N.Net.sent c.args.net.now) (g.N.Net.sent c.chief_takes.new.net) = subst (λ (ps : List Posted). Adds IsOfChief ps (g.N.Net.sent c.chief_takes.new.net)) c.round.ensures.sent c.in_ok-chief_takes.ensures.says in
     record {
       behind = step.behind;
-      told = told_by_chief c.args.epoch (g.N.Net.sent c.args.net.now) (g.N.Net.sent c.chief_takes.new.net) marks few says step.told;
+      told = told_by_chief c.args.epoch (g.N.Net.sent c.args.net.now) (g.N.Net.sent c.chief_takes.new.net) marks says step.told;
       up = up_so c.args.epoch (chief_of c.args.chief.now) (chief_of c.chief_takes.new.chief) marks (g.N.Net.sent c.args.net.now) (g.N.Net.waiting c.round.new.self) c.requires.last sent c.in_ok-chief_takes.ensures.finished step.told step.up;
     }

@@ -1,18 +1,17 @@
-use Rattle.std.proofs.Common.{◌≤◌, List, length, ◌∙◌, arith}
+use Rattle.std.proofs.Common.{List, length, ◌∙◌}
 use Rattle.coco_chief.specs.Shown.{chief_of}
 use Rattle.coco_chief.specs.Chief.{Chief}
 use Rattle.coco_net.specs.declared.letter.Posted.{Posted}
 use Rattle.coco_node.specs.Node.{Node}
 use Rattle.coco_letters.specs.Worlds.{Scene}
+use Rattle.coco_letters.proofs.TellingLemmas.{adds_finish, adds_then}
 use Rattle.coco_letters.proofs.WorldLemmas.{goes_on_then}
-use Rattle.coco_finish.proofs.ExchangeLemmas.{ends_so, hears_then, says_of_chief}
-use Rattle.coco_finish.proofs.LoopLemmas.{says_then}
+use Rattle.coco_finish.proofs.ExchangeLemmas.{ends_so, hears_then}
 use Rattle.coco_finish.proofs.rounds.exchange.Goals as goal
 
 pub returns-clause-in_step : goal.returns-clause-in_step
 returns-clause-in_step g c = λ step.
-    let few : length c.tell_round.new.tables.behind.items ≤ 8 = omega (arith, c.requires.few, c.requires.behind, c.tell_round.ensures.behind) in
-    c.in_ok-answer_round.ensures.in_step c.tell_round.new.cores c.tell_round.new.tables.behind.items few (c.in_ok-tell_round.ensures.in_step step)
+    c.in_ok-answer_round.ensures.in_step c.tell_round.new.cores c.tell_round.new.tables.behind.items (c.in_ok-tell_round.ensures.in_step step)
 
 pub returns-clause-hears : goal.returns-clause-hears
 returns-clause-hears g c =
@@ -28,8 +27,8 @@ returns-clause-ends g c =
 
 pub returns-clause-said : goal.returns-clause-said
 returns-clause-said g c =
-    says_then c.args.epoch (g.N.Net.sent c.args.net.now) (g.N.Net.sent c.tell_round.new.net) (g.N.Net.sent c.answer_round.new.net) c.in_ok-tell_round.ensures.said
-    (says_of_chief c.args.epoch (g.N.Net.sent c.tell_round.new.net) (g.N.Net.sent c.answer_round.new.net) c.in_ok-answer_round.ensures.says)
+    adds_then (g.N.Net.sent c.args.net.now) (g.N.Net.sent c.tell_round.new.net) (g.N.Net.sent c.answer_round.new.net) c.in_ok-tell_round.ensures.said
+    (adds_finish c.args.epoch (g.N.Net.sent c.tell_round.new.net) (g.N.Net.sent c.answer_round.new.net) c.in_ok-answer_round.ensures.says)
 
 pub returns-clause-world : goal.returns-clause-world
 returns-clause-world g c =

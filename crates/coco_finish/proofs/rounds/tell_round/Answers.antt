@@ -1,4 +1,4 @@
-use Rattle.std.proofs.Common.{◌≡◌, ◌<◌, ◌≤◌, ◌^◌, ℕ, List, length, sym, subst, ◌∙◌, arith}
+use Rattle.std.proofs.Common.{◌≡◌, ◌<◌, ◌^◌, ℕ, List, length, sym, subst, ◌∙◌, arith}
 use Rattle.std.specs.List.{Contains}
 use Rattle.coco_chief.specs.Shown.{chief_of}
 use Rattle.coco_chief.specs.Chief.{Chief}
@@ -6,14 +6,15 @@ use Rattle.coco_net.specs.declared.letter.Posted.{Posted}
 use Rattle.coco_net.specs.declared.letter.Letter.{Letter}
 use Rattle.coco_node.specs.Node.{Node}
 use Rattle.coco_letters.specs.Counting.{CountsFinished, CountsVotes}
+use Rattle.coco_letters.specs.Telling.{Adds, IsOfFinish}
 use Rattle.coco_letters.specs.Turns.{AreSent}
 use Rattle.coco_letters.specs.Worlds.{GoesOn, Scene}
+use Rattle.coco_letters.proofs.TellingLemmas.{adds_finish, adds_then}
 use Rattle.coco_letters.proofs.WaitingLemmas.{round_sent}
 use Rattle.coco_letters.proofs.WorldLemmas.{goes_on_then}
 use Rattle.coco_finish.specs.Exchanges.{commit_of, UnlessFault}
-use Rattle.coco_finish.specs.Finishing.{finished_of, AreTold, SaysOnly}
-use Rattle.coco_finish.proofs.ExchangeLemmas.{fresh_more, hears_given, says_of_chief, told_all, told_by_chief, up_so, up_still}
-use Rattle.coco_finish.proofs.LoopLemmas.{says_then}
+use Rattle.coco_finish.specs.Finishing.{finished_of, AreTold}
+use Rattle.coco_finish.proofs.ExchangeLemmas.{fresh_more, hears_given, told_all, told_by_chief, up_so, up_still}
 use Rattle.coco_finish.proofs.rounds.tell_round.Goals as goal
 
 pub nodes_finish-requires-clause-sent : goal.nodes_finish-requires-clause-sent
@@ -23,14 +24,13 @@ nodes_finish-requires-clause-sent g c =
 
 pub returns-clause-in_step : goal.returns-clause-in_step
 returns-clause-in_step g c = λ step.
-    let few : length c.nodes_finish.new.tables.behind.items ≤ 8 = omega (arith, c.requires.few, c.requires.behind, c.nodes_finish.ensures.behind) in
     let sent : AreSent (g.N.Net.sent c.args.net.now) (g.N.Net.waiting c.round.new.self) =
     round_sent (g.N.Net.sent c.args.net.now) (g.N.Net.fresh c.args.net.now) (g.N.Net.faults c.args.net.now) (g.N.Net.faults c.round.new.self) (g.N.Net.waiting c.round.new.self) (g.N.Net.given c.args.net.now) (g.N.Net.given c.round.new.self) c.in_ok-round.ensures.ok in
     let finished : CountsFinished (g.N.Net.waiting c.round.new.self 8) (chief_of c.args.chief.now) (chief_of c.chief_takes.new.chief) =
     subst (λ (ls : List Letter). CountsFinished ls (chief_of c.args.chief.now) (chief_of c.chief_takes.new.chief)) (c.nodes_finish.ensures.others 8 c.requires.few) c.in_ok-chief_takes.ensures.finished in
     record {
       behind = c.in_ok-nodes_finish.ensures.are_behind step.behind;
-      told = told_by_chief c.args.epoch (g.N.Net.sent c.nodes_finish.new.net) (g.N.Net.sent c.chief_takes.new.net) c.nodes_finish.new.tables.behind.items few c.in_ok-chief_takes.ensures.says
+      told = told_by_chief c.args.epoch (g.N.Net.sent c.nodes_finish.new.net) (g.N.Net.sent c.chief_takes.new.net) c.nodes_finish.new.tables.behind.items c.in_ok-chief_takes.ensures.says
           (c.in_ok-nodes_finish.ensures.told step.behind (subst (λ (ps : List Posted). AreTold c.args.epoch ps c.args.tables.now.behind.items) (sym c.round.ensures.sent) step.told));
       up = up_still c.args.epoch (chief_of c.chief_takes.new.chief) c.args.cores.now c.nodes_finish.new.cores c.args.tables.now c.nodes_finish.new.tables c.in_ok-nodes_finish.ensures.finish
           (up_so c.args.epoch (chief_of c.args.chief.now) (chief_of c.chief_takes.new.chief) c.args.tables.now.behind.items (g.N.Net.sent c.args.net.now) (g.N.Net.waiting c.round.new.self) c.requires.last sent finished step.told step.up);
@@ -59,9 +59,9 @@ returns-clause-answers g c =
 
 pub returns-clause-said : goal.returns-clause-said
 returns-clause-said g c =
-    says_then c.args.epoch (g.N.Net.sent c.args.net.now) (g.N.Net.sent c.nodes_finish.new.net) (g.N.Net.sent c.chief_takes.new.net)
-    (subst (λ (ps : List Posted). SaysOnly c.args.epoch ps (g.N.Net.sent c.nodes_finish.new.net)) c.round.ensures.sent c.in_ok-nodes_finish.ensures.said)
-    (says_of_chief c.args.epoch (g.N.Net.sent c.nodes_finish.new.net) (g.N.Net.sent c.chief_takes.new.net) c.in_ok-chief_takes.ensures.says)
+    adds_then (g.N.Net.sent c.args.net.now) (g.N.Net.sent c.nodes_finish.new.net) (g.N.Net.sent c.chief_takes.new.net)
+    (subst (λ (ps : List Posted). Adds (IsOfFinish c.args.epoch) ps (g.N.Net.sent c.nodes_finish.new.net)) c.round.ensures.sent c.in_ok-nodes_finish.ensures.said)
+    (adds_finish c.args.epoch (g.N.Net.sent c.nodes_finish.new.net) (g.N.Net.sent c.chief_takes.new.net) c.in_ok-chief_takes.ensures.says)
 
 pub returns-clause-world : goal.returns-clause-world
 returns-clause-world g c =

@@ -6,12 +6,13 @@ use Rattle.coco_letters.specs.declared.voter.Voter.{Voter}
 use Rattle.coco_letters.specs.Worlds.{SameEntries, Scene}
 use Rattle.coco_letters.proofs.HearingLemmas.{counts_then, fresh_none}
 use Rattle.coco_letters.proofs.TakingLemmas.{fresh_then}
+use Rattle.coco_letters.proofs.TellingLemmas.{adds_same, adds_then}
 use Rattle.coco_letters.proofs.WorldLemmas.{between_then}
 use Rattle.coco_net.specs.declared.letter.Posted.{Posted}
 use Rattle.coco_node.specs.Node.{Node}
 use Rattle.coco_vote.proofs.PowerLemmas.{later_same, later_then}
 use Rattle.coco_vote.proofs.StepLemmas.{between_none, same_then}
-use Rattle.coco_finish.proofs.StoppingLemmas.{asked_more, can_step, in_step_step, newest_step, some_none, some_step, waits_step}
+use Rattle.coco_finish.proofs.StoppingLemmas.{asked_more, can_step, in_step_step, newest_step, says_step, some_none, some_step, waits_step}
 use Rattle.coco_finish.proofs.stopping.stop_last.Goals as goal
 
 pub loop-node-init : goal.loop-node-init
@@ -19,6 +20,7 @@ loop-node-init g c = record {
   stops = some_none c.args.epoch (g.P.Power.stopped c.args.power.now) c.args.cores.now c.args.voters.now (g.N.Net.sent c.args.net.now);
   waits = λ n le. (refl, refl);
   counted = λ n le lt. refl;
+  said = adds_same (g.N.Net.sent c.args.net.now);
   newest = c.requires.newest;
   can = λ can. can;
   in_step = λ chief marks step. step;
@@ -57,6 +59,8 @@ loop-node-preserved g c =
           let later : c.loop-node.node ≤ n = omega (arith, le) in
           (moved.0 ∙ (before.waits n later).0, moved.1 ∙ (before.waits n later).1);
       counted = λ n le lt. let later : c.loop-node.node ≤ n = omega (arith, le) in c.stop_here.ensures.elsewhere n lt (λ is. omega (arith, is, le)) ∙ before.counted n later lt;
+      said = adds_then (g.N.Net.sent start.net.now) (g.N.Net.sent now.net) (g.N.Net.sent after.net) before.said
+          (says_step e k (g.P.Power.stopped now.power) (g.P.Power.stopped after.power) now.cores voter (g.N.Net.sent now.net) after.cores after.voter (g.N.Net.sent after.net) here did.stops eight);
       newest = newest_step e k (g.P.Power.stopped now.power) (g.P.Power.stopped after.power) now.cores voter (g.N.Net.sent now.net) after.cores after.voter (g.N.Net.sent after.net) here did.stops before.newest;
       can = λ can. can_step e k (g.P.Power.stopped now.power) (g.P.Power.stopped after.power) now.cores voter (g.N.Net.sent now.net) after.cores after.voter (g.N.Net.sent after.net) here did.stops (before.can can);
       in_step = λ chief marks step. in_step_step e k (g.P.Power.stopped now.power) (g.P.Power.stopped after.power) now.cores voter (g.N.Net.sent now.net) after.cores after.voter (g.N.Net.sent after.net) here did.stops chief marks fits (before.in_step chief marks step);

@@ -1,19 +1,21 @@
-use Rattle.std.proofs.Common.{◌≡◌, inl, inr, ℕ, ◌≤◌, List, ◌∷◌, sym, subst, ◌∙◌, arith}
+use Rattle.std.proofs.Common.{◌≡◌, inl, inr, ℕ, ◌≤◌, List, ◌∷◌, refl, sym, subst, ◌∙◌, arith}
 use Rattle.std.specs.List.{Contains}
 use Rattle.coco_chief.specs.Chief.{Chief}
+use Rattle.coco_letters.specs.Telling.{Adds, IsOfFinish}
 use Rattle.coco_letters.specs.Turns.{AreFresh, AreSent, Counts}
 use Rattle.coco_letters.specs.Worlds.{GoesOn, Scene}
-use Rattle.coco_letters.proofs.HearingLemmas.{counts_then}
+use Rattle.coco_letters.proofs.HearingLemmas.{counts_then, fresh_none}
 use Rattle.coco_letters.proofs.TakingLemmas.{fresh_then, sent_more}
+use Rattle.coco_letters.proofs.TellingLemmas.{adds_same, adds_then}
 use Rattle.coco_letters.proofs.WaitingLemmas.{letter_sent, taken_sent}
-use Rattle.coco_letters.proofs.WorldLemmas.{goes_on_then}
+use Rattle.coco_letters.proofs.WorldLemmas.{goes_on_then, nothing_goes}
 use Rattle.coco_net.specs.declared.letter.Letter.{Letter}
 use Rattle.coco_net.specs.declared.letter.Posted.{Posted}
 use Rattle.coco_node.specs.Node.{Node}
-use Rattle.coco_finish.specs.Finishing.{finished_of, AreTold, SaysOnly, TellsCommitted}
-use Rattle.coco_finish.proofs.FinishLemmas.{finish_step, finish_then}
+use Rattle.coco_finish.specs.Finishing.{finished_of, AreTold, TellsCommitted}
+use Rattle.coco_finish.proofs.FinishLemmas.{finish_same, finish_step, finish_then}
 use Rattle.coco_finish.proofs.HearLemmas.{none_in}
-use Rattle.coco_finish.proofs.LoopLemmas.{answered_next, says_by_one, says_then}
+use Rattle.coco_finish.proofs.LoopLemmas.{answered_next, says_by_one}
 use Rattle.coco_finish.proofs.taking.finish_at.Goals as goal
 
 pub take_committed-requires-clause-sent : goal.take_committed-requires-clause-sent
@@ -24,6 +26,25 @@ take_committed-requires-clause-sent g c =
 
 pub returns-in_err-take_committed-clause-map : goal.returns-in_err-take_committed-clause-map
 returns-in_err-take_committed-clause-map g c = λ m has. c.take_committed.ensures.map m (c.loop-letter.invariant.map m has)
+
+pub loop-letter-init : goal.loop-letter-init
+loop-letter-init g c = record {
+  whole = c.requires.whole;
+  marks = refl;
+  count = refl;
+  can = c.requires.can;
+  finish = finish_same c.args.epoch c.args.cores.now c.args.tables.now;
+  map = λ m has. has;
+  are_behind = λ are. are;
+  told = λ are told. told;
+  said = adds_same (g.N.Net.sent c.args.net.now);
+  answers = λ q waits. inl waits;
+  world = λ chief. nothing_goes (record { cores = c.args.cores.now; chief = chief; sent = g.N.Net.sent c.args.net.now });
+  sent = c.requires.sent;
+  others = λ p other. refl;
+  fresh = fresh_none (g.N.Net.sent c.args.net.now) (g.N.Net.fresh c.args.net.now);
+  counts = record { given_stays = refl; faults_stay = refl; seed_stays = refl };
+}
 
 pub loop-letter-preserved : goal.loop-letter-preserved
 loop-letter-preserved g c =
@@ -55,9 +76,9 @@ loop-letter-preserved g c =
       map = λ m has. c.take_committed.ensures.map m (before.map m has);
       are_behind = λ are. did.are_behind (before.are_behind are);
       told = λ are told. did.told (before.are_behind are) (subst (λ (ps : List Posted). AreTold e ps c.loop-letter.tables.behind.items) (sym c.next.ensures.sent) (before.told are told));
-      said = says_then e (g.N.Net.sent start.net.now) (g.N.Net.sent now.net) (g.N.Net.sent after.net) before.said
-          (subst (λ (ps : List Posted). SaysOnly e ps (g.N.Net.sent c.take_committed.new.net)) c.next.ensures.sent
-          (says_by_one c.in_ok-take_committed.field-0 e n letter now.cores (g.N.Net.sent c.next.new.self) after.cores (g.N.Net.sent after.net) did.heard));
+      said = adds_then (g.N.Net.sent start.net.now) (g.N.Net.sent now.net) (g.N.Net.sent after.net) before.said
+          (subst (λ (ps : List Posted). Adds (IsOfFinish e) ps (g.N.Net.sent c.take_committed.new.net)) c.next.ensures.sent
+          (says_by_one c.in_ok-take_committed.field-0 e n letter now.cores (g.N.Net.sent c.next.new.self) after.cores (g.N.Net.sent after.net) (omega (arith, c.requires.node, c.requires.few)) did.heard));
       answers = λ q waits. answered_next (TellsCommitted e) (finished_of n e) q letter (g.N.Net.waiting now.net n) (g.N.Net.waiting after.net n) (g.N.Net.waiting c.next.new.self n)
           (g.N.Net.sent now.net) (g.N.Net.fresh now.net) (g.N.Net.sent after.net) (g.N.Net.fresh after.net) first (c.take_committed.ensures.waiting n) said did.answers (before.answers q waits);
       world = λ chief. goes_on_then (scene start.cores.now chief (g.N.Net.sent start.net.now)) (scene now.cores chief (g.N.Net.sent now.net)) (scene after.cores chief (g.N.Net.sent after.net)) (before.world chief)
@@ -83,3 +104,6 @@ pub returns-clause-sent : goal.returns-clause-sent
 returns-clause-sent g c =
     subst (λ (ps : List Posted). AreSent ps (g.N.Net.waiting c.next.new.self)) (sym c.next.ensures.sent)
     (taken_sent (g.N.Net.sent c.loop-letter.net) (g.N.Net.waiting c.loop-letter.net) (g.N.Net.waiting c.next.new.self) c.args.node c.next.result c.loop-letter.invariant.sent c.next.ensures.first c.next.ensures.others)
+
+pub returns-clause-said : goal.returns-clause-said
+returns-clause-said g c = subst (λ (ps : List Posted). Adds (IsOfFinish c.args.epoch) (g.N.Net.sent c.args.net.now) ps) (sym c.next.ensures.sent) c.loop-letter.invariant.said

@@ -3,11 +3,12 @@ use Rattle.coco_chief.specs.Chief.{Chief}
 use Rattle.coco_letters.specs.Worlds.{Scene}
 use Rattle.coco_letters.proofs.HearingLemmas.{counts_then, fresh_none}
 use Rattle.coco_letters.proofs.TakingLemmas.{fresh_then}
+use Rattle.coco_letters.proofs.TellingLemmas.{adds_same, adds_then}
 use Rattle.coco_letters.proofs.WorldLemmas.{goes_on_then, nothing_goes}
 use Rattle.coco_net.specs.declared.letter.Posted.{Posted}
 use Rattle.coco_node.specs.Node.{Node}
 use Rattle.coco_finish.proofs.FinishLemmas.{finish_same, finish_then}
-use Rattle.coco_finish.proofs.LoopLemmas.{answers_more, says_none, says_then, taken_more}
+use Rattle.coco_finish.proofs.LoopLemmas.{answers_more, taken_more}
 use Rattle.coco_finish.proofs.taking.nodes_finish.Goals as goal
 
 pub loop-node-init : goal.loop-node-init
@@ -19,7 +20,7 @@ loop-node-init g c = record {
   map = λ m has. has;
   are_behind = λ are. are;
   told = λ are told. told;
-  said = says_none c.args.epoch (g.N.Net.sent c.args.net.now);
+  said = adds_same (g.N.Net.sent c.args.net.now);
   answers = λ n q less. absurd (omega (arith, less));
   world = λ chief. nothing_goes (record { cores = c.args.cores.now; chief = chief; sent = g.N.Net.sent c.args.net.now });
   sent = c.requires.sent;
@@ -49,7 +50,7 @@ loop-node-preserved g c =
       map = λ m has. c.finish_at.ensures.map m (before.map m has);
       are_behind = λ are. did.are_behind (before.are_behind are);
       told = λ are told. did.told (before.are_behind are) (before.told are told);
-      said = says_then e (g.N.Net.sent start.net.now) (g.N.Net.sent now.net) (g.N.Net.sent after.net) before.said did.said;
+      said = adds_then (g.N.Net.sent start.net.now) (g.N.Net.sent now.net) (g.N.Net.sent after.net) before.said did.said;
       answers = answers_more e c.loop-node.node (g.N.Net.waiting start.net.now) (g.N.Net.waiting now.net) (g.N.Net.sent now.net) (g.N.Net.fresh now.net) (g.N.Net.sent after.net) (g.N.Net.fresh after.net) did.fresh
           (before.waits c.loop-node.node (omega arith)) before.answers did.answers;
       world = λ chief. goes_on_then (scene start.cores.now chief (g.N.Net.sent start.net.now)) (scene now.cores chief (g.N.Net.sent now.net)) (scene after.cores chief (g.N.Net.sent after.net)) (before.world chief) (did.world chief);

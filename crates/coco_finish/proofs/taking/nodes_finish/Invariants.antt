@@ -2,10 +2,11 @@ use Rattle.std.proofs.Common.{◌≡◌, ◌<◌, ◌≤◌, ℕ, [], length}
 use Rattle.std.specs.List.{Contains}
 use Rattle.coco_ast.specs.Keyed.{Rows}
 use Rattle.coco_chief.specs.Chief.{Chief}
+use Rattle.coco_letters.specs.Telling.{Adds, IsOfFinish}
 use Rattle.coco_letters.specs.Turns.{AreFresh, AreSent, Counts}
 use Rattle.coco_letters.specs.Worlds.{GoesOn}
 use Rattle.coco_net.specs.declared.letter.Letter.{Letter}
-use Rattle.coco_finish.specs.Finishing.{finished_of, AllCanFinish, AreBehind, AreTold, AreWhole, Finish, HaveMap, SaysOnly, TellsCommitted}
+use Rattle.coco_finish.specs.Finishing.{finished_of, AllCanFinish, AreBehind, AreTold, AreWhole, Finish, HaveMap, TellsCommitted}
 use Rattle.coco_finish.proofs.taking.nodes_finish.Given as goal
 
 -- what came of the nodes so far
@@ -18,7 +19,7 @@ invariant-loop-node g l = record {
   map : (m : Rows) → HaveMap m l.initial.tables → HaveMap m l.tables;
   are_behind : AreBehind l.epoch l.initial.cores l.initial.tables.behind.items → AreBehind l.epoch l.cores l.tables.behind.items;
   told : AreBehind l.epoch l.initial.cores l.initial.tables.behind.items → AreTold l.epoch (g.N.Net.sent l.initial.net) l.initial.tables.behind.items → AreTold l.epoch (g.N.Net.sent l.net) l.tables.behind.items;
-  said : SaysOnly l.epoch (g.N.Net.sent l.initial.net) (g.N.Net.sent l.net);
+  said : Adds (IsOfFinish l.epoch) (g.N.Net.sent l.initial.net) (g.N.Net.sent l.net);
   answers : (n : ℕ) (q : Letter) → n < l.node → Contains (g.N.Net.waiting l.initial.net n) q → TellsCommitted l.epoch q → Contains (g.N.Net.fresh l.net) (finished_of n l.epoch);
   world : (chief : Chief) → GoesOn (record { cores = l.initial.cores; chief = chief; sent = g.N.Net.sent l.initial.net }) (record { cores = l.cores; chief = chief; sent = g.N.Net.sent l.net });
   sent : AreSent (g.N.Net.sent l.net) (g.N.Net.waiting l.net);

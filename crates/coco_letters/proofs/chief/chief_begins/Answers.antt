@@ -1,13 +1,14 @@
-use Rattle.std.proofs.Common.{◌≡◌, ◌<◌, ◌≤◌, ◌++◌, ◌^◌, ℕ, List, ap, arith, refl, subst, sym, ◌∙◌}
+use Rattle.std.proofs.Common.{◌≡◌, ◌<◌, ◌++◌, ◌^◌, List, ap, arith, refl, subst, sym, ◌∙◌, ◌≤◌, ℕ}
 use Rattle.std.proofs.lemmas.Result.{on_ok_weaker}
 use Rattle.coco_msg.specs.declared.action.Action.{Action}
 use Rattle.coco_msg.specs.declared.message.Message.TheVariants.{Prepare}
 use Rattle.coco_net.specs.declared.letter.Posted.{Posted}
 use Rattle.coco_chief.specs.Shown.{chief_of}
 use Rattle.coco_chief.specs.Table.{begun, Turn}
-use Rattle.coco_letters.specs.Saying.{posts_of, AreToSay}
 use Rattle.coco_letters.specs.Turns.{ChiefTurns}
+use Rattle.coco_letters.specs.Saying.{posts_of, AreToSay}
 use Rattle.coco_letters.proofs.SayingLemmas.{each_says}
+use Rattle.coco_letters.proofs.TellingLemmas.{begun_says}
 use Rattle.coco_letters.proofs.WorldLemmas.{begin_goes}
 use Rattle.coco_letters.proofs.chief.chief_begins.Goals as goal
 
@@ -26,5 +27,16 @@ returns-clause-world g c =
     let fits : c.args.epoch < 2 ^ 64 = omega (arith, c.ranges.epoch.fits) in
     on_ok_weaker c.send_actions.result
     (λ sent. λ cores. begin_goes cores chief (chief_of c.begin.new.self) before (g.N.Net.sent c.send_actions.new.net) c.requires.few c.args.epoch fits c.requires.some c.requires.at_rest
+    (record { chief_is = ap (λ (turn : Turn). turn.1) c.in_ok-actions.ensures.ok; sent_is = sent ∙ ap (λ (actions : List Action). before ++ posts_of 8 actions) said }))
+    c.send_actions.ensures.sent
+
+pub returns-clause-says : goal.returns-clause-says
+returns-clause-says g c =
+    let chief = chief_of c.args.chief.now in
+    let before : List Posted = g.N.Net.sent c.args.net.now in
+    let said : c.deref.result.now ≡ (begun c.args.epoch chief).0 = c.deref.ensures.value ∙ ap (λ (turn : Turn). turn.0) c.in_ok-actions.ensures.ok in
+    let fits : c.args.epoch < 2 ^ 64 = omega (arith, c.ranges.epoch.fits) in
+    on_ok_weaker c.send_actions.result
+    (λ sent. begun_says chief (chief_of c.begin.new.self) before (g.N.Net.sent c.send_actions.new.net) c.requires.few c.args.epoch fits
     (record { chief_is = ap (λ (turn : Turn). turn.1) c.in_ok-actions.ensures.ok; sent_is = sent ∙ ap (λ (actions : List Action). before ++ posts_of 8 actions) said }))
     c.send_actions.ensures.sent

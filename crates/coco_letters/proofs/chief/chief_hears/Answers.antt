@@ -7,6 +7,7 @@ use Rattle.coco_chief.specs.Table.{handled, Turn}
 use Rattle.coco_letters.specs.Saying.{posts_of, AreToSay}
 use Rattle.coco_letters.proofs.HearingLemmas.{chief_drops, chief_takes, fresh_none, fresh_ok, heard_from, posted_is}
 use Rattle.coco_letters.proofs.SayingLemmas.{chief_says, nodes_stay}
+use Rattle.coco_letters.proofs.TellingLemmas.{adds_same, hears_says}
 use Rattle.coco_letters.proofs.WorldLemmas.{chief_goes, nothing_goes}
 use Rattle.coco_letters.proofs.chief.chief_hears.Goals as goal
 
@@ -28,6 +29,19 @@ returns-in_ok-actions-in-Some-clause-heard g c =
     on_ok_weaker c.send_actions.result
     (λ sent. chief_takes c.args.letter.now m (chief_of c.args.chief.now) before (chief_of c.handle.new.self) (g.N.Net.sent c.send_actions.new.net) heard
     (ap (λ (turn : Turn). turn.1) c.in_ok-actions-in-Some.ensures.ok) (sent ∙ ap (λ (actions : List Action). before ++ posts_of 8 actions) said))
+    c.send_actions.ensures.sent
+
+pub returns-in_ok-actions-in-Some-clause-says : goal.returns-in_ok-actions-in-Some-clause-says
+returns-in_ok-actions-in-Some-clause-says g c =
+    let from = c.args.letter.now.from in
+    let m = c.in-Some.message in
+    let heard = heard_from c.args.letter.now c.in_ok-message.field-0 m c.in-Some.is c.in_ok-message.ensures.found in
+    let before : List Posted = g.N.Net.sent c.args.net.now in
+    let said : c.deref.result.now ≡ (handled from m (chief_of c.args.chief.now)).0 = c.deref.ensures.value ∙ ap (λ (turn : Turn). turn.0) c.in_ok-actions-in-Some.ensures.ok in
+    on_ok_weaker c.send_actions.result
+    (λ sent. hears_says c.args.letter.now (chief_of c.args.chief.now) (chief_of c.handle.new.self) before (g.N.Net.sent c.send_actions.new.net) c.requires.few
+    (chief_takes c.args.letter.now m (chief_of c.args.chief.now) before (chief_of c.handle.new.self) (g.N.Net.sent c.send_actions.new.net) heard
+    (ap (λ (turn : Turn). turn.1) c.in_ok-actions-in-Some.ensures.ok) (sent ∙ ap (λ (actions : List Action). before ++ posts_of 8 actions) said)))
     c.send_actions.ensures.sent
 
 pub returns-in_ok-actions-in-Some-clause-world : goal.returns-in_ok-actions-in-Some-clause-world
@@ -61,3 +75,6 @@ returns-in-None-clause-world g c = λ cores. nothing_goes (record { cores = core
 
 pub returns-in-None-clause-fresh : goal.returns-in-None-clause-fresh
 returns-in-None-clause-fresh g c = fresh_none (g.N.Net.sent c.args.net.now) (g.N.Net.fresh c.args.net.now)
+
+pub returns-in-None-clause-says : goal.returns-in-None-clause-says
+returns-in-None-clause-says g c = adds_same (g.N.Net.sent c.args.net.now)

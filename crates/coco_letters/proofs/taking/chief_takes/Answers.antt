@@ -1,4 +1,4 @@
-use Rattle.std.proofs.Common.{◌≡◌, ℕ, ◌≤◌, List, ◌∷◌, refl, sym, subst, ◌∙◌, arith}
+use Rattle.std.proofs.Common.{◌≡◌, List, ◌∷◌, refl, sym, subst, ◌∙◌, arith, ℕ, ◌≤◌}
 use Rattle.std.specs.List.{Contains}
 use Rattle.coco_chief.specs.Chief.{Chief}
 use Rattle.coco_chief.specs.Shown.{chief_of}
@@ -8,9 +8,10 @@ use Rattle.coco_node.specs.Node.{Node}
 use Rattle.coco_letters.specs.Taking.{ChiefTakes}
 use Rattle.coco_letters.specs.Turns.{AreFresh, AreSent, ChiefHears, Counts}
 use Rattle.coco_letters.specs.Worlds.{GoesOn, Scene}
-use Rattle.coco_letters.proofs.CountingLemmas.{some_or_not, takes_finished, takes_say, takes_votes}
+use Rattle.coco_letters.proofs.CountingLemmas.{some_or_not, takes_finished, takes_votes}
 use Rattle.coco_letters.proofs.HearingLemmas.{counts_then}
 use Rattle.coco_letters.proofs.TakingLemmas.{fresh_then, sent_more}
+use Rattle.coco_letters.proofs.TellingLemmas.{takes_says}
 use Rattle.coco_letters.proofs.WaitingLemmas.{letter_sent, taken_sent}
 use Rattle.coco_letters.proofs.WorldLemmas.{goes_on_then}
 use Rattle.coco_letters.proofs.taking.chief_takes.Goals as goal
@@ -76,6 +77,6 @@ returns-clause-votes g c =
 
 pub returns-clause-says : goal.returns-clause-says
 returns-clause-says g c =
-    takes_say (g.N.Net.waiting c.args.net.now 8) (chief_of c.args.chief.now) (chief_of c.loop-letter.chief) (g.N.Net.sent c.args.net.now) (g.N.Net.sent c.next.new.self)
+    takes_says (g.N.Net.waiting c.args.net.now 8) (chief_of c.args.chief.now) (chief_of c.loop-letter.chief) (g.N.Net.sent c.args.net.now) (g.N.Net.sent c.next.new.self) c.requires.few
     (c.loop-letter.invariant.heard (chief_of c.loop-letter.chief) (g.N.Net.sent c.next.new.self)
     (subst (λ (ls : List Letter). ChiefTakes ls (chief_of c.loop-letter.chief) (g.N.Net.sent c.loop-letter.net) (chief_of c.loop-letter.chief) (g.N.Net.sent c.next.new.self)) (sym c.in_default.ensures.first.0) (refl, c.next.ensures.sent)))

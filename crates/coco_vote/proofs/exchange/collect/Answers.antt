@@ -5,12 +5,14 @@ use Rattle.coco_chief.specs.Shown.{chief_of}
 use Rattle.coco_chief.specs.Table.{is_voting}
 use Rattle.coco_chief.specs.declared.machine.Phase.{Phase}
 use Rattle.coco_net.specs.declared.letter.Posted.{Posted}
+use Rattle.coco_letters.specs.Telling.{Adds, IsOfChief}
 use Rattle.coco_letters.specs.Turns.{AreSent}
 use Rattle.coco_letters.specs.Worlds.{GoesOn}
+use Rattle.coco_letters.proofs.TellingLemmas.{adds_then}
 use Rattle.coco_letters.proofs.WorldLemmas.{goes_on_then}
-use Rattle.coco_vote.specs.Counting.{AddsNoVote, HasCounted, IsAye}
+use Rattle.coco_vote.specs.Counting.{HasCounted, IsAye}
 use Rattle.coco_vote.specs.Taking.{vote_of}
-use Rattle.coco_vote.proofs.CountingLemmas.{adds_then, noes_still, round_counted, takes_adds, takes_counted}
+use Rattle.coco_vote.proofs.CountingLemmas.{noes_still, round_counted, takes_counted}
 use Rattle.coco_vote.proofs.GivingLemmas.{fresh_given, given_since, given_waits, gives_counts, gives_round, gives_then, sent_still, waits_given}
 use Rattle.coco_vote.proofs.TakingLemmas.{fresh_still}
 use Rattle.coco_vote.proofs.exchange.collect.Goals as goal
@@ -48,25 +50,23 @@ returns-clause-counted g c e given more some fits counted noes is =
     let gives = c.in_ok-round.ensures.ok in
     let le : 8 ≤ 8 = omega arith in
     let one : HasCounted e (λ n. IsAye e given n ⊎ Contains w0 (vote_of n e true).letter) (chief_of c.chief_takes.new.chief) =
-    takes_counted e (IsAye e given) w0 (chief_of c.args.chief.now) (chief_of c.chief_takes.new.chief) s0 s1 some fits counted noes (λ l among. c.requires.sent 8 l le among) c.in_ok-chief_takes.ensures.heard in
+    takes_counted e (IsAye e given) w0 (chief_of c.args.chief.now) (chief_of c.chief_takes.new.chief) s0 s1 c.requires.few some fits counted noes (λ l among. c.requires.sent 8 l le among) c.in_ok-chief_takes.ensures.heard in
     let still : (n : ℕ) → Contains sr (vote_of n e false) → ⊥ =
-    λ n among. noes_still e s0 s1 fits (takes_adds w0 (chief_of c.args.chief.now) (chief_of c.chief_takes.new.chief) s0 s1 c.in_ok-chief_takes.ensures.heard) noes n (subst (λ (ps : List Posted). Contains ps (vote_of n e false)) c.round.ensures.sent among) in
+    λ n among. noes_still e s0 s1 c.in_ok-chief_takes.ensures.says noes n (subst (λ (ps : List Posted). Contains ps (vote_of n e false)) c.round.ensures.sent among) in
     let were : AreSent sr (g.N.Net.waiting c.round.new.self) = subst (λ (ps : List Posted). AreSent ps (g.N.Net.waiting c.round.new.self)) (sym c.round.ensures.sent)
     (c.waiting_letters_were_sent.ensures.round s1 (g.N.Net.fresh c.chief_takes.new.net) (g.N.Net.faults c.chief_takes.new.net) (g.N.Net.faults c.round.new.self) (g.N.Net.waiting c.round.new.self) (g.N.Net.given c.chief_takes.new.net) (g.N.Net.given c.round.new.self) gives) in
     let two : HasCounted e (λ n. (IsAye e given n ⊎ Contains w0 (vote_of n e true).letter) ⊎ Contains w1 (vote_of n e true).letter) (chief_of c.chief_takes-2.new.chief) =
-    takes_counted e (λ n. IsAye e given n ⊎ Contains w0 (vote_of n e true).letter) w1 (chief_of c.chief_takes.new.chief) (chief_of c.chief_takes-2.new.chief) sr (g.N.Net.sent c.chief_takes-2.new.net) some fits one still (λ l among. were 8 l le among) c.in_ok-chief_takes-2.ensures.heard in
+    takes_counted e (λ n. IsAye e given n ⊎ Contains w0 (vote_of n e true).letter) w1 (chief_of c.chief_takes.new.chief) (chief_of c.chief_takes-2.new.chief) sr (g.N.Net.sent c.chief_takes-2.new.net) (omega (arith, c.chief_takes.ensures.nodes, c.requires.few)) some fits one still (λ l among. were 8 l le among) c.in_ok-chief_takes-2.ensures.heard in
     round_counted e (λ n. IsAye e given n ⊎ Contains w0 (vote_of n e true).letter) w1 gives.0 more (chief_of c.chief_takes-2.new.chief)
     (given_since (g.N.Net.given c.args.net.now) (g.N.Net.given c.chief_takes.new.net) (g.N.Net.given c.round.new.self) (g.N.Net.given c.chief_takes-2.new.net) gives.0 more c.chief_takes.ensures.counts.given_stays gives.1 c.chief_takes-2.ensures.counts.given_stays is)
     (λ n among. waits_given s1 (g.N.Net.fresh c.chief_takes.new.net) (g.N.Net.faults c.chief_takes.new.net) (g.N.Net.faults c.round.new.self) (g.N.Net.waiting c.round.new.self) gives.0 gives.2 8 le (vote_of n e true).letter among)
     (λ n among. given_waits s1 (g.N.Net.fresh c.chief_takes.new.net) (g.N.Net.faults c.chief_takes.new.net) (g.N.Net.faults c.round.new.self) (g.N.Net.waiting c.round.new.self) gives.0 gives.2 8 le (vote_of n e true).letter among)
     two
 
-pub returns-clause-adds : goal.returns-clause-adds
-returns-clause-adds g c =
-    adds_then (g.N.Net.sent c.args.net.now) (g.N.Net.sent c.chief_takes.new.net) (g.N.Net.sent c.chief_takes-2.new.net)
-    (takes_adds (g.N.Net.waiting c.args.net.now 8) (chief_of c.args.chief.now) (chief_of c.chief_takes.new.chief) (g.N.Net.sent c.args.net.now) (g.N.Net.sent c.chief_takes.new.net) c.in_ok-chief_takes.ensures.heard)
-    (subst (λ (ps : List Posted). AddsNoVote ps (g.N.Net.sent c.chief_takes-2.new.net)) c.round.ensures.sent
-    (takes_adds (g.N.Net.waiting c.round.new.self 8) (chief_of c.chief_takes.new.chief) (chief_of c.chief_takes-2.new.chief) (g.N.Net.sent c.round.new.self) (g.N.Net.sent c.chief_takes-2.new.net) c.in_ok-chief_takes-2.ensures.heard))
+pub returns-clause-says : goal.returns-clause-says
+returns-clause-says g c =
+    adds_then (g.N.Net.sent c.args.net.now) (g.N.Net.sent c.chief_takes.new.net) (g.N.Net.sent c.chief_takes-2.new.net) c.in_ok-chief_takes.ensures.says
+    (subst (λ (ps : List Posted). Adds IsOfChief ps (g.N.Net.sent c.chief_takes-2.new.net)) c.round.ensures.sent c.in_ok-chief_takes-2.ensures.says)
 
 pub returns-clause-gives : goal.returns-clause-gives
 returns-clause-gives g c more p is same among =

@@ -1,4 +1,4 @@
-use Rattle.std.proofs.Common.{◌≡◌, inl, inr, ◌<◌, ◌≤◌, ◌^◌, false, true, List, ◌++◌, append_assoc, arith, refl, ap, subst, sym, ◌∙◌}
+use Rattle.std.proofs.Common.{◌≡◌, inl, inr, ◌<◌, ◌≤◌, ◌^◌, false, true, List, ◌++◌, arith, refl, subst, sym, ◌∙◌}
 use Rattle.std.specs.List.{Contains}
 use Rattle.std.proofs.lemmas.List.Elements.{All-contains, Contains-append_cases, Contains-append_right}
 use Rattle.std.proofs.lemmas.Result.{err_from_is_err_and}
@@ -6,14 +6,16 @@ use Rattle.coco_chief.specs.Shown.{chief_of}
 use Rattle.coco_net.specs.declared.letter.Letter.{Letter}
 use Rattle.coco_net.specs.declared.letter.Posted.{Posted}
 use Rattle.coco_world.proofs.Tools.{not_both}
+use Rattle.coco_letters.specs.Telling.{Adds, IsOfVote}
 use Rattle.coco_letters.specs.Turns.{AreSent}
 use Rattle.coco_letters.specs.Worlds.{GoesBetween, SameEntries}
+use Rattle.coco_letters.proofs.TellingLemmas.{adds_left, adds_then, adds_vote}
 use Rattle.coco_letters.proofs.WorldLemmas.{between_on, between_then}
 use Rattle.coco_vote.specs.Counting.{prepare_of, HasCounted, IsAye}
 use Rattle.coco_vote.specs.Preparing.{have_durable, Ballot, RestsVoted}
 use Rattle.coco_vote.specs.Taking.{has_lost, vote_of, AreTold}
 use Rattle.coco_vote.specs.Voting.{PreparesOnly}
-use Rattle.coco_vote.proofs.CountingLemmas.{adds_left, asked_from, exchange_counted, told_still}
+use Rattle.coco_vote.proofs.CountingLemmas.{asked_from, exchange_counted, told_still}
 use Rattle.coco_vote.proofs.GivingLemmas.{fresh_given, given_since, given_waits, gives_counts, gives_round, gives_then, sent_still, since_both, waits_given}
 use Rattle.coco_vote.proofs.PowerLemmas.{later_same}
 use Rattle.coco_vote.proofs.PreparingLemmas.{keeps_same, none_ok}
@@ -73,9 +75,9 @@ pub returns-then-is_early-clause-votes : goal.returns-then-is_early-clause-votes
 returns-then-is_early-clause-votes g c =
     λ never. absurd (never_lost c.in_ok-stops.stops never (sym c.is_early.ensures ∙ c.if-is_early.true))
 
-pub returns-then-is_early-clause-sent : goal.returns-then-is_early-clause-sent
-returns-then-is_early-clause-sent g c =
-    (c.in_ok-stops.ensures.fresh.posts, (c.in_ok-stops.ensures.fresh.sent_is ∙ ap (λ (ps : List Posted). ps ++ c.in_ok-stops.ensures.fresh.posts) c.round.ensures.sent))
+pub returns-then-is_early-clause-says : goal.returns-then-is_early-clause-says
+returns-then-is_early-clause-says g c =
+    subst (λ (ps : List Posted). Adds (IsOfVote c.args.epoch) ps (g.N.Net.sent c.nodes_take.new.net)) c.round.ensures.sent c.in_ok-stops.ensures.says
 
 pub returns-then-is_early-clause-files : goal.returns-then-is_early-clause-files
 returns-then-is_early-clause-files g c k hold held may nodes logs rests =
@@ -104,7 +106,7 @@ returns-in_err-collect-clause-net g c =
 
 pub returns-clause-told : goal.returns-clause-told
 returns-clause-told g c =
-    told_still c.args.epoch c.nodes_take.new.cores (g.N.Net.sent c.nodes_take.new.net) (g.N.Net.sent c.collect.new.net) (g.P.Power.asked c.nodes_take.new.power) (let fits : c.args.epoch < 2 ^ 64 = omega (arith, c.ranges.epoch.fits) in fits) c.in_ok-collect.ensures.adds (c.in_ok-stops.ensures.told (subst (λ (ps : List Posted). AreTold c.args.epoch c.args.cores.now ps (g.P.Power.asked c.args.power.now)) (sym c.round.ensures.sent) c.requires.told))
+    told_still c.args.epoch c.nodes_take.new.cores (g.N.Net.sent c.nodes_take.new.net) (g.N.Net.sent c.collect.new.net) (g.P.Power.asked c.nodes_take.new.power) c.in_ok-collect.ensures.says (c.in_ok-stops.ensures.told (subst (λ (ps : List Posted). AreTold c.args.epoch c.args.cores.now ps (g.P.Power.asked c.args.power.now)) (sym c.round.ensures.sent) c.requires.told))
 
 pub returns-clause-counted : goal.returns-clause-counted
 returns-clause-counted g c =
@@ -134,11 +136,11 @@ returns-clause-votes g c =
     subst (λ (ps : List Posted). Contains ps (vote_of n c.args.epoch true)) (sym (since_both (g.N.Net.given c.args.net.now) (g.N.Net.given c.nodes_take.new.net) (g.N.Net.given c.collect.new.net) gives.0 c.collect.ensures.net.more more (c.nodes_take.ensures.counts.given_stays ∙ gives.1) c.collect.ensures.net.gives is))
     (Contains-append_right gives.0 c.collect.ensures.net.more (vote_of n c.args.epoch true) (c.in_ok-collect.ensures.gives c.collect.ensures.net.more (vote_of n c.args.epoch true) c.collect.ensures.net.gives still voted))
 
-pub returns-clause-sent : goal.returns-clause-sent
-returns-clause-sent g c = (
-  c.in_ok-stops.ensures.fresh.posts ++ c.in_ok-collect.ensures.adds.posts,
-  c.in_ok-collect.ensures.adds.is ∙ ap (λ (ps : List Posted). ps ++ c.in_ok-collect.ensures.adds.posts) (c.in_ok-stops.ensures.fresh.sent_is ∙ ap (λ (ps : List Posted). ps ++ c.in_ok-stops.ensures.fresh.posts) c.round.ensures.sent) ∙ append_assoc (g.N.Net.sent c.args.net.now) c.in_ok-stops.ensures.fresh.posts c.in_ok-collect.ensures.adds.posts,
-)
+pub returns-clause-says : goal.returns-clause-says
+returns-clause-says g c =
+    adds_then (g.N.Net.sent c.args.net.now) (g.N.Net.sent c.nodes_take.new.net) (g.N.Net.sent c.collect.new.net)
+    (subst (λ (ps : List Posted). Adds (IsOfVote c.args.epoch) ps (g.N.Net.sent c.nodes_take.new.net)) c.round.ensures.sent c.in_ok-stops.ensures.says)
+    (adds_vote c.args.epoch (g.N.Net.sent c.nodes_take.new.net) (g.N.Net.sent c.collect.new.net) c.in_ok-collect.ensures.says)
 
 pub returns-clause-files : goal.returns-clause-files
 returns-clause-files g c k hold held may nodes logs rests =
@@ -165,6 +167,6 @@ pub returns-clause-were_sent : goal.returns-clause-were_sent
 returns-clause-were_sent g c more p is among =
     let gives = c.in_ok-round.ensures.ok in
     elim (Contains-append_cases gives.0 c.collect.ensures.net.more p (subst (λ (ps : List Posted). Contains ps p) (since_both (g.N.Net.given c.args.net.now) (g.N.Net.given c.nodes_take.new.net) (g.N.Net.given c.collect.new.net) gives.0 c.collect.ensures.net.more more (c.nodes_take.ensures.counts.given_stays ∙ gives.1) c.collect.ensures.net.gives is) among)) [
-      | inl first ↦ adds_left (g.N.Net.sent c.nodes_take.new.net) (g.N.Net.sent c.collect.new.net) p c.in_ok-collect.ensures.adds (sent_still (g.N.Net.sent c.args.net.now) (g.N.Net.sent c.round.new.self) (g.N.Net.fresh c.round.new.self) (g.N.Net.sent c.nodes_take.new.net) (g.N.Net.fresh c.nodes_take.new.net) p c.round.ensures.sent c.in_ok-stops.ensures.fresh (All-contains (Contains (g.N.Net.sent c.args.net.now)) gives.0 p gives.2.were_sent first))
+      | inl first ↦ adds_left (g.N.Net.sent c.nodes_take.new.net) (g.N.Net.sent c.collect.new.net) p c.in_ok-collect.ensures.says (sent_still (g.N.Net.sent c.args.net.now) (g.N.Net.sent c.round.new.self) (g.N.Net.fresh c.round.new.self) (g.N.Net.sent c.nodes_take.new.net) (g.N.Net.fresh c.nodes_take.new.net) p c.round.ensures.sent c.in_ok-stops.ensures.fresh (All-contains (Contains (g.N.Net.sent c.args.net.now)) gives.0 p gives.2.were_sent first))
       | inr second ↦ c.in_ok-collect.ensures.were_sent c.collect.ensures.net.more p c.collect.ensures.net.gives second
     ]

@@ -10,6 +10,7 @@ loop-node-init g c = record {
   give_up = give_same c.args.epoch c.args.cores.now;
   told = λ n q less. absurd (omega (arith, less));
   waits = λ p le. refl;
+  silent = refl;
   world = λ chief. nothing_goes (record { cores = c.args.cores.now; chief = chief; sent = (g.N.Net.sent c.args.net.now) });
   sent = c.requires.sent;
   fresh = fresh_none (g.N.Net.sent c.args.net.now) (g.N.Net.fresh c.args.net.now);
@@ -26,6 +27,7 @@ loop-node-preserved g c =
       give_up = give_then c.args.epoch c.args.cores.now c.loop-node.cores c.take_end.new.cores before.give_up c.in_ok-take_end.ensures.give_up;
       told = told_next c.args.epoch c.loop-node.node (g.N.Net.waiting c.args.net.now) (g.N.Net.waiting c.loop-node.net) c.loop-node.cores c.take_end.new.cores before.waits c.in_ok-take_end.ensures.give_up before.told c.in_ok-take_end.ensures.told;
       waits = λ p le. let less : c.loop-node.node ≤ p = omega (arith, le) in c.in_ok-take_end.ensures.others p (λ same. omega (arith, same, le)) ∙ before.waits p less;
+      silent = c.in_ok-take_end.ensures.silent ∙ before.silent;
       world = λ chief. goes_on_then (record { cores = c.args.cores.now; chief = chief; sent = (g.N.Net.sent c.args.net.now) }) (record { cores = c.loop-node.cores; chief = chief; sent = (g.N.Net.sent c.loop-node.net) }) (record { cores = c.take_end.new.cores; chief = chief; sent = (g.N.Net.sent c.take_end.new.net) }) (before.world chief) (c.in_ok-take_end.ensures.world chief);
       sent = c.in_ok-take_end.ensures.sent;
       fresh = fresh_then (g.N.Net.sent c.args.net.now) (g.N.Net.fresh c.args.net.now) (g.N.Net.sent c.loop-node.net) (g.N.Net.fresh c.loop-node.net) (g.N.Net.sent c.take_end.new.net) (g.N.Net.fresh c.take_end.new.net) before.fresh c.in_ok-take_end.ensures.fresh;

@@ -14,6 +14,7 @@ invariant-loop-node g l = record {
   give_up : GiveUp l.epoch l.initial.cores l.cores;
   told : (n : ℕ) (q : Letter) → n < l.node → Contains (g.N.Net.waiting l.initial.net n) q → IsFrom 8 q (Abort l.epoch) → IsOverAt l.epoch n l.cores;
   waits : (p : ℕ) → l.node ≤ p → g.N.Net.waiting l.net p ≡ g.N.Net.waiting l.initial.net p;
+  silent : g.N.Net.sent l.net ≡ g.N.Net.sent l.initial.net;
   world : (chief : Chief) → GoesOn (record { cores = l.initial.cores; chief = chief; sent = g.N.Net.sent l.initial.net }) (record { cores = l.cores; chief = chief; sent = g.N.Net.sent l.net });
   sent : AreSent (g.N.Net.sent l.net) (g.N.Net.waiting l.net);
   fresh : AreFresh (g.N.Net.sent l.initial.net) (g.N.Net.fresh l.initial.net) (g.N.Net.sent l.net) (g.N.Net.fresh l.net);

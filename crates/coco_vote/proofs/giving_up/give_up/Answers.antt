@@ -1,4 +1,4 @@
-use Rattle.std.proofs.Common.{◌≡◌, ◌<◌, ◌≤◌, ◌^◌, ℕ, List, ◌++◌, ap, arith, subst, sym, ◌∙◌}
+use Rattle.std.proofs.Common.{◌≡◌, ◌<◌, ◌≤◌, ◌^◌, ℕ, List, ap, arith, subst, sym, ◌∙◌}
 use Rattle.std.specs.List.{Contains}
 use Rattle.coco_chief.specs.Chief.{Chief}
 use Rattle.coco_chief.specs.Shown.{chief_of}
@@ -10,10 +10,11 @@ use Rattle.coco_net.specs.declared.letter.Posted.{Posted}
 use Rattle.coco_letters.specs.Saying.{posted, posts_of}
 use Rattle.coco_letters.specs.Turns.{AreSent}
 use Rattle.coco_letters.specs.Worlds.{GoesOn}
+use Rattle.coco_letters.proofs.TellingLemmas.{adds_none, adds_then}
 use Rattle.coco_letters.proofs.WorldLemmas.{goes_on_then}
 use Rattle.coco_vote.proofs.BeginningLemmas.{tells_each}
 use Rattle.coco_vote.proofs.EndingLemmas.{aborted_from}
-use Rattle.coco_vote.proofs.GivingLemmas.{fresh_given, given_waits, gives_counts, gives_round, gives_then, grown_then}
+use Rattle.coco_vote.proofs.GivingLemmas.{fresh_given, given_waits, gives_counts, gives_round, gives_then}
 use Rattle.coco_vote.proofs.TakingLemmas.{fresh_has}
 use Rattle.coco_vote.proofs.giving_up.give_up.Goals as goal
 
@@ -70,11 +71,12 @@ returns-clause-told g c =
     let given : Contains gives.0 (posted 8 n (Abort c.args.epoch)) = fresh_given (g.N.Net.sent c.chief_aborts.new.net) (g.N.Net.fresh c.chief_aborts.new.net) (g.N.Net.faults c.chief_aborts.new.net) (g.N.Net.faults c.round.new.self) (g.N.Net.waiting c.round.new.self) gives.0 (posted 8 n (Abort c.args.epoch)) gives.2 stays fresh in
     c.in_ok-all_take_end.ensures.told n (posted 8 n (Abort c.args.epoch)).letter less (given_waits (g.N.Net.sent c.chief_aborts.new.net) (g.N.Net.fresh c.chief_aborts.new.net) (g.N.Net.faults c.chief_aborts.new.net) (g.N.Net.faults c.round.new.self) (g.N.Net.waiting c.round.new.self) gives.0 gives.2 n le (posted 8 n (Abort c.args.epoch)).letter given) (aborted_from n c.args.epoch fits)
 
-pub returns-clause-sent : goal.returns-clause-sent
-returns-clause-sent g c =
-    grown_then (g.N.Net.sent c.args.net.now) (g.N.Net.sent c.all_take_end.new.net) (g.N.Net.sent c.collect.new.net)
-    (grown_then (g.N.Net.sent c.args.net.now) (g.N.Net.sent c.chief_aborts.new.net) (g.N.Net.sent c.all_take_end.new.net) ((posts_of 8 (to_each (chief_of c.args.chief.now).nodes (Abort (chief_of c.args.chief.now).current))), c.in_ok-chief_aborts.ensures.turns.sent_is) (c.in_ok-all_take_end.ensures.fresh.posts, c.in_ok-all_take_end.ensures.fresh.sent_is ∙ ap (λ (ps : List Posted). ps ++ c.in_ok-all_take_end.ensures.fresh.posts) c.round.ensures.sent))
-    (c.in_ok-collect.ensures.adds.posts, c.in_ok-collect.ensures.adds.is)
+pub returns-clause-said : goal.returns-clause-said
+returns-clause-said g c =
+    adds_then (g.N.Net.sent c.args.net.now) (g.N.Net.sent c.all_take_end.new.net) (g.N.Net.sent c.collect.new.net)
+    (adds_then (g.N.Net.sent c.args.net.now) (g.N.Net.sent c.chief_aborts.new.net) (g.N.Net.sent c.all_take_end.new.net) c.in_ok-chief_aborts.ensures.says
+    (adds_none (g.N.Net.sent c.chief_aborts.new.net) (g.N.Net.sent c.all_take_end.new.net) (c.in_ok-all_take_end.ensures.silent ∙ c.round.ensures.sent)))
+    c.in_ok-collect.ensures.says
 
 pub returns-clause-world : goal.returns-clause-world
 returns-clause-world g c =

@@ -15,6 +15,7 @@ pub loop-letter-init : goal.loop-letter-init
 loop-letter-init g c = record {
   give_up = give_same c.args.epoch c.args.cores.now;
   told = λ q among _. inl among;
+  silent = refl;
   world = λ chief. nothing_goes (record { cores = c.args.cores.now; chief = chief; sent = (g.N.Net.sent c.args.net.now) });
   sent = c.requires.sent;
   others = λ p other. refl;
@@ -36,6 +37,7 @@ loop-letter-preserved g c =
       give_up = give_then c.args.epoch c.args.cores.now c.loop-letter.cores c.hear_end.new.cores before.give_up c.in_ok-hear_end.ensures.give_up;
       told = told_more c.args.epoch c.args.node ((g.N.Net.waiting c.args.net.now) c.args.node) ((g.N.Net.waiting c.loop-letter.net) c.args.node) ((g.N.Net.waiting c.hear_end.new.net) c.args.node) c.in-Some.letter c.loop-letter.cores c.hear_end.new.cores
           (c.in-Some.ensures.first ∙ ap (λ (ls : List Letter). c.in-Some.letter ∷ ls) (sym (c.hear_end.ensures.waiting c.args.node))) c.in_ok-hear_end.ensures.give_up c.in_ok-hear_end.ensures.told before.told;
+      silent = c.in_ok-hear_end.ensures.silent ∙ c.next.ensures.sent ∙ before.silent;
       world = λ chief. goes_on_then (record { cores = c.args.cores.now; chief = chief; sent = (g.N.Net.sent c.args.net.now) }) (record { cores = c.loop-letter.cores; chief = chief; sent = (g.N.Net.sent c.loop-letter.net) }) (record { cores = c.hear_end.new.cores; chief = chief; sent = (g.N.Net.sent c.hear_end.new.net) }) (before.world chief)
           (subst (λ (ps : List Posted). GoesOn (record { cores = c.loop-letter.cores; chief = chief; sent = ps }) (record { cores = c.hear_end.new.cores; chief = chief; sent = (g.N.Net.sent c.hear_end.new.net) })) c.next.ensures.sent (c.in_ok-hear_end.ensures.world chief));
       sent = sent_more (g.N.Net.sent c.next.new.self) (g.N.Net.fresh c.next.new.self) (g.N.Net.sent c.hear_end.new.net) (g.N.Net.fresh c.hear_end.new.net) (g.N.Net.waiting c.next.new.self) (g.N.Net.waiting c.hear_end.new.net) c.in_ok-hear_end.ensures.fresh c.hear_end.ensures.waiting (subst (λ (ps : List Posted). AreSent ps (g.N.Net.waiting c.next.new.self)) (sym c.next.ensures.sent) (c.waiting_letters_were_sent.ensures.taken (g.N.Net.sent c.loop-letter.net) (g.N.Net.waiting c.loop-letter.net) (g.N.Net.waiting c.next.new.self) c.args.node c.next.result before.sent c.next.ensures.first c.next.ensures.others));

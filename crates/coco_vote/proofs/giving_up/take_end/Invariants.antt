@@ -13,6 +13,7 @@ abbrev pub invariant-loop-letter : goal.invariant-loop-letter
 invariant-loop-letter g l = record {
   give_up : GiveUp l.epoch l.initial.cores l.cores;
   told : (q : Letter) → Contains (g.N.Net.waiting l.initial.net l.node) q → IsFrom 8 q (Abort l.epoch) → Contains (g.N.Net.waiting l.net l.node) q ⊎ IsOverAt l.epoch l.node l.cores;
+  silent : g.N.Net.sent l.net ≡ g.N.Net.sent l.initial.net;
   world : (chief : Chief) → GoesOn (record { cores = l.initial.cores; chief = chief; sent = g.N.Net.sent l.initial.net }) (record { cores = l.cores; chief = chief; sent = g.N.Net.sent l.net });
   sent : AreSent (g.N.Net.sent l.net) (g.N.Net.waiting l.net);
   others : (p : ℕ) → p ≢ l.node → g.N.Net.waiting l.net p ≡ g.N.Net.waiting l.initial.net p;

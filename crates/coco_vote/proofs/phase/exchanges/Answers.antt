@@ -1,4 +1,4 @@
-use Rattle.std.proofs.Common.{◌≡◌, inl, inr, ◌<◌, ◌≤◌, ◌+◌, ◌-◌, ◌^◌, ℕ, false, true, List, [], ◌++◌, append-nil, arith, length, refl, ap, subst, sym, ◌∙◌}
+use Rattle.std.proofs.Common.{◌≡◌, inl, inr, ◌<◌, ◌≤◌, ◌+◌, ◌-◌, ℕ, false, true, List, [], ◌++◌, append-nil, arith, length, refl, ap, subst, sym, ◌∙◌}
 use Rattle.std.specs.List.{Contains}
 use Rattle.std.proofs.lemmas.List.Elements.{Contains-append_cases}
 use Rattle.std.proofs.lemmas.Result.{err_from_is_err_and}
@@ -7,6 +7,7 @@ use Rattle.coco_chief.specs.Shown.{chief_of}
 use Rattle.coco_chief.specs.Table.{is_open}
 use Rattle.coco_net.specs.declared.letter.Posted.{Posted}
 use Rattle.coco_letters.specs.Worlds.{SameEntries}
+use Rattle.coco_letters.proofs.TellingLemmas.{adds_left, adds_same, adds_then, adds_vote}
 use Rattle.coco_letters.proofs.WorldLemmas.{between_on, between_then}
 use Rattle.coco_vote.specs.Counting.{prepare_of, HasCounted, IsAye}
 use Rattle.coco_vote.specs.Nearing.{all_ahead, Nears}
@@ -14,14 +15,14 @@ use Rattle.coco_vote.specs.Outcomes.{exchanges_in, IsMissing}
 use Rattle.coco_vote.specs.Preparing.{have_durable, Ballot, RestsVoted}
 use Rattle.coco_vote.specs.Taking.{has_lost, vote_of, AreVoting}
 use Rattle.coco_vote.specs.Voting.{PreparesOnly}
-use Rattle.coco_vote.proofs.CountingLemmas.{adds_left, told_still}
-use Rattle.coco_vote.proofs.GivingLemmas.{gives_counts, gives_same, gives_then, grown_has, grown_then, nothing_given, same_more, since_both}
+use Rattle.coco_vote.proofs.CountingLemmas.{told_still}
+use Rattle.coco_vote.proofs.GivingLemmas.{gives_counts, gives_same, gives_then, nothing_given, same_more, since_both}
 use Rattle.coco_vote.proofs.PowerLemmas.{later_same, later_then}
 use Rattle.coco_vote.proofs.PrepareLemmas.{at_most_one, comes_by, early_more, early_same, few_more, less_left, lost_more, not_more, open_by, was_missing}
 use Rattle.coco_vote.proofs.PreparingLemmas.{keeps_same, keeps_then, none_ok}
 use Rattle.coco_vote.proofs.StepLemmas.{between_none, only_same, only_then}
 use Rattle.coco_vote.proofs.StopLemmas.{unless_kept}
-use Rattle.coco_vote.proofs.TakingLemmas.{cores_then, cores_voting}
+use Rattle.coco_vote.proofs.TakingLemmas.{cores_then, cores_voting, knows_same}
 use Rattle.coco_vote.proofs.VoterLemmas.{apart_still, elsewhere_still, held_still, logs_still, places_same, places_then}
 use Rattle.coco_vote.proofs.phase.exchanges.Goals as goal
 
@@ -29,7 +30,7 @@ pub asking-init : goal.asking-init
 asking-init g c =
     record {
       voting = c.requires.voting;
-      cores = cores_voting c.args.epoch c.args.cores.now c.args.cores.now c.requires.voting (λ n. refl);
+      cores = cores_voting c.args.epoch c.args.cores.now c.args.cores.now c.requires.voting (λ n. refl) (knows_same c.args.cores.now c.args.cores.now refl);
       told = c.requires.told;
       marked = c.requires.marked;
       counting = λ given is. subst (λ (ps : List Posted). HasCounted c.args.epoch (IsAye c.args.epoch ps) (chief_of c.args.chief.now)) (same_more (g.N.Net.given c.args.net.now) [] given (append-nil (g.N.Net.given c.args.net.now) ∙ is)) c.requires.counted;
@@ -39,8 +40,10 @@ asking-init g c =
       lost = omega arith;
       counted = omega arith;
       nodes = refl;
+      last = refl;
+      committed = refl;
       early = refl;
-      sent = ([], sym (append-nil (g.N.Net.sent c.args.net.now)));
+      says = adds_same (g.N.Net.sent c.args.net.now);
       files = λ k hold held may nodes logs rests.
           let b : Ballot = record { epoch = c.args.epoch; pieces = c.args.pieces.now; held = hold } in
           (keeps_same g.H.Host.moment g.H.Host.observed g.H.Host.said g.H.Host.reads g.H.Host.may_leave k b g.met.H.Host.only_now (have_durable c.args.epoch c.args.cores.now) c.args.host.now rests, rests);
@@ -90,13 +93,12 @@ exchange-requires-clause-apart g c =
 pub ask_again-requires-clause-asked : goal.ask_again-requires-clause-asked
 ask_again-requires-clause-asked g c =
     let before = c.asking.invariant in
-    λ n less. grown_has (g.N.Net.sent c.asking.net) (g.N.Net.sent c.exchange.new.net) (prepare_of n c.args.epoch) c.in_ok-stops.ensures.sent (before.asked n (omega (arith, less, c.requires.count)))
+    λ n less. adds_left (g.N.Net.sent c.asking.net) (g.N.Net.sent c.exchange.new.net) (prepare_of n c.args.epoch) c.in_ok-stops.ensures.says (before.asked n (omega (arith, less, c.requires.count)))
 
 pub asking-preserved : goal.asking-preserved
 asking-preserved g c =
     let before = c.asking.invariant in
     let going : has_lost c.in_ok-stops.stops ≡ false = sym c.is_early.ensures ∙ c.if-is_early.false in
-    let fits : c.args.epoch < 2 ^ 64 = omega (arith, c.ranges.epoch.fits) in
     let voting : AreVoting c.args.epoch c.exchange.new.cores = unless_kept c.in_ok-stops.stops (AreVoting c.args.epoch c.exchange.new.cores) going c.in_ok-stops.ensures.voting in
     let was : HasCounted c.args.epoch (IsAye c.args.epoch before.net.more) (chief_of c.asking.chief) = before.counting before.net.more before.net.gives in
     let now : HasCounted c.args.epoch (IsAye c.args.epoch (before.net.more ++ c.exchange.ensures.net.more)) (chief_of c.exchange.new.chief) = unless_kept c.in_ok-stops.stops ((given more : List Posted) → HasCounted c.args.epoch (IsAye c.args.epoch given) (chief_of c.asking.chief) → (g.N.Net.given c.exchange.new.net) ≡ (g.N.Net.given c.asking.net) ++ more → HasCounted c.args.epoch (IsAye c.args.epoch (given ++ more)) (chief_of c.exchange.new.chief)) going c.in_ok-stops.ensures.counted before.net.more c.exchange.ensures.net.more was c.exchange.ensures.net.gives in
@@ -108,20 +110,22 @@ asking-preserved g c =
     record {
       voting = voting;
       cores = cores_then c.args.epoch c.args.cores.now c.asking.cores c.exchange.new.cores before.cores c.in_ok-stops.ensures.cores;
-      told = told_still c.args.epoch c.exchange.new.cores (g.N.Net.sent c.exchange.new.net) (g.N.Net.sent c.ask_again.new.net) (g.P.Power.asked c.exchange.new.power) fits c.in_ok-ask_again-in-None.ensures.adds c.in_ok-stops.ensures.told;
+      told = told_still c.args.epoch c.exchange.new.cores (g.N.Net.sent c.exchange.new.net) (g.N.Net.sent c.ask_again.new.net) (g.P.Power.asked c.exchange.new.power) c.in_ok-ask_again-in-None.ensures.says c.in_ok-stops.ensures.told;
       marked = c.in_ok-stops.ensures.marked;
       counting = λ given is. subst (λ (ps : List Posted). HasCounted c.args.epoch (IsAye c.args.epoch ps) (chief_of c.exchange.new.chief)) (sym (since_both (g.N.Net.given c.args.net.now) (g.N.Net.given c.asking.net) (g.N.Net.given c.exchange.new.net) before.net.more c.exchange.ensures.net.more given before.net.gives c.exchange.ensures.net.gives (sym c.ask_again.ensures.counts.given_stays ∙ is))) now;
       fresh = λ n small lacking. c.in_ok-ask_again-in-None.ensures.asked n (omega (arith, small, c.requires.count)) lacking;
-      asked = λ n small. adds_left (g.N.Net.sent c.exchange.new.net) (g.N.Net.sent c.ask_again.new.net) (prepare_of n c.args.epoch) c.in_ok-ask_again-in-None.ensures.adds (grown_has (g.N.Net.sent c.asking.net) (g.N.Net.sent c.exchange.new.net) (prepare_of n c.args.epoch) c.in_ok-stops.ensures.sent (before.asked n small));
-      were_sent = λ given p is among. adds_left (g.N.Net.sent c.exchange.new.net) (g.N.Net.sent c.ask_again.new.net) p c.in_ok-ask_again-in-None.ensures.adds (elim (Contains-append_cases before.net.more c.exchange.ensures.net.more p (subst (λ (ps : List Posted). Contains ps p) (since_both (g.N.Net.given c.args.net.now) (g.N.Net.given c.asking.net) (g.N.Net.given c.exchange.new.net) before.net.more c.exchange.ensures.net.more given before.net.gives c.exchange.ensures.net.gives (sym c.ask_again.ensures.counts.given_stays ∙ is)) among)) [
-        | inl first ↦ grown_has (g.N.Net.sent c.asking.net) (g.N.Net.sent c.exchange.new.net) p c.in_ok-stops.ensures.sent (before.were_sent before.net.more p before.net.gives first)
+      asked = λ n small. adds_left (g.N.Net.sent c.exchange.new.net) (g.N.Net.sent c.ask_again.new.net) (prepare_of n c.args.epoch) c.in_ok-ask_again-in-None.ensures.says (adds_left (g.N.Net.sent c.asking.net) (g.N.Net.sent c.exchange.new.net) (prepare_of n c.args.epoch) c.in_ok-stops.ensures.says (before.asked n small));
+      were_sent = λ given p is among. adds_left (g.N.Net.sent c.exchange.new.net) (g.N.Net.sent c.ask_again.new.net) p c.in_ok-ask_again-in-None.ensures.says (elim (Contains-append_cases before.net.more c.exchange.ensures.net.more p (subst (λ (ps : List Posted). Contains ps p) (since_both (g.N.Net.given c.args.net.now) (g.N.Net.given c.asking.net) (g.N.Net.given c.exchange.new.net) before.net.more c.exchange.ensures.net.more given before.net.gives c.exchange.ensures.net.gives (sym c.ask_again.ensures.counts.given_stays ∙ is)) among)) [
+        | inl first ↦ adds_left (g.N.Net.sent c.asking.net) (g.N.Net.sent c.exchange.new.net) p c.in_ok-stops.ensures.says (before.were_sent before.net.more p before.net.gives first)
         | inr second ↦ c.in_ok-stops.ensures.were_sent c.exchange.ensures.net.more p c.exchange.ensures.net.gives second
       ]);
       lost = subst (λ (x : ℕ). (g.N.Net.faults c.args.net.now) + (c.asking.counted + c.exchanges-counted.result) ≤ x) (sym c.ask_again.ensures.counts.faults_stay) (subst (λ (x : ℕ). (g.N.Net.faults c.args.net.now) + (c.asking.counted + x) ≤ (g.N.Net.faults c.exchange.new.net)) (sym c.exchanges-counted.ensures) (lost_more c.in_ok-stops.stops (g.N.Net.faults c.args.net.now) c.asking.counted (g.N.Net.faults c.asking.net) (g.N.Net.faults c.exchange.new.net) before.lost c.exchange.ensures.net.faults_rise (λ never same. not_more c.args.epoch before.net.more c.exchange.ensures.net.more (chief_of c.asking.chief) (chief_of c.exchange.new.chief) was now miss.node less miss.missing (c.in_ok-stops.ensures.votes never c.exchange.ensures.net.more c.exchange.ensures.net.gives same miss.node (omega (arith, first, many)) (before.fresh miss.node first (was_missing c.args.epoch before.net.more c.exchange.ensures.net.more (chief_of c.asking.chief) (chief_of c.exchange.new.chief) was now miss.node less miss.missing))))));
       counted = few_more c.in_ok-stops.stops c.asking.counted c.exchanges-counted.result (c.asking.counted + c.exchanges-counted.result) before.counted c.exchanges-counted.ensures refl c.in-None.ensures.0;
       nodes = c.exchange.ensures.nodes ∙ before.nodes;
+      last = c.in_ok-stops.ensures.last ∙ before.last;
+      committed = c.in_ok-stops.ensures.committed ∙ before.committed;
       early = early_same c.in_ok-stops.stops (g.P.Power.stops_seen c.asking.power) (g.P.Power.early_stops c.asking.power) (g.P.Power.stops_seen c.exchange.new.power) (g.P.Power.early_stops c.exchange.new.power) going c.in_ok-stops.ensures.stops ∙ before.early;
-      sent = (grown_then (g.N.Net.sent c.args.net.now) (g.N.Net.sent c.exchange.new.net) (g.N.Net.sent c.ask_again.new.net) (grown_then (g.N.Net.sent c.args.net.now) (g.N.Net.sent c.asking.net) (g.N.Net.sent c.exchange.new.net) before.sent c.in_ok-stops.ensures.sent) (c.in_ok-ask_again-in-None.ensures.adds.posts, c.in_ok-ask_again-in-None.ensures.adds.is));
+      says = (adds_then (g.N.Net.sent c.args.net.now) (g.N.Net.sent c.exchange.new.net) (g.N.Net.sent c.ask_again.new.net) (adds_then (g.N.Net.sent c.args.net.now) (g.N.Net.sent c.asking.net) (g.N.Net.sent c.exchange.new.net) before.says c.in_ok-stops.ensures.says) (adds_vote c.args.epoch (g.N.Net.sent c.exchange.new.net) (g.N.Net.sent c.ask_again.new.net) c.in_ok-ask_again-in-None.ensures.says));
       files = λ k hold held may nodes logs rests.
           let b : Ballot = record { epoch = c.args.epoch; pieces = c.args.pieces.now; held = hold } in
           let one = before.files k hold held may nodes logs rests in
@@ -210,10 +214,18 @@ returns-then-is_early-clause-nodes g c =
     let before = c.asking.invariant in
     c.exchange.ensures.nodes ∙ before.nodes
 
-pub returns-then-is_early-clause-sent : goal.returns-then-is_early-clause-sent
-returns-then-is_early-clause-sent g c =
+pub returns-then-is_early-clause-were_sent : goal.returns-then-is_early-clause-were_sent
+returns-then-is_early-clause-were_sent g c given p is among =
     let before = c.asking.invariant in
-    (grown_then (g.N.Net.sent c.args.net.now) (g.N.Net.sent c.asking.net) (g.N.Net.sent c.exchange.new.net) before.sent c.in_ok-stops.ensures.sent)
+    elim (Contains-append_cases before.net.more c.exchange.ensures.net.more p (subst (λ (ps : List Posted). Contains ps p) (since_both (g.N.Net.given c.args.net.now) (g.N.Net.given c.asking.net) (g.N.Net.given c.exchange.new.net) before.net.more c.exchange.ensures.net.more given before.net.gives c.exchange.ensures.net.gives is) among)) [
+      | inl first ↦ adds_left (g.N.Net.sent c.asking.net) (g.N.Net.sent c.exchange.new.net) p c.in_ok-stops.ensures.says (before.were_sent before.net.more p before.net.gives first)
+      | inr second ↦ c.in_ok-stops.ensures.were_sent c.exchange.ensures.net.more p c.exchange.ensures.net.gives second
+    ]
+
+pub returns-then-is_early-clause-says : goal.returns-then-is_early-clause-says
+returns-then-is_early-clause-says g c =
+    let before = c.asking.invariant in
+    (adds_then (g.N.Net.sent c.args.net.now) (g.N.Net.sent c.asking.net) (g.N.Net.sent c.exchange.new.net) before.says c.in_ok-stops.ensures.says)
 
 pub returns-then-is_early-clause-files : goal.returns-then-is_early-clause-files
 returns-then-is_early-clause-files g c k hold held may nodes logs rests =
@@ -277,7 +289,7 @@ returns-in-Some-clause-answer g c =
     comes_by c.in-Some.votes c.args.epoch c.args.nodes (c.asking.counted + c.exchanges-counted.result) c.exchange.new.cores (g.N.Net.sent c.exchange.new.net) given (g.P.Power.asked c.exchange.new.power) (chief_of c.exchange.new.chief) (g.N.Net.faults c.args.net.now) (g.N.Net.faults c.exchange.new.net) (g.P.Power.early_stops c.args.power.now) (g.P.Power.early_stops c.exchange.new.power) c.in-Some.ensures (nodes ∙ sym c.requires.count)
     (subst (λ (ps : List Posted). HasCounted c.args.epoch (IsAye c.args.epoch ps) (chief_of c.exchange.new.chief)) (sym both) now) voting c.in_ok-stops.ensures.told
     (λ n among. elim (Contains-append_cases before.net.more c.exchange.ensures.net.more (vote_of n c.args.epoch true) (subst (λ (ps : List Posted). Contains ps (vote_of n c.args.epoch true)) both among)) [
-      | inl first ↦ grown_has (g.N.Net.sent c.asking.net) (g.N.Net.sent c.exchange.new.net) (vote_of n c.args.epoch true) c.in_ok-stops.ensures.sent (before.were_sent before.net.more (vote_of n c.args.epoch true) before.net.gives first)
+      | inl first ↦ adds_left (g.N.Net.sent c.asking.net) (g.N.Net.sent c.exchange.new.net) (vote_of n c.args.epoch true) c.in_ok-stops.ensures.says (before.were_sent before.net.more (vote_of n c.args.epoch true) before.net.gives first)
       | inr second ↦ c.in_ok-stops.ensures.were_sent c.exchange.ensures.net.more (vote_of n c.args.epoch true) c.exchange.ensures.net.gives second
     ])
     (λ node within missing. let first : node < length c.args.cores.now = omega (arith, within, c.requires.count) in let less : node < (chief_of c.exchange.new.chief).nodes = omega (arith, first, nodes) in subst (λ (x : ℕ). (g.N.Net.faults c.args.net.now) + (c.asking.counted + x) ≤ (g.N.Net.faults c.exchange.new.net)) (sym c.exchanges-counted.ensures) (lost_more c.in_ok-stops.stops (g.N.Net.faults c.args.net.now) c.asking.counted (g.N.Net.faults c.asking.net) (g.N.Net.faults c.exchange.new.net) before.lost c.exchange.ensures.net.faults_rise (λ never same. not_more c.args.epoch before.net.more c.exchange.ensures.net.more (chief_of c.asking.chief) (chief_of c.exchange.new.chief) was now node less missing (c.in_ok-stops.ensures.votes never c.exchange.ensures.net.more c.exchange.ensures.net.gives same node (omega (arith, first, many)) (before.fresh node first (was_missing c.args.epoch before.net.more c.exchange.ensures.net.more (chief_of c.asking.chief) (chief_of c.exchange.new.chief) was now node less missing))))))
@@ -288,10 +300,18 @@ returns-in-Some-clause-nodes g c =
     let before = c.asking.invariant in
     c.exchange.ensures.nodes ∙ before.nodes
 
-pub returns-in-Some-clause-sent : goal.returns-in-Some-clause-sent
-returns-in-Some-clause-sent g c =
+pub returns-in-Some-clause-were_sent : goal.returns-in-Some-clause-were_sent
+returns-in-Some-clause-were_sent g c given p is among =
     let before = c.asking.invariant in
-    (grown_then (g.N.Net.sent c.args.net.now) (g.N.Net.sent c.asking.net) (g.N.Net.sent c.exchange.new.net) before.sent c.in_ok-stops.ensures.sent)
+    elim (Contains-append_cases before.net.more c.exchange.ensures.net.more p (subst (λ (ps : List Posted). Contains ps p) (since_both (g.N.Net.given c.args.net.now) (g.N.Net.given c.asking.net) (g.N.Net.given c.exchange.new.net) before.net.more c.exchange.ensures.net.more given before.net.gives c.exchange.ensures.net.gives is) among)) [
+      | inl first ↦ adds_left (g.N.Net.sent c.asking.net) (g.N.Net.sent c.exchange.new.net) p c.in_ok-stops.ensures.says (before.were_sent before.net.more p before.net.gives first)
+      | inr second ↦ c.in_ok-stops.ensures.were_sent c.exchange.ensures.net.more p c.exchange.ensures.net.gives second
+    ]
+
+pub returns-in-Some-clause-says : goal.returns-in-Some-clause-says
+returns-in-Some-clause-says g c =
+    let before = c.asking.invariant in
+    (adds_then (g.N.Net.sent c.args.net.now) (g.N.Net.sent c.asking.net) (g.N.Net.sent c.exchange.new.net) before.says c.in_ok-stops.ensures.says)
 
 pub returns-in-Some-clause-files : goal.returns-in-Some-clause-files
 returns-in-Some-clause-files g c k hold held may nodes logs rests =

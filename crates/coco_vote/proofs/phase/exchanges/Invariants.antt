@@ -3,6 +3,7 @@ use Rattle.std.specs.List.{Contains}
 use Rattle.coco_chief.specs.Shown.{chief_of}
 use Rattle.coco_chief.specs.Table.{has_voted}
 use Rattle.coco_net.specs.declared.letter.Posted.{Posted}
+use Rattle.coco_letters.specs.Telling.{Adds, IsOfVote}
 use Rattle.coco_letters.specs.Worlds.{GoesBetween}
 use Rattle.coco_log.specs.LogState.{LogState}
 use Rattle.coco_store.specs.Contents.{Contents}
@@ -29,8 +30,10 @@ invariant-asking g l = record {
   lost : g.N.Net.faults l.initial.net + l.counted ≤ g.N.Net.faults l.net;
   counted : l.counted < 16;
   nodes : (chief_of l.chief).nodes ≡ (chief_of l.initial.chief).nodes;
+  last : (chief_of l.chief).last ≡ (chief_of l.initial.chief).last;
+  committed : (chief_of l.chief).committed ≡ (chief_of l.initial.chief).committed;
   early : g.P.Power.early_stops l.power ≡ g.P.Power.early_stops l.initial.power;
-  sent : (posts : List Posted) × (g.N.Net.sent l.net ≡ g.N.Net.sent l.initial.net ++ posts);
+  says : Adds (IsOfVote l.epoch) (g.N.Net.sent l.initial.net) (g.N.Net.sent l.net);
   files : (c : Contents) (hold : ℕ → List Bool) → let b : Ballot = record { epoch = l.epoch; pieces = l.pieces; held = hold } in
       AreHeld hold l.initial.voters → MayForce c b → c.setting.entry.layout.nodes ≡ length l.initial.cores → HaveLogs c l.initial.voters → RestsVoted c b (have_durable l.epoch l.initial.cores) (g.H.Host.reads l.initial.host) (g.H.Host.may_leave l.initial.host)
       → KeepsVoted g.H.Host.moment g.H.Host.observed g.H.Host.said g.H.Host.may_leave c b l.initial.host l.host × RestsVoted c b (have_durable l.epoch l.cores) (g.H.Host.reads l.host) (g.H.Host.may_leave l.host);

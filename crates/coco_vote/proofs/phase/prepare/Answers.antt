@@ -1,4 +1,4 @@
-use Rattle.std.proofs.Common.{◌≡◌, ◌<◌, ◌^◌, ℕ, List, [], ◌++◌, arith, length, ap, subst, sym, ◌∙◌}
+use Rattle.std.proofs.Common.{◌≡◌, ℕ, List, [], ◌++◌, arith, length, ap, subst, sym, ◌∙◌}
 use Rattle.std.specs.List.{Contains}
 use Rattle.std.proofs.lemmas.List.Elements.{Contains-append_left, Contains-append_right}
 use Rattle.std.proofs.lemmas.Result.{err_from_is_err_and}
@@ -7,12 +7,13 @@ use Rattle.coco_chief.specs.Table.{to_each}
 use Rattle.coco_msg.specs.declared.message.Message.TheVariants.{Prepare}
 use Rattle.coco_net.specs.declared.letter.Posted.{Posted}
 use Rattle.coco_letters.specs.Saying.{posts_of}
+use Rattle.coco_letters.proofs.TellingLemmas.{adds_then, adds_vote}
 use Rattle.coco_vote.specs.Counting.{prepare_of, HasCounted, IsAye}
 use Rattle.coco_vote.specs.Outcomes.{Comes}
 use Rattle.coco_vote.specs.Preparing.{have_durable, Ballot, RestsVoted}
-use Rattle.coco_vote.proofs.BeginningLemmas.{adds_asking, asks_each, begun_then, counted_begun, rests_new, told_new, voting_new}
+use Rattle.coco_vote.proofs.BeginningLemmas.{asks_each, begun_then, counted_begun, rests_new, told_new, voting_new}
 use Rattle.coco_vote.proofs.CountingLemmas.{told_still}
-use Rattle.coco_vote.proofs.GivingLemmas.{gives_counts, gives_then, grown_then, since_both}
+use Rattle.coco_vote.proofs.GivingLemmas.{gives_counts, gives_then, since_both}
 use Rattle.coco_vote.proofs.PowerLemmas.{later_same}
 use Rattle.coco_vote.proofs.PreparingLemmas.{keeps_same, none_ok}
 use Rattle.coco_vote.proofs.TakingLemmas.{fresh_has}
@@ -29,8 +30,7 @@ exchanges-requires-clause-voting g c =
 
 pub exchanges-requires-clause-told : goal.exchanges-requires-clause-told
 exchanges-requires-clause-told g c =
-    let fits : c.args.epoch < 2 ^ 64 = omega (arith, c.ranges.epoch.fits) in
-    told_still c.args.epoch c.args.cores.now (g.N.Net.sent c.args.net.now) (g.N.Net.sent c.chief_begins.new.net) (g.P.Power.asked c.args.power.now) fits (adds_asking (chief_of c.args.chief.now).nodes c.args.epoch (g.N.Net.sent c.args.net.now) (g.N.Net.sent c.chief_begins.new.net) fits c.in_ok-chief_begins.ensures.turns.sent_is) (told_new c.args.epoch c.args.cores.now (g.N.Net.sent c.args.net.now) (g.P.Power.asked c.args.power.now) c.requires.some c.requires.new c.requires.unsaid)
+    told_still c.args.epoch c.args.cores.now (g.N.Net.sent c.args.net.now) (g.N.Net.sent c.chief_begins.new.net) (g.P.Power.asked c.args.power.now) c.in_ok-chief_begins.ensures.says (told_new c.args.epoch c.args.cores.now (g.N.Net.sent c.args.net.now) (g.P.Power.asked c.args.power.now) c.requires.some c.requires.new c.requires.unsaid)
 
 pub exchanges-requires-clause-counted : goal.exchanges-requires-clause-counted
 exchanges-requires-clause-counted g c =
@@ -89,17 +89,22 @@ returns-clause-answer g c =
 pub returns-clause-asked : goal.returns-clause-asked
 returns-clause-asked g c =
     λ posts is n less.
-    let more = c.in_ok-votes.ensures.sent in
-    subst (λ (ps : List Posted). Contains ps (prepare_of n c.args.epoch)) (sym (since_both (g.N.Net.sent c.args.net.now) (g.N.Net.sent c.chief_begins.new.net) (g.N.Net.sent c.exchanges.new.net) (posts_of 8 (to_each (chief_of c.args.chief.now).nodes (Prepare c.args.epoch))) more.0 posts c.in_ok-chief_begins.ensures.turns.sent_is more.1 is))
-    (Contains-append_left (posts_of 8 (to_each (chief_of c.args.chief.now).nodes (Prepare c.args.epoch))) more.0 (prepare_of n c.args.epoch) (asks_each (chief_of c.args.chief.now).nodes n c.args.epoch (omega (arith, less, c.requires.nodes))))
+    let more = c.in_ok-votes.ensures.says in
+    subst (λ (ps : List Posted). Contains ps (prepare_of n c.args.epoch)) (sym (since_both (g.N.Net.sent c.args.net.now) (g.N.Net.sent c.chief_begins.new.net) (g.N.Net.sent c.exchanges.new.net) (posts_of 8 (to_each (chief_of c.args.chief.now).nodes (Prepare c.args.epoch))) more.posts posts c.in_ok-chief_begins.ensures.turns.sent_is more.sent_is is))
+    (Contains-append_left (posts_of 8 (to_each (chief_of c.args.chief.now).nodes (Prepare c.args.epoch))) more.posts (prepare_of n c.args.epoch) (asks_each (chief_of c.args.chief.now).nodes n c.args.epoch (omega (arith, less, c.requires.nodes))))
+
+pub returns-clause-were_sent : goal.returns-clause-were_sent
+returns-clause-were_sent g c given p is among =
+    c.in_ok-votes.ensures.were_sent given p (is ∙ ap (λ (ps : List Posted). ps ++ given) (sym c.chief_begins.ensures.counts.given_stays)) among
 
 pub returns-clause-nodes : goal.returns-clause-nodes
 returns-clause-nodes g c =
     c.exchanges.ensures.nodes ∙ c.chief_begins.ensures.nodes
 
-pub returns-clause-sent : goal.returns-clause-sent
-returns-clause-sent g c =
-    grown_then (g.N.Net.sent c.args.net.now) (g.N.Net.sent c.chief_begins.new.net) (g.N.Net.sent c.exchanges.new.net) ((posts_of 8 (to_each (chief_of c.args.chief.now).nodes (Prepare c.args.epoch))), c.in_ok-chief_begins.ensures.turns.sent_is) c.in_ok-votes.ensures.sent
+pub returns-clause-says : goal.returns-clause-says
+returns-clause-says g c =
+    adds_then (g.N.Net.sent c.args.net.now) (g.N.Net.sent c.chief_begins.new.net) (g.N.Net.sent c.exchanges.new.net)
+    (adds_vote c.args.epoch (g.N.Net.sent c.args.net.now) (g.N.Net.sent c.chief_begins.new.net) c.in_ok-chief_begins.ensures.says) c.in_ok-votes.ensures.says
 
 pub returns-clause-files : goal.returns-clause-files
 returns-clause-files g c k hold held may nodes logs rests =

@@ -4,6 +4,7 @@ use Rattle.std.proofs.Math.ListN.{set}
 use Rattle.std.proofs.lemmas.Option.{slice_get-get_or}
 use Rattle.std.proofs.lemmas.Result.{err_from_is_err_and}
 use Rattle.coco_letters.proofs.HearingLemmas.{counts_then, fresh_none}
+use Rattle.coco_letters.proofs.TellingLemmas.{adds_same, adds_then}
 use Rattle.coco_letters.proofs.WorldLemmas.{between_then}
 use Rattle.coco_vote.specs.Nearing.{all_ahead, Nears}
 use Rattle.coco_vote.specs.Preparing.{have_durable, Ballot, RestsVoted}
@@ -14,19 +15,20 @@ use Rattle.coco_vote.proofs.PowerLemmas.{later_same, later_then}
 use Rattle.coco_vote.proofs.PreparingLemmas.{keeps_same, keeps_then, none_ok}
 use Rattle.coco_vote.proofs.StepLemmas.{between_none, fresh_then, only_same, only_then}
 use Rattle.coco_vote.proofs.StopLemmas.{counts_both, never_both, stops_at, unless_both, unless_kept}
-use Rattle.coco_vote.proofs.TakingLemmas.{cores_then, cores_voting}
+use Rattle.coco_vote.proofs.TakingLemmas.{cores_then, cores_voting, knows_same}
 use Rattle.coco_vote.proofs.VoterLemmas.{apart_still, elsewhere_still, given_more, held_still, log_is_still, marked_set, places_same, places_set, places_then, ready_set}
 use Rattle.coco_vote.proofs.taking.nodes_take.Goals as goal
 
 pub loop-node-init : goal.loop-node-init
 loop-node-init g c = record {
   voting = c.requires.voting;
-  cores = cores_voting c.args.epoch c.args.cores.now c.args.cores.now c.requires.voting (λ n. refl);
+  cores = cores_voting c.args.epoch c.args.cores.now c.args.cores.now c.requires.voting (λ n. refl) (knows_same c.args.cores.now c.args.cores.now refl);
   told = λ told. told;
   marked = c.requires.marked;
   nears = omega arith;
   votes = λ _ n less. absurd (omega (arith, less));
   waits = λ p le. refl;
+  says = adds_same (g.N.Net.sent c.args.net.now);
   sent = c.requires.sent;
   files = λ k hold held may nodes logs rests.
       let b : Ballot = record { epoch = c.args.epoch; pieces = c.args.pieces.now; held = hold } in
@@ -90,6 +92,7 @@ loop-node-preserved g c =
       votes = λ never. let two = never_both c.loop-node.stops taken (sym both ∙ never) in
           given_more c.args.epoch c.loop-node.node (g.N.Net.waiting c.args.net.now) (g.N.Net.waiting c.loop-node.net) (g.N.Net.sent c.loop-node.net) (g.N.Net.fresh c.loop-node.net) (g.N.Net.sent c.take_letters.new.net) (g.N.Net.fresh c.take_letters.new.net) before.waits (before.votes two.0) (c.in_ok-taken.ensures.votes two.1) c.in_ok-taken.ensures.fresh;
       waits = λ p le. let less : c.loop-node.node ≤ p = omega (arith, le) in c.take_letters.ensures.waiting p (λ same. omega (arith, same, le)) ∙ before.waits p less;
+      says = adds_then (g.N.Net.sent c.args.net.now) (g.N.Net.sent c.loop-node.net) (g.N.Net.sent c.take_letters.new.net) before.says c.in_ok-taken.ensures.says;
       sent = c.in_ok-taken.ensures.sent;
       files = λ k hold held may nodes logs rests.
           let b : Ballot = record { epoch = c.args.epoch; pieces = c.args.pieces.now; held = hold } in

@@ -1,5 +1,6 @@
 use Rattle.std.proofs.Common.{◌≡◌, ◌<◌, ◌≤◌, ℕ, Bool, List, length}
 use Rattle.coco_chief.specs.Chief.{Chief}
+use Rattle.coco_letters.specs.Telling.{Adds, IsOfVote}
 use Rattle.coco_letters.specs.Turns.{AreFresh, AreSent, Counts}
 use Rattle.coco_letters.specs.Worlds.{GoesBetween}
 use Rattle.coco_log.specs.LogState.{LogState}
@@ -23,6 +24,7 @@ invariant-loop-node g l = record {
   nears : Nears l.stops (all_ahead l.epoch l.initial.cores l.initial.voters (length l.initial.cores)) (all_ahead l.epoch l.cores l.voters (length l.initial.cores));
   votes : l.stops ≡ Never → (n : ℕ) → n < l.node → HasGiven l.epoch n (g.N.Net.waiting l.initial.net n) (g.N.Net.fresh l.net);
   waits : (p : ℕ) → l.node ≤ p → g.N.Net.waiting l.net p ≡ g.N.Net.waiting l.initial.net p;
+  says : Adds (IsOfVote l.epoch) (g.N.Net.sent l.initial.net) (g.N.Net.sent l.net);
   sent : AreSent (g.N.Net.sent l.net) (g.N.Net.waiting l.net);
   files : (c : Contents) (hold : ℕ → List Bool) → let b : Ballot = record { epoch = l.epoch; pieces = l.pieces; held = hold } in
       AreHeld hold l.initial.voters → MayForce c b → c.setting.entry.layout.nodes ≡ length l.initial.cores → HaveLogs c l.initial.voters → RestsVoted c b (have_durable l.epoch l.initial.cores) (g.H.Host.reads l.initial.host) (g.H.Host.may_leave l.initial.host)

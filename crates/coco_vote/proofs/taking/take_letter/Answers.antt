@@ -1,8 +1,9 @@
-use Rattle.std.proofs.Common.{ℕ, List, [], ◌∷◌, true, ap, arith, eqb, subst, sym, ◌∙◌}
+use Rattle.std.proofs.Common.{◌<◌, ℕ, List, [], ◌∷◌, true, ap, arith, eqb, subst, sym, ◌∙◌}
 use Rattle.std.proofs.lemmas.Result.{err_from_is_err_and}
 use Rattle.coco_node.specs.Node.{Node}
 use Rattle.coco_letters.specs.declared.nodes.Heard.{Heard}
 use Rattle.coco_letters.specs.Worlds.{SameEntries}
+use Rattle.coco_letters.proofs.TellingLemmas.{adds_then}
 use Rattle.coco_vote.specs.declared.step.Stops.{Stops}
 use Rattle.coco_vote.specs.Nearing.{ahead_of, Nears}
 use Rattle.coco_vote.specs.Preparing.{durable_at, have_durable, Ballot, RestsVoted}
@@ -11,8 +12,9 @@ use Rattle.coco_vote.specs.Taking.{vote_of, AreVoting, HeardSo, UnlessLost}
 use Rattle.coco_vote.specs.Voting.{PreparesOnly}
 use Rattle.coco_vote.proofs.NearLemmas.{nears_same}
 use Rattle.coco_vote.proofs.PreparingLemmas.{none_ok, rests_same, votes_same}
+use Rattle.coco_vote.proofs.SayingLemmas.{ends_say, heard_say, steps_say}
 use Rattle.coco_vote.proofs.StepLemmas.{only_same}
-use Rattle.coco_vote.proofs.TakingLemmas.{between_heard, cores_stepped, cores_voting, durable_ended, elsewhere, near_ended, near_stepped, fresh_has, fresh_still, heard_durable, never_voted, told_ended, told_stepped, unless_any, voting_behind, voting_ended, voting_unless, vote_in}
+use Rattle.coco_vote.proofs.TakingLemmas.{between_heard, cores_stepped, cores_voting, durable_ended, elsewhere, near_ended, near_stepped, fresh_has, fresh_still, heard_durable, never_voted, told_ended, told_stepped, unless_any, voting_behind, voting_ended, voting_unless, vote_in, knows_ended, knows_same}
 use Rattle.coco_vote.proofs.taking.take_letter.Goals as goal
 
 pub returns-in-Nothing-clause-files : goal.returns-in-Nothing-clause-files
@@ -130,7 +132,7 @@ returns-in_ok-step-in-Forces-clause-elsewhere g c =
 pub returns-in-Nothing-clause-cores : goal.returns-in-Nothing-clause-cores
 returns-in-Nothing-clause-cores g c =
     let h = subst (λ (h : Heard). HeardSo h c.args.node c.args.epoch c.args.letter.now c.args.cores.now (g.N.Net.sent c.args.net.now) c.hear_vote.new.cores (g.N.Net.sent c.hear_vote.new.net)) c.in-Nothing.is c.in_ok-hear_vote.ensures.heard in
-    cores_voting c.args.epoch c.args.cores.now c.hear_vote.new.cores (subst (AreVoting c.args.epoch) (sym h.0) c.requires.voting) (λ n. ap (λ (cs : List Node). durable_at cs n) h.0)
+    cores_voting c.args.epoch c.args.cores.now c.hear_vote.new.cores (subst (AreVoting c.args.epoch) (sym h.0) c.requires.voting) (λ n. ap (λ (cs : List Node). durable_at cs n) h.0) (knows_same c.args.cores.now c.hear_vote.new.cores h.0)
 
 pub returns-in_ok-step-in-Voted-clause-cores : goal.returns-in_ok-step-in-Voted-clause-cores
 returns-in_ok-step-in-Voted-clause-cores g c =
@@ -139,8 +141,28 @@ returns-in_ok-step-in-Voted-clause-cores g c =
     cores_voting c.args.epoch c.args.cores.now c.vote_again.new.cores
     (voting_ended c.in_ok-step-in-Voted.step c.args.node c.args.epoch c.args.cores.now c.vote_again.new.cores (g.N.Net.sent c.hear_vote.new.net) (g.N.Net.sent c.vote_again.new.net) c.requires.some c.requires.node c.requires.voting ends)
     (durable_ended c.in_ok-step-in-Voted.step c.args.node c.args.epoch c.args.cores.now c.vote_again.new.cores (g.N.Net.sent c.hear_vote.new.net) (g.N.Net.sent c.vote_again.new.net) c.requires.node h.0 ends)
+    (knows_ended c.in_ok-step-in-Voted.step c.args.node c.args.epoch c.args.cores.now c.vote_again.new.cores (g.N.Net.sent c.hear_vote.new.net) (g.N.Net.sent c.vote_again.new.net) c.requires.node ends)
 
 pub returns-in_ok-step-in-Forces-clause-cores : goal.returns-in_ok-step-in-Forces-clause-cores
 returns-in_ok-step-in-Forces-clause-cores g c =
     let h = subst (λ (h : Heard). HeardSo h c.args.node c.args.epoch c.args.letter.now c.args.cores.now (g.N.Net.sent c.args.net.now) c.hear_vote.new.cores (g.N.Net.sent c.hear_vote.new.net)) c.in-Forces.is c.in_ok-hear_vote.ensures.heard in
     cores_stepped c.in_ok-step-in-Forces.step c.args.node c.args.epoch c.args.cores.now c.hear_vote.new.cores c.force_and_vote.new.cores (g.N.Net.sent c.args.net.now) (g.N.Net.sent c.hear_vote.new.net) (g.N.Net.sent c.force_and_vote.new.net) c.requires.node h.3.0 h.3.1 h.3.2 h.2 c.in_ok-step-in-Forces.ensures.steps c.requires.voting
+
+pub returns-in-Nothing-clause-says : goal.returns-in-Nothing-clause-says
+returns-in-Nothing-clause-says g c =
+    let few : c.args.node < 8 = omega (arith, c.requires.few, c.requires.node) in
+    heard_say c.in_ok-hear_vote.field-0 c.args.node c.args.epoch c.args.letter.now c.args.cores.now (g.N.Net.sent c.args.net.now) c.hear_vote.new.cores (g.N.Net.sent c.hear_vote.new.net) few c.in_ok-hear_vote.ensures.heard
+
+pub returns-in_ok-step-in-Voted-clause-says : goal.returns-in_ok-step-in-Voted-clause-says
+returns-in_ok-step-in-Voted-clause-says g c =
+    let few : c.args.node < 8 = omega (arith, c.requires.few, c.requires.node) in
+    adds_then (g.N.Net.sent c.args.net.now) (g.N.Net.sent c.hear_vote.new.net) (g.N.Net.sent c.vote_again.new.net)
+    (heard_say c.in_ok-hear_vote.field-0 c.args.node c.args.epoch c.args.letter.now c.args.cores.now (g.N.Net.sent c.args.net.now) c.hear_vote.new.cores (g.N.Net.sent c.hear_vote.new.net) few c.in_ok-hear_vote.ensures.heard)
+    (ends_say c.in_ok-step-in-Voted.step c.args.node c.args.epoch c.hear_vote.new.cores (g.N.Net.sent c.hear_vote.new.net) c.vote_again.new.cores (g.N.Net.sent c.vote_again.new.net) few c.in_ok-step-in-Voted.ensures.ends)
+
+pub returns-in_ok-step-in-Forces-clause-says : goal.returns-in_ok-step-in-Forces-clause-says
+returns-in_ok-step-in-Forces-clause-says g c =
+    let few : c.args.node < 8 = omega (arith, c.requires.few, c.requires.node) in
+    adds_then (g.N.Net.sent c.args.net.now) (g.N.Net.sent c.hear_vote.new.net) (g.N.Net.sent c.force_and_vote.new.net)
+    (heard_say c.in_ok-hear_vote.field-0 c.args.node c.args.epoch c.args.letter.now c.args.cores.now (g.N.Net.sent c.args.net.now) c.hear_vote.new.cores (g.N.Net.sent c.hear_vote.new.net) few c.in_ok-hear_vote.ensures.heard)
+    (steps_say c.in_ok-step-in-Forces.step c.args.node c.args.epoch c.hear_vote.new.cores (g.N.Net.sent c.hear_vote.new.net) c.force_and_vote.new.cores (g.N.Net.sent c.force_and_vote.new.net) few c.in_ok-step-in-Forces.ensures.steps)

@@ -2,6 +2,7 @@ use Rattle.std.proofs.Common.{◌≡◌, ◌≤◌, List, ◌∷◌, ap, arith, 
 use Rattle.std.proofs.lemmas.Result.{err_from_is_err_and}
 use Rattle.coco_net.specs.declared.letter.Letter.{Letter}
 use Rattle.coco_net.specs.declared.letter.Posted.{Posted}
+use Rattle.coco_letters.specs.Telling.{Adds, IsOfVote}
 use Rattle.coco_letters.specs.Turns.{AreSent}
 use Rattle.coco_letters.proofs.HearingLemmas.{counts_then, fresh_none}
 use Rattle.coco_vote.specs.Nearing.{ahead_of, Nears}
@@ -14,22 +15,24 @@ use Rattle.coco_vote.proofs.PlaceLemmas.{held_items}
 use Rattle.coco_vote.proofs.NearLemmas.{nears_both}
 use Rattle.coco_vote.proofs.PowerLemmas.{later_same, later_then}
 use Rattle.coco_vote.proofs.PreparingLemmas.{keeps_same, keeps_then, none_ok}
+use Rattle.coco_letters.proofs.TellingLemmas.{adds_same, adds_then}
 use Rattle.coco_letters.proofs.WorldLemmas.{between_then}
 use Rattle.coco_vote.proofs.StepLemmas.{between_none, fresh_then, only_same, only_then}
 use Rattle.coco_vote.proofs.StopLemmas.{counts_both, never_lost, sent_more, stops_at, unless_both, unless_kept}
-use Rattle.coco_vote.proofs.TakingLemmas.{cores_then, cores_voting, fresh_still, given_all, votes_more}
+use Rattle.coco_vote.proofs.TakingLemmas.{cores_then, cores_voting, fresh_still, given_all, votes_more, knows_same}
 use Rattle.coco_vote.proofs.taking.take_letters.Goals as goal
 
 pub loop-net-init : goal.loop-net-init
 loop-net-init g c = record {
   voting = c.requires.voting;
-  cores = cores_voting c.args.epoch c.args.cores.now c.args.cores.now c.requires.voting (λ n. refl);
+  cores = cores_voting c.args.epoch c.args.cores.now c.args.cores.now c.requires.voting (λ n. refl) (knows_same c.args.cores.now c.args.cores.now refl);
   told = λ told. told;
   marked = c.requires.marked;
   held = refl;
   nears = omega arith;
   elsewhere = λ m other. refl;
   votes = λ _ letter among _. inl among;
+  says = adds_same (g.N.Net.sent c.args.net.now);
   sent = c.requires.sent;
   files = λ k hold same may node log rests.
       let b : Ballot = record { epoch = c.args.epoch; pieces = c.args.pieces.now; held = hold } in
@@ -89,6 +92,8 @@ loop-net-preserved g c =
       votes = λ never. votes_more c.args.node c.args.epoch c.loop-net.stops taken ((g.N.Net.waiting c.args.net.now) c.args.node) ((g.N.Net.waiting c.loop-net.net) c.args.node) ((g.N.Net.waiting c.take_letter.new.net) c.args.node) c.in-Some.letter (g.N.Net.fresh c.loop-net.net) (g.N.Net.fresh c.take_letter.new.net) (c.in-Some.ensures.first ∙ ap (λ (ls : List Letter). c.in-Some.letter ∷ ls) (sym (c.take_letter.ensures.waiting c.args.node))) before.votes c.in_ok-taken-in-Some.ensures.votes
           (λ among. fresh_still (g.N.Net.sent c.next.new.self) (g.N.Net.fresh c.next.new.self) (g.N.Net.sent c.take_letter.new.net) (g.N.Net.fresh c.take_letter.new.net) (vote_of c.args.node c.args.epoch true) c.in_ok-taken-in-Some.ensures.fresh (subst (λ (ps : List Posted). Contains ps (vote_of c.args.node c.args.epoch true)) (sym c.next.ensures.fresh) among))
           (sym both ∙ never);
+      says = adds_then (g.N.Net.sent c.args.net.now) (g.N.Net.sent c.loop-net.net) (g.N.Net.sent c.take_letter.new.net) before.says
+          (subst (λ (ps : List Posted). Adds (IsOfVote c.args.epoch) ps (g.N.Net.sent c.take_letter.new.net)) c.next.ensures.sent c.in_ok-taken-in-Some.ensures.says);
       sent = sent_more (g.N.Net.sent c.next.new.self) (g.N.Net.fresh c.next.new.self) (g.N.Net.sent c.take_letter.new.net) (g.N.Net.fresh c.take_letter.new.net) (g.N.Net.waiting c.next.new.self) (g.N.Net.waiting c.take_letter.new.net) c.in_ok-taken-in-Some.ensures.fresh c.take_letter.ensures.waiting (subst (λ (ps : List Posted). AreSent ps (g.N.Net.waiting c.next.new.self)) (sym c.next.ensures.sent) (c.waiting_letters_were_sent.ensures.taken (g.N.Net.sent c.loop-net.net) (g.N.Net.waiting c.loop-net.net) (g.N.Net.waiting c.next.new.self) c.args.node c.next.result before.sent c.next.ensures.first c.next.ensures.others));
       files = λ k hold same may node log rests.
           let b : Ballot = record { epoch = c.args.epoch; pieces = c.args.pieces.now; held = hold } in

@@ -3,6 +3,7 @@ use Rattle.std.specs.List.{Contains}
 use Rattle.coco_msg.specs.declared.message.Message.TheVariants.{Prepare}
 use Rattle.coco_net.specs.declared.letter.Letter.{Letter}
 use Rattle.coco_chief.specs.Chief.{Chief}
+use Rattle.coco_letters.specs.Telling.{Adds, IsOfVote}
 use Rattle.coco_letters.specs.Turns.{AreFresh, AreSent, Counts, IsFrom}
 use Rattle.coco_letters.specs.Worlds.{GoesBetween}
 use Rattle.coco_log.specs.LogState.{LogState}
@@ -27,6 +28,7 @@ invariant-loop-net g l = record {
   nears : Nears l.stops (ahead_of l.epoch l.initial.cores l.node l.initial.voter) (ahead_of l.epoch l.cores l.node l.voter);
   elsewhere : (m : ℕ) → m ≢ l.node → durable_at l.cores m ≡ durable_at l.initial.cores m;
   votes : l.stops ≡ Never → (letter : Letter) → Contains (g.N.Net.waiting l.initial.net l.node) letter → IsFrom 8 letter (Prepare l.epoch) → Contains (g.N.Net.waiting l.net l.node) letter ⊎ Contains (g.N.Net.fresh l.net) (vote_of l.node l.epoch true);
+  says : Adds (IsOfVote l.epoch) (g.N.Net.sent l.initial.net) (g.N.Net.sent l.net);
   sent : AreSent (g.N.Net.sent l.net) (g.N.Net.waiting l.net);
   files : (c : Contents) (hold : ℕ → List Bool) → let b : Ballot = record { epoch = l.epoch; pieces = l.pieces; held = hold } in
       hold l.node ≡ l.initial.voter.held.items → MayForce c b → l.node < c.setting.entry.layout.nodes → IsNodeLog c l.node l.initial.voter.log → RestsVoted c b (have_durable l.epoch l.initial.cores) (g.H.Host.reads l.initial.host) (g.H.Host.may_leave l.initial.host)
