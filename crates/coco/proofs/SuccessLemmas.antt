@@ -43,7 +43,6 @@ use Rattle.coco_rebuild.specs.Answers.{AnswersFor, CountsRebuild, IsLeftAlone, M
 use Rattle.coco_rebuild.specs.Rebuilding.{HasRebuilt}
 use Rattle.coco_rebuild.specs.declared.fault.RebuildFault.{RebuildFault}
 use Rattle.coco_rebuild.specs.declared.fault.RebuildFault.TheVariants as rebuilding
-use Rattle.coco_recover.specs.Without.{IsGoodBut}
 use Rattle.coco_commands.specs.Keeping.{contents_keeping}
 use Rattle.coco_commands.specs.Migrating.{ending_of_adding}
 use Rattle.coco_commands.specs.Querying.{IsNotAsked, MayBeAsked, ending_of_asking, past_at, streams_of}
@@ -52,7 +51,7 @@ use Rattle.coco_commands.specs.Opening.{FailsToOpen, IsRefusedInRun, RefusedIsNo
 use Rattle.coco_commands.specs.Running.{Opens, ending_of_run}
 use Rattle.coco_lines.proofs.ClassLemmas.{classes_length}
 use Rattle.coco_commands.specs.Served as served
-use Rattle.coco_commands.proofs.ServingLemmas.{added_by, few_new, joined-more, none_spare}
+use Rattle.coco_commands.proofs.ServingLemmas.{added_by, all_later, all_spare, few_new, joined-more, none_spare, spare_then}
 use Rattle.coco_store.specs.Contents.{Contents, Holds, history_of}
 use Rattle.coco_store.specs.Refusals.{IsFirstRefusal, RefusedIsNone}
 use Rattle.coco_store.specs.Texts.{IsAcceptedText}
@@ -86,12 +85,12 @@ pub few_lines_have_numbers : FewLinesHaveNumbers
 few_lines_have_numbers c next bounds bytes few p used =
     let gained = gains_few c.setting.tree (history_of c) p.batches p.classes p.history p.grown.grown in
     let more = ap length p.numbers.epochs ∙ length-append (history_of c).epochs p.numbers.added in
-    let all = ap length used.first.lines ∙ length-append (joined (p.batches ++ used.batch ∷ [])) used.first.others in
-    let both = ap length (joined-more p.batches used.batch) ∙ length-append (joined p.batches) used.batch in
-    let fresh = few_new used.classes in
-    let lines = classes_length c.setting.tree (known_in p.history) used.batch used.classes used.are in
+    let all = ap length used.has_next.first.lines ∙ length-append (joined (p.batches ++ used.has_next.batch ∷ [])) used.has_next.first.others in
+    let both = ap length (joined-more p.batches used.has_next.batch) ∙ length-append (joined p.batches) used.has_next.batch in
+    let fresh = few_new used.has_next.classes in
+    let lines = classes_length c.setting.tree (known_in p.history) used.has_next.batch used.has_next.classes used.has_next.are in
     let end = used.end in
-    let some = used.some in
+    let some = used.has_next.some in
     omega (arith, few, gained, more, all, both, fresh, lines, end, some)
 
 -- ---- openings and texts
@@ -146,6 +145,11 @@ module _ {H : Type 0} (moment : H → ℕ) (observed : H → ℕ → Observation
       absurd (⊎_elim faultless.source (λ full. omega (arith, few, full)) cause)
   served_or_memory c next bounds bytes how before after old opened new served.SayFault ends faultless few numbers cause serves = absurd (faultless.stream cause)
   served_or_memory c next bounds bytes how before after old opened new served.DiskFault ends faultless few numbers cause serves = absurd (faultless.disk cause)
+  served_or_memory c next bounds bytes how before after old opened new served.Unreachable ends faultless few numbers cause serves =
+      let given_up = all_spare 4 cause.0 after.around cause.2 in
+      let none = none_spare before.around after.around faultless.net faultless.power in
+      let adds = spare_then before.around cause.0 after.around cause.1 (all_later 4 cause.0 after.around cause.2) in
+      absurd (omega (arith, given_up, none, adds))
   served_or_memory c next bounds bytes how before after old opened new served.EpochsUsedUp ends faultless few numbers cause serves = absurd (numbers serves.progress serves.ends.2)
   served_or_memory c next bounds bytes how before after old opened new served.NoMemory ends faultless few numbers cause serves = inr ends
 

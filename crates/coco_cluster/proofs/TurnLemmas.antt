@@ -1,5 +1,5 @@
 -- What a run of new requests, and its two entries, make of the store that a cluster stands at.
-use Rattle.std.proofs.Common.{◌≡◌, ◌⊎◌, inl, inr, ⊎_elim, ℕ, ◌+◌, ◌<◌, ◌≤◌, ◌^◌, Bool, false, ◌==◌, List, [], ◌∷◌, ◌++◌, length, length-append, map, filter, not, Option, None, Some, Result, Ok, Err, refl, sym, ap, ◌∙◌, subst, arith}
+use Rattle.std.proofs.Common.{◌≡◌, ◌⊎◌, inl, inr, ⊎_elim, ℕ, ◌+◌, ◌<◌, ◌≤◌, ◌^◌, Bool, true, false, ◌==◌, List, [], ◌∷◌, ◌++◌, append-nil, length, length-append, map, filter, not, Option, None, Some, Result, Ok, Err, refl, sym, ap, ◌∙◌, subst, arith}
 use Rattle.std.specs.Prelude.{OnOk}
 use Rattle.std.specs.List.{AllByRecursion}
 use Rattle.std.proofs.lemmas.Bool.Decides.{nat_tests}
@@ -9,7 +9,8 @@ use Rattle.coco_types.specs.Limits.{epochs_end}
 use Rattle.coco_types.specs.declared.call.Done.{Done}
 use Rattle.coco_types.specs.declared.call.Request.{Request}
 use Rattle.coco_host.specs.Files.{Files}
-use Rattle.coco_host.specs.Moments.{Observation}
+use Rattle.coco_host.specs.Moments.{Observation, SeesOnly}
+use Rattle.coco_host.proofs.Sees.{started}
 use Rattle.coco_ast.specs.Fitting.{Fits}
 use Rattle.coco_ast.specs.Growth.{GrowsBy}
 use Rattle.coco_ast.specs.History.{AreAbove, Epoch, History, RepliesAreRuns, done_of, floor, floor_of, followed_by, is_held, kept, kept_of, map_of, rows_after}
@@ -31,22 +32,26 @@ use Rattle.coco_kept.specs.Keeping.{HoldsKept, Keeping}
 use Rattle.coco_load.specs.Keeping.{MayFollow}
 use Rattle.coco_log.specs.LogState.{LogState}
 use Rattle.coco_log.specs.declared.fault.LogFault.{LogFault}
+use Rattle.coco_log.specs.declared.fault.LogFault.TheVariants as log
 use Rattle.coco_parallel.specs.Epochs.{beginning_with}
 use Rattle.coco_prepared.specs.LastWrites.{AreLastWrites}
 use Rattle.coco_shard.specs.RowState.{ShardState}
 use Rattle.coco_store.specs.Contents.{Contents, IsGoodStore, epoch_of, history_of, map_in}
 use Rattle.coco_store.specs.Laws.{HasReady, MayCommit, MayPrepare, with_commit}
 use Rattle.coco_worker.specs.declared.slot.EpochConfig.{EpochConfig}
-use Rattle.coco_cluster.specs.Standing.{ClusterState, IsSound, KeepsBelow, StandsAt}
+use Rattle.coco_cluster.specs.Standing.{ClusterState, IsBehindAll, IsSound, KeepsBelow, StandsAt}
 use Rattle.coco_cluster.specs.Storing.{AreEntries, IsOneOf, MayStore, ShowsOneOf, Stores, commit_of, prepared_of, with_epoch, with_rows}
 use Rattle.coco_parallel.specs.Traces.{IsTraceOf, Traced}
 use Rattle.coco_work.specs.Working.{MayWork}
-use Rattle.coco_cluster.specs.Turning.{Grown, HasRoom, HasTurned, IsStoreOf, MayTurn, RanOn, ShowsStore, Turns, beginning_at, beginning_on, without_trace}
+use Rattle.coco_cluster.specs.Turning.{EndsWithout, Grown, HasRoom, HasTurned, IsStoreOf, KeepsHistory, MayTurn, RanOn, ShowsHistory, ShowsStore, Turns, beginning_at, beginning_on, without_trace}
+use Rattle.coco_cluster.specs.Faults.{MayHaveCommitted, turn_fault_of}
 use Rattle.coco_cluster.specs.declared.fault.TurnFault.{TurnFault}
+use Rattle.coco_cluster.specs.declared.fault.TurnFault.TheVariants as fault
 use Rattle.coco_cluster.proofs.BehindLemmas.{behind_epoch, behind_later, behind_rows}
 use Rattle.coco_cluster.proofs.KeepLemmas.{as_many, floor_now, keeps_on, kept_now, may_follow, same_kept}
 use Rattle.coco_cluster.proofs.MapLemmas.{given_back}
 use Rattle.coco_cluster.proofs.StoreLemmas.{at_ok, no_ok}
+use Rattle.coco_cluster.proofs.WriteLemmas.{writes_none}
 use Rattle.coco_log.proofs.OnlyRead.{sees_weaker}
 
 -- the history of contents with a commit entry more
@@ -99,6 +104,10 @@ pub record HasRun (k : ClusterState) (requests : List Request) (workers attempts
   pub ran : (m : Rows) → HoldMap m k.shards → RanOn (beginning_at k m requests workers attempts) k.next_epoch k.held shards dones rows trace
   pub few : length rows < 2 ^ 32
   pub same : now ≡ record k.kept { room = now.room }
+
+pub none_of : (rs : List Request) (n : ℕ) → (n == 0) ≡ true → n ≡ length rs → rs ≡ []
+none_of [] n test len = refl
+none_of (r ∷ rs) n test len = (let none : n ≡ 0 = grind (arith, nat_tests) in absurd (omega (arith, none, len)))
 
 some_of : (n : ℕ) → (n == 0) ≡ false → 0 < n
 some_of n not_none = grind (arith, nat_tests)
@@ -231,6 +240,44 @@ module _ (k : ClusterState) (requests : List Request) (workers attempts : ℕ) (
     floor_then = floor_now requests k.next_epoch dones ran.worked.serial.each run.may.distinct now keeps end over.keep over.more
         ∙ ap (λ (n : Keeping). floor_of n.keep n.floor (n.dones ++ dones)) run.same
 
+-- a fault of the logs leaves open what is committed
+may_have_committed : (f : LogFault) → MayHaveCommitted {T = Unit {0}} (Err (turn_fault_of f))
+may_have_committed log.Disk = tt
+may_have_committed log.NoMemory = tt
+may_have_committed (log.NotALog at) = tt
+
+-- ---- where nothing was written
+
+module _ {H : Type 0} (moment : H → ℕ) (observed : H → ℕ → Observation → Type 0) (said : H → Option (List ℕ)) (reads : H → Option Files) (may_leave : H → Files → Type 0) where
+  abbrev pub OnlyNow : Type 0
+  OnlyNow = (host : H) (seen : Observation) → observed host (moment host) seen → may_leave host seen.image × (said host ≡ Some seen.said)
+
+  pub unmoved : OnlyNow → (c : Contents) (end : ℕ) (host : H) → RestsOn c (reads host) (may_leave host) → IsBehindAll c end → SeesOnly moment observed host host (ShowsHistory c.setting (history_of c) end (said host))
+  unmoved only_now c end host rests below = started moment observed host (ShowsHistory c.setting (history_of c) end (said host)) (λ seen since.
+      let now = only_now host seen since in
+      (record { contents = c; setting = refl; good = rests.left seen.image now.0; history = refl; below = below }, now.1))
+
+  rests_so : (result : Result (Unit {0}) TurnFault) (c : Contents) (end : ℕ) (host : H) → RestsOn c (reads host) (may_leave host) → IsBehindAll c end → EndsWithout c end (reads host) (may_leave host) result
+  rests_so (Ok x) c end host rests below = tt
+  rests_so (Err fault.Disk) c end host rests below = tt
+  rests_so (Err fault.NoMemory) c end host rests below = tt
+  rests_so (Err fault.Unreachable) c end host rests below = (c, record { earlier = refl; setting = refl; base = refl; commits = refl; prepared = λ n. ([], sym (append-nil (c.prepared n))) }, below, rests)
+  rests_so (Err fault.EpochsUsedUp) c end host rests below = (c, record { earlier = refl; setting = refl; base = refl; commits = refl; prepared = λ n. ([], sym (append-nil (c.prepared n))) }, below, rests)
+
+  pub untouched : OnlyNow → (result : Result (Unit {0}) TurnFault) (requests : List Request) (spare : ℕ) (c : Contents) (before : ClusterState) (host : H) → RestsOn c (reads host) (may_leave host) → StandsAt c before
+      → OnOk result (requests ≡ []) → KeepsHistory moment observed said reads may_leave result requests before.next_epoch spare c host host
+  untouched only_now result requests spare c before host rests stands ok =
+      let later = behind_later c before.next_epoch (before.next_epoch + 1) (omega arith) stands.next in
+      record {
+        number = before.next_epoch;
+        taken = record { low = omega arith; few = omega arith };
+        ok = ok;
+        moments = unmoved only_now c (before.next_epoch + 1) host rests later;
+        left = λ bytes spoke image leaves. record { contents = c; setting = refl; good = rests.left image leaves; history = refl; below = later };
+        others = writes_none c.setting (reads host) (reads host) (may_leave host) (may_leave host) refl (λ image leaves. leaves);
+        ends = rests_so result c before.next_epoch host rests stands.next;
+      }
+
 -- ---- on a host that rests on the store
 
 module _ {H : Type 0} (moment : H → ℕ) (observed : H → ℕ → Observation → Type 0) (said : H → Option (List ℕ)) (reads : H → Option Files) (may_leave : H → Files → Type 0) (old : H)
@@ -352,9 +399,10 @@ module _ {H : Type 0} (moment : H → ℕ) (observed : H → ℕ → Observation
     are_stored : Stores moment observed said reads may_leave stored epoch rows dones c old new
     are_stored = subst (λ rs. Storing rs dones) same_rows (subst (λ ds. Storing given_rows ds) same_dones stores) may_store
 
-    turned : (result : Result (Unit {0}) TurnFault) (after : ClusterState) → OnOk result (RestsOn d (reads new) (may_leave new) × StandsAt d after × (after.trace ≡ Some trace) × (after.next_epoch ≡ epoch + 1))
+    turned : (result : Result (Unit {0}) TurnFault) (after : ClusterState) → MayHaveCommitted result → OnOk result (RestsOn d (reads new) (may_leave new) × StandsAt d after × (after.trace ≡ Some trace) × (after.next_epoch ≡ epoch + 1))
         → Turns moment observed said reads may_leave result requests workers attempts spare c seen_as after old new
-    turned result after ok = subst (λ (s : ClusterState). Turns moment observed said reads may_leave result requests workers attempts spare c s after old new) view_is (record {
+    turned result after may ok = subst (λ (s : ClusterState). Turns moment observed said reads may_leave result requests workers attempts spare c s after old new) view_is (record {
+      may = may;
       d = d;
       trace = trace;
       number = epoch;
@@ -366,8 +414,8 @@ module _ {H : Type 0} (moment : H → ℕ) (observed : H → ℕ → Observation
       others = are_stored.others;
     })
 
-    pub failed : (result : Result (Unit {0}) TurnFault) (fault : TurnFault) (after : ClusterState) → result ≡ Err fault → Turns moment observed said reads may_leave result requests workers attempts spare c seen_as after old new
-    failed result fault after is = turned result after (no_ok result fault _ is)
+    pub failed : (result : Result (Unit {0}) TurnFault) (fault : LogFault) (after : ClusterState) → result ≡ Err (turn_fault_of fault) → Turns moment observed said reads may_leave result requests workers attempts spare c seen_as after old new
+    failed result fault after is = turned result after (subst MayHaveCommitted (sym is) (may_have_committed fault)) (no_ok result (turn_fault_of fault) _ is)
 
     module _ (last : List ShardState) (end : Keeping) (over : HasEnded shards now dones last end) where
       module _ (chief node : LogState) (chief_same : (chief.file ≡ k.chief.file) × (chief.kind ≡ k.chief.kind)) (node_same : (node.file ≡ k.node.file) × (node.kind ≡ k.node.kind)) where
@@ -395,4 +443,4 @@ module _ {H : Type 0} (moment : H → ℕ) (observed : H → ℕ → Observation
         }
 
         pub succeeded : (tables : List ShardState) → tables ≡ last → stored ≡ Ok tt → Turns moment observed said reads may_leave (Ok tt) requests workers attempts spare c seen_as (after tables) old new
-        succeeded tables same is = turned (Ok tt) (after tables) (at_ok stored tt (RestsOn d (reads new) (may_leave new)) is are_stored.ok, subst (λ ts. StandsAt d (after ts)) (sym same) stands_then, refl, refl)
+        succeeded tables same is = turned (Ok tt) (after tables) tt (at_ok stored tt (RestsOn d (reads new) (may_leave new)) is are_stored.ok, subst (λ ts. StandsAt d (after ts)) (sym same) stands_then, refl, refl)

@@ -1,4 +1,5 @@
 pub mod Around
+pub mod GivingUp
 pub mod Faults
 pub mod Messages
 pub mod Standing

@@ -1,5 +1,5 @@
 -- What a turn makes of the store, and what is seen of it meanwhile.
-use Rattle.std.specs.Prelude.{◌≡◌, ◌⊎◌, ℕ, ◌+◌, ◌≤◌, Bool, List, [], ◌∷◌, ◌++◌, map, length, Option, None, Some, Result, OnOk, nat_eq}
+use Rattle.std.specs.Prelude.{◌≡◌, ◌⊎◌, ℕ, ◌+◌, ◌≤◌, ⊤, Bool, List, [], ◌∷◌, ◌++◌, map, length, Option, None, Some, Result, Ok, Err, OnOk, nat_eq}
 use Rattle.std.specs.List.{AllByRecursion, IsDistinct}
 use Rattle.coco_types.specs.Limits.{most_batch_lines}
 use Rattle.coco_types.specs.declared.call.Done.{Done}
@@ -13,6 +13,7 @@ use Rattle.coco_ast.specs.Growth.{GrowsBy}
 use Rattle.coco_ast.specs.History.{AreAbove, Epoch, History, all_dones, done_of, followed_by, kept_of, rows_after}
 use Rattle.coco_ast.specs.Keyed.{Rows}
 use Rattle.coco_commits.specs.EpochEntries.{HasRoomFor}
+use Rattle.coco_entry.specs.declared.prepared.Prepared.{Prepared}
 use Rattle.coco_entry.specs.declared.prepared.Row.{Row}
 use Rattle.coco_epoch.specs.Shards.{HoldMap}
 use Rattle.coco_order.specs.Execution.{Beginning}
@@ -21,11 +22,13 @@ use Rattle.coco_shard.specs.RowState.{ShardState}
 use Rattle.coco_store.specs.Contents.{Contents, IsGoodStore, history_of, map_in}
 use Rattle.coco_store.specs.Rules.{Setting}
 use Rattle.coco_cluster.specs.Around.{IsTaken}
+use Rattle.coco_cluster.specs.Faults.{MayHaveCommitted}
 use Rattle.coco_cluster.specs.Standing.{ClusterState, IsBehindAll, StandsAt}
 use Rattle.coco_cluster.specs.Writing.{WritesLogs}
 use Rattle.coco_work.specs.Working.{HasWorked}
 use Rattle.coco_parallel.specs.Traces.{IsTraceOf, Traced}
 use Rattle.coco_cluster.specs.declared.fault.TurnFault.{TurnFault}
+use Rattle.coco_cluster.specs.declared.fault.TurnFault.TheVariants as fault
 
 -- requests that a cluster may run: they fit, and each has an id of its own that is neither kept nor forgotten
 pub record MayTurn (k : ClusterState) (requests : List Request) : Type 0 where
@@ -83,6 +86,7 @@ pub record ShowsStore (s : Setting) (before after : History) (end : ℕ) (bytes 
 -- answered, all that a crash may leave is a good store with the history of before or the grown one, in which no entry is of a later epoch; and behind it the other files are as they were
 pub record Turns {H : Type 0} (moment : H → ℕ) (observed : H → ℕ → Observation → Type 0) (said : H → Option (List ℕ)) (reads : H → Option Files) (may_leave : H → Files → Type 0)
     (result : Result (Unit {0}) TurnFault) (requests : List Request) (workers attempts spare : ℕ) (c : Contents) (before after : ClusterState) (old new : H) : Type 0 where
+  pub may : MayHaveCommitted result
   pub d : Contents
   pub trace : Traced
   pub number : ℕ
@@ -98,9 +102,43 @@ pub record Turns {H : Type 0} (moment : H → ℕ) (observed : H → ℕ → Obs
 abbrev pub without_trace : ClusterState → ClusterState
 without_trace k = record k { trace = None }
 
--- nothing was written, since there was nothing to do or before anything was
-abbrev pub IsUntouched : {H : Type 0} → Result (Unit {0}) TurnFault → List Request → ClusterState → ClusterState → H → H → Type 0
-IsUntouched result requests before after old new = (new ≡ old) × OnOk result ((requests ≡ []) × (after ≡ without_trace before))
+-- ---- a turn that commits nothing
+
+-- prepared entries were added, and nothing else; so the history is the same
+pub record AddsOnlyPrepared (c d : Contents) : Type 0 where
+  pub earlier : d.earlier ≡ c.earlier
+  pub setting : d.setting ≡ c.setting
+  pub base : d.base ≡ c.base
+  pub commits : d.commits ≡ c.commits
+  pub prepared : (n : ℕ) → (more : List Prepared) × (d.prepared n ≡ c.prepared n ++ more)
+
+-- the host rests on contents that have only prepared entries more, in which no entry is of this epoch or a later one
+abbrev pub RestsWithout : Contents → ℕ → Option Files → (Files → Type 0) → Type 0
+RestsWithout c end reads may_leave = (d : Contents) × AddsOnlyPrepared c d × IsBehindAll d end × RestsOn d reads may_leave
+
+-- so it does where the turn gave up, or found no number
+abbrev pub EndsWithout : Contents → ℕ → Option Files → (Files → Type 0) → Result (Unit {0}) TurnFault → Type 0
+EndsWithout c end reads may_leave (Ok x) = ⊤
+EndsWithout c end reads may_leave (Err fault.Disk) = ⊤
+EndsWithout c end reads may_leave (Err fault.NoMemory) = ⊤
+EndsWithout c end reads may_leave (Err fault.Unreachable) = RestsWithout c end reads may_leave
+EndsWithout c end reads may_leave (Err fault.EpochsUsedUp) = RestsWithout c end reads may_leave
+
+-- seen at a moment: a good store with this history, in which no entry is of this epoch or a later one, and no more said
+abbrev pub ShowsHistory : Setting → History → ℕ → Option (List ℕ) → Observation → Type 0
+ShowsHistory s h end bytes seen = IsStoreOf s h end seen.image × (bytes ≡ Some seen.said)
+
+-- the turn committed nothing: there was nothing to do, or it failed before that. At each moment, and behind it, all that a crash may leave is a good store with the history of before, in which
+-- no entry is of a later epoch than the one tried last, or of that one where it was given up; and behind it the other files are as they were
+pub record KeepsHistory {H : Type 0} (moment : H → ℕ) (observed : H → ℕ → Observation → Type 0) (said : H → Option (List ℕ)) (reads : H → Option Files) (may_leave : H → Files → Type 0)
+    (result : Result (Unit {0}) TurnFault) (requests : List Request) (next spare : ℕ) (c : Contents) (old new : H) : Type 0 where
+  pub number : ℕ
+  pub taken : IsTaken next number spare
+  pub ok : OnOk result (requests ≡ [])
+  pub moments : SeesOnly moment observed old new (ShowsHistory c.setting (history_of c) (number + 1) (said old))
+  pub left : (bytes : List ℕ) → said old ≡ Some bytes → (image : Files) → may_leave new image → IsStoreOf c.setting (history_of c) (number + 1) image
+  pub others : WritesLogs c.setting (reads old) (reads new) (may_leave old) (may_leave new)
+  pub ends : EndsWithout c number (reads new) (may_leave new) result
 
 -- ---- on every host
 

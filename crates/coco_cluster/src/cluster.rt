@@ -5,11 +5,11 @@ ghost use Rattle.coco_ast.specs.Keyed.{Rows};
 ghost use Rattle.coco_append.specs.Gaining.{RestsOn, Stands};
 ghost use Rattle.coco_epoch.specs.Shards.{HoldMap};
 ghost use Rattle.coco_store.specs.Contents.{Contents};
-ghost use Rattle.coco_cluster.specs.Around.{IsLater, SkipsFew, around, spare};
+ghost use Rattle.coco_letters.specs.Around.{IsLater, SkipsFew, around, spare};
 ghost use Rattle.coco_cluster.specs.Faults.{CountsTurn};
 ghost use Rattle.coco_cluster.specs.Standing.{IsSound, StandsAt};
 ghost use Rattle.coco_parallel.specs.Traces.{traced};
-ghost use Rattle.coco_cluster.specs.Turning.{HasRoom, HasTurned, IsUntouched, MayTurn, Turns, epochs_of, without_trace};
+ghost use Rattle.coco_cluster.specs.Turning.{HasRoom, HasTurned, KeepsHistory, MayTurn, Turns, epochs_of, without_trace};
 ghost use Rattle.coco_cluster.specs.declared.fault.TurnFault.TheVariants as fault;
 
 use crate::TurnFault;
@@ -102,10 +102,11 @@ impl Cluster {
 
     /// Runs new requests as one epoch, by so many workers with so many attempts at each, and commits it: its prepared
     /// entry, then its commit entry, and then the shards are promoted and its Dones are kept. Whatever it answers, at
-    /// each moment what a crash may leave is a good store, without the epoch or with it. Without requests there is
-    /// nothing to do. The trace of the turn before is gone, and that of this one stays until the next turn. After a fault
-    /// the shards are as they were before the turn, also where the files may have the epoch: the cluster is spent, and
-    /// the store has to be opened again.
+    /// each moment what a crash may leave is a good store, without the epoch or with it. Where nodes are unreachable, or
+    /// no number is left, only prepared entries may be there more. Without requests there is nothing to do. The trace of
+    /// the turn before is gone, and that of this one stays until the next turn. After a fault the shards are as they
+    /// were before the turn, also where the files may have the epoch: the cluster is spent, and the store has to be
+    /// opened again.
     pub fn turn<R: Threads + Wait + Clock + Sync, H: Host, N: Net + Sync, P: Power, G: Gate + Sync>(
         &mut self,
         rt: &R,
@@ -124,7 +125,7 @@ impl Cluster {
         requires may { MayTurn self.old requests.items }
         requires stand { Stands self.old.node (H.reads host.old) (H.may_leave host.old) × Stands self.old.chief (H.reads host.old) (H.may_leave host.old) }
         ensures turns { (c : Contents) → RestsOn c (H.reads host.old) (H.may_leave host.old) → StandsAt c self.old → HasRoom c requests.items
-            → IsUntouched result requests.items self.old self.new host.old host.new
+            → KeepsHistory H.moment H.observed H.said H.reads H.may_leave result requests.items self.old.next_epoch (spare (around N.sent N.given N.faults N.last_seed P.stops_seen P.early_stops P.stopped P.begun P.asked net.old power.old) (around N.sent N.given N.faults N.last_seed P.stops_seen P.early_stops P.stopped P.begun P.asked net.new power.new)) c host.old host.new
             ⊎ Turns H.moment H.observed H.said H.reads H.may_leave result requests.items workers attempts (spare (around N.sent N.given N.faults N.last_seed P.stops_seen P.early_stops P.stopped P.begun P.asked net.old power.old) (around N.sent N.given N.faults N.last_seed P.stops_seen P.early_stops P.stopped P.begun P.asked net.new power.new)) c self.old self.new host.old host.new }
         ensures nothing { requests.items ≡ [] → IsOk result × (host.new ≡ host.old) × (self.new ≡ without_trace self.old) }
         ensures stand { OnOk result (Stands self.new.node (H.reads host.new) (H.may_leave host.new) × Stands self.new.chief (H.reads host.new) (H.may_leave host.new)) }
@@ -138,10 +139,10 @@ impl Cluster {
         ensures used_up { 0 < length requests.items → EPOCHS_END ≤ self.old.next_epoch → result ≡ Err fault.EpochsUsedUp }
         ensures procs { self.new.procs ≡ self.old.procs }
         ensures said { H.said host.new ≡ H.said host.old }
-        ensures counts { CountsTurn result self.old.next_epoch (spare (around N.sent N.given N.faults N.last_seed P.stops_seen P.early_stops P.stopped P.begun P.asked net.old power.old) (around N.sent N.given N.faults N.last_seed P.stops_seen P.early_stops P.stopped P.begun P.asked net.new power.new)) (H.disk_faults host.old) (H.disk_faults host.new) }
+        ensures counts { CountsTurn result self.old.next_epoch (around N.sent N.given N.faults N.last_seed P.stops_seen P.early_stops P.stopped P.begun P.asked net.old power.old) (around N.sent N.given N.faults N.last_seed P.stops_seen P.early_stops P.stopped P.begun P.asked net.new power.new) (H.disk_faults host.old) (H.disk_faults host.new) }
         ensures stream { H.say_faults host.new ≡ H.say_faults host.old }
         ensures later { IsLater (around N.sent N.given N.faults N.last_seed P.stops_seen P.early_stops P.stopped P.begun P.asked net.old power.old) (around N.sent N.given N.faults N.last_seed P.stops_seen P.early_stops P.stopped P.begun P.asked net.new power.new) }
-        ensures unused { result ≡ Err fault.EpochsUsedUp → host.new ≡ host.old }
+        ensures unused { result ≡ Err fault.EpochsUsedUp → EPOCHS_END ≤ self.old.next_epoch → host.new ≡ host.old }
         ensures kept { OnOk result (length self.new.kept.dones ≤ length self.old.kept.dones + length requests.items) }
     {
         self.room.keep(alloc, &mut self.trace);

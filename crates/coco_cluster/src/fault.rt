@@ -13,6 +13,8 @@ use std::fmt;
 pub enum TurnFault {
     /// The host failed.
     Disk,
+    /// Four attempts at the epoch were given up, since nodes stopped or weren't reached.
+    Unreachable,
     /// There is no number for the next epoch.
     EpochsUsedUp,
     NoMemory,
@@ -47,6 +49,7 @@ impl fmt::Display for TurnFault {
     fn fmt<W: fmt::Write>(&self, f: &mut fmt::Formatter<W>) -> fmt::Result {
         match self {
             TurnFault::Disk => f.write_str("disk fault"),
+            TurnFault::Unreachable => f.write_str("nodes unreachable"),
             TurnFault::EpochsUsedUp => f.write_str("epochs used up"),
             TurnFault::NoMemory => f.write_str("out of memory"),
         }

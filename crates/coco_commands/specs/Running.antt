@@ -21,6 +21,7 @@ ending_of_run served.Finished = ending.Finished
 ending_of_run served.ReadFault = ending.ReadFault
 ending_of_run served.SayFault = ending.SayFault
 ending_of_run served.DiskFault = ending.DiskFault
+ending_of_run served.Unreachable = ending.Unreachable
 ending_of_run served.EpochsUsedUp = ending.EpochsUsedUp
 ending_of_run served.NoMemory = ending.NoMemory
 

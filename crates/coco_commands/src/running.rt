@@ -70,6 +70,7 @@ fn ending_of_run(served: Served) -> Ending
         Served::ReadFault => Ending::ReadFault,
         Served::SayFault => Ending::SayFault,
         Served::DiskFault => Ending::DiskFault,
+        Served::Unreachable => Ending::Unreachable,
         Served::EpochsUsedUp => Ending::EpochsUsedUp,
         Served::NoMemory => Ending::NoMemory,
     }

@@ -1,6 +1,6 @@
 -- One batch: what its turn and the saying of its answers make of the store.
 use Rattle.std.proofs.Common.{◌≡◌, ℕ, ◌+◌, ◌≤◌, inl, inr, ◌⊎◌, ⊎_elim, List, [], ◌∷◌, ◌++◌, length, take, drop, Option, Some, None, Result, Ok, Err, refl, sym, ap, subst, ◌∙◌, arith, append_assoc, length-append, take-append-drop}
-use Rattle.std.specs.Prelude.{OnOk, OnErr}
+use Rattle.std.specs.Prelude.{IsOk, OnOk, OnErr}
 use Rattle.std.proofs.Math.Seq.{take-append_seam, take-length}
 use Rattle.std.proofs.lemmas.List.{append_cancel_left}
 use Rattle.std.specs.Io.KnownBytes.{append_known}
@@ -16,9 +16,10 @@ use Rattle.coco_batches.specs.declared.answer.LineAnswer.{LineAnswer}
 use Rattle.coco_batches.specs.declared.batch.Batch.{Batch}
 use Rattle.coco_cluster.specs.Around.{IsTaken}
 use Rattle.coco_cluster.specs.Standing.{ClusterState, IsBehindAll, StandsAt}
-use Rattle.coco_cluster.proofs.TurnLemmas.{stands_untraced}
+use Rattle.coco_cluster.proofs.TurnLemmas.{stands_untraced, unmoved}
+use Rattle.coco_cluster.specs.Faults.{MayHaveCommitted}
 use Rattle.coco_parallel.specs.Traces.{IsTraceOf, Traced, execution_in}
-use Rattle.coco_cluster.specs.Turning.{Grown, HasRoom, IsUntouched, ShowsStore, Turns, beginning_on, epochs_of, without_trace}
+use Rattle.coco_cluster.specs.Turning.{EndsWithout, Grown, HasRoom, KeepsHistory, ShowsHistory, ShowsStore, Turns, beginning_on, epochs_of, without_trace}
 use Rattle.coco_cluster.specs.declared.fault.TurnFault.{TurnFault}
 use Rattle.coco_cluster.specs.declared.fault.TurnFault.TheVariants as turn
 use Rattle.coco_cluster.specs.Writing.{WritesLogs}
@@ -37,7 +38,7 @@ use Rattle.coco_store.specs.Contents.{Contents, history_of}
 use Rattle.coco_store.specs.Rules.{Setting}
 use Rattle.coco_serve.specs.Faults.{fault_of_saying, fault_of_turn}
 use Rattle.coco_serve.specs.Growth.{AddsWithin, GrowsByExecution, HasExecution, Manner, manner_of}
-use Rattle.coco_serve.specs.OneBatch.{BatchEnds, IsRefused, SaysPart, WorksOffBatch, batch_texts}
+use Rattle.coco_serve.specs.OneBatch.{BatchEnds, IsRefused, RefusedEnds, SaysPart, WorksOffBatch, batch_texts}
 use Rattle.coco_serve.specs.Seen.{ShowsBatch}
 use Rattle.coco_serve.specs.Texts.{texts_over}
 use Rattle.coco_serve.specs.declared.fault.BatchFault.{BatchFault}
@@ -142,36 +143,36 @@ module _ {H : Type 0} (moment : H → ℕ) (observed : H → ℕ → Observation
   abbrev pub OnlyNow : Type 0
   OnlyNow = (host : H) (seen : Observation) → observed host (moment host) seen → may_leave host seen.image × (said host ≡ Some seen.said)
 
-  unmoved : OnlyNow → (c : Contents) (end : ℕ) (host : H) → RestsOn c (reads host) (may_leave host) → IsBehindAll c end → SeesOnly moment observed host host (ShowsStore c.setting (history_of c) (history_of c) end (said host))
-  unmoved only_now c end host rests below = started moment observed host (ShowsStore c.setting (history_of c) (history_of c) end (said host)) (λ seen since.
-      let now = only_now host seen since in
-      record { store = inl (record { contents = c; setting = refl; good = rests.left seen.image now.0; history = refl; below = below }); said = now.1 })
+  unmoved_so : OnlyNow → (c : Contents) (end : ℕ) (host : H) → RestsOn c (reads host) (may_leave host) → IsBehindAll c end → SeesOnly moment observed host host (ShowsStore c.setting (history_of c) (history_of c) end (said host))
+  unmoved_so only_now c end host rests below = sees_weaker moment observed host host (ShowsHistory c.setting (history_of c) end (said host)) (ShowsStore c.setting (history_of c) (history_of c) end (said host))
+      (λ seen shows. record { store = inl shows.0; said = shows.1 }) (unmoved moment observed said reads may_leave only_now c end host rests below)
 
   pub committed : OnlyNow → (result : Result (Unit {0}) TurnFault) (x : Unit {0}) (requests : List Request) (bounds : RunBounds) (spare : ℕ) (c : Contents) (before after : ClusterState) (old mid : H) → result ≡ Ok x
-      → RestsOn c (reads old) (may_leave old) → StandsAt c before
-      → IsUntouched result requests before after old mid ⊎ Turns moment observed said reads may_leave result requests bounds.workers bounds.attempts spare c before after old mid
+      → (requests ≡ [] → IsOk result × (mid ≡ old) × (after ≡ without_trace before)) → RestsOn c (reads old) (may_leave old) → StandsAt c before
+      → KeepsHistory moment observed said reads may_leave result requests before.next_epoch spare c old mid ⊎ Turns moment observed said reads may_leave result requests bounds.workers bounds.attempts spare c before after old mid
       → Committed c requests bounds before.next_epoch spare after old mid
-  committed only_now result x requests bounds spare c before after old mid ok rests stands (inl none) =
-      let nothing : (requests ≡ []) × (after ≡ without_trace before) = subst (λ (r : Result _ _). OnOk r ((requests ≡ []) × (after ≡ without_trace before))) ok none.1 in
-      let no_epoch : epochs_of requests ≡ 0 = ap epochs_of nothing.0 in
-      let same_next = ap (λ (k : ClusterState). k.next_epoch) nothing.1 in
+  committed only_now result x requests bounds spare c before after old mid ok still rests stands (inl none) =
+      let empty : requests ≡ [] = subst (λ (r : Result _ _). OnOk r (requests ≡ [])) ok none.ok in
+      let nothing = still empty in
+      let no_epoch : epochs_of requests ≡ 0 = ap epochs_of empty in
+      let same_next = ap (λ (k : ClusterState). k.next_epoch) nothing.2 in
       record {
         d = c;
         setting = refl;
-        grows = no_growth requests (manner_of c.setting bounds) (history_of c) nothing.0;
+        grows = no_growth requests (manner_of c.setting bounds) (history_of c) empty;
         number = before.next_epoch;
         taken = record { low = omega arith; few = omega arith };
         numbers = adds_none before.next_epoch (before.next_epoch + epochs_of requests) spare (history_of c) (record { low = omega arith; few = omega (arith, no_epoch) });
         below = behind_later c before.next_epoch (before.next_epoch + epochs_of requests) (omega arith) stands.next;
         next_is = omega (arith, no_epoch, same_next);
         last = behind_later c before.next_epoch (before.next_epoch + 1) (omega arith) stands.next;
-        rests = subst (λ h. RestsOn c (reads h) (may_leave h)) (sym none.0) rests;
-        stands = subst (StandsAt c) (sym nothing.1) (stands_untraced c before stands);
-        moments = subst (λ h. SeesOnly moment observed old h (ShowsStore c.setting (history_of c) (history_of c) (before.next_epoch + 1) (said old))) (sym none.0)
-            (unmoved only_now c (before.next_epoch + 1) old rests (behind_later c before.next_epoch (before.next_epoch + 1) (omega arith) stands.next));
-        others = writes_none c.setting (reads old) (reads mid) (may_leave old) (may_leave mid) (ap reads none.0) (λ image left. subst (λ h. may_leave h image) none.0 left);
+        rests = subst (λ h. RestsOn c (reads h) (may_leave h)) (sym nothing.1) rests;
+        stands = subst (StandsAt c) (sym nothing.2) (stands_untraced c before stands);
+        moments = subst (λ h. SeesOnly moment observed old h (ShowsStore c.setting (history_of c) (history_of c) (before.next_epoch + 1) (said old))) (sym nothing.1)
+            (unmoved_so only_now c (before.next_epoch + 1) old rests (behind_later c before.next_epoch (before.next_epoch + 1) (omega arith) stands.next));
+        others = writes_none c.setting (reads old) (reads mid) (may_leave old) (may_leave mid) (ap reads nothing.1) (λ image left. subst (λ h. may_leave h image) nothing.1 left);
       }
-  committed only_now result x requests bounds spare c before after old mid ok rests stands (inr t) =
+  committed only_now result x requests bounds spare c before after old mid ok still rests stands (inr t) =
       let done : RestsOn t.d (reads mid) (may_leave mid) × StandsAt t.d after × (after.trace ≡ Some t.trace) × (after.next_epoch ≡ t.number + 1) =
       subst (λ (r : Result _ _). OnOk r (RestsOn t.d (reads mid) (may_leave mid) × StandsAt t.d after × (after.trace ≡ Some t.trace) × (after.next_epoch ≡ t.number + 1))) ok t.ok in
       let one = one_epoch requests bounds.workers bounds.attempts t.number t.trace c t.d t.grown in
@@ -194,19 +195,47 @@ module _ {H : Type 0} (moment : H → ℕ) (observed : H → ℕ → Observation
 
   -- ---- a turn that failed
 
-  refused : (f : TurnFault) (old new : H) → new ≡ old → IsRefused (Err (fault_of_turn f)) old new
-  refused turn.Disk old new same = same
-  refused turn.EpochsUsedUp old new same = same
-  refused turn.NoMemory old new same = same
+  refused_so : (f : TurnFault) (c : Contents) (end : ℕ) (host : H) → EndsWithout c end (reads host) (may_leave host) (Err f) → RefusedEnds c end (reads host) (may_leave host) (Err (fault_of_turn f))
+  refused_so turn.Disk c end host ends = tt
+  refused_so turn.Unreachable c end host ends = ends
+  refused_so turn.EpochsUsedUp c end host ends = ends
+  refused_so turn.NoMemory c end host ends = tt
+
+  refused : (f : TurnFault) (turned : Result (Unit {0}) TurnFault) (requests : List Request) (spare : ℕ) (c : Contents) (before : ClusterState) (old new : H) → turned ≡ Err f → said new ≡ said old
+      → KeepsHistory moment observed said reads may_leave turned requests before.next_epoch spare c old new → IsRefused moment observed said reads may_leave (Err (fault_of_turn f)) c before.next_epoch spare old new
+  refused f turned requests spare c before old new was quiet k = record {
+    number = k.number;
+    taken = k.taken;
+    moments = k.moments;
+    left = k.left;
+    others = k.others;
+    quiet = quiet;
+    ends = refused_so f c k.number new (subst (EndsWithout c k.number (reads new) (may_leave new)) was k.ends);
+  }
+
+  -- out of memory before the turn
+  pub refused_early : OnlyNow → (result : Result (Unit {0}) BatchFault) (c : Contents) (k : ClusterState) (spare : ℕ) (host : H) → result ≡ Err fault.NoMemory → RestsOn c (reads host) (may_leave host) → StandsAt c k
+      → IsRefused moment observed said reads may_leave result c k.next_epoch spare host host
+  refused_early only_now result c k spare host is rests stands =
+      let later = behind_later c k.next_epoch (k.next_epoch + 1) (omega arith) stands.next in
+      subst (λ r. IsRefused moment observed said reads may_leave r c k.next_epoch spare host host) (sym is) (record {
+        number = k.next_epoch;
+        taken = record { low = omega arith; few = omega arith };
+        moments = unmoved moment observed said reads may_leave only_now c (k.next_epoch + 1) host rests later;
+        left = λ bytes spoke image leaves. record { contents = c; setting = refl; good = rests.left image leaves; history = refl; below = later };
+        others = writes_none c.setting (reads host) (reads host) (may_leave host) (may_leave host) refl (λ image leaves. leaves);
+        quiet = refl;
+        ends = tt;
+      })
 
   turn_shows : (s : Setting) (before after : History) (end : ℕ) (bytes : Option (List ℕ)) (texts : List ℕ) (seen : Observation) → ShowsStore s before after end bytes seen → ShowsBatch s before after end bytes texts seen
   turn_shows s before after end bytes texts seen shows =
       ⊎_elim (λ was. inl (was, shows.said)) (λ grown. inr (grown, nothing_said bytes seen.said texts shows.said)) shows.store
 
-  turn_ends : (f : TurnFault) (result : Result (Unit {0}) TurnFault) (batch : Batch) (requests : List Request) (bounds : RunBounds) (spare : ℕ) (c : Contents) (before after : ClusterState) (old new : H) → requests ≡ batch.fresh → said new ≡ said old
-      → (f ≡ turn.EpochsUsedUp → new ≡ old) → Turns moment observed said reads may_leave result requests bounds.workers bounds.attempts spare c before after old new
-      → IsRefused (Err (fault_of_turn f)) old new ⊎ WorksOffBatch moment observed said reads may_leave (Err (fault_of_turn f)) batch bounds c before.next_epoch spare after old new
-  turn_ends f result batch requests bounds spare c before after old new same quiet unused t = by f unused
+  turn_ends : (f : TurnFault) (result : Result (Unit {0}) TurnFault) (batch : Batch) (requests : List Request) (bounds : RunBounds) (spare : ℕ) (c : Contents) (before after : ClusterState) (old new : H) → result ≡ Err f → requests ≡ batch.fresh → said new ≡ said old
+      → Turns moment observed said reads may_leave result requests bounds.workers bounds.attempts spare c before after old new
+      → WorksOffBatch moment observed said reads may_leave (Err (fault_of_turn f)) batch bounds c before.next_epoch spare after old new
+  turn_ends f result batch requests bounds spare c before after old new was same quiet t = by f (subst MayHaveCommitted was t.may)
     where
       numbers : AddsWithin before.next_epoch (t.number + epochs_of batch.fresh) spare (history_of c) (history_of t.d)
       numbers = subst (λ rs. AddsWithin before.next_epoch (t.number + epochs_of rs) spare (history_of c) (history_of t.d)) same
@@ -223,18 +252,19 @@ module _ {H : Type 0} (moment : H → ℕ) (observed : H → ℕ → Observation
           (ShowsBatch c.setting (history_of c) (history_of t.d) (t.number + 1) (said old) (batch_texts c t.d batch))
           (turn_shows c.setting (history_of c) (history_of t.d) (t.number + 1) (said old) (batch_texts c t.d batch)) t.moments
 
-      by : (f : TurnFault) → (f ≡ turn.EpochsUsedUp → new ≡ old) → IsRefused (Err (fault_of_turn f)) old new ⊎ WorksOffBatch moment observed said reads may_leave (Err (fault_of_turn f)) batch bounds c before.next_epoch spare after old new
-      by turn.Disk unused = inr (record { d = t.d; setting = t.grown.setting; grows = grows; number = t.number; taken = t.taken; numbers = numbers; below = below; next_is = tt; moments = moments; others = t.others; ends = (t.left, quiet) })
-      by turn.EpochsUsedUp unused = inl (unused refl)
-      by turn.NoMemory unused = inr (record { d = t.d; setting = t.grown.setting; grows = grows; number = t.number; taken = t.taken; numbers = numbers; below = below; next_is = tt; moments = moments; others = t.others; ends = inl (t.left, quiet) })
+      by : (f : TurnFault) → MayHaveCommitted {T = Unit {0}} (Err f) → WorksOffBatch moment observed said reads may_leave (Err (fault_of_turn f)) batch bounds c before.next_epoch spare after old new
+      by turn.Disk may = record { d = t.d; setting = t.grown.setting; grows = grows; number = t.number; taken = t.taken; numbers = numbers; below = below; next_is = tt; moments = moments; others = t.others; ends = (t.left, quiet) }
+      by turn.Unreachable may = absurd may
+      by turn.EpochsUsedUp may = absurd may
+      by turn.NoMemory may = record { d = t.d; setting = t.grown.setting; grows = grows; number = t.number; taken = t.taken; numbers = numbers; below = below; next_is = tt; moments = moments; others = t.others; ends = inl (t.left, quiet) }
 
   pub turn_failed : (f : TurnFault) (turned : Result (Unit {0}) TurnFault) (result : Result (Unit {0}) BatchFault) (batch : Batch) (requests : List Request) (bounds : RunBounds) (spare : ℕ) (c : Contents) (before after : ClusterState) (old new : H)
-      → turned ≡ Err f → result ≡ Err (fault_of_turn f) → requests ≡ batch.fresh → said new ≡ said old → (turned ≡ Err turn.EpochsUsedUp → new ≡ old)
-      → IsUntouched turned requests before after old new ⊎ Turns moment observed said reads may_leave turned requests bounds.workers bounds.attempts spare c before after old new
-      → IsRefused result old new ⊎ WorksOffBatch moment observed said reads may_leave result batch bounds c before.next_epoch spare after old new
-  turn_failed f turned result batch requests bounds spare c before after old new was is same quiet unused turns =
-      subst (λ r. IsRefused r old new ⊎ WorksOffBatch moment observed said reads may_leave r batch bounds c before.next_epoch spare after old new) (sym is)
-      (⊎_elim (λ none. inl (refused f old new none.0)) (turn_ends f turned batch requests bounds spare c before after old new same quiet (λ used. unused (was ∙ ap Err used))) turns)
+      → turned ≡ Err f → result ≡ Err (fault_of_turn f) → requests ≡ batch.fresh → said new ≡ said old
+      → KeepsHistory moment observed said reads may_leave turned requests before.next_epoch spare c old new ⊎ Turns moment observed said reads may_leave turned requests bounds.workers bounds.attempts spare c before after old new
+      → IsRefused moment observed said reads may_leave result c before.next_epoch spare old new ⊎ WorksOffBatch moment observed said reads may_leave result batch bounds c before.next_epoch spare after old new
+  turn_failed f turned result batch requests bounds spare c before after old new was is same quiet turns =
+      subst (λ r. IsRefused moment observed said reads may_leave r c before.next_epoch spare old new ⊎ WorksOffBatch moment observed said reads may_leave r batch bounds c before.next_epoch spare after old new) (sym is)
+      (⊎_elim (λ none. inl (refused f turned requests spare c before old new was quiet none)) (λ t. inr (turn_ends f turned batch requests bounds spare c before after old new was same quiet t)) turns)
 
   -- ---- a turn that committed, and what is said behind it
 

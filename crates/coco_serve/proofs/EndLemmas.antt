@@ -8,9 +8,10 @@ use Rattle.coco_batches.specs.Asking.{known_of}
 use Rattle.coco_batches.specs.BatchReading.{BreaksOff, IsCutOff, ReadsBatch, TakesLines}
 use Rattle.coco_batches.specs.declared.batch.Batch.{Batch}
 use Rattle.coco_batches.proofs.BatchLemmas.{takes_both, takes_none}
-use Rattle.coco_cluster.specs.Around.{SkipsFew}
+use Rattle.coco_cluster.specs.Around.{Around, IsLater, SkipsFew, spare}
 use Rattle.coco_cluster.specs.Standing.{ClusterState, StandsAt}
 use Rattle.coco_cluster.specs.Turning.{epochs_of}
+use Rattle.coco_cluster.proofs.AroundLemmas.{spare_then}
 use Rattle.coco_host.specs.Files.{Files}
 use Rattle.coco_host.specs.Moments.{Observation}
 use Rattle.coco_io.specs.Counts.{Rose}
@@ -31,24 +32,29 @@ use Rattle.coco_serve.specs.declared.ending.Served.TheVariants as ending
 use Rattle.coco_serve.specs.declared.fault.BatchFault.{BatchFault}
 use Rattle.coco_serve.specs.declared.fault.BatchFault.TheVariants as fault
 use Rattle.coco_serve.specs.declared.bounds.RunBounds.{RunBounds}
-use Rattle.coco_serve.proofs.NextLemmas.{answers_failed, finished_short, served_more, used_up_before}
-use Rattle.coco_serve.proofs.RunLemmas.{AreServed, AreTaken, OnlyNow, SeenNow, disk_failed, few_epochs, finished, memory_ran_out, new_reader, read_failed, served_later, served_new}
+use Rattle.coco_serve.proofs.NextLemmas.{answers_failed, finished_short, served_more}
+use Rattle.coco_serve.proofs.RefusedLemmas.{HasReason, refused_ends}
+use Rattle.coco_serve.proofs.RunLemmas.{AreServed, AreTaken, OnlyNow, SeenNow, few_epochs, finished, memory_ran_out, new_reader, read_failed, served_new}
 
 -- ---- causes
 
-pub used_up : (f : BatchFault) (next spare requests : ℕ) (before after : Counts) → CountsBatch {T = Unit {0}} (Err f) next spare requests before after → f ≡ fault.EpochsUsedUp
-    → SkipsFew next epochs_end 0 spare × (0 < requests)
-used_up f next spare requests before after counts is = subst (λ x. CountsBatch {T = Unit {0}} (Err x) next spare requests before after) is counts
+pub reason_of : (f : BatchFault) (next requests : ℕ) (was now : Around) (before after : Counts) → CountsBatch {T = Unit {0}} (Err f) next was now requests before after → HasReason next (spare was now) requests f
+reason_of fault.Say next requests was now before after counts = tt
+reason_of fault.Disk next requests was now before after counts = tt
+reason_of fault.Unreachable next requests was now before after counts = counts.1
+reason_of fault.EpochsUsedUp next requests was now before after counts = counts
+reason_of fault.NoMemory next requests was now before after counts = tt
 
--- the cause of a batch's fault is the run's, since no count of faults moved before
-pub cause_of : (f : BatchFault) (next now spare more requests : ℕ) (bytes : List ℕ) (start end : Outside) (before : Counts) → before.say ≡ start.say_faults → before.disk ≡ start.disk_faults
-    → SkipsFew next now (length (lines_of bytes)) spare → spare_of start end ≡ spare + more → CountsBatch {T = Unit {0}} (Err f) now more requests before (record { say = end.say_faults; disk = end.disk_faults })
-    → HasCause next bytes start end (ending_of f)
-cause_of fault.Say next now spare more requests bytes start end before says disks low adds counts = subst (λ n. Rose n end.say_faults) says counts
-cause_of fault.Disk next now spare more requests bytes start end before says disks low adds counts = subst (λ n. Rose n end.disk_faults) disks counts
-cause_of fault.EpochsUsedUp next now spare more requests bytes start end before says disks low adds counts =
-    (let used = counts.0 in subst (SkipsFew next epochs_end (length (lines_of bytes))) (sym adds) (omega (arith, used, low)))
-cause_of fault.NoMemory next now spare more requests bytes start end before says disks low adds counts = tt
+-- the cause of a batch's fault is the run's, since no count of faults of the host moved before
+pub cause_of : (f : BatchFault) (next now requests : ℕ) (bytes : List ℕ) (start end : Outside) (was : Around) (before : Counts) → before.say ≡ start.say_faults → before.disk ≡ start.disk_faults
+    → SkipsFew next now (length (lines_of bytes)) (spare start.around was) → IsLater start.around was → IsLater was end.around
+    → CountsBatch {T = Unit {0}} (Err f) now was end.around requests before (record { say = end.say_faults; disk = end.disk_faults }) → HasCause next bytes start end (ending_of f)
+cause_of fault.Say next now requests bytes start end was before says disks low first second counts = subst (λ n. Rose n end.say_faults) says counts
+cause_of fault.Disk next now requests bytes start end was before says disks low first second counts = subst (λ n. Rose n end.disk_faults) disks counts
+cause_of fault.Unreachable next now requests bytes start end was before says disks low first second counts = (was, first, counts.0)
+cause_of fault.EpochsUsedUp next now requests bytes start end was before says disks low first second counts =
+    (let used = counts.0 in let adds = spare_then start.around was end.around first second in subst (SkipsFew next epochs_end (length (lines_of bytes))) (sym adds) (omega (arith, used, low)))
+cause_of fault.NoMemory next now requests bytes start end was before says disks low first second counts = tt
 
 -- ---- batches
 
@@ -151,11 +157,12 @@ module _ {H : Type 0} (moment : H → ℕ) (observed : H → ℕ → Observation
 
         abbrev Tries : ℕ → Result (Unit {0}) BatchFault → ClusterState → H → Type 0
         Tries later result k' host =
-            (d : Contents) → RestsOn d (reads mid) (may_leave mid) → StandsAt d k → IsRefused result mid host ⊎ WorksOffBatch moment observed said reads may_leave result batch bounds d k.next_epoch later k' mid host
+            (d : Contents) → RestsOn d (reads mid) (may_leave mid) → StandsAt d k
+            → IsRefused moment observed said reads may_leave result d k.next_epoch later mid host ⊎ WorksOffBatch moment observed said reads may_leave result batch bounds d k.next_epoch later k' mid host
 
         answered : (later : ℕ) (k' : ClusterState) (host : H) → Tries later (Ok tt) k' host → (d : Contents) → RestsOn d (reads mid) (may_leave mid) → StandsAt d k
             → WorksOffBatch moment observed said reads may_leave (Ok tt) batch bounds d k.next_epoch later k' mid host
-        answered later k' host tries d rests stands = ⊎_elim (λ none. absurd none) (λ yes. yes) (tries d rests stands)
+        answered later k' host tries d rests stands = ⊎_elim (λ none. absurd none.ends) (λ yes. yes) (tries d rests stands)
 
         -- it was whole, and there are more
         pub running_more : (later total : ℕ) (result : Result (Unit {0}) BatchFault) (k' : ClusterState) (host : H) → total ≡ spare + later → result ≡ Ok tt → Tries later result k' host → bounds.size ≤ length batch.answers.items
@@ -193,35 +200,18 @@ module _ {H : Type 0} (moment : H → ℕ) (observed : H → ℕ → Observation
                   (lines_so more reader'.pending r.taking.takes) some x.ends short;
             })
 
-        abbrev later_on : (later : ℕ) (c : Contents) → AreServed moment observed said reads may_leave c next spare bounds run.taken.lines k first mid → AreServed moment observed said reads may_leave c next (spare + later) bounds run.taken.lines k first mid
-        later_on later c a = served_later moment observed said reads may_leave c next spare (spare + later) bounds run.taken.lines k first mid (omega arith) a
-
-        refused_ends : (later : ℕ) (f : BatchFault) (host : H) → IsRefused (Err f) mid host → (f ≡ fault.EpochsUsedUp → SkipsFew k.next_epoch epochs_end 0 later × (0 < length batch.fresh)) → 0 < length batch.answers.items
-            → (c : Contents) → AreServed moment observed said reads may_leave c next spare bounds run.taken.lines k first mid
-            → Serves moment observed said reads may_leave c next (spare + later) bounds took.bytes (ending_of f) first host
-        refused_ends later fault.Say host none used some c a = absurd none
-        refused_ends later fault.Disk host same used some c a = subst (λ x. Serves moment observed said reads may_leave c next (spare + later) bounds took.bytes ending.DiskFault first x) (sym same)
-            (disk_failed moment observed said reads may_leave seen_now c next (spare + later) bounds run.taken.lines k first mid (later_on later c a) took.bytes (more ++ lines_of reader'.pending) (others_so more reader'.pending r.taking.takes))
-        refused_ends later fault.EpochsUsedUp host same used some c a = subst (λ x. Serves moment observed said reads may_leave c next (spare + later) bounds took.bytes ending.EpochsUsedUp first x) (sym same)
-            (let end = used refl in
-            let reached = end.0 in
-            let few = a.numbers.few in
-            used_up_before moment observed said reads may_leave c next (spare + later) bounds run.taken.lines k first mid reader reader' m n batch (later_on later c a) r took.bytes (lines_so more reader'.pending r.taking.takes) some seen_now
-            (omega (arith, reached, few)) end.1)
-        refused_ends later fault.NoMemory host same used some c a = subst (λ x. Serves moment observed said reads may_leave c next (spare + later) bounds took.bytes ending.NoMemory first x) (sym same)
-            (memory_ran_out moment observed said reads may_leave seen_now c next (spare + later) bounds run.taken.lines k first mid (later_on later c a) took.bytes (more ++ lines_of reader'.pending) (others_so more reader'.pending r.taking.takes))
-
         -- it broke off
         pub batch_broke : (later total : ℕ) (result : Result (Unit {0}) BatchFault) (f : BatchFault) (k' : ClusterState) (host : H) → total ≡ spare + later → result ≡ Err f → Tries later result k' host
-            → (f ≡ fault.EpochsUsedUp → SkipsFew k.next_epoch epochs_end 0 later × (0 < length batch.fresh)) → 0 < length batch.answers.items → RunsTo next spare total bounds reader' before n start k (ending_of f) first host
-        batch_broke later total result f k' host adds is tries used some = subst (λ t. RunsTo next spare t bounds reader' before n start k (ending_of f) first host) (sym adds) (record {
+            → HasReason k.next_epoch later (length batch.fresh) f → 0 < length batch.answers.items → RunsTo next spare total bounds reader' before n start k (ending_of f) first host
+        batch_broke later total result f k' host adds is tries reason some = subst (λ t. RunsTo next spare t bounds reader' before n start k (ending_of f) first host) (sym adds) (record {
           bytes = took.bytes;
           gives = took.gives;
           count = omega (arith, took.taken);
           low = low_so more reader'.pending r.taking.takes;
           serves = λ c rests stands.
               let a = run.served c rests stands in
-              ⊎_elim (λ none. refused_ends later f host (subst (λ x. IsRefused x mid host) is none) used some c a)
+              ⊎_elim (λ x. refused_ends moment observed said reads may_leave c next spare later bounds run.taken.lines k first mid host reader reader' m n batch result a r took.bytes
+              (lines_so more reader'.pending r.taking.takes) some x seen_now f is reason)
               (λ x. answers_failed moment observed said reads may_leave c next spare later bounds run.taken.lines k k' first mid host reader reader' m n batch result a run.taken.given r x seen_now took.bytes
               (lines_so more reader'.pending r.taking.takes) some f is) (tries a.d a.rests a.stands);
         })

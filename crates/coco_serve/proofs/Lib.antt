@@ -5,6 +5,7 @@ pub mod LeftLemmas
 pub mod NextLemmas
 pub mod NumberLemmas
 pub mod OnceLemmas
+pub mod RefusedLemmas
 pub mod RepeatLemmas
 pub mod ReplyLemmas
 pub mod ReturnLemmas

@@ -49,23 +49,16 @@ use Rattle.coco_serve.specs.Endings.{ending_of}
 use Rattle.coco_log.proofs.OnlyRead.{sees_then, sees_weaker}
 use Rattle.coco_serve.proofs.NumberLemmas.{adds_more, adds_none}
 use Rattle.coco_serve.proofs.ReplyLemmas.{keeps_some, no_later_done, texts_are_answers}
-use Rattle.coco_serve.proofs.RunLemmas.{AreServed, SeenNow, all_served, answers-append, batches_more, classes_at, cut_more, epochs_used_up, first_more, joined-more, later_served, left_by, map-more, more_served, paired, size_more, turns_more, moved}
+use Rattle.coco_serve.proofs.RunLemmas.{AreServed, SeenNow, all_served, answers-append, batches_more, classes_at, cut_more, first_more, joined-more, later_served, left_by, map-more, more_served, paired, size_more, turns_more, moved}
 
 module _ {H : Type 0} (moment : H → ℕ) (observed : H → ℕ → Observation → Type 0) (said : H → Option (List ℕ)) (reads : H → Option Files) (may_leave : H → Files → Type 0) where
   -- a batch that was read is the next one
   module _ (c : Contents) (next spare : ℕ) (bounds : RunBounds) (lines : List Line) (k : ClusterState) (first mid : H) (reader reader' : ReaderState) (m n : SourceMoment) (batch : Batch)
       (a : AreServed moment observed said reads may_leave c next spare bounds lines k first mid) (r : ReadsBatch k.procs (known_of k.kept []) reader reader' m n bounds.size batch) (bytes : List ℕ)
       (all : lines_of bytes ≡ (lines ++ r.taking.lines) ++ lines_of reader'.pending) (some : 0 < length batch.answers.items) where
-    read_next : AreFirstBatches bounds.size bytes (a.batches ++ r.taking.lines ∷ [])
+    pub read_next : AreFirstBatches bounds.size bytes (a.batches ++ r.taking.lines ∷ [])
     read_next = first_more bounds.size bytes lines r.taking.lines (lines_of reader'.pending) a.batches a.lines_are a.whole (omega (arith, r.taking.as_many, some)) (omega (arith, r.taking.as_many, r.few))
         (λ short. ap lines_of (r.ends (omega (arith, r.taking.as_many, short))).1 ∙ lines_of-nil) all
-
-    -- it has a new request, and no number is left for its epoch
-    pub used_up_before : SeenNow moment observed said reads may_leave → SkipsFew next epochs_end (length a.numbers.added) spare → 0 < length batch.fresh → Serves moment observed said reads may_leave c next spare bounds bytes ending.EpochsUsedUp first mid
-    used_up_before seen_now end some_new =
-        let same = ap (length {A = Request}) r.taking.fresh in
-        epochs_used_up moment observed said reads may_leave seen_now c next spare bounds lines k first mid a bytes (r.taking.lines ++ lines_of reader'.pending) (all ∙ append_assoc lines r.taking.lines (lines_of reader'.pending)) end
-        r.taking.lines r.taking.classes read_next (classes_at c a.d k r.taking.lines r.taking.classes a.stands a.setting r.taking.are) (omega (arith, same, some_new))
 
   module _ (c : Contents) (next spare more_spare : ℕ) (bounds : RunBounds) (lines : List Line) (k k' : ClusterState) (first mid host : H) (reader reader' : ReaderState) (m n : SourceMoment) (batch : Batch) (result : Result (Unit {0}) BatchFault)
       (a : AreServed moment observed said reads may_leave c next spare bounds lines k first mid) (given : reader.given ≡ length lines) (r : ReadsBatch k.procs (known_of k.kept []) reader reader' m n bounds.size batch)
@@ -339,6 +332,7 @@ module _ {H : Type 0} (moment : H → ℕ) (observed : H → ℕ → Observation
       batch_fails : (f : BatchFault) → BatchEnds a.d x.d (x.number + 1) k' texts (said mid) (said host) (reads host) (may_leave host) (Err f) → Serves moment observed said reads may_leave c next all bounds bytes (ending_of f) first host
       batch_fails fault.Say ends = say_ends ends
       batch_fails fault.Disk ends = disk_ends ends
+      batch_fails fault.Unreachable ends = absurd ends
       batch_fails fault.EpochsUsedUp ends = absurd ends
       batch_fails fault.NoMemory ends = memory_ends ends
 

@@ -34,7 +34,6 @@ use Rattle.coco_lines.specs.Lines.{Line, ended_lines_of, lines_of}
 use Rattle.coco_lines.specs.ReaderState.{ReaderState}
 use Rattle.coco_lines.specs.Reads.{SourceMoment}
 use Rattle.coco_lines.specs.declared.class.Class.{Class}
-use Rattle.coco_log.proofs.OnlyRead.{sees_weaker}
 use Rattle.coco_store.specs.Contents.{Contents, history_of}
 use Rattle.coco_serve.specs.Growth.{AddsWithin, AreFirstBatches, GrowsByExecution, HaveSize, IsGrown, Manner, answers_of, manner_of}
 use Rattle.coco_serve.specs.Seen.{IsServed, LeavesEither}
@@ -258,26 +257,6 @@ module _ {H : Type 0} (moment : H → ℕ) (observed : H → ℕ → Observation
       none : AddsWithin k.next_epoch k.next_epoch spare (history_of c) (history_of c)
       none = adds_none k.next_epoch k.next_epoch spare (history_of c) (record { low = omega arith; few = omega arith })
 
-  -- where more may be skipped
-  abbrev pub served_later : (c : Contents) (next spare more : ℕ) (bounds : RunBounds) (lines : List Line) (k : ClusterState) (first host : H) → spare ≤ more → AreServed c next spare bounds lines k first host → AreServed c next more bounds lines k first host
-  served_later c next spare more bounds lines k first host le a = record {
-    batches = a.batches;
-    classes = a.classes;
-    d = a.d;
-    setting = a.setting;
-    lines_are = a.lines_are;
-    grown = a.grown;
-    whole = a.whole;
-    many = a.many;
-    rests = a.rests;
-    stands = a.stands;
-    says = a.says;
-    moments = sees_weaker moment observed first host (IsServed c.setting bounds (history_of c) next spare a.batches a.classes (history_of a.d) (said first)) (IsServed c.setting bounds (history_of c) next more a.batches a.classes (history_of a.d) (said first))
-        (later_served c.setting bounds (history_of c) next spare a.batches a.classes (history_of a.d) (said first) more le) a.moments;
-    numbers = adds_later next k.next_epoch spare more (history_of c) (history_of a.d) le a.numbers;
-    others = a.others;
-  }
-
   -- what is left at exit was seen
   pub left_by : SeenNow → (first host : H) (P : Observation → Type 0) → SeesOnly moment observed first host P → (seen : Observation) → said host ≡ Some seen.said → may_leave host seen.image → P seen
   left_by seen_now first host P sees seen spoke leaves = sees.each seen (seen_now host (moment first) seen sees.later leaves spoke)
@@ -356,17 +335,6 @@ module _ {H : Type 0} (moment : H → ℕ) (observed : H → ℕ → Observation
 
     pub memory_ran_out : Serves moment observed said reads may_leave c next spare bounds bytes ending.NoMemory first host
     memory_ran_out = ended_so ending.NoMemory (leaves_by (SaysUpTo (said first) (said host)) says_whole)
-
-    pub disk_failed : Serves moment observed said reads may_leave c next spare bounds bytes ending.DiskFault first host
-    disk_failed = ended_so ending.DiskFault (leaves_by (SaysAll (said first) (said host)) a.says)
-
-    pub epochs_used_up : SkipsFew next epochs_end (length a.numbers.added) spare → (more : Lines) (cs : List Class) → AreFirstBatches bounds.size bytes (a.batches ++ more ∷ []) → AreClasses tree (known_in h) more cs → 0 < length (new_of cs)
-        → Serves moment observed said reads may_leave c next spare bounds bytes ending.EpochsUsedUp first host
-    epochs_used_up end more cs so are some = ended_so ending.EpochsUsedUp (
-      rests_at,
-      a.says,
-      record { end = end; batch = more; classes = cs; first = so; are = are; some = some },
-    )
 
     pub read_failed : (rest : List Line) → ended_lines_of bytes ≡ lines ++ rest → length rest < bounds.size → Serves moment observed said reads may_leave c next spare bounds bytes ending.ReadFault first host
     read_failed rest ended few = ended_so ending.ReadFault (

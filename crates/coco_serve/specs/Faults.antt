@@ -4,7 +4,8 @@ use Rattle.coco_types.specs.Limits.{epochs_end}
 use Rattle.coco_types.specs.declared.error.OutFault.{OutFault}
 use Rattle.coco_types.specs.declared.error.OutFault.TheVariants as out
 use Rattle.coco_io.specs.Counts.{Rose}
-use Rattle.coco_cluster.specs.Around.{SkipsFew}
+use Rattle.coco_cluster.specs.Around.{Around, SkipsFew, spare}
+use Rattle.coco_cluster.specs.GivingUp.{AreGivenUp}
 use Rattle.coco_cluster.specs.declared.fault.TurnFault.{TurnFault}
 use Rattle.coco_cluster.specs.declared.fault.TurnFault.TheVariants as turn
 use Rattle.coco_serve.specs.declared.fault.BatchFault.{BatchFault}
@@ -13,6 +14,7 @@ use Rattle.coco_serve.specs.declared.fault.BatchFault.TheVariants as fault
 -- what a fault of a turn is to its batch
 abbrev pub fault_of_turn : TurnFault → BatchFault
 fault_of_turn turn.Disk = fault.Disk
+fault_of_turn turn.Unreachable = fault.Unreachable
 fault_of_turn turn.EpochsUsedUp = fault.EpochsUsedUp
 fault_of_turn turn.NoMemory = fault.NoMemory
 
@@ -26,11 +28,12 @@ pub record Counts : Type 0 where
   pub say : ℕ
   pub disk : ℕ
 
--- a count rose where its fault is answered, and none moved where there is no fault; epochs are used up where there is no next number for so many requests, but for few that may
--- have been skipped
-abbrev pub CountsBatch : {T : Type 0} → Result T BatchFault → ℕ → ℕ → ℕ → Counts → Counts → Type 0
-CountsBatch (Ok x) next spare requests before after = after ≡ before
-CountsBatch (Err fault.Say) next spare requests before after = Rose before.say after.say
-CountsBatch (Err fault.Disk) next spare requests before after = Rose before.disk after.disk
-CountsBatch (Err fault.EpochsUsedUp) next spare requests before after = SkipsFew next epochs_end 0 spare × (0 < requests)
-CountsBatch (Err fault.NoMemory) next spare requests before after = ⊤
+-- a count rose where its fault is answered, and none moved where there is no fault; with a request or more, nodes are unreachable where four attempts were given up, and epochs are used up
+-- where there is no next number, but for few that may have been skipped
+abbrev pub CountsBatch : {T : Type 0} → Result T BatchFault → ℕ → Around → Around → ℕ → Counts → Counts → Type 0
+CountsBatch (Ok x) next was now requests before after = after ≡ before
+CountsBatch (Err fault.Say) next was now requests before after = Rose before.say after.say
+CountsBatch (Err fault.Disk) next was now requests before after = Rose before.disk after.disk
+CountsBatch (Err fault.Unreachable) next was now requests before after = AreGivenUp 4 was now × (0 < requests)
+CountsBatch (Err fault.EpochsUsedUp) next was now requests before after = SkipsFew next epochs_end 0 (spare was now) × (0 < requests)
+CountsBatch (Err fault.NoMemory) next was now requests before after = ⊤

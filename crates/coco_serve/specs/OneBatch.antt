@@ -1,12 +1,12 @@
 -- What is committed and said of one batch, and what is seen meanwhile.
-use Rattle.std.specs.Prelude.{◌≡◌, ◌⊎◌, ℕ, ◌+◌, List, take, Option, Result, Ok, Err, OnOk}
+use Rattle.std.specs.Prelude.{◌≡◌, ◌⊎◌, ⊤, ℕ, ◌+◌, List, take, Option, Some, Result, Ok, Err, OnOk}
 use Rattle.std.specs.Io.KnownBytes.{append_known}
 use Rattle.coco_append.specs.Gaining.{RestsOn}
 use Rattle.coco_ast.specs.History.{kept}
 use Rattle.coco_batches.specs.declared.batch.Batch.{Batch}
 use Rattle.coco_cluster.specs.Around.{IsTaken}
 use Rattle.coco_cluster.specs.Standing.{ClusterState, IsBehindAll, StandsAt}
-use Rattle.coco_cluster.specs.Turning.{epochs_of}
+use Rattle.coco_cluster.specs.Turning.{IsStoreOf, RestsWithout, ShowsHistory, epochs_of}
 use Rattle.coco_cluster.specs.Writing.{WritesLogs}
 use Rattle.coco_host.specs.Files.{Files}
 use Rattle.coco_host.specs.Moments.{Observation, SeesOnly}
@@ -32,6 +32,7 @@ abbrev pub BatchEnds : Contents → Contents → ℕ → ClusterState → List �
 BatchEnds c d end after texts before now reads may_leave (Ok x) = RestsOn d reads may_leave × StandsAt d after × (now ≡ append_known before texts)
 BatchEnds c d end after texts before now reads may_leave (Err fault.Say) = RestsOn d reads may_leave × SaysPart texts before now
 BatchEnds c d end after texts before now reads may_leave (Err fault.Disk) = LeavesEither c.setting (history_of c) (history_of d) end before may_leave × (now ≡ before)
+BatchEnds c d end after texts before now reads may_leave (Err fault.Unreachable) = ⊥
 BatchEnds c d end after texts before now reads may_leave (Err fault.EpochsUsedUp) = ⊥
 BatchEnds c d end after texts before now reads may_leave (Err fault.NoMemory) =
     LeavesEither c.setting (history_of c) (history_of d) end before may_leave × (now ≡ before) ⊎ RestsOn d reads may_leave × SaysPart texts before now
@@ -52,10 +53,23 @@ pub record WorksOffBatch {H : Type 0} (moment : H → ℕ) (observed : H → ℕ
   pub others : WritesLogs c.setting (reads old) (reads new) (may_leave old) (may_leave new)
   pub ends : BatchEnds c d (number + 1) after (batch_texts c d batch) (said old) (said new) (reads new) (may_leave new) result
 
--- a batch may break off before anything is done
-abbrev pub IsRefused : {H : Type 0} → Result (Unit {0}) BatchFault → H → H → Type 0
-IsRefused (Ok x) old new = ⊥
-IsRefused (Err fault.Say) old new = ⊥
-IsRefused (Err fault.Disk) old new = new ≡ old
-IsRefused (Err fault.EpochsUsedUp) old new = new ≡ old
-IsRefused (Err fault.NoMemory) old new = new ≡ old
+-- how a batch ends that isn't committed: where its turn gave up, or found no number, the host rests on the store of before, but for prepared entries, and none is of this epoch or a later one
+abbrev pub RefusedEnds : Contents → ℕ → Option Files → (Files → Type 0) → Result (Unit {0}) BatchFault → Type 0
+RefusedEnds c end reads may_leave (Ok x) = ⊥
+RefusedEnds c end reads may_leave (Err fault.Say) = ⊥
+RefusedEnds c end reads may_leave (Err fault.Disk) = ⊤
+RefusedEnds c end reads may_leave (Err fault.Unreachable) = RestsWithout c end reads may_leave
+RefusedEnds c end reads may_leave (Err fault.EpochsUsedUp) = RestsWithout c end reads may_leave
+RefusedEnds c end reads may_leave (Err fault.NoMemory) = ⊤
+
+-- nothing of a batch is committed or said. At each moment, and behind it, there is the store of before, in which no entry is of a later epoch than the one tried last; and behind it the other
+-- files are as they were
+pub record IsRefused {H : Type 0} (moment : H → ℕ) (observed : H → ℕ → Observation → Type 0) (said : H → Option (List ℕ)) (reads : H → Option Files) (may_leave : H → Files → Type 0)
+    (result : Result (Unit {0}) BatchFault) (c : Contents) (next spare : ℕ) (old new : H) : Type 0 where
+  pub number : ℕ
+  pub taken : IsTaken next number spare
+  pub moments : SeesOnly moment observed old new (ShowsHistory c.setting (history_of c) (number + 1) (said old))
+  pub left : (bytes : List ℕ) → said old ≡ Some bytes → (image : Files) → may_leave new image → IsStoreOf c.setting (history_of c) (number + 1) image
+  pub others : WritesLogs c.setting (reads old) (reads new) (may_leave old) (may_leave new)
+  pub quiet : said new ≡ said old
+  pub ends : RefusedEnds c number (reads new) (may_leave new) result

@@ -5,6 +5,7 @@ use Rattle.coco_types.specs.Limits.{epochs_end, most_input_bytes}
 use Rattle.coco_append.specs.Gaining.{RestsOn}
 use Rattle.coco_ast.specs.History.{History}
 use Rattle.coco_cluster.specs.Around.{Around, IsLater, SkipsFew, spare}
+use Rattle.coco_cluster.specs.GivingUp.{AreGivenUp}
 use Rattle.coco_cluster.specs.Standing.{ClusterState, IsBehindAll, StandsAt}
 use Rattle.coco_cluster.specs.Writing.{WritesLogs}
 use Rattle.coco_host.specs.Files.{Files}
@@ -21,7 +22,7 @@ use Rattle.coco_serve.specs.Growth.{AddsWithin, AreFirstBatches, HaveSize, IsGro
 use Rattle.coco_serve.specs.Seen.{IsServed, LeavesEither}
 use Rattle.coco_serve.specs.declared.ending.Served.{Served}
 use Rattle.coco_serve.specs.declared.bounds.RunBounds.{RunBounds}
-use Rattle.coco_serve.specs.declared.ending.Served.TheVariants.{Finished, ReadFault, SayFault, DiskFault, EpochsUsedUp, NoMemory}
+use Rattle.coco_serve.specs.declared.ending.Served.TheVariants.{Finished, ReadFault, SayFault, DiskFault, Unreachable, EpochsUsedUp, NoMemory}
 
 -- ---- causes
 
@@ -37,13 +38,14 @@ pub record Outside : Type 0 where
 abbrev pub spare_of : Outside → Outside → ℕ
 spare_of before after = spare before.around after.around
 
--- why a run ended so, by the bytes that the source gave; epochs are used up where the numbers from the next one on reach the end, by one for each line and few that may be skipped. Want of
--- memory needs no cause
+-- why a run ended so, by the bytes that the source gave; nodes are unreachable where from some moment of the run on four attempts were given up, one behind the other; epochs are used up
+-- where the numbers from the next one on reach the end, by one for each line and few that may be skipped. Want of memory needs no cause
 abbrev pub HasCause : ℕ → List ℕ → Outside → Outside → Served → Type 0
 HasCause next bytes before after Finished = IsSpent after.source
 HasCause next bytes before after ReadFault = Rose before.source_faults after.source_faults ⊎ (length bytes ≡ most_input_bytes)
 HasCause next bytes before after SayFault = Rose before.say_faults after.say_faults
 HasCause next bytes before after DiskFault = Rose before.disk_faults after.disk_faults
+HasCause next bytes before after Unreachable = (m : Around) × IsLater before.around m × AreGivenUp 4 m after.around
 HasCause next bytes before after EpochsUsedUp = SkipsFew next epochs_end (length (lines_of bytes)) (spare_of before after)
 HasCause next bytes before after NoMemory = ⊤
 
@@ -99,25 +101,32 @@ pub record LeavesLast (s : Setting) (bounds : RunBounds) (opening : History) (ne
   pub says : Says history (take count classes)
   pub left : LeavesEither s history whole (number + 1) now may_leave
 
--- as many epochs were added as there were numbers for, but for few that may be skipped, and the next batch has a new request
-pub record AreUsedUp (m : Manner) (opening : History) (next spare size : ℕ) (bytes : List ℕ) (p : Progress m opening next spare size bytes) : Type 0 where
-  pub end : SkipsFew next epochs_end (length p.numbers.added) spare
+-- the next batch has a new request
+pub record HasNext (m : Manner) (opening : History) (next spare size : ℕ) (bytes : List ℕ) (p : Progress m opening next spare size bytes) : Type 0 where
   pub batch : Batch
   pub classes : List Class
   pub first : AreFirstBatches size bytes (p.batches ++ batch ∷ [])
   pub are : AreClasses m.procs (known_in p.history) batch classes
   pub some : 0 < length (new_of classes)
 
+-- as many epochs were added as there were numbers for, but for few that may be skipped, and the next batch has a new request
+pub record AreUsedUp (m : Manner) (opening : History) (next spare size : ℕ) (bytes : List ℕ) (p : Progress m opening next spare size bytes) : Type 0 where
+  pub end : SkipsFew next epochs_end (length p.numbers.added) spare
+  pub has_next : HasNext m opening next spare size bytes p
+
 -- ---- how a run ends
 
 -- by its ending: an input that was read to its end is committed and answered whole; after a fault of reading so are all whole batches; a fault of saying
--- leaves all batches committed, the last one said in part; and after a fault of the disk, or out of memory, one batch more may be committed than is said
+-- leaves all batches committed, the last one said in part; where nodes are unreachable, or epochs used up, all that is committed is said, and the next batch
+-- has a new request; and after a fault of the disk, or out of memory, one batch more may be committed than is said
 abbrev pub RunEnds : (c : Contents) → (next spare : ℕ) → (bounds : RunBounds) → (bytes : List ℕ) → Progress (manner_of c.setting bounds) (history_of c) next spare bounds.size bytes → Option (List ℕ) → Option (List ℕ) → Option Files → (Files → Type 0) → Served → Type 0
 RunEnds c next spare bounds bytes p before now reads may_leave Finished = AreAll bounds.size bytes p.batches × RestsAt c.setting p.history p.end reads may_leave × SaysAll before now p.history p.classes
 RunEnds c next spare bounds bytes p before now reads may_leave ReadFault = AreAllWhole bounds.size bytes p.batches × RestsAt c.setting p.history p.end reads may_leave × SaysAll before now p.history p.classes
 RunEnds c next spare bounds bytes p before now reads may_leave SayFault = RestsAt c.setting p.history p.end reads may_leave × SaysUpTo before now p.history p.classes
 RunEnds c next spare bounds bytes p before now reads may_leave DiskFault =
     LeavesLast c.setting bounds (history_of c) next spare p.batches p.classes p.history (SaysAll before now) now may_leave
+RunEnds c next spare bounds bytes p before now reads may_leave Unreachable =
+    RestsAt c.setting p.history p.end reads may_leave × SaysAll before now p.history p.classes × HasNext (manner_of c.setting bounds) (history_of c) next spare bounds.size bytes p
 RunEnds c next spare bounds bytes p before now reads may_leave EpochsUsedUp =
     RestsAt c.setting p.history p.end reads may_leave × SaysAll before now p.history p.classes × AreUsedUp (manner_of c.setting bounds) (history_of c) next spare bounds.size bytes p
 RunEnds c next spare bounds bytes p before now reads may_leave NoMemory =

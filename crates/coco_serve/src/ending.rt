@@ -15,6 +15,8 @@ pub enum Served {
     SayFault,
     /// The host's files failed.
     DiskFault,
+    /// Four attempts at an epoch were given up, since nodes stopped or weren't reached.
+    Unreachable,
     /// There is no number for the next epoch.
     EpochsUsedUp,
     NoMemory,
@@ -27,6 +29,7 @@ impl From<BatchFault> for Served {
         match fault {
             BatchFault::Say => Served::SayFault,
             BatchFault::Disk => Served::DiskFault,
+            BatchFault::Unreachable => Served::Unreachable,
             BatchFault::EpochsUsedUp => Served::EpochsUsedUp,
             BatchFault::NoMemory => Served::NoMemory,
         }

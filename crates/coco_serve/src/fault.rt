@@ -14,6 +14,8 @@ pub enum BatchFault {
     Say,
     /// The host's files failed.
     Disk,
+    /// Four attempts at the epoch were given up, since nodes stopped or weren't reached.
+    Unreachable,
     /// There is no number for the next epoch.
     EpochsUsedUp,
     NoMemory,
@@ -25,6 +27,7 @@ impl From<TurnFault> for BatchFault {
     fn from(fault: TurnFault) -> BatchFault {
         match fault {
             TurnFault::Disk => BatchFault::Disk,
+            TurnFault::Unreachable => BatchFault::Unreachable,
             TurnFault::EpochsUsedUp => BatchFault::EpochsUsedUp,
             TurnFault::NoMemory => BatchFault::NoMemory,
         }

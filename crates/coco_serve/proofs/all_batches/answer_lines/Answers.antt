@@ -8,7 +8,7 @@ use Rattle.coco_lines.specs.ReaderState.{ReaderState}
 use Rattle.coco_lines.specs.Reads.{SourceMoment}
 use Rattle.coco_serve.specs.Faults.{Counts}
 use Rattle.coco_serve.specs.Serving.{Outside, Runs}
-use Rattle.coco_serve.proofs.EndLemmas.{batch_broke, broken_failed, broken_memory, broken_much, cause_of, finished_empty, finished_last, read_at, running_more, running_new, used_up}
+use Rattle.coco_serve.proofs.EndLemmas.{batch_broke, broken_failed, broken_memory, broken_much, cause_of, finished_empty, finished_last, read_at, reason_of, running_more, running_new}
 use Rattle.coco_lines.proofs.ClassLemmas.{classes_length}
 use Rattle.coco_serve.proofs.RunLemmas.{few_new}
 use Rattle.coco_serve.proofs.all_batches.answer_lines.Goals as goal
@@ -92,14 +92,15 @@ returns-in-Err g c =
     let r = read_at c.procs.result.now c.batches.cluster.procs c.kept.result.now c.batches.cluster.kept c.batches.reader c.read_batch.new.reader m1 m2 c.args.bounds.size c.in-Ok.batch c.procs.ensures c.kept.ensures c.in-Ok.ensures.batch in
     let w = batch_broke g.H.Host.moment g.H.Host.observed g.H.Host.said g.H.Host.reads g.H.Host.may_leave c.args.cluster.now.next_epoch _ c.args.bounds c.batches.reader c.read_batch.new.reader m0 m1 m2 c.args.cluster.now c.batches.cluster c.args.host.now c.batches.host c.batches.invariant.running g.met.H.Host.seen_now
     c.in-Ok.batch r (spare a1 a2) (spare a0 a2) c.turn_and_say.result c.in-Err.fault c.turn_and_say.new.cluster c.turn_and_say.new.host adds c.in-Err.is c.turn_and_say.ensures.answers
-    (used_up c.in-Err.fault c.batches.cluster.next_epoch (spare a1 a2) (length c.in-Ok.batch.fresh) n1 n2 c.in-Err.ensures.counts) (omega (arith, c.len-count.ensures, c.if-count-eq0.false)) in
+    (reason_of c.in-Err.fault c.batches.cluster.next_epoch (length c.in-Ok.batch.fresh) a1 a2 n1 n2 c.in-Err.ensures.counts) (omega (arith, c.len-count.ensures, c.if-count-eq0.false)) in
     let before : Outside = (record { source = record { given = g.S.Source.given c.args.input.now; left = g.S.Source.remaining c.args.input.now; at_end = g.S.Source.at_end c.args.input.now }; source_faults = g.S.Source.faults c.args.input.now; say_faults = g.H.Host.say_faults c.args.host.now; disk_faults = g.H.Host.disk_faults c.args.host.now; around = a0 }) in
     let after : Outside = (record { source = record { given = g.S.Source.given c.read_batch.new.source; left = g.S.Source.remaining c.read_batch.new.source; at_end = g.S.Source.at_end c.read_batch.new.source }; source_faults = g.S.Source.faults c.read_batch.new.source; say_faults = g.H.Host.say_faults c.turn_and_say.new.host; disk_faults = g.H.Host.disk_faults c.turn_and_say.new.host; around = a2 }) in
     subst (λ e. Runs g.H.Host.moment g.H.Host.observed g.H.Host.said g.H.Host.reads g.H.Host.may_leave c.args.cluster.now c.args.bounds before after e c.args.host.now c.turn_and_say.new.host) (sym c.from.ensures) (record {
       bytes = w.bytes;
       gives = w.gives;
       later = later_then a0 a1 a2 c.batches.invariant.later later;
-      cause = cause_of c.in-Err.fault c.args.cluster.now.next_epoch c.batches.cluster.next_epoch (spare a0 a1) (spare a1 a2) (length c.in-Ok.batch.fresh) w.bytes before after n1 c.batches.invariant.says c.batches.invariant.disks w.low adds c.in-Err.ensures.counts;
+      cause = cause_of c.in-Err.fault c.args.cluster.now.next_epoch c.batches.cluster.next_epoch (length c.in-Ok.batch.fresh) w.bytes before after a1 n1 c.batches.invariant.says c.batches.invariant.disks w.low c.batches.invariant.later later
+          c.in-Err.ensures.counts;
       serves = w.serves;
     })
 

@@ -1,10 +1,12 @@
-use Rattle.std.proofs.Common.{◌≤◌, ◌+◌, length, Err, sym, ap, ◌∙◌, subst, inr, refl}
+use Rattle.std.proofs.Common.{◌≡◌, ◌≤◌, ◌+◌, List, [], length, Err, sym, ap, ◌∙◌, subst, inl, inr, refl}
 use Rattle.std.proofs.lemmas.List.{with_items_is}
+use Rattle.std.proofs.lemmas.Result.{err_from_is_err_and}
+use Rattle.coco_cluster.proofs.StoreLemmas.{no_ok}
 use Rattle.coco_cluster.specs.Standing.{ClusterState}
 use Rattle.coco_cluster.specs.Storing.{AreEntries}
 use Rattle.coco_parallel.specs.Traces.{traced}
 use Rattle.coco_cluster.specs.contracts.cluster.Cluster.{the_view}
-use Rattle.coco_cluster.proofs.TurnLemmas.{entries, failed, few_then, follow, has_ended, has_run, may_work, reverts, sound_then, succeeded, turned_from}
+use Rattle.coco_cluster.proofs.TurnLemmas.{entries, failed, few_then, follow, has_ended, has_run, may_work, none_of, reverts, sound_then, succeeded, turned_from, untouched}
 use Rattle.coco_cluster.proofs.cluster.Cluster.turn.Goals as goal
 
 pub run_epoch-requires-clause-may : goal.run_epoch-requires-clause-may
@@ -29,7 +31,7 @@ returns-in-Err-clause-turns g c k rests stands room =
     (record { may = c.a_run_may_be_prepared.ensures.may; ready = c.a_run_may_be_prepared.ensures.ready }) (the_view c.self.inside) c.args.requests.items c.args.workers c.args.attempts _ c.run_epoch.new.shards.items c.run_epoch.new.kept
     c.in_ok-dones.field-0.dones c.in_ok-dones.field-0.rows.items (traced c.in_ok-dones.field-0.trace) run c.args.self.now c.self.view_is k rests stands room
     c.store_epoch.result c.store_epoch.new.host c.as_slice-2.result.now c.as_slice-3.result.now c.as_slice-2.ensures.value c.as_slice-3.ensures (c.store_epoch.ensures.stores k)
-    (Err c.from.result) c.from.result _ refl)
+    (Err c.from.result) c.in-Err.fault _ (ap Err c.from.ensures))
 
 pub returns-in-Err-clause-given_back : goal.returns-in-Err-clause-given_back
 returns-in-Err-clause-given_back g c =
@@ -89,3 +91,16 @@ returns-clause-turned g c _ m holds =
     c.deref_mut-2.ensures.value c.end_epoch.auto.shards c.end_epoch.ensures.holds c.end_epoch.ensures.keep c.end_epoch.ensures.kept in
     let tables = with_items_is c.run_epoch.new.shards c.end_epoch.new.shards (c.end_epoch.auto.shards ∙ c.deref_mut-2.ensures.len) in
     turned_from _ _ _ _ _ _ _ _ _ run _ _ over c.args.self.now _ c.self.view_is refl refl refl tables m holds
+
+pub returns-then-is_empty-clause-turns : goal.returns-then-is_empty-clause-turns
+returns-then-is_empty-clause-turns g c k rests stands room =
+    inl (untouched g.H.Host.moment g.H.Host.observed g.H.Host.said g.H.Host.reads g.H.Host.may_leave g.met.H.Host.only_now _ c.args.requests.items _ k c.args.self.now c.args.host.now rests stands (none_of c.args.requests.items c.args.requests.len (sym c.is_empty.ensures ∙ c.if-is_empty.true) c.args.requests.ok.0))
+
+pub returns-then-self-ge-EPOCHS_END-clause-turns : goal.returns-then-self-ge-EPOCHS_END-clause-turns
+returns-then-self-ge-EPOCHS_END-clause-turns g c k rests stands room = inl (untouched g.H.Host.moment g.H.Host.observed g.H.Host.said g.H.Host.reads g.H.Host.may_leave g.met.H.Host.only_now _ c.args.requests.items _ k c.args.self.now c.args.host.now rests stands tt)
+
+pub returns-in_err-dones-clause-turns : goal.returns-in_err-dones-clause-turns
+returns-in_err-dones-clause-turns g c k rests stands room =
+    let p = err_from_is_err_and c.from_residual.result c.from_residual.ensures.1 in
+    inl (untouched g.H.Host.moment g.H.Host.observed g.H.Host.said g.H.Host.reads g.H.Host.may_leave g.met.H.Host.only_now c.from_residual.result c.args.requests.items _ k c.args.self.now c.args.host.now rests stands
+    (no_ok c.from_residual.result p.0 (c.args.requests.items ≡ []) p.1))
