@@ -1,0 +1,4 @@
+pub mod LetterLemmas
+pub mod OpenedLemmas
+pub mod PlaceLemmas
+pub mod TableLemmas
