@@ -1,0 +1,4 @@
+pub mod NodeLemmas
+pub mod RestLemmas
+pub mod MemberLemmas
+pub mod SilentLemmas

@@ -1,0 +1,2 @@
+pub mod Reminding
+pub mod Settling
