@@ -169,6 +169,7 @@ module _ (of_base : BaseDonesFollow) (of_commits : CommittedDonesFollow) (last :
           below = λ n less. node_below (λ (e : ℕ). e < loaded.next) (nodes_of loaded) n behind;
         };
         first = first;
+        above_base = above.0;
         end = next_below (last.entry.layout.base_epoch ∷ epochs ++ flat_map prepared_epochs (nodes_of loaded)) loaded.next next
             (epochs_below last committed loaded last.entry.layout.nodes good are read.nodes read.each);
         early = good.early;

@@ -133,7 +133,7 @@ pub record AreKeptBelow (procs : Procedures) (kept : Keeping) (epoch : ℕ) : Ty
 abbrev pub IsTabled : Procedures → RowKey → Type 0
 IsTabled procs key = key.table < length procs.tables
 
--- the layout is good, each table holds a map of its partition, the shards hold one map together, each row's table is there, the committed epochs rise, each node has prepared them, and the next epoch's number is above them, above what each node prepared, and above those of the kept Dones
+-- the layout is good, each table holds a map of its partition, the shards hold one map together, each row's table is there, the committed epochs rise, each node has prepared them, and the next epoch's number is above the base's, above them, above what each node prepared, and above those of the kept Dones
 pub record IsSoundStore (store : Opened) : Type 0 where
   pub is : IsLayout (entry_in store)
   pub limits : IsWithinLimits (entry_in store)
@@ -152,6 +152,7 @@ pub record IsSoundStore (store : Opened) : Type 0 where
   pub readied : HaveReadied entries store
   pub keeps : AreKeptBelow store.procs store.kept store.next_epoch
   pub first : 0 < store.next_epoch
+  pub above_base : store.layout.base_epoch < store.next_epoch
   pub end : store.next_epoch ≤ epochs_end
   pub early : store.layout_place < files_end
   pub logs : AreLogs store.layout store.logs
