@@ -107,21 +107,26 @@ news_joined a b c first second = news_is a c (news a b ++ news b c) (joined a b 
 gained : (old new these : List Posted) → new ≡ old ++ these → new ≡ old ++ news old new
 gained old new these is = is ∙ ap (λ (ps : List Posted). old ++ ps) (sym (news_is old new these is))
 
+-- nothing was given
+pub none_given : (sent given given' : List Posted) → given' ≡ given → Each (Contains sent) (news given given')
+none_given sent given given' same = subst (Each (Contains sent)) (sym (news_none given given' same)) (λ i d h. absurd (omega (arith, h)))
+
 pub passes_given : (ring : Ring) (epoch : ℕ) (sent given : List Posted) (tables : List CopyState) (sent' given' : List Posted) (tables' : List CopyState) (xs : List Posted) → sent' ≡ sent ++ xs → given' ≡ given ++ news given given'
-    → ArePhase epoch xs → OfTables ring (Brings ring epoch (news given given')) tables tables' → Each (λ t. t.epoch ≡ epoch) tables' → Passes ring epoch sent given tables sent' given' tables'
-passes_given ring epoch sent given tables sent' given' tables' xs sends gives phase gains begun = record {
+    → ArePhase epoch xs → OfTables ring (Brings ring epoch (news given given')) tables tables' → Each (λ t. t.epoch ≡ epoch) tables' → Each (Contains sent') (news given given') → Passes ring epoch sent given tables sent' given' tables'
+passes_given ring epoch sent given tables sent' given' tables' xs sends gives phase gains begun were_sent = record {
   sends = gained sent sent' xs sends;
   gives = gives;
   phase = subst (ArePhase epoch) (sym (news_is sent sent' xs sends)) phase;
   gains = gains;
   begun = begun;
+  were_sent = were_sent;
 }
 
 -- letters were sent, and nothing else happened
 pub passes_sent : (ring : Ring) (epoch : ℕ) (sent given : List Posted) (tables : List CopyState) (sent' given' : List Posted) (xs : List Posted) → sent' ≡ sent ++ xs → given' ≡ given
     → ArePhase epoch xs → Each (λ t. t.epoch ≡ epoch) tables → Passes ring epoch sent given tables sent' given' tables
 passes_sent ring epoch sent given tables sent' given' xs sends gives phase begun =
-    passes_given ring epoch sent given tables sent' given' tables xs sends (gained given given' [] (gives ∙ sym (append-nil given))) phase (brings_none ring epoch (news given given') tables) begun
+    passes_given ring epoch sent given tables sent' given' tables xs sends (gained given given' [] (gives ∙ sym (append-nil given))) phase (brings_none ring epoch (news given given') tables) begun (none_given sent' given given' gives)
 
 pub passes_none : (ring : Ring) (epoch : ℕ) (sent given : List Posted) (tables : List CopyState) → Each (λ t. t.epoch ≡ epoch) tables → Passes ring epoch sent given tables sent given tables
 passes_none ring epoch sent given tables begun = passes_sent ring epoch sent given tables sent given [] (sym (append-nil sent)) refl (λ i d h. absurd (omega (arith, h))) begun
@@ -135,6 +140,8 @@ passes_then ring epoch s0 g0 t0 s1 g1 t1 s2 g2 t2 count first second =
     (All-append (λ (s : Posted). (m : Message) × IsPhase epoch m × (s.letter.bytes ≡ bytes_of m)) (news s0 s1) (news s1 s2) first.phase second.phase)
     (subst (λ (ps : List Posted). OfTables ring (Brings ring epoch ps) t0 t2) (sym (news_is g0 g2 (news g0 g1 ++ news g1 g2) given)) (brings_both ring epoch (news g0 g1) (news g1 g2) t0 t1 t2 count first.gains second.gains))
     second.begun
+    (subst (Each (Contains s2)) (sym (news_is g0 g2 (news g0 g1 ++ news g1 g2) given))
+    (All-append (Contains s2) (news g0 g1) (news g1 g2) (λ i d h. subst (λ (ps : List Posted). Contains ps (get_or (news g0 g1) i d)) (sym second.sends) (Contains-append_left s1 (news s1 s2) (get_or (news g0 g1) i d) (first.were_sent i d h))) second.were_sent))
 
 -- a part of letters of the phase
 pub phase_front : (epoch : ℕ) (xs ys zs : List Posted) → xs ++ ys ≡ zs → ArePhase epoch zs → ArePhase epoch xs
@@ -341,10 +348,6 @@ pub answer_written : (ring : Ring) (epoch : ℕ) (pieces : List Piece) (posts se
 answer_written ring epoch pieces posts sent letters old mid ts us fit lines tables were answers going among brings =
     let said = going_answered ring epoch pieces sent letters old mid ts fit lines tables were answers going in
     written_kept ring epoch pieces posts mid ts us tables (honest_some ring epoch pieces mid (sent ++ letters) posts said.honest among) going.written brings
-
--- nothing was given
-pub none_given : (sent given given' : List Posted) → given' ≡ given → Each (Contains sent) (news given given')
-none_given sent given given' same = subst (Each (Contains sent)) (sym (news_none given given' same)) (λ i d h. absurd (omega (arith, h)))
 
 pub tables_begun : (ring : Ring) (epoch : ℕ) (pieces : List Piece) (tables : List CopyState) → length tables ≡ ring.partitions * ring.copies → Each (λ t. t.epoch ≡ epoch) tables → AreWritten ring pieces tables → AreBegun ring epoch pieces tables
 tables_begun ring epoch pieces tables count begun written = record { count = count; begun = begun; written = written }

@@ -69,14 +69,15 @@ pub record IsTold (pieces : List Piece) (p : ℕ) (line : Line) : Type 0 where
 abbrev pub AreTold : Ring → List Piece → List Line → Type 0
 AreTold ring pieces lines = (p j : ℕ) → IsCopy ring p j → (line : Line) → slice_get lines (table_of ring p j) ≡ Some line → line.is_done ≡ false → IsTold pieces p line
 
--- What rounds of the phase do, also where memory runs out: the letters that are sent are of the phase, and rows
--- change only by letters that are given.
+-- What rounds of the phase do, also where memory runs out: the letters that are sent are of the phase, those that are
+-- given were sent, and rows change only by them.
 pub record Passes (ring : Ring) (epoch : ℕ) (sent given : List Posted) (tables : List CopyState) (sent_after given_after : List Posted) (tables_after : List CopyState) : Type 0 where
   pub sends : sent_after ≡ sent ++ news sent sent_after
   pub gives : given_after ≡ given ++ news given given_after
   pub phase : ArePhase epoch (news sent sent_after)
   pub gains : OfTables ring (Brings ring epoch (news given given_after)) tables tables_after
   pub begun : Each (λ t. t.epoch ≡ epoch) tables_after
+  pub were_sent : Each (Contains sent_after) (news given given_after)
 
 -- The count of faults rose, or else it is as before and this holds.
 abbrev pub Unless : ℕ → ℕ → Type 0 → Type 0

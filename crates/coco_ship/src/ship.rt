@@ -315,6 +315,8 @@ pub fn ship_epoch<N: Net>(
     ensures given { N.given net.new ≡ N.given net.old ++ news (N.given net.old) (N.given net.new) }
     ensures sent { N.sent net.new ≡ N.sent net.old ++ news (N.sent net.old) (N.sent net.new) }
     ensures phase { ArePhase epoch (news (N.sent net.old) (N.sent net.new)) }
+    // What is given was sent.
+    ensures were_sent { All (Contains (N.sent net.new)) (news (N.given net.old) (N.given net.new)) }
     // Without copies nothing is sent.
     ensures alone { ring.copies ≡ 0 → N.sent net.new ≡ N.sent net.old }
     // Silent comes only after 16 exchanges, in each of which the count of faults rose.

@@ -1,5 +1,5 @@
 //! The pieces of an epoch, shipped to the copies where there are some.
-ghost use Rattle.std.specs.Prelude.{◌≡◌, ◌++◌, ◌≤◌, IfErr, IsOk, OnOk};
+ghost use Rattle.std.specs.Prelude.{◌≡◌, ◌++◌, ◌≤◌, All, Contains, IfErr, IsOk, OnOk};
 ghost use Rattle.coco_ship.specs.Letters.{AreOther};
 ghost use Rattle.coco_ship.specs.Pieces.{AreShippable};
 ghost use Rattle.coco_ship.specs.Placing.{IsRing};
@@ -38,6 +38,8 @@ pub fn ship<N: Net>(
     ensures given { N.given net.new ≡ N.given net.old ++ news (N.given net.old) (N.given net.new) }
     ensures sent { N.sent net.new ≡ N.sent net.old ++ news (N.sent net.old) (N.sent net.new) }
     ensures phase { ArePhase epoch (news (N.sent net.old) (N.sent net.new)) }
+    // What is given was sent.
+    ensures were_sent { All (Contains (N.sent net.new)) (news (N.given net.old) (N.given net.new)) }
     // Without copies nothing changes, and it is Ok.
     ensures alone { ring.copies ≡ 0 → IsOk result × (net.new ≡ net.old) × (copies.new ≡ copies.old) }
     // Silent comes only after 16 exchanges, in each of which the count of faults rose.

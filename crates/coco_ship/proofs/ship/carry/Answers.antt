@@ -1,4 +1,4 @@
-use Rattle.std.proofs.Common.{◌≡◌, ◌∙◌, ◌++◌, [], List, append-nil, subst}
+use Rattle.std.proofs.Common.{◌≡◌, ◌∙◌, ◌++◌, [], List, append-nil, subst, sym}
 use Rattle.std.specs.List.{All, Contains}
 use Rattle.std.proofs.lemmas.Result.{on_ok_weaker}
 use Rattle.coco_net.specs.declared.letter.Posted.{Posted}
@@ -21,6 +21,8 @@ returns-clause-passes g c =
     passes_given ring c.args.epoch (g.N.Net.sent c.args.net.now) (g.N.Net.given c.args.net.now) c.args.copies.now (g.N.Net.sent c.deliver.new.net) after c.deliver.new.copies c.args.letters.items sent
     (subst (λ (z : List Posted). after ≡ z ++ news z after) c.send_all.ensures.given c.deliver.ensures.given) c.requires.phase
     (subst (λ (z : List Posted). OfTables ring (Brings ring c.args.epoch (news z after)) c.args.copies.now c.deliver.new.copies) c.send_all.ensures.given c.deliver.ensures.tables) c.deliver.ensures.begun
+    (subst (λ (z : List Posted). All (Contains z) (news (g.N.Net.given c.args.net.now) after)) (sym c.deliver.ensures.sent)
+    (subst (λ (z : List Posted). All (Contains (g.N.Net.sent c.send_all.new.net)) (news z after)) c.send_all.ensures.given c.deliver.ensures.were_sent))
 
 pub returns-clause-sent : goal.returns-clause-sent
 returns-clause-sent g c =

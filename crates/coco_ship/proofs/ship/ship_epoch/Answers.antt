@@ -27,6 +27,12 @@ returns-clause-sent g c = c.exchanges.ensures.passes.sends
 pub returns-clause-phase : goal.returns-clause-phase
 returns-clause-phase g c = c.exchanges.ensures.passes.phase
 
+pub returns-clause-were_sent : goal.returns-clause-were_sent
+returns-clause-were_sent g c = c.exchanges.ensures.passes.were_sent
+
+pub returns-in_err-lines-clause-were_sent : goal.returns-in_err-lines-clause-were_sent
+returns-in_err-lines-clause-were_sent g c = let none = passes_none c.args.ring c.args.epoch (g.N.Net.sent c.args.net.now) (g.N.Net.given c.args.net.now) c.args.copies.now c.requires.tables.begun in none.were_sent
+
 pub returns-in_err-lines-clause-gains : goal.returns-in_err-lines-clause-gains
 returns-in_err-lines-clause-gains g c =
     let posts = news (g.N.Net.given c.args.net.now) (g.N.Net.given c.args.net.now) in
