@@ -6,3 +6,4 @@ pub mod TakingLemmas
 pub mod CountingLemmas
 pub mod AroundLemmas
 pub mod TellingLemmas
+pub mod SendingLemmas

@@ -13,7 +13,7 @@ use Rattle.coco_chief.specs.Chief.{Chief}
 use Rattle.coco_chief.specs.Table.{aborted, begun, forced, handled, reminds}
 use Rattle.coco_letters.specs.Saying.{posted, posts_of, IsToSay}
 use Rattle.coco_letters.specs.Taking.{ChiefTakes}
-use Rattle.coco_letters.specs.Telling.{Adds, FinishedBelow, IsOfChief, IsOfFinish, IsOfNode, IsOfVote, VotesBelow}
+use Rattle.coco_letters.specs.Telling.{Adds, FinishedBelow, IsOfChief, IsOfFinish, IsOfNode, IsOfSettling, IsOfVote, VotesBelow}
 use Rattle.coco_letters.specs.Turns.{ChiefHears, ChiefTurns}
 use Rattle.coco_letters.proofs.SayingLemmas.{chief_for, each_for, nodes_stay, reminds_for, same_message, AreForNodes}
 use Rattle.coco_letters.proofs.WorldLemmas.{contains_cases, one_is}
@@ -53,6 +53,10 @@ adds_vote epoch sent sent_new adds = adds_more sent sent_new (λ p of. inl of) a
 
 pub adds_finish : (epoch : ℕ) (sent sent_new : List Posted) → Adds IsOfChief sent sent_new → Adds (IsOfFinish epoch) sent sent_new
 adds_finish epoch sent sent_new adds = adds_more sent sent_new (λ p of. inl of) adds
+
+-- what is said where an epoch is finished is where it is settled
+pub adds_settling : (epoch : ℕ) (sent sent_new : List Posted) → Adds (IsOfFinish epoch) sent sent_new → Adds (IsOfSettling epoch) sent sent_new
+adds_settling epoch sent sent_new adds = adds_more sent sent_new (λ p of. inl of) adds
 
 -- ---- what the coordinator says
 
@@ -122,15 +126,15 @@ vote_is n e epoch vote fits fit (inl of) = not_chief n (Vote e vote) of
 vote_is n e epoch vote fits fit (inr (inl of)) = ap (λ (m : Message). epoch_of m) (same_message (Vote e vote) (Vote epoch true) fits fit (same_bytes n (Vote e vote) (Vote epoch true) of))
 vote_is n e epoch vote fits fit (inr (inr of)) = absurd (let is : 6 ≡ 10 = head_is 6 10 _ _ (same_bytes n (Vote e vote) (Query epoch) of) in omega (arith, is))
 
-no_vote : {X : Type 0} (n e epoch : ℕ) (vote : Bool) → IsOfFinish epoch (posted n 8 (Vote e vote)) → X
-no_vote n e epoch vote (inl of) = not_chief n (Vote e vote) of
-no_vote n e epoch vote (inr (inl of)) = absurd (let is : 6 ≡ 8 = head_is 6 8 _ _ (same_bytes n (Vote e vote) (Finished epoch) of) in omega (arith, is))
-no_vote n e epoch vote (inr (inr of)) = absurd (let is : 6 ≡ 10 = head_is 6 10 _ _ (same_bytes n (Vote e vote) (Query epoch) of) in omega (arith, is))
+no_vote : {X : Type 0} (n e epoch : ℕ) (vote : Bool) → IsOfSettling epoch (posted n 8 (Vote e vote)) → X
+no_vote n e epoch vote (inl (inl of)) = not_chief n (Vote e vote) of
+no_vote n e epoch vote (inl (inr of)) = absurd (let is : 6 ≡ 8 = head_is 6 8 _ _ (same_bytes n (Vote e vote) (Finished epoch) of) in omega (arith, is))
+no_vote n e epoch vote (inr of) = absurd (let is : 6 ≡ 10 = head_is 6 10 _ _ (same_bytes n (Vote e vote) (Query epoch) of) in omega (arith, is))
 
-finished_is : (n e epoch : ℕ) → e < 2 ^ 64 → epoch < 2 ^ 64 → IsOfFinish epoch (posted n 8 (Finished e)) → e ≡ epoch
-finished_is n e epoch fits fit (inl of) = not_chief n (Finished e) of
-finished_is n e epoch fits fit (inr (inl of)) = ap (λ (m : Message). epoch_of m) (same_message (Finished e) (Finished epoch) fits fit (same_bytes n (Finished e) (Finished epoch) of))
-finished_is n e epoch fits fit (inr (inr of)) = absurd (let is : 8 ≡ 10 = head_is 8 10 _ _ (same_bytes n (Finished e) (Query epoch) of) in omega (arith, is))
+finished_is : (n e epoch : ℕ) → e < 2 ^ 64 → epoch < 2 ^ 64 → IsOfSettling epoch (posted n 8 (Finished e)) → e ≡ epoch
+finished_is n e epoch fits fit (inl (inl of)) = not_chief n (Finished e) of
+finished_is n e epoch fits fit (inl (inr of)) = ap (λ (m : Message). epoch_of m) (same_message (Finished e) (Finished epoch) fits fit (same_bytes n (Finished e) (Finished epoch) of))
+finished_is n e epoch fits fit (inr of) = absurd (let is : 8 ≡ 10 = head_is 8 10 _ _ (same_bytes n (Finished e) (Query epoch) of) in omega (arith, is))
 
 not_finished : {X : Type 0} (n e epoch : ℕ) → IsOfVote epoch (posted n 8 (Finished e)) → X
 not_finished n e epoch (inl of) = not_chief n (Finished e) of
@@ -150,11 +154,14 @@ votes_by_vote next epoch sent sent_new below adds lt n e vote le fits among = el
   | inr new ↦ (let is : e ≡ epoch = vote_is n e epoch vote fits (omega (arith, lt, le, fits)) new in omega (arith, is, lt, le))
 ]
 
-pub votes_by_finish : (next epoch : ℕ) (sent sent_new : List Posted) → VotesBelow next sent → Adds (IsOfFinish epoch) sent sent_new → VotesBelow next sent_new
-votes_by_finish next epoch sent sent_new below adds n e vote le fits among = elim (adds_cases sent sent_new (posted n 8 (Vote e vote)) adds among) [
+pub votes_by_settling : (next epoch : ℕ) (sent sent_new : List Posted) → VotesBelow next sent → Adds (IsOfSettling epoch) sent sent_new → VotesBelow next sent_new
+votes_by_settling next epoch sent sent_new below adds n e vote le fits among = elim (adds_cases sent sent_new (posted n 8 (Vote e vote)) adds among) [
   | inl old ↦ below n e vote le fits old
   | inr new ↦ no_vote n e epoch vote new
 ]
+
+pub votes_by_finish : (next epoch : ℕ) (sent sent_new : List Posted) → VotesBelow next sent → Adds (IsOfFinish epoch) sent sent_new → VotesBelow next sent_new
+votes_by_finish next epoch sent sent_new below adds = votes_by_settling next epoch sent sent_new below (adds_settling epoch sent sent_new adds)
 
 pub votes_by_chief : (next : ℕ) (sent sent_new : List Posted) → VotesBelow next sent → Adds IsOfChief sent sent_new → VotesBelow next sent_new
 votes_by_chief next sent sent_new below adds n e vote le fits among = elim (adds_cases sent sent_new (posted n 8 (Vote e vote)) adds among) [
@@ -168,11 +175,14 @@ finished_by_vote next epoch sent sent_new below adds n e le fits among = elim (a
   | inr new ↦ not_finished n e epoch new
 ]
 
-pub finished_by_finish : (next epoch : ℕ) (sent sent_new : List Posted) → FinishedBelow next sent → Adds (IsOfFinish epoch) sent sent_new → epoch < next → FinishedBelow next sent_new
-finished_by_finish next epoch sent sent_new below adds lt n e le fits among = elim (adds_cases sent sent_new (posted n 8 (Finished e)) adds among) [
+pub finished_by_settling : (next epoch : ℕ) (sent sent_new : List Posted) → FinishedBelow next sent → Adds (IsOfSettling epoch) sent sent_new → epoch < next → FinishedBelow next sent_new
+finished_by_settling next epoch sent sent_new below adds lt n e le fits among = elim (adds_cases sent sent_new (posted n 8 (Finished e)) adds among) [
   | inl old ↦ below n e le fits old
   | inr new ↦ (let is : e ≡ epoch = finished_is n e epoch fits (omega (arith, lt, le, fits)) new in omega (arith, is, lt, le))
 ]
+
+pub finished_by_finish : (next epoch : ℕ) (sent sent_new : List Posted) → FinishedBelow next sent → Adds (IsOfFinish epoch) sent sent_new → epoch < next → FinishedBelow next sent_new
+finished_by_finish next epoch sent sent_new below adds = finished_by_settling next epoch sent sent_new below (adds_settling epoch sent sent_new adds)
 
 pub finished_by_chief : (next : ℕ) (sent sent_new : List Posted) → FinishedBelow next sent → Adds IsOfChief sent sent_new → FinishedBelow next sent_new
 finished_by_chief next sent sent_new below adds n e le fits among = elim (adds_cases sent sent_new (posted n 8 (Finished e)) adds among) [

@@ -23,9 +23,13 @@ pub record IsOfNode (message : Message) (p : Posted) : Type 0 where
 abbrev pub IsOfVote : ℕ → Posted → Type 0
 IsOfVote epoch p = IsOfChief p ⊎ (IsOfNode (Vote epoch true) p ⊎ IsOfNode (Query epoch) p)
 
--- while an epoch is finished: a node has finished it, or asks what became of it
+-- while an epoch is finished: a node has finished it
 abbrev pub IsOfFinish : ℕ → Posted → Type 0
-IsOfFinish epoch p = IsOfChief p ⊎ (IsOfNode (Finished epoch) p ⊎ IsOfNode (Query epoch) p)
+IsOfFinish epoch p = IsOfChief p ⊎ IsOfNode (Finished epoch) p
+
+-- while an epoch is settled a node may begin anew behind its commit entry, too, and asks what became of it
+abbrev pub IsOfSettling : ℕ → Posted → Type 0
+IsOfSettling epoch p = IsOfFinish epoch p ⊎ IsOfNode (Query epoch) p
 
 -- only such letters were sent
 pub record Adds (Such : Posted → Type 0) (sent sent_new : List Posted) : Type 0 where

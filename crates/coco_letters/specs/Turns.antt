@@ -116,6 +116,10 @@ pub record AreFresh (sent fresh sent_new fresh_new : List Posted) : Type 0 where
   pub sent_is : sent_new ≡ sent ++ posts
   pub fresh_is : fresh_new ≡ fresh ++ posts
 
+-- a net later, whatever was answered: more was sent
+abbrev pub SendsMore : List Posted → List Posted → Type 0
+SendsMore sent sent_new = (more : List Posted) × (sent_new ≡ sent ++ more)
+
 -- a net has given nothing, lost nothing, and wasn't asked for disturbances
 pub record Counts (given : List Posted) (faults : ℕ) (seed : Option ℕ) (given_new : List Posted) (faults_new : ℕ) (seed_new : Option ℕ) : Type 0 where
   pub given_stays : given_new ≡ given

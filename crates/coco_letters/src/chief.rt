@@ -32,7 +32,7 @@ pub fn chief_hears<N: Net>(
     ensures says { OnOk result (Adds IsOfChief (N.sent net.old) (N.sent net.new)) }
     ensures world { OnOk result ((cores : List NodeState) → GoesOn (record { cores = cores; chief = chief_of chief.old; sent = N.sent net.old }) (record { cores = cores; chief = chief_of chief.new; sent = N.sent net.new })) }
     ensures nodes { (chief_of chief.new).nodes ≡ (chief_of chief.old).nodes }
-    ensures fresh { OnOk result (AreFresh (N.sent net.old) (N.fresh net.old) (N.sent net.new) (N.fresh net.new)) }
+    ensures fresh { AreFresh (N.sent net.old) (N.fresh net.old) (N.sent net.new) (N.fresh net.new) }
     ensures waiting { (p : ℕ) → N.waiting net.new p ≡ N.waiting net.old p }
     ensures counts { Counts (N.given net.old) (N.faults net.old) (N.last_seed net.old) (N.given net.new) (N.faults net.new) (N.last_seed net.new) }
 {
@@ -61,7 +61,7 @@ pub fn chief_begins<N: Net>(
     ensures says { OnOk result (Adds IsOfChief (N.sent net.old) (N.sent net.new)) }
     ensures world { OnOk result ((cores : List NodeState) → GoesOnAbove epoch (record { cores = cores; chief = chief_of chief.old; sent = N.sent net.old }) (record { cores = cores; chief = chief_of chief.new; sent = N.sent net.new })) }
     ensures nodes { (chief_of chief.new).nodes ≡ (chief_of chief.old).nodes }
-    ensures fresh { OnOk result (AreFresh (N.sent net.old) (N.fresh net.old) (N.sent net.new) (N.fresh net.new)) }
+    ensures fresh { AreFresh (N.sent net.old) (N.fresh net.old) (N.sent net.new) (N.fresh net.new) }
     ensures waiting { (p : ℕ) → N.waiting net.new p ≡ N.waiting net.old p }
     ensures counts { Counts (N.given net.old) (N.faults net.old) (N.last_seed net.old) (N.given net.new) (N.faults net.new) (N.last_seed net.new) }
 {
@@ -83,7 +83,7 @@ pub fn chief_forced<N: Net>(
     ensures says { OnOk result (Adds IsOfChief (N.sent net.old) (N.sent net.new)) }
     ensures world { OnOk result ((cores : List NodeState) → GoesOnWith (Commits epoch) (record { cores = cores; chief = chief_of chief.old; sent = N.sent net.old }) (record { cores = cores; chief = chief_of chief.new; sent = N.sent net.new })) }
     ensures nodes { (chief_of chief.new).nodes ≡ (chief_of chief.old).nodes }
-    ensures fresh { OnOk result (AreFresh (N.sent net.old) (N.fresh net.old) (N.sent net.new) (N.fresh net.new)) }
+    ensures fresh { AreFresh (N.sent net.old) (N.fresh net.old) (N.sent net.new) (N.fresh net.new) }
     ensures waiting { (p : ℕ) → N.waiting net.new p ≡ N.waiting net.old p }
     ensures counts { Counts (N.given net.old) (N.faults net.old) (N.last_seed net.old) (N.given net.new) (N.faults net.new) (N.last_seed net.new) }
 {
@@ -103,7 +103,7 @@ pub fn chief_aborts<N: Net>(
     ensures says { OnOk result (Adds IsOfChief (N.sent net.old) (N.sent net.new)) }
     ensures world { OnOk result ((cores : List NodeState) → GoesOn (record { cores = cores; chief = chief_of chief.old; sent = N.sent net.old }) (record { cores = cores; chief = chief_of chief.new; sent = N.sent net.new })) }
     ensures nodes { (chief_of chief.new).nodes ≡ (chief_of chief.old).nodes }
-    ensures fresh { OnOk result (AreFresh (N.sent net.old) (N.fresh net.old) (N.sent net.new) (N.fresh net.new)) }
+    ensures fresh { AreFresh (N.sent net.old) (N.fresh net.old) (N.sent net.new) (N.fresh net.new) }
     ensures waiting { (p : ℕ) → N.waiting net.new p ≡ N.waiting net.old p }
     ensures counts { Counts (N.given net.old) (N.faults net.old) (N.last_seed net.old) (N.given net.new) (N.faults net.new) (N.last_seed net.new) }
 {
@@ -118,7 +118,7 @@ pub fn chief_reminds<N: Net>(alloc: Global, net: &mut N, chief: &ChiefCore) -> R
     ensures turns { OnOk result (ChiefTurns (reminds (chief_of chief.now), chief_of chief.now) (N.sent net.old) (chief_of chief.now) (N.sent net.new)) }
     ensures says { OnOk result (Adds IsOfChief (N.sent net.old) (N.sent net.new)) }
     ensures world { OnOk result ((cores : List NodeState) → GoesOn (record { cores = cores; chief = chief_of chief.now; sent = N.sent net.old }) (record { cores = cores; chief = chief_of chief.now; sent = N.sent net.new })) }
-    ensures fresh { OnOk result (AreFresh (N.sent net.old) (N.fresh net.old) (N.sent net.new) (N.fresh net.new)) }
+    ensures fresh { AreFresh (N.sent net.old) (N.fresh net.old) (N.sent net.new) (N.fresh net.new) }
     ensures waiting { (p : ℕ) → N.waiting net.new p ≡ N.waiting net.old p }
     ensures counts { Counts (N.given net.old) (N.faults net.old) (N.last_seed net.old) (N.given net.new) (N.faults net.new) (N.last_seed net.new) }
 {

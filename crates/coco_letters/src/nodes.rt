@@ -42,7 +42,7 @@ fn takes<N: Net>(
     requires node { node < length cores.old }
     requires message { IsToSay message.now }
     ensures takes { IfOk result (λ actions. Takes node message.now cores.old (N.sent net.old) cores.new (N.sent net.new) actions.items) }
-    ensures fresh { OnOk result (AreFresh (N.sent net.old) (N.fresh net.old) (N.sent net.new) (N.fresh net.new)) }
+    ensures fresh { AreFresh (N.sent net.old) (N.fresh net.old) (N.sent net.new) (N.fresh net.new) }
     ensures waiting { (p : ℕ) → N.waiting net.new p ≡ N.waiting net.old p }
     ensures counts { Counts (N.given net.old) (N.faults net.old) (N.last_seed net.old) (N.given net.new) (N.faults net.new) (N.last_seed net.new) }
 {
@@ -66,7 +66,7 @@ fn node_hears<N: Net>(
     requires sent { Contains (N.sent net.old) (record { to = node; letter = letter.now }) }
     ensures hears { IfOk result (λ actions. Hears phase epoch node letter.now cores.old (N.sent net.old) cores.new (N.sent net.new) actions.items) }
     ensures world { OnOk result ((chief : ChiefState) → GoesOn (record { cores = cores.old; chief = chief; sent = N.sent net.old }) (record { cores = cores.new; chief = chief; sent = N.sent net.new })) }
-    ensures fresh { OnOk result (AreFresh (N.sent net.old) (N.fresh net.old) (N.sent net.new) (N.fresh net.new)) }
+    ensures fresh { AreFresh (N.sent net.old) (N.fresh net.old) (N.sent net.new) (N.fresh net.new) }
     ensures waiting { (p : ℕ) → N.waiting net.new p ≡ N.waiting net.old p }
     ensures counts { Counts (N.given net.old) (N.faults net.old) (N.last_seed net.old) (N.given net.new) (N.faults net.new) (N.last_seed net.new) }
 {
@@ -110,7 +110,7 @@ pub fn node_votes<N: Net>(
     requires sent { Contains (N.sent net.old) (record { to = node; letter = letter.now }) }
     ensures heard { IfOk result (λ heard. (actions : List Asked) × Hears Voting epoch node letter.now cores.old (N.sent net.old) cores.new (N.sent net.new) actions × (heard ≡ heard_of actions)) }
     ensures world { OnOk result ((chief : ChiefState) → GoesOn (record { cores = cores.old; chief = chief; sent = N.sent net.old }) (record { cores = cores.new; chief = chief; sent = N.sent net.new })) }
-    ensures fresh { OnOk result (AreFresh (N.sent net.old) (N.fresh net.old) (N.sent net.new) (N.fresh net.new)) }
+    ensures fresh { AreFresh (N.sent net.old) (N.fresh net.old) (N.sent net.new) (N.fresh net.new) }
     ensures waiting { (p : ℕ) → N.waiting net.new p ≡ N.waiting net.old p }
     ensures counts { Counts (N.given net.old) (N.faults net.old) (N.last_seed net.old) (N.given net.new) (N.faults net.new) (N.last_seed net.new) }
 {
@@ -133,7 +133,7 @@ pub fn node_finishes<N: Net>(
     requires sent { Contains (N.sent net.old) (record { to = node; letter = letter.now }) }
     ensures heard { IfOk result (λ stable. (actions : List Asked) × Hears Finishing epoch node letter.now cores.old (N.sent net.old) cores.new (N.sent net.new) actions × (stable ≡ promotes actions)) }
     ensures world { OnOk result ((chief : ChiefState) → GoesOn (record { cores = cores.old; chief = chief; sent = N.sent net.old }) (record { cores = cores.new; chief = chief; sent = N.sent net.new })) }
-    ensures fresh { OnOk result (AreFresh (N.sent net.old) (N.fresh net.old) (N.sent net.new) (N.fresh net.new)) }
+    ensures fresh { AreFresh (N.sent net.old) (N.fresh net.old) (N.sent net.new) (N.fresh net.new) }
     ensures waiting { (p : ℕ) → N.waiting net.new p ≡ N.waiting net.old p }
     ensures counts { Counts (N.given net.old) (N.faults net.old) (N.last_seed net.old) (N.given net.new) (N.faults net.new) (N.last_seed net.new) }
 {
@@ -156,7 +156,7 @@ pub fn node_gives_up<N: Net>(
     requires sent { Contains (N.sent net.old) (record { to = node; letter = letter.now }) }
     ensures heard { OnOk result ((actions : List Asked) × Hears GivingUp epoch node letter.now cores.old (N.sent net.old) cores.new (N.sent net.new) actions) }
     ensures world { OnOk result ((chief : ChiefState) → GoesOn (record { cores = cores.old; chief = chief; sent = N.sent net.old }) (record { cores = cores.new; chief = chief; sent = N.sent net.new })) }
-    ensures fresh { OnOk result (AreFresh (N.sent net.old) (N.fresh net.old) (N.sent net.new) (N.fresh net.new)) }
+    ensures fresh { AreFresh (N.sent net.old) (N.fresh net.old) (N.sent net.new) (N.fresh net.new) }
     ensures waiting { (p : ℕ) → N.waiting net.new p ≡ N.waiting net.old p }
     ensures counts { Counts (N.given net.old) (N.faults net.old) (N.last_seed net.old) (N.given net.new) (N.faults net.new) (N.last_seed net.new) }
 {
@@ -177,7 +177,7 @@ pub fn node_forced<N: Net>(
     requires forcing { IsForcing epoch node cores.old }
     ensures turns { OnOk result (NodeTurns node (forced epoch) cores.old (N.sent net.old) cores.new (N.sent net.new)) }
     ensures world { OnOk result ((chief : ChiefState) → GoesOnWith (Prepares node epoch) (record { cores = cores.old; chief = chief; sent = N.sent net.old }) (record { cores = cores.new; chief = chief; sent = N.sent net.new })) }
-    ensures fresh { OnOk result (AreFresh (N.sent net.old) (N.fresh net.old) (N.sent net.new) (N.fresh net.new)) }
+    ensures fresh { AreFresh (N.sent net.old) (N.fresh net.old) (N.sent net.new) (N.fresh net.new) }
     ensures waiting { (p : ℕ) → N.waiting net.new p ≡ N.waiting net.old p }
     ensures counts { Counts (N.given net.old) (N.faults net.old) (N.last_seed net.old) (N.given net.new) (N.faults net.new) (N.last_seed net.new) }
 {
@@ -196,7 +196,7 @@ pub fn node_asks<N: Net>(
     requires node { node < length cores.now }
     ensures asks { OnOk result (NodeAsks node cores.now (N.sent net.old) (N.sent net.new)) }
     ensures world { OnOk result ((chief : ChiefState) → GoesOn (record { cores = cores.now; chief = chief; sent = N.sent net.old }) (record { cores = cores.now; chief = chief; sent = N.sent net.new })) }
-    ensures fresh { OnOk result (AreFresh (N.sent net.old) (N.fresh net.old) (N.sent net.new) (N.fresh net.new)) }
+    ensures fresh { AreFresh (N.sent net.old) (N.fresh net.old) (N.sent net.new) (N.fresh net.new) }
     ensures waiting { (p : ℕ) → N.waiting net.new p ≡ N.waiting net.old p }
     ensures counts { Counts (N.given net.old) (N.faults net.old) (N.last_seed net.old) (N.given net.new) (N.faults net.new) (N.last_seed net.new) }
 {

@@ -5,7 +5,7 @@ ghost use Rattle.coco_net.specs.declared.letter.Posted.{Posted as Sent};
 ghost use Rattle.coco_node.specs.Node.{Node as NodeState};
 ghost use Rattle.coco_chief.specs.Chief.{Chief as ChiefState};
 ghost use Rattle.coco_letters.specs.Saying.{posted, posts_of, AreToSay, IsToSay};
-ghost use Rattle.coco_letters.specs.Turns.{Counts};
+ghost use Rattle.coco_letters.specs.Turns.{AreFresh, Counts};
 ghost use Rattle.coco_letters.specs.Worlds.{GoesOn};
 
 use coco_msg::{Action, Message, message_bytes};
@@ -24,7 +24,7 @@ fn send_action<N: Net>(
     requires messages { AreToSay (action.now ∷ []) }
     ensures sent { OnOk result (N.sent net.new ≡ N.sent net.old ++ posts_of from (action.now ∷ [])) }
     ensures fresh { OnOk result (N.fresh net.new ≡ N.fresh net.old ++ posts_of from (action.now ∷ [])) }
-    ensures err { OnErr result (N.sent net.new ≡ N.sent net.old) }
+    ensures err { OnErr result ((N.sent net.new ≡ N.sent net.old) × (N.fresh net.new ≡ N.fresh net.old)) }
     ensures waiting { (p : ℕ) → N.waiting net.new p ≡ N.waiting net.old p }
     ensures counts { Counts (N.given net.old) (N.faults net.old) (N.last_seed net.old) (N.given net.new) (N.faults net.new) (N.last_seed net.new) }
 {
@@ -47,6 +47,7 @@ pub fn send_actions<N: Net>(
     requires messages { AreToSay actions.now }
     ensures sent { OnOk result (N.sent net.new ≡ N.sent net.old ++ posts_of from actions.now) }
     ensures fresh { OnOk result (N.fresh net.new ≡ N.fresh net.old ++ posts_of from actions.now) }
+    ensures grows { AreFresh (N.sent net.old) (N.fresh net.old) (N.sent net.new) (N.fresh net.new) }
     ensures some { (xs : List Sent) × (ys : List Sent) × (N.sent net.new ≡ N.sent net.old ++ xs) × (xs ++ ys ≡ posts_of from actions.now) }
     ensures waiting { (p : ℕ) → N.waiting net.new p ≡ N.waiting net.old p }
     ensures counts { Counts (N.given net.old) (N.faults net.old) (N.last_seed net.old) (N.given net.new) (N.faults net.new) (N.last_seed net.new) }
@@ -72,7 +73,7 @@ pub fn resend<N: Net>(
     ensures sent { OnOk result (N.sent net.new ≡ N.sent net.old ++ posted from to message.now ∷ []) }
     ensures fresh { OnOk result (N.fresh net.new ≡ N.fresh net.old ++ posted from to message.now ∷ []) }
     ensures world { OnOk result ((cores : List NodeState) (chief : ChiefState) → GoesOn (record { cores = cores; chief = chief; sent = N.sent net.old }) (record { cores = cores; chief = chief; sent = N.sent net.new })) }
-    ensures err { OnErr result (N.sent net.new ≡ N.sent net.old) }
+    ensures err { OnErr result ((N.sent net.new ≡ N.sent net.old) × (N.fresh net.new ≡ N.fresh net.old)) }
     ensures waiting { (p : ℕ) → N.waiting net.new p ≡ N.waiting net.old p }
     ensures counts { Counts (N.given net.old) (N.faults net.old) (N.last_seed net.old) (N.given net.new) (N.faults net.new) (N.last_seed net.new) }
 {

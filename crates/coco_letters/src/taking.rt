@@ -34,7 +34,7 @@ pub fn chief_takes<N: Net>(
     ensures sent { OnOk result (AreSent (N.sent net.new) (N.waiting net.new)) }
     ensures taken { OnOk result (N.waiting net.new Chiefs ≡ []) }
     ensures others { (p : ℕ) → p ≢ Chiefs → N.waiting net.new p ≡ N.waiting net.old p }
-    ensures fresh { OnOk result (AreFresh (N.sent net.old) (N.fresh net.old) (N.sent net.new) (N.fresh net.new)) }
+    ensures fresh { AreFresh (N.sent net.old) (N.fresh net.old) (N.sent net.new) (N.fresh net.new) }
     ensures counts { Counts (N.given net.old) (N.faults net.old) (N.last_seed net.old) (N.given net.new) (N.faults net.new) (N.last_seed net.new) }
 {
     while let Some(letter) = net.next(COORDINATOR) {

@@ -12,3 +12,4 @@ pub mod PrepareLemmas
 pub mod BeginningLemmas
 pub mod EndingLemmas
 pub mod SayingLemmas
+pub mod FileLemmas

@@ -139,3 +139,7 @@ KeepPlaces voters voters_new = (n : ℕ) (now : Voter) → slice_get voters_new 
 -- a log in no node's file
 abbrev pub IsElsewhere : LogState → List Voter → Type 0
 IsElsewhere log voters = (n : ℕ) (voter : Voter) → slice_get voters n ≡ Some voter → log.file ≢ voter.log.file
+
+-- all files are as they were but those of the nodes' logs
+abbrev pub SameElsewhere : List Voter → Files → Files → Type 0
+SameElsewhere voters old new = (file : ℕ) → ((n : ℕ) (voter : Voter) → slice_get voters n ≡ Some voter → file ≢ voter.log.file) → new file ≡ old file

@@ -7,7 +7,7 @@ ghost use Rattle.coco_net.specs.declared.letter.Posted.{Posted as Sent};
 ghost use Rattle.coco_node.specs.Node.{Node as NodeState};
 ghost use Rattle.coco_node.specs.declared.machine.TheConstants.{COORDINATOR as Chiefs};
 ghost use Rattle.coco_letters.specs.Telling.{Adds, IsOfChief, IsOfVote};
-ghost use Rattle.coco_letters.specs.Turns.{AreSent};
+ghost use Rattle.coco_letters.specs.Turns.{AreSent, SendsMore};
 ghost use Rattle.coco_letters.specs.Worlds.{GoesBetween, GoesOn};
 ghost use Rattle.coco_log.specs.Faults.{CountsFault};
 ghost use Rattle.coco_log.specs.LogState.{LogState};
@@ -17,8 +17,9 @@ ghost use Rattle.coco_vote.specs.Asking.{IsLater};
 ghost use Rattle.coco_vote.specs.Counting.{prepare_of, GivesOn, HasCounted, IsAye};
 ghost use Rattle.coco_vote.specs.Nearing.{all_ahead, Nears};
 ghost use Rattle.coco_vote.specs.Preparing.{have_durable, Ballot, MayForce, RestsVoted, Votes};
-ghost use Rattle.coco_vote.specs.Taking.{has_lost, vote_of, AreApart, AreHeld, AreMarked, AreReady, AreTold, AreVoting, CountsStops, HaveLogs, IsElsewhere, KeepPlaces, KeepsCores, UnlessLost};
+ghost use Rattle.coco_vote.specs.Taking.{has_lost, vote_of, AreApart, AreHeld, AreMarked, AreReady, AreTold, AreVoting, CountsStops, HaveLogs, IsElsewhere, KeepPlaces, KeepsCores, UnlessLost, SameElsewhere};
 ghost use Rattle.coco_vote.specs.Voting.{PreparesOnly};
+ghost use Rattle.coco_host.specs.Files.{Become, Follows};
 ghost use Rattle.coco_vote.specs.declared.step.Stops.TheVariants.{Never as NoStop};
 
 use crate::Stops;
@@ -50,6 +51,7 @@ pub(crate) fn collect<N: Net>(
     // Where it doesn't wait for votes it stays in its phase.
     ensures rests { OnOk result (is_voting (chief_of chief.old).phase ≡ false → ((chief_of chief.new).phase ≡ (chief_of chief.old).phase) × ((chief_of chief.new).current ≡ (chief_of chief.old).current)) }
     ensures says { OnOk result (Adds IsOfChief (N.sent net.old) (N.sent net.new)) }
+    ensures sent { SendsMore (N.sent net.old) (N.sent net.new) }
     // What was fresh is given, where no letter was lost.
     ensures gives { OnOk result ((more : List Sent) (p : Sent) → N.given net.new ≡ N.given net.old ++ more → N.faults net.new ≡ N.faults net.old → Contains (N.fresh net.old) p → Contains more p) }
     ensures were_sent { OnOk result ((more : List Sent) (p : Sent) → N.given net.new ≡ N.given net.old ++ more → Contains more p → Contains (N.sent net.new) p) }
@@ -99,6 +101,7 @@ pub(crate) fn exchange<H: Host, N: Net, P: Power>(
     ensures votes { IfOk result (λ stops. stops ≡ NoStop → (more : List Sent) → N.given net.new ≡ N.given net.old ++ more → N.faults net.new ≡ N.faults net.old → (n : ℕ) → n < length cores.old → Contains (N.fresh net.old) (prepare_of n epoch) → IsAye epoch more n) }
     ensures were_sent { OnOk result ((more : List Sent) (p : Sent) → N.given net.new ≡ N.given net.old ++ more → Contains more p → Contains (N.sent net.new) p) }
     ensures says { OnOk result (Adds (IsOfVote epoch) (N.sent net.old) (N.sent net.new)) }
+    ensures sent { SendsMore (N.sent net.old) (N.sent net.new) }
     ensures nears { IfOk result (λ stops. Nears stops (all_ahead epoch cores.old voters.old (length cores.old)) (all_ahead epoch cores.new voters.new (length cores.old))) }
     // The files.
     ensures files { (c : Contents) (hold : ℕ → List Bool) → let b : Ballot = record { epoch = epoch; pieces = pieces.now; held = hold } in
@@ -108,6 +111,8 @@ pub(crate) fn exchange<H: Host, N: Net, P: Power>(
     ensures ready { OnOk result (AreReady voters.new (H.reads host.new) (H.may_leave host.new)) }
     ensures places { KeepPlaces voters.old voters.new }
     ensures others { (other : LogState) → IsElsewhere other voters.old → Stands other (H.reads host.old) (H.may_leave host.old) → Stands other (H.reads host.new) (H.may_leave host.new) }
+    ensures read { Become (SameElsewhere voters.old) (H.reads host.old) (H.reads host.new) }
+    ensures crash { Follows (SameElsewhere voters.old) (H.may_leave host.old) (H.may_leave host.new) }
     ensures said { H.said host.new ≡ H.said host.old }
     ensures disk { CountsFault result (H.disk_faults host.old) (H.disk_faults host.new) }
     ensures stream { H.say_faults host.new ≡ H.say_faults host.old }

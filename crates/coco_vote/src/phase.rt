@@ -8,7 +8,7 @@ ghost use Rattle.coco_chief.specs.declared.machine.Phase.TheVariants.{Rest as St
 ghost use Rattle.coco_net.specs.declared.letter.Posted.{Posted as Sent};
 ghost use Rattle.coco_node.specs.Node.{Node as NodeState};
 ghost use Rattle.coco_letters.specs.Telling.{Adds, IsOfChief, IsOfVote};
-ghost use Rattle.coco_letters.specs.Turns.{AreFresh, Counts};
+ghost use Rattle.coco_letters.specs.Turns.{AreFresh, Counts, SendsMore};
 ghost use Rattle.coco_letters.specs.Worlds.{GoesBetween, GoesOn};
 ghost use Rattle.coco_log.specs.Faults.{CountsFault};
 ghost use Rattle.coco_log.specs.LogState.{LogState};
@@ -19,7 +19,8 @@ ghost use Rattle.coco_vote.specs.Beginning.{AreNew, GoesOnVoted};
 ghost use Rattle.coco_vote.specs.Counting.{prepare_of, GivesOn, HasCounted, IsAye};
 ghost use Rattle.coco_vote.specs.Outcomes.{Comes, IsMissing, Settles};
 ghost use Rattle.coco_vote.specs.Preparing.{have_durable, Ballot, MayForce, RestsVoted, Votes as KeepsVotes};
-ghost use Rattle.coco_vote.specs.Taking.{vote_of, AreApart, AreHeld, AreMarked, AreReady, AreTold, AreVoting, HaveLogs, IsElsewhere, KeepPlaces, KeepsCores};
+ghost use Rattle.coco_vote.specs.Taking.{vote_of, AreApart, AreHeld, AreMarked, AreReady, AreTold, AreVoting, HaveLogs, IsElsewhere, KeepPlaces, KeepsCores, SameElsewhere};
+ghost use Rattle.coco_host.specs.Files.{Become, Follows};
 ghost use Rattle.coco_vote.specs.Voting.{PreparesOnly};
 
 use crate::exchange::exchange;
@@ -77,7 +78,7 @@ fn ask_once_more<N: Net>(
     ensures asked { OnOk result (has_voted node (chief_of chief.now) ≡ false → Contains (N.fresh net.new) (prepare_of node epoch)) }
     ensures says { OnOk result (Adds IsOfChief (N.sent net.old) (N.sent net.new)) }
     ensures world { OnOk result ((cores : List NodeState) (core : ChiefState) → GoesOn (record { cores = cores; chief = core; sent = N.sent net.old }) (record { cores = cores; chief = core; sent = N.sent net.new })) }
-    ensures fresh { OnOk result (AreFresh (N.sent net.old) (N.fresh net.old) (N.sent net.new) (N.fresh net.new)) }
+    ensures fresh { AreFresh (N.sent net.old) (N.fresh net.old) (N.sent net.new) (N.fresh net.new) }
     ensures counts { Counts (N.given net.old) (N.faults net.old) (N.last_seed net.old) (N.given net.new) (N.faults net.new) (N.last_seed net.new) }
 {
     if chief.has_voted(node) {
@@ -99,6 +100,7 @@ fn ask_again<N: Net>(
     requires asked { (n : ℕ) → n < nodes → Contains (N.sent net.old) (prepare_of n epoch) }
     ensures asked { OnOk result ((n : ℕ) → n < nodes → has_voted n (chief_of chief.now) ≡ false → Contains (N.fresh net.new) (prepare_of n epoch)) }
     ensures says { OnOk result (Adds IsOfChief (N.sent net.old) (N.sent net.new)) }
+    ensures sent { SendsMore (N.sent net.old) (N.sent net.new) }
     ensures world { OnOk result ((cores : List NodeState) (core : ChiefState) → GoesOn (record { cores = cores; chief = core; sent = N.sent net.old }) (record { cores = cores; chief = core; sent = N.sent net.new })) }
     ensures counts { Counts (N.given net.old) (N.faults net.old) (N.last_seed net.old) (N.given net.new) (N.faults net.new) (N.last_seed net.new) }
 {
@@ -143,6 +145,7 @@ fn exchanges<H: Host, N: Net, P: Power>(
     ensures told { OnOk result (AreTold epoch cores.new (N.sent net.new) (P.asked power.new)) }
     ensures marked { OnOk result (AreMarked voters.new (P.asked power.new)) }
     ensures says { OnOk result (Adds (IsOfVote epoch) (N.sent net.old) (N.sent net.new)) }
+    ensures sent { SendsMore (N.sent net.old) (N.sent net.new) }
     // What was given was sent.
     ensures were_sent { OnOk result ((given : List Sent) (p : Sent) → N.given net.new ≡ N.given net.old ++ given → Contains given p → Contains (N.sent net.new) p) }
     // The files.
@@ -153,6 +156,8 @@ fn exchanges<H: Host, N: Net, P: Power>(
     ensures ready { OnOk result (AreReady voters.new (H.reads host.new) (H.may_leave host.new)) }
     ensures places { KeepPlaces voters.old voters.new }
     ensures others { (other : LogState) → IsElsewhere other voters.old → Stands other (H.reads host.old) (H.may_leave host.old) → Stands other (H.reads host.new) (H.may_leave host.new) }
+    ensures read { Become (SameElsewhere voters.old) (H.reads host.old) (H.reads host.new) }
+    ensures crash { Follows (SameElsewhere voters.old) (H.may_leave host.old) (H.may_leave host.new) }
     ensures said { H.said host.new ≡ H.said host.old }
     ensures disk { CountsFault result (H.disk_faults host.old) (H.disk_faults host.new) }
     ensures stream { H.say_faults host.new ≡ H.say_faults host.old }
@@ -213,6 +218,7 @@ pub fn prepare<H: Host, N: Net, P: Power>(
     ensures told { OnOk result (AreTold epoch cores.new (N.sent net.new) (P.asked power.new)) }
     ensures marked { OnOk result (AreMarked voters.new (P.asked power.new)) }
     ensures says { OnOk result (Adds (IsOfVote epoch) (N.sent net.old) (N.sent net.new)) }
+    ensures sent { SendsMore (N.sent net.old) (N.sent net.new) }
     // What was given was sent.
     ensures were_sent { OnOk result ((given : List Sent) (p : Sent) → N.given net.new ≡ N.given net.old ++ given → Contains given p → Contains (N.sent net.new) p) }
     // The files.
@@ -223,6 +229,8 @@ pub fn prepare<H: Host, N: Net, P: Power>(
     ensures ready { OnOk result (AreReady voters.new (H.reads host.new) (H.may_leave host.new)) }
     ensures places { KeepPlaces voters.old voters.new }
     ensures others { (other : LogState) → IsElsewhere other voters.old → Stands other (H.reads host.old) (H.may_leave host.old) → Stands other (H.reads host.new) (H.may_leave host.new) }
+    ensures read { Become (SameElsewhere voters.old) (H.reads host.old) (H.reads host.new) }
+    ensures crash { Follows (SameElsewhere voters.old) (H.may_leave host.old) (H.may_leave host.new) }
     ensures said { H.said host.new ≡ H.said host.old }
     ensures disk { CountsFault result (H.disk_faults host.old) (H.disk_faults host.new) }
     ensures stream { H.say_faults host.new ≡ H.say_faults host.old }

@@ -8,15 +8,16 @@ ghost use Rattle.coco_letters.specs.Telling.{Adds, IsOfVote};
 ghost use Rattle.coco_letters.specs.Turns.{AreFresh, AreSent, Counts, IsFrom};
 ghost use Rattle.coco_letters.specs.Worlds.{GoesBetween, GoesOn, SameEntries};
 ghost use Rattle.coco_log.specs.Faults.{CountsFault};
-ghost use Rattle.coco_log.specs.LogState.{LogState};
+ghost use Rattle.coco_log.specs.LogState.{LogState, SameBut};
 ghost use Rattle.coco_store.specs.Contents.{Contents};
 ghost use Rattle.coco_append.specs.Gaining.{IsNodeLog, Stands};
 ghost use Rattle.coco_vote.specs.Asking.{IsLater, TellsStops};
 ghost use Rattle.coco_vote.specs.Nearing.{ahead_of, all_ahead, Nears};
 ghost use Rattle.coco_vote.specs.Preparing.{durable_at, have_durable, Ballot, MayForce, RestsVoted, Votes};
 ghost use Rattle.coco_vote.specs.Steps.{has_stopped, EndsVote, HasNewest, Marks};
-ghost use Rattle.coco_vote.specs.Taking.{vote_of, AreApart, AreHeld, AreMarked, AreReady, AreTold, AreVoting, CountsStops, HasGiven, HaveLogs, HeardSo, IsElsewhere, IsMarked, KeepPlaces, KeepsCores, UnlessLost};
+ghost use Rattle.coco_vote.specs.Taking.{vote_of, AreApart, AreHeld, AreMarked, AreReady, AreTold, AreVoting, CountsStops, HasGiven, HaveLogs, HeardSo, IsElsewhere, IsMarked, KeepPlaces, KeepsCores, UnlessLost, SameElsewhere};
 ghost use Rattle.coco_vote.specs.Voting.{PreparesOnly};
+ghost use Rattle.coco_host.specs.Files.{Become, Follows};
 ghost use Rattle.coco_vote.specs.declared.step.Stops.TheVariants.{Never as NoStop};
 
 use crate::forcing::{end_vote, force_and_vote};
@@ -46,7 +47,7 @@ fn hear_vote<N: Net>(
     requires voting { AreVoting epoch cores.old }
     ensures heard { IfOk result (λ heard. HeardSo heard node epoch letter.now cores.old (N.sent net.old) cores.new (N.sent net.new)) }
     ensures world { OnOk result ((chief : ChiefState) → GoesOn (record { cores = cores.old; chief = chief; sent = N.sent net.old }) (record { cores = cores.new; chief = chief; sent = N.sent net.new })) }
-    ensures fresh { OnOk result (AreFresh (N.sent net.old) (N.fresh net.old) (N.sent net.new) (N.fresh net.new)) }
+    ensures fresh { AreFresh (N.sent net.old) (N.fresh net.old) (N.sent net.new) (N.fresh net.new) }
     ensures waiting { (p : ℕ) → N.waiting net.new p ≡ N.waiting net.old p }
     ensures counts { Counts (N.given net.old) (N.faults net.old) (N.last_seed net.old) (N.given net.new) (N.faults net.new) (N.last_seed net.new) }
 {
@@ -77,7 +78,7 @@ fn vote_again<N: Net, P: Power>(
     ensures later { IsLater P.stops_seen P.early_stops P.stopped P.begun P.asked power.old power.new }
     ensures stops { IfOk result (λ step. TellsStops step (P.stops_seen power.old) (P.early_stops power.old) (P.stops_seen power.new) (P.early_stops power.new)) }
     ensures asked { IsMarked node voter.old (P.asked power.old) → P.asked power.new node 5 ≡ true }
-    ensures fresh { OnOk result (AreFresh (N.sent net.old) (N.fresh net.old) (N.sent net.new) (N.fresh net.new)) }
+    ensures fresh { AreFresh (N.sent net.old) (N.fresh net.old) (N.sent net.new) (N.fresh net.new) }
     ensures waiting { (p : ℕ) → N.waiting net.new p ≡ N.waiting net.old p }
     ensures counts { Counts (N.given net.old) (N.faults net.old) (N.last_seed net.old) (N.given net.new) (N.faults net.new) (N.last_seed net.new) }
 {
@@ -128,6 +129,8 @@ fn take_letter<H: Host, N: Net, P: Power>(
     ensures unspent { OnOk result (voter.new.log.spent ≡ false) }
     ensures log { (voter.new.log.file ≡ voter.old.log.file) × (voter.new.log.kind ≡ voter.old.log.kind) }
     ensures others { (other : LogState) → other.file ≢ voter.old.log.file → Stands other (H.reads host.old) (H.may_leave host.old) → Stands other (H.reads host.new) (H.may_leave host.new) }
+    ensures read { Become (SameBut voter.old.log.file) (H.reads host.old) (H.reads host.new) }
+    ensures crash { Follows (SameBut voter.old.log.file) (H.may_leave host.old) (H.may_leave host.new) }
     ensures said { H.said host.new ≡ H.said host.old }
     ensures disk { CountsFault result (H.disk_faults host.old) (H.disk_faults host.new) }
     ensures stream { H.say_faults host.new ≡ H.say_faults host.old }
@@ -136,7 +139,7 @@ fn take_letter<H: Host, N: Net, P: Power>(
     // The counts.
     ensures later { IsLater P.stops_seen P.early_stops P.stopped P.begun P.asked power.old power.new }
     ensures stops { IfOk result (λ stops. CountsStops stops (P.stops_seen power.old) (P.early_stops power.old) (P.stops_seen power.new) (P.early_stops power.new)) }
-    ensures fresh { OnOk result (AreFresh (N.sent net.old) (N.fresh net.old) (N.sent net.new) (N.fresh net.new)) }
+    ensures fresh { AreFresh (N.sent net.old) (N.fresh net.old) (N.sent net.new) (N.fresh net.new) }
     ensures waiting { (p : ℕ) → N.waiting net.new p ≡ N.waiting net.old p }
     ensures counts { Counts (N.given net.old) (N.faults net.old) (N.last_seed net.old) (N.given net.new) (N.faults net.new) (N.last_seed net.new) }
 {
@@ -196,6 +199,8 @@ pub(crate) fn take_letters<H: Host, N: Net, P: Power>(
     ensures unspent { OnOk result (voter.new.log.spent ≡ false) }
     ensures log { (voter.new.log.file ≡ voter.old.log.file) × (voter.new.log.kind ≡ voter.old.log.kind) }
     ensures others { (other : LogState) → other.file ≢ voter.old.log.file → Stands other (H.reads host.old) (H.may_leave host.old) → Stands other (H.reads host.new) (H.may_leave host.new) }
+    ensures read { Become (SameBut voter.old.log.file) (H.reads host.old) (H.reads host.new) }
+    ensures crash { Follows (SameBut voter.old.log.file) (H.may_leave host.old) (H.may_leave host.new) }
     ensures said { H.said host.new ≡ H.said host.old }
     ensures disk { CountsFault result (H.disk_faults host.old) (H.disk_faults host.new) }
     ensures stream { H.say_faults host.new ≡ H.say_faults host.old }
@@ -204,7 +209,7 @@ pub(crate) fn take_letters<H: Host, N: Net, P: Power>(
     // The counts.
     ensures later { IsLater P.stops_seen P.early_stops P.stopped P.begun P.asked power.old power.new }
     ensures stops { IfOk result (λ stops. CountsStops stops (P.stops_seen power.old) (P.early_stops power.old) (P.stops_seen power.new) (P.early_stops power.new)) }
-    ensures fresh { OnOk result (AreFresh (N.sent net.old) (N.fresh net.old) (N.sent net.new) (N.fresh net.new)) }
+    ensures fresh { AreFresh (N.sent net.old) (N.fresh net.old) (N.sent net.new) (N.fresh net.new) }
     ensures waiting { (p : ℕ) → p ≢ node → N.waiting net.new p ≡ N.waiting net.old p }
     ensures counts { Counts (N.given net.old) (N.faults net.old) (N.last_seed net.old) (N.given net.new) (N.faults net.new) (N.last_seed net.new) }
 {
@@ -260,6 +265,8 @@ pub(crate) fn nodes_take<H: Host, N: Net, P: Power>(
     ensures ready { OnOk result (AreReady voters.new (H.reads host.new) (H.may_leave host.new)) }
     ensures places { KeepPlaces voters.old voters.new }
     ensures others { (other : LogState) → IsElsewhere other voters.old → Stands other (H.reads host.old) (H.may_leave host.old) → Stands other (H.reads host.new) (H.may_leave host.new) }
+    ensures read { Become (SameElsewhere voters.old) (H.reads host.old) (H.reads host.new) }
+    ensures crash { Follows (SameElsewhere voters.old) (H.may_leave host.old) (H.may_leave host.new) }
     ensures said { H.said host.new ≡ H.said host.old }
     ensures disk { CountsFault result (H.disk_faults host.old) (H.disk_faults host.new) }
     ensures stream { H.say_faults host.new ≡ H.say_faults host.old }
@@ -268,7 +275,7 @@ pub(crate) fn nodes_take<H: Host, N: Net, P: Power>(
     // The counts.
     ensures later { IsLater P.stops_seen P.early_stops P.stopped P.begun P.asked power.old power.new }
     ensures stops { IfOk result (λ stops. CountsStops stops (P.stops_seen power.old) (P.early_stops power.old) (P.stops_seen power.new) (P.early_stops power.new)) }
-    ensures fresh { OnOk result (AreFresh (N.sent net.old) (N.fresh net.old) (N.sent net.new) (N.fresh net.new)) }
+    ensures fresh { AreFresh (N.sent net.old) (N.fresh net.old) (N.sent net.new) (N.fresh net.new) }
     ensures waiting { (p : ℕ) → length cores.old ≤ p → N.waiting net.new p ≡ N.waiting net.old p }
     ensures counts { Counts (N.given net.old) (N.faults net.old) (N.last_seed net.old) (N.given net.new) (N.faults net.new) (N.last_seed net.new) }
 {

@@ -1,12 +1,12 @@
-use Rattle.std.proofs.Common.{◌≡◌, ◌<◌, ◌++◌, ◌^◌, List, ap, arith, refl, subst, sym, ◌∙◌, ◌≤◌, ℕ}
+use Rattle.std.proofs.Common.{◌≡◌, ◌<◌, ◌++◌, ◌^◌, List, ap, arith, refl, subst, sym, ◌∙◌}
 use Rattle.std.proofs.lemmas.Result.{on_ok_weaker}
 use Rattle.coco_msg.specs.declared.action.Action.{Action}
 use Rattle.coco_msg.specs.declared.message.Message.TheVariants.{Commit}
 use Rattle.coco_net.specs.declared.letter.Posted.{Posted}
 use Rattle.coco_chief.specs.Shown.{chief_of}
 use Rattle.coco_chief.specs.Table.{forced, Turn}
-use Rattle.coco_letters.specs.Turns.{ChiefTurns}
 use Rattle.coco_letters.specs.Saying.{posts_of, AreToSay}
+use Rattle.coco_letters.proofs.HearingLemmas.{fresh_none}
 use Rattle.coco_letters.proofs.SayingLemmas.{each_says}
 use Rattle.coco_letters.proofs.TellingLemmas.{forced_says}
 use Rattle.coco_letters.proofs.WorldLemmas.{commit_goes}
@@ -40,3 +40,6 @@ returns-clause-says g c =
     (λ sent. forced_says chief (chief_of c.forced.new.self) before (g.N.Net.sent c.send_actions.new.net) c.requires.few c.args.epoch fits
     (record { chief_is = ap (λ (turn : Turn). turn.1) c.in_ok-actions.ensures.ok; sent_is = sent ∙ ap (λ (actions : List Action). before ++ posts_of 8 actions) said }))
     c.send_actions.ensures.sent
+
+pub returns-in_err-actions-clause-fresh : goal.returns-in_err-actions-clause-fresh
+returns-in_err-actions-clause-fresh g c = fresh_none (g.N.Net.sent c.args.net.now) (g.N.Net.fresh c.args.net.now)

@@ -5,7 +5,7 @@ use Rattle.coco_net.specs.declared.letter.Posted.{Posted}
 use Rattle.coco_chief.specs.Shown.{chief_of}
 use Rattle.coco_chief.specs.Table.{handled, Turn}
 use Rattle.coco_letters.specs.Saying.{posts_of, AreToSay}
-use Rattle.coco_letters.proofs.HearingLemmas.{chief_drops, chief_takes, fresh_none, fresh_ok, heard_from, posted_is}
+use Rattle.coco_letters.proofs.HearingLemmas.{chief_drops, chief_takes, fresh_none, heard_from, posted_is}
 use Rattle.coco_letters.proofs.SayingLemmas.{chief_says, nodes_stay}
 use Rattle.coco_letters.proofs.TellingLemmas.{adds_same, hears_says}
 use Rattle.coco_letters.proofs.WorldLemmas.{chief_goes, nothing_goes}
@@ -57,10 +57,6 @@ returns-in_ok-actions-in-Some-clause-world g c =
     (ap (λ (turn : Turn). turn.1) c.in_ok-actions-in-Some.ensures.ok) (sent ∙ ap (λ (actions : List Action). before ++ posts_of 8 actions) said))
     c.send_actions.ensures.sent
 
-pub returns-in_ok-actions-in-Some-clause-fresh : goal.returns-in_ok-actions-in-Some-clause-fresh
-returns-in_ok-actions-in-Some-clause-fresh g c =
-    fresh_ok c.send_actions.result (g.N.Net.sent c.args.net.now) (g.N.Net.fresh c.args.net.now) (g.N.Net.sent c.send_actions.new.net) (g.N.Net.fresh c.send_actions.new.net) (posts_of 8 c.deref.result.now) c.send_actions.ensures.sent c.send_actions.ensures.fresh
-
 pub returns-in_ok-actions-in-Some-clause-nodes : goal.returns-in_ok-actions-in-Some-clause-nodes
 returns-in_ok-actions-in-Some-clause-nodes g c =
     ap (λ (turn : Turn). turn.1.nodes) c.in_ok-actions-in-Some.ensures.ok ∙ nodes_stay c.args.letter.now.from c.in-Some.message (chief_of c.args.chief.now)
@@ -78,3 +74,9 @@ returns-in-None-clause-fresh g c = fresh_none (g.N.Net.sent c.args.net.now) (g.N
 
 pub returns-in-None-clause-says : goal.returns-in-None-clause-says
 returns-in-None-clause-says g c = adds_same (g.N.Net.sent c.args.net.now)
+
+pub returns-in_err-message-clause-fresh : goal.returns-in_err-message-clause-fresh
+returns-in_err-message-clause-fresh g c = fresh_none (g.N.Net.sent c.args.net.now) (g.N.Net.fresh c.args.net.now)
+
+pub returns-in_err-actions-in-Some-clause-fresh : goal.returns-in_err-actions-in-Some-clause-fresh
+returns-in_err-actions-in-Some-clause-fresh g c = fresh_none (g.N.Net.sent c.args.net.now) (g.N.Net.fresh c.args.net.now)

@@ -1,11 +1,11 @@
-use Rattle.std.proofs.Common.{◌≡◌, ◌<◌, ◌++◌, ◌^◌, List, ap, arith, refl, subst, sym, ◌∙◌, ◌≤◌, ℕ}
+use Rattle.std.proofs.Common.{◌≡◌, ◌<◌, ◌++◌, ◌^◌, List, ap, arith, refl, subst, sym, ◌∙◌}
 use Rattle.std.proofs.lemmas.Result.{on_ok_weaker}
 use Rattle.coco_msg.specs.declared.action.Action.{Action}
 use Rattle.coco_net.specs.declared.letter.Posted.{Posted}
 use Rattle.coco_chief.specs.Shown.{chief_of}
 use Rattle.coco_chief.specs.Table.{reminds}
-use Rattle.coco_letters.specs.Turns.{ChiefTurns}
 use Rattle.coco_letters.specs.Saying.{posts_of, AreToSay}
+use Rattle.coco_letters.proofs.HearingLemmas.{fresh_none}
 use Rattle.coco_letters.proofs.SayingLemmas.{reminds_says}
 use Rattle.coco_letters.proofs.TellingLemmas.{reminds_says as turn_says}
 use Rattle.coco_letters.proofs.WorldLemmas.{remind_goes}
@@ -39,3 +39,6 @@ returns-clause-says g c =
     (λ sent. turn_says chief chief before (g.N.Net.sent c.send_actions.new.net) c.requires.few fits
     (record { chief_is = refl; sent_is = sent ∙ ap (λ (actions : List Action). before ++ posts_of 8 actions) said }))
     c.send_actions.ensures.sent
+
+pub returns-in_err-actions-clause-fresh : goal.returns-in_err-actions-clause-fresh
+returns-in_err-actions-clause-fresh g c = fresh_none (g.N.Net.sent c.args.net.now) (g.N.Net.fresh c.args.net.now)

@@ -1,13 +1,11 @@
-use Rattle.std.proofs.Common.{◌≡◌, ◌<◌, ◌++◌, ◌^◌, ℕ, List, Some, ap, arith, subst, sym, ◌∙◌}
+use Rattle.std.proofs.Common.{◌≡◌, Some, ap, arith, subst, sym, ◌∙◌}
 use Rattle.std.specs.List.{slice_get}
 use Rattle.std.proofs.lemmas.Option.{same_Some, slice_get-get_or}
 use Rattle.std.proofs.lemmas.Result.{on_ok_weaker}
-use Rattle.coco_msg.specs.declared.action.Action.{Action}
-use Rattle.coco_net.specs.declared.letter.Posted.{Posted}
 use Rattle.coco_node.specs.Node.{Node}
 use Rattle.coco_node.specs.Table.{forced, Turn}
-use Rattle.coco_letters.specs.Saying.{posts_of, AreToSay}
-use Rattle.coco_letters.proofs.HearingLemmas.{fresh_ok, turns_by}
+use Rattle.coco_letters.specs.Saying.{AreToSay}
+use Rattle.coco_letters.proofs.HearingLemmas.{fresh_none, turns_by}
 use Rattle.coco_letters.proofs.SayingLemmas.{vote_says}
 use Rattle.coco_letters.proofs.WorldLemmas.{force_goes}
 use Rattle.coco_letters.proofs.nodes.node_forced.Goals as goal
@@ -35,6 +33,5 @@ returns-clause-world g c =
     (turns_by c.args.node (forced c.args.epoch) c.args.cores.now c.index-cores-node.result c.forced.new.self c.in_ok-actions.actions.items c.deref.result.now c.index-cores-node.is c.in_ok-actions.ensures.ok c.deref.ensures.value (g.N.Net.sent c.args.net.now) (g.N.Net.sent c.send_actions.new.net) c.requires.node sent))
     c.send_actions.ensures.sent
 
-pub returns-clause-fresh : goal.returns-clause-fresh
-returns-clause-fresh g c =
-    fresh_ok c.send_actions.result (g.N.Net.sent c.args.net.now) (g.N.Net.fresh c.args.net.now) (g.N.Net.sent c.send_actions.new.net) (g.N.Net.fresh c.send_actions.new.net) (posts_of c.args.node c.deref.result.now) c.send_actions.ensures.sent c.send_actions.ensures.fresh
+pub returns-in_err-actions-clause-fresh : goal.returns-in_err-actions-clause-fresh
+returns-in_err-actions-clause-fresh g c = fresh_none (g.N.Net.sent c.args.net.now) (g.N.Net.fresh c.args.net.now)

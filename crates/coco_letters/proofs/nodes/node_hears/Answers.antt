@@ -32,3 +32,6 @@ returns-in-None-clause-world g c = λ chief. nothing_goes (record { cores = c.ar
 
 pub returns-in-None-clause-fresh : goal.returns-in-None-clause-fresh
 returns-in-None-clause-fresh g c = fresh_none (g.N.Net.sent c.args.net.now) (g.N.Net.fresh c.args.net.now)
+
+pub returns-in_err-message-clause-fresh : goal.returns-in_err-message-clause-fresh
+returns-in_err-message-clause-fresh g c = fresh_none (g.N.Net.sent c.args.net.now) (g.N.Net.fresh c.args.net.now)

@@ -1,5 +1,4 @@
-use Rattle.coco_letters.specs.Saying.{posts_of}
-use Rattle.coco_letters.proofs.HearingLemmas.{fresh_by, says_by, takes_by}
+use Rattle.coco_letters.proofs.HearingLemmas.{fresh_none, says_by, takes_by}
 use Rattle.coco_letters.proofs.nodes.takes.Goals as goal
 
 pub send_actions-requires-clause-messages : goal.send_actions-requires-clause-messages
@@ -11,6 +10,5 @@ returns-clause-takes g c =
     takes_by c.args.node c.args.message.now c.args.cores.now c.index-cores-node.result c.handle.new.self c.in_ok-actions.actions.items c.deref.result.now c.index-cores-node.is c.in_ok-actions.ensures.ok c.deref.ensures.value
     (g.N.Net.sent c.args.net.now) (g.N.Net.sent c.send_actions.new.net) c.requires.node c.in_ok-send_actions.ensures.sent
 
-pub returns-clause-fresh : goal.returns-clause-fresh
-returns-clause-fresh g c =
-    fresh_by (g.N.Net.sent c.args.net.now) (g.N.Net.fresh c.args.net.now) (g.N.Net.sent c.send_actions.new.net) (g.N.Net.fresh c.send_actions.new.net) (posts_of c.args.node c.deref.result.now) c.in_ok-send_actions.ensures.sent c.in_ok-send_actions.ensures.fresh
+pub returns-in_err-actions-clause-fresh : goal.returns-in_err-actions-clause-fresh
+returns-in_err-actions-clause-fresh g c = fresh_none (g.N.Net.sent c.args.net.now) (g.N.Net.fresh c.args.net.now)

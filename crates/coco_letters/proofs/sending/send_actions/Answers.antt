@@ -11,7 +11,7 @@ pub returns-in_err-send_action-clause-some : goal.returns-in_err-send_action-cla
 returns-in_err-send_action-clause-some g c =
     let actions = c.args.actions.now in
     let i = c.loop-action.action-index in
-    (posts_of c.args.from (take i actions), posts_of c.args.from (drop i actions), c.in_err-send_action.ensures.err ∙ c.loop-action.invariant.sent, posts_first c.args.from actions i)
+    (posts_of c.args.from (take i actions), posts_of c.args.from (drop i actions), c.in_err-send_action.ensures.err.0 ∙ c.loop-action.invariant.sent, posts_first c.args.from actions i)
 
 pub loop-action-preserved : goal.loop-action-preserved
 loop-action-preserved g c =
@@ -26,3 +26,11 @@ loop-action-preserved g c =
       counts = counts_then (g.N.Net.given c.args.net.now) (g.N.Net.faults c.args.net.now) (g.N.Net.last_seed c.args.net.now) (g.N.Net.given c.loop-action.net) (g.N.Net.faults c.loop-action.net) (g.N.Net.last_seed c.loop-action.net)
           (g.N.Net.given c.send_action.new.net) (g.N.Net.faults c.send_action.new.net) (g.N.Net.last_seed c.send_action.new.net) before.counts sends.counts;
     }
+
+pub returns-in_err-send_action-clause-grows : goal.returns-in_err-send_action-clause-grows
+returns-in_err-send_action-clause-grows g c =
+    record { posts = posts_of c.args.from (take c.loop-action.action-index c.args.actions.now); sent_is = c.in_err-send_action.ensures.err.0 ∙ c.loop-action.invariant.sent; fresh_is = c.in_err-send_action.ensures.err.1 ∙ c.loop-action.invariant.fresh }
+
+pub returns-clause-grows : goal.returns-clause-grows
+returns-clause-grows g c =
+    record { posts = posts_of c.args.from (take c.loop-action.action-index c.args.actions.now); sent_is = c.loop-action.invariant.sent; fresh_is = c.loop-action.invariant.fresh }

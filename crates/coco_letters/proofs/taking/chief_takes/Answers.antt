@@ -1,4 +1,4 @@
-use Rattle.std.proofs.Common.{◌≡◌, List, ◌∷◌, refl, sym, subst, ◌∙◌, arith, ℕ, ◌≤◌}
+use Rattle.std.proofs.Common.{◌≡◌, List, ◌∷◌, refl, sym, subst, ◌∙◌, arith}
 use Rattle.std.specs.List.{Contains}
 use Rattle.coco_chief.specs.Chief.{Chief}
 use Rattle.coco_chief.specs.Shown.{chief_of}
@@ -38,7 +38,7 @@ loop-letter-preserved g c =
     taken_sent (g.N.Net.sent c.loop-letter.net) (g.N.Net.waiting c.loop-letter.net) (g.N.Net.waiting c.next.new.self) 8 c.next.result before.sent c.next.ensures.first c.next.ensures.others in
     let said : AreFresh (g.N.Net.sent c.loop-letter.net) (g.N.Net.fresh c.loop-letter.net) (g.N.Net.sent c.chief_hears.new.net) (g.N.Net.fresh c.chief_hears.new.net) =
     subst (λ (ps : List Posted). AreFresh (g.N.Net.sent c.loop-letter.net) ps (g.N.Net.sent c.chief_hears.new.net) (g.N.Net.fresh c.chief_hears.new.net)) c.next.ensures.fresh
-    (subst (λ (ps : List Posted). AreFresh ps (g.N.Net.fresh c.next.new.self) (g.N.Net.sent c.chief_hears.new.net) (g.N.Net.fresh c.chief_hears.new.net)) c.next.ensures.sent did.fresh) in
+    (subst (λ (ps : List Posted). AreFresh ps (g.N.Net.fresh c.next.new.self) (g.N.Net.sent c.chief_hears.new.net) (g.N.Net.fresh c.chief_hears.new.net)) c.next.ensures.sent c.chief_hears.ensures.fresh) in
     let taken : Counts (g.N.Net.given c.loop-letter.net) (g.N.Net.faults c.loop-letter.net) (g.N.Net.last_seed c.loop-letter.net) (g.N.Net.given c.next.new.self) (g.N.Net.faults c.next.new.self) (g.N.Net.last_seed c.next.new.self) =
     record { given_stays = c.next.ensures.given; faults_stay = c.next.ensures.faults; seed_stays = c.next.ensures.seed } in
     record {
@@ -80,3 +80,9 @@ returns-clause-says g c =
     takes_says (g.N.Net.waiting c.args.net.now 8) (chief_of c.args.chief.now) (chief_of c.loop-letter.chief) (g.N.Net.sent c.args.net.now) (g.N.Net.sent c.next.new.self) c.requires.few
     (c.loop-letter.invariant.heard (chief_of c.loop-letter.chief) (g.N.Net.sent c.next.new.self)
     (subst (λ (ls : List Letter). ChiefTakes ls (chief_of c.loop-letter.chief) (g.N.Net.sent c.loop-letter.net) (chief_of c.loop-letter.chief) (g.N.Net.sent c.next.new.self)) (sym c.in_default.ensures.first.0) (refl, c.next.ensures.sent)))
+
+pub returns-in_err-chief_hears-clause-fresh : goal.returns-in_err-chief_hears-clause-fresh
+returns-in_err-chief_hears-clause-fresh g c =
+    fresh_then (g.N.Net.sent c.args.net.now) (g.N.Net.fresh c.args.net.now) (g.N.Net.sent c.loop-letter.net) (g.N.Net.fresh c.loop-letter.net) (g.N.Net.sent c.chief_hears.new.net) (g.N.Net.fresh c.chief_hears.new.net) c.loop-letter.invariant.fresh
+    (subst (λ (ps : List Posted). AreFresh (g.N.Net.sent c.loop-letter.net) ps (g.N.Net.sent c.chief_hears.new.net) (g.N.Net.fresh c.chief_hears.new.net)) c.next.ensures.fresh
+    (subst (λ (ps : List Posted). AreFresh ps (g.N.Net.fresh c.next.new.self) (g.N.Net.sent c.chief_hears.new.net) (g.N.Net.fresh c.chief_hears.new.net)) c.next.ensures.sent c.chief_hears.ensures.fresh))

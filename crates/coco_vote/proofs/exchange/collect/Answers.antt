@@ -15,6 +15,7 @@ use Rattle.coco_vote.specs.Taking.{vote_of}
 use Rattle.coco_vote.proofs.CountingLemmas.{noes_still, round_counted, takes_counted}
 use Rattle.coco_vote.proofs.GivingLemmas.{fresh_given, given_since, given_waits, gives_counts, gives_round, gives_then, sent_still, waits_given}
 use Rattle.coco_vote.proofs.TakingLemmas.{fresh_still}
+use Rattle.coco_letters.proofs.SendingLemmas.{sends_fresh, sends_none, sends_then}
 use Rattle.coco_vote.proofs.exchange.collect.Goals as goal
 
 pub chief_takes-requires-2-clause-sent : goal.chief_takes-requires-2-clause-sent
@@ -104,3 +105,19 @@ returns-clause-rests g c = λ still.
     let two = c.in_ok-chief_takes-2.ensures.votes in
     let first : (chief_of c.chief_takes.new.chief).phase ≡ (chief_of c.args.chief.now).phase = one.rests still in
     (two.rests (ap (λ (p : Phase). is_voting p) first ∙ still) ∙ first, two.current ∙ one.current)
+
+pub returns-in_err-chief_takes-clause-sent : goal.returns-in_err-chief_takes-clause-sent
+returns-in_err-chief_takes-clause-sent g c =
+    sends_fresh (g.N.Net.sent c.args.net.now) (g.N.Net.fresh c.args.net.now) (g.N.Net.sent c.chief_takes.new.net) (g.N.Net.fresh c.chief_takes.new.net) c.chief_takes.ensures.fresh
+
+pub returns-in_err-round-clause-sent : goal.returns-in_err-round-clause-sent
+returns-in_err-round-clause-sent g c =
+    sends_then (g.N.Net.sent c.args.net.now) (g.N.Net.sent c.chief_takes.new.net) (g.N.Net.sent c.round.new.self) (sends_fresh (g.N.Net.sent c.args.net.now) (g.N.Net.fresh c.args.net.now) (g.N.Net.sent c.chief_takes.new.net) (g.N.Net.fresh c.chief_takes.new.net) c.chief_takes.ensures.fresh) (sends_none (g.N.Net.sent c.chief_takes.new.net) (g.N.Net.sent c.round.new.self) c.round.ensures.sent)
+
+pub returns-in_err-chief_takes-2-clause-sent : goal.returns-in_err-chief_takes-2-clause-sent
+returns-in_err-chief_takes-2-clause-sent g c =
+    sends_then (g.N.Net.sent c.args.net.now) (g.N.Net.sent c.round.new.self) (g.N.Net.sent c.chief_takes-2.new.net) (sends_then (g.N.Net.sent c.args.net.now) (g.N.Net.sent c.chief_takes.new.net) (g.N.Net.sent c.round.new.self) (sends_fresh (g.N.Net.sent c.args.net.now) (g.N.Net.fresh c.args.net.now) (g.N.Net.sent c.chief_takes.new.net) (g.N.Net.fresh c.chief_takes.new.net) c.chief_takes.ensures.fresh) (sends_none (g.N.Net.sent c.chief_takes.new.net) (g.N.Net.sent c.round.new.self) c.round.ensures.sent)) (sends_fresh (g.N.Net.sent c.round.new.self) (g.N.Net.fresh c.round.new.self) (g.N.Net.sent c.chief_takes-2.new.net) (g.N.Net.fresh c.chief_takes-2.new.net) c.chief_takes-2.ensures.fresh)
+
+pub returns-clause-sent : goal.returns-clause-sent
+returns-clause-sent g c =
+    sends_then (g.N.Net.sent c.args.net.now) (g.N.Net.sent c.round.new.self) (g.N.Net.sent c.chief_takes-2.new.net) (sends_then (g.N.Net.sent c.args.net.now) (g.N.Net.sent c.chief_takes.new.net) (g.N.Net.sent c.round.new.self) (sends_fresh (g.N.Net.sent c.args.net.now) (g.N.Net.fresh c.args.net.now) (g.N.Net.sent c.chief_takes.new.net) (g.N.Net.fresh c.chief_takes.new.net) c.chief_takes.ensures.fresh) (sends_none (g.N.Net.sent c.chief_takes.new.net) (g.N.Net.sent c.round.new.self) c.round.ensures.sent)) (sends_fresh (g.N.Net.sent c.round.new.self) (g.N.Net.fresh c.round.new.self) (g.N.Net.sent c.chief_takes-2.new.net) (g.N.Net.fresh c.chief_takes-2.new.net) c.chief_takes-2.ensures.fresh)

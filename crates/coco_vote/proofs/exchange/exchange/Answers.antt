@@ -1,4 +1,4 @@
-use Rattle.std.proofs.Common.{◌≡◌, inl, inr, ◌<◌, ◌≤◌, ◌^◌, false, true, List, ◌++◌, arith, refl, subst, sym, ◌∙◌}
+use Rattle.std.proofs.Common.{◌≡◌, inl, inr, ◌<◌, ◌≤◌, ◌^◌, true, List, ◌++◌, arith, refl, subst, sym, ◌∙◌}
 use Rattle.std.specs.List.{Contains}
 use Rattle.std.proofs.lemmas.List.Elements.{All-contains, Contains-append_cases, Contains-append_right}
 use Rattle.std.proofs.lemmas.Result.{err_from_is_err_and}
@@ -13,7 +13,7 @@ use Rattle.coco_letters.proofs.TellingLemmas.{adds_left, adds_then, adds_vote}
 use Rattle.coco_letters.proofs.WorldLemmas.{between_on, between_then}
 use Rattle.coco_vote.specs.Counting.{prepare_of, HasCounted, IsAye}
 use Rattle.coco_vote.specs.Preparing.{have_durable, Ballot, RestsVoted}
-use Rattle.coco_vote.specs.Taking.{has_lost, vote_of, AreTold}
+use Rattle.coco_vote.specs.Taking.{has_lost, vote_of, AreTold, SameElsewhere}
 use Rattle.coco_vote.specs.Voting.{PreparesOnly}
 use Rattle.coco_vote.proofs.CountingLemmas.{asked_from, exchange_counted, told_still}
 use Rattle.coco_vote.proofs.GivingLemmas.{fresh_given, given_since, given_waits, gives_counts, gives_round, gives_then, sent_still, since_both, waits_given}
@@ -23,6 +23,8 @@ use Rattle.coco_vote.proofs.StepLemmas.{only_same, only_then}
 use Rattle.coco_vote.proofs.StopLemmas.{never_lost, unless_lost}
 use Rattle.coco_vote.proofs.TakingLemmas.{unless_any}
 use Rattle.coco_vote.proofs.VoterLemmas.{places_same}
+use Rattle.coco_letters.proofs.SendingLemmas.{sends_fresh, sends_none, sends_then}
+use Rattle.coco_vote.proofs.FileLemmas.{become_none, elsewhere_same, follow_none}
 use Rattle.coco_vote.proofs.exchange.exchange.Goals as goal
 
 pub nodes_take-requires-clause-sent : goal.nodes_take-requires-clause-sent
@@ -170,3 +172,29 @@ returns-clause-were_sent g c more p is among =
       | inl first ↦ adds_left (g.N.Net.sent c.nodes_take.new.net) (g.N.Net.sent c.collect.new.net) p c.in_ok-collect.ensures.says (sent_still (g.N.Net.sent c.args.net.now) (g.N.Net.sent c.round.new.self) (g.N.Net.fresh c.round.new.self) (g.N.Net.sent c.nodes_take.new.net) (g.N.Net.fresh c.nodes_take.new.net) p c.round.ensures.sent c.in_ok-stops.ensures.fresh (All-contains (Contains (g.N.Net.sent c.args.net.now)) gives.0 p gives.2.were_sent first))
       | inr second ↦ c.in_ok-collect.ensures.were_sent c.collect.ensures.net.more p c.collect.ensures.net.gives second
     ]
+
+pub returns-in_err-round-clause-sent : goal.returns-in_err-round-clause-sent
+returns-in_err-round-clause-sent g c =
+    sends_none (g.N.Net.sent c.args.net.now) (g.N.Net.sent c.round.new.self) c.round.ensures.sent
+
+pub returns-in_err-stops-clause-sent : goal.returns-in_err-stops-clause-sent
+returns-in_err-stops-clause-sent g c =
+    sends_then (g.N.Net.sent c.args.net.now) (g.N.Net.sent c.round.new.self) (g.N.Net.sent c.nodes_take.new.net) (sends_none (g.N.Net.sent c.args.net.now) (g.N.Net.sent c.round.new.self) c.round.ensures.sent) (sends_fresh (g.N.Net.sent c.round.new.self) (g.N.Net.fresh c.round.new.self) (g.N.Net.sent c.nodes_take.new.net) (g.N.Net.fresh c.nodes_take.new.net) c.nodes_take.ensures.fresh)
+
+pub returns-then-is_early-clause-sent : goal.returns-then-is_early-clause-sent
+returns-then-is_early-clause-sent g c =
+    sends_then (g.N.Net.sent c.args.net.now) (g.N.Net.sent c.round.new.self) (g.N.Net.sent c.nodes_take.new.net) (sends_none (g.N.Net.sent c.args.net.now) (g.N.Net.sent c.round.new.self) c.round.ensures.sent) (sends_fresh (g.N.Net.sent c.round.new.self) (g.N.Net.fresh c.round.new.self) (g.N.Net.sent c.nodes_take.new.net) (g.N.Net.fresh c.nodes_take.new.net) c.nodes_take.ensures.fresh)
+
+pub returns-in_err-collect-clause-sent : goal.returns-in_err-collect-clause-sent
+returns-in_err-collect-clause-sent g c =
+    sends_then (g.N.Net.sent c.args.net.now) (g.N.Net.sent c.nodes_take.new.net) (g.N.Net.sent c.collect.new.net) (sends_then (g.N.Net.sent c.args.net.now) (g.N.Net.sent c.round.new.self) (g.N.Net.sent c.nodes_take.new.net) (sends_none (g.N.Net.sent c.args.net.now) (g.N.Net.sent c.round.new.self) c.round.ensures.sent) (sends_fresh (g.N.Net.sent c.round.new.self) (g.N.Net.fresh c.round.new.self) (g.N.Net.sent c.nodes_take.new.net) (g.N.Net.fresh c.nodes_take.new.net) c.nodes_take.ensures.fresh)) (c.collect.ensures.sent)
+
+pub returns-clause-sent : goal.returns-clause-sent
+returns-clause-sent g c =
+    sends_then (g.N.Net.sent c.args.net.now) (g.N.Net.sent c.nodes_take.new.net) (g.N.Net.sent c.collect.new.net) (sends_then (g.N.Net.sent c.args.net.now) (g.N.Net.sent c.round.new.self) (g.N.Net.sent c.nodes_take.new.net) (sends_none (g.N.Net.sent c.args.net.now) (g.N.Net.sent c.round.new.self) c.round.ensures.sent) (sends_fresh (g.N.Net.sent c.round.new.self) (g.N.Net.fresh c.round.new.self) (g.N.Net.sent c.nodes_take.new.net) (g.N.Net.fresh c.nodes_take.new.net) c.nodes_take.ensures.fresh)) (c.collect.ensures.sent)
+
+pub returns-in_err-round-clause-read : goal.returns-in_err-round-clause-read
+returns-in_err-round-clause-read g c = become_none (SameElsewhere c.args.voters.now) (elsewhere_same c.args.voters.now) (g.H.Host.reads c.args.host.now)
+
+pub returns-in_err-round-clause-crash : goal.returns-in_err-round-clause-crash
+returns-in_err-round-clause-crash g c = follow_none (SameElsewhere c.args.voters.now) (elsewhere_same c.args.voters.now) (g.H.Host.may_leave c.args.host.now)

@@ -1,7 +1,7 @@
 use Rattle.std.proofs.Common.{◌≡◌, ◌<◌, ℕ, Bool, List, Some, [], ◌∷◌, ap, arith, false, inl, inr, lit<, lit≤, refl, subst, sym, true, ◌∙◌}
 use Rattle.std.proofs.lemmas.Bool.{eq-eqb}
 use Rattle.std.proofs.lemmas.Result.{err_from_is_err_and}
-use Rattle.coco_log.specs.LogState.{LogState}
+use Rattle.coco_log.specs.LogState.{LogState, SameBut}
 use Rattle.coco_node.specs.Node.{restarted, Node}
 use Rattle.coco_world.specs.World.{put}
 use Rattle.coco_vote.specs.Preparing.{have_durable, AddsEntry, Ballot, RestsVoted}
@@ -10,6 +10,7 @@ use Rattle.coco_vote.proofs.PlaceLemmas.{has_older, have_same}
 use Rattle.coco_vote.proofs.PowerLemmas.{asked_here}
 use Rattle.coco_vote.proofs.PreparingLemmas.{none_ok, rests_same, votes_same}
 use Rattle.coco_vote.proofs.StepLemmas.{between_later, between_lost, have_behind, max_none, only_same}
+use Rattle.coco_vote.proofs.FileLemmas.{become_none, but_same, follow_none}
 use Rattle.coco_vote.proofs.forcing.force_and_vote.Goals as goal
 
 pub returns-then-stops-clause-files : goal.returns-then-stops-clause-files
@@ -88,3 +89,15 @@ pub returns-clause-behind : goal.returns-clause-behind
 returns-clause-behind g c =
     inr (subst (λ (log : LogState). AddsEntry c.args.epoch c.args.pieces.now c.args.voter.now.held.items c.args.voter.now.log log) (sym c.vote.ensures.log)
     (subst (λ (held : List Bool). AddsEntry c.args.epoch c.args.pieces.now held c.args.voter.now.log c.prepare_entry.new.log) c.as_slice-held.ensures.value c.in_ok-prepare_entry.ensures.entry))
+
+pub returns-then-stops-clause-read : goal.returns-then-stops-clause-read
+returns-then-stops-clause-read g c = become_none (SameBut c.args.voter.now.log.file) (but_same c.args.voter.now.log.file) (g.H.Host.reads c.args.host.now)
+
+pub returns-then-stops-clause-crash : goal.returns-then-stops-clause-crash
+returns-then-stops-clause-crash g c = follow_none (SameBut c.args.voter.now.log.file) (but_same c.args.voter.now.log.file) (g.H.Host.may_leave c.args.host.now)
+
+pub returns-in_err-lose_rows-clause-read : goal.returns-in_err-lose_rows-clause-read
+returns-in_err-lose_rows-clause-read g c = become_none (SameBut c.args.voter.now.log.file) (but_same c.args.voter.now.log.file) (g.H.Host.reads c.args.host.now)
+
+pub returns-in_err-lose_rows-clause-crash : goal.returns-in_err-lose_rows-clause-crash
+returns-in_err-lose_rows-clause-crash g c = follow_none (SameBut c.args.voter.now.log.file) (but_same c.args.voter.now.log.file) (g.H.Host.may_leave c.args.host.now)

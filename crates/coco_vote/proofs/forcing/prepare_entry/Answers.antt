@@ -6,6 +6,8 @@ use Rattle.coco_prepared.specs.LastWrites.{AreLastWrites}
 use Rattle.coco_world.specs.World.{put}
 use Rattle.coco_vote.specs.Preparing.{prepared_of, Ballot}
 use Rattle.coco_vote.proofs.PreparingLemmas.{log_still, may_still, stays_in_file, votes_gained, votes_none}
+use Rattle.coco_vote.proofs.FileLemmas.{become_none, but_same, follow_none}
+use Rattle.coco_log.specs.LogState.{SameBut}
 use Rattle.coco_vote.proofs.forcing.prepare_entry.Goals as goal
 
 pub returns-in_err-rows-clause-files : goal.returns-in_err-rows-clause-files
@@ -36,3 +38,9 @@ returns-clause-entry g c =
       added = added;
     })
     c.add_prepared.ensures.log
+
+pub returns-in_err-rows-clause-read : goal.returns-in_err-rows-clause-read
+returns-in_err-rows-clause-read g c = become_none (SameBut c.args.log.now.file) (but_same c.args.log.now.file) (g.H.Host.reads c.args.host.now)
+
+pub returns-in_err-rows-clause-crash : goal.returns-in_err-rows-clause-crash
+returns-in_err-rows-clause-crash g c = follow_none (SameBut c.args.log.now.file) (but_same c.args.log.now.file) (g.H.Host.may_leave c.args.host.now)

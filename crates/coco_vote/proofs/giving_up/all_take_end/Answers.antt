@@ -41,3 +41,7 @@ returns-in_err-take_end-clause-counts g c =
 
 pub returns-clause-told : goal.returns-clause-told
 returns-clause-told g c = λ n q less among from. c.loop-node.invariant.told n q (omega (arith, less, c.loop-node-test.false, c.loop-node.auto.cores, c.requires.few)) among from
+
+pub returns-in_err-take_end-clause-fresh : goal.returns-in_err-take_end-clause-fresh
+returns-in_err-take_end-clause-fresh g c =
+    fresh_then (g.N.Net.sent c.args.net.now) (g.N.Net.fresh c.args.net.now) (g.N.Net.sent c.loop-node.net) (g.N.Net.fresh c.loop-node.net) (g.N.Net.sent c.take_end.new.net) (g.N.Net.fresh c.take_end.new.net) (c.loop-node.invariant.fresh) (c.take_end.ensures.fresh)

@@ -16,6 +16,7 @@ use Rattle.coco_vote.proofs.BeginningLemmas.{tells_each}
 use Rattle.coco_vote.proofs.EndingLemmas.{aborted_from}
 use Rattle.coco_vote.proofs.GivingLemmas.{fresh_given, given_waits, gives_counts, gives_round, gives_then}
 use Rattle.coco_vote.proofs.TakingLemmas.{fresh_has}
+use Rattle.coco_letters.proofs.SendingLemmas.{sends_fresh, sends_none, sends_then}
 use Rattle.coco_vote.proofs.giving_up.give_up.Goals as goal
 
 pub all_take_end-requires-clause-sent : goal.all_take_end-requires-clause-sent
@@ -88,3 +89,23 @@ returns-clause-world g c =
 pub returns-clause-net : goal.returns-clause-net
 returns-clause-net g c =
     (gives_then (g.N.Net.given c.args.net.now) (g.N.Net.faults c.args.net.now) (g.N.Net.last_seed c.args.net.now) (g.N.Net.given c.all_take_end.new.net) (g.N.Net.faults c.all_take_end.new.net) (g.N.Net.last_seed c.all_take_end.new.net) (g.N.Net.given c.collect.new.net) (g.N.Net.faults c.collect.new.net) (g.N.Net.last_seed c.collect.new.net) (gives_then (g.N.Net.given c.args.net.now) (g.N.Net.faults c.args.net.now) (g.N.Net.last_seed c.args.net.now) (g.N.Net.given c.round.new.self) (g.N.Net.faults c.round.new.self) (g.N.Net.last_seed c.round.new.self) (g.N.Net.given c.all_take_end.new.net) (g.N.Net.faults c.all_take_end.new.net) (g.N.Net.last_seed c.all_take_end.new.net) (gives_then (g.N.Net.given c.args.net.now) (g.N.Net.faults c.args.net.now) (g.N.Net.last_seed c.args.net.now) (g.N.Net.given c.chief_aborts.new.net) (g.N.Net.faults c.chief_aborts.new.net) (g.N.Net.last_seed c.chief_aborts.new.net) (g.N.Net.given c.round.new.self) (g.N.Net.faults c.round.new.self) (g.N.Net.last_seed c.round.new.self) (gives_counts (g.N.Net.given c.args.net.now) (g.N.Net.faults c.args.net.now) (g.N.Net.last_seed c.args.net.now) (g.N.Net.given c.chief_aborts.new.net) (g.N.Net.faults c.chief_aborts.new.net) (g.N.Net.last_seed c.chief_aborts.new.net) c.chief_aborts.ensures.counts) (gives_round c.round.result (g.N.Net.sent c.chief_aborts.new.net) (g.N.Net.fresh c.chief_aborts.new.net) (g.N.Net.waiting c.round.new.self) (g.N.Net.given c.chief_aborts.new.net) (g.N.Net.faults c.chief_aborts.new.net) (g.N.Net.last_seed c.chief_aborts.new.net) (g.N.Net.given c.round.new.self) (g.N.Net.faults c.round.new.self) (g.N.Net.last_seed c.round.new.self) (g.N.Net.fresh c.round.new.self) c.round.ensures.ok c.round.ensures.faults c.round.ensures.err c.round.ensures.seed)) (gives_counts (g.N.Net.given c.round.new.self) (g.N.Net.faults c.round.new.self) (g.N.Net.last_seed c.round.new.self) (g.N.Net.given c.all_take_end.new.net) (g.N.Net.faults c.all_take_end.new.net) (g.N.Net.last_seed c.all_take_end.new.net) c.all_take_end.ensures.counts)) c.collect.ensures.net)
+
+pub returns-in_err-chief_aborts-clause-sent : goal.returns-in_err-chief_aborts-clause-sent
+returns-in_err-chief_aborts-clause-sent g c =
+    sends_fresh (g.N.Net.sent c.args.net.now) (g.N.Net.fresh c.args.net.now) (g.N.Net.sent c.chief_aborts.new.net) (g.N.Net.fresh c.chief_aborts.new.net) c.chief_aborts.ensures.fresh
+
+pub returns-in_err-round-clause-sent : goal.returns-in_err-round-clause-sent
+returns-in_err-round-clause-sent g c =
+    sends_then (g.N.Net.sent c.args.net.now) (g.N.Net.sent c.chief_aborts.new.net) (g.N.Net.sent c.round.new.self) (sends_fresh (g.N.Net.sent c.args.net.now) (g.N.Net.fresh c.args.net.now) (g.N.Net.sent c.chief_aborts.new.net) (g.N.Net.fresh c.chief_aborts.new.net) c.chief_aborts.ensures.fresh) (sends_none (g.N.Net.sent c.chief_aborts.new.net) (g.N.Net.sent c.round.new.self) c.round.ensures.sent)
+
+pub returns-in_err-all_take_end-clause-sent : goal.returns-in_err-all_take_end-clause-sent
+returns-in_err-all_take_end-clause-sent g c =
+    sends_then (g.N.Net.sent c.args.net.now) (g.N.Net.sent c.round.new.self) (g.N.Net.sent c.all_take_end.new.net) (sends_then (g.N.Net.sent c.args.net.now) (g.N.Net.sent c.chief_aborts.new.net) (g.N.Net.sent c.round.new.self) (sends_fresh (g.N.Net.sent c.args.net.now) (g.N.Net.fresh c.args.net.now) (g.N.Net.sent c.chief_aborts.new.net) (g.N.Net.fresh c.chief_aborts.new.net) c.chief_aborts.ensures.fresh) (sends_none (g.N.Net.sent c.chief_aborts.new.net) (g.N.Net.sent c.round.new.self) c.round.ensures.sent)) (sends_fresh (g.N.Net.sent c.round.new.self) (g.N.Net.fresh c.round.new.self) (g.N.Net.sent c.all_take_end.new.net) (g.N.Net.fresh c.all_take_end.new.net) c.all_take_end.ensures.fresh)
+
+pub returns-in_err-collect-clause-sent : goal.returns-in_err-collect-clause-sent
+returns-in_err-collect-clause-sent g c =
+    sends_then (g.N.Net.sent c.args.net.now) (g.N.Net.sent c.all_take_end.new.net) (g.N.Net.sent c.collect.new.net) (sends_then (g.N.Net.sent c.args.net.now) (g.N.Net.sent c.round.new.self) (g.N.Net.sent c.all_take_end.new.net) (sends_then (g.N.Net.sent c.args.net.now) (g.N.Net.sent c.chief_aborts.new.net) (g.N.Net.sent c.round.new.self) (sends_fresh (g.N.Net.sent c.args.net.now) (g.N.Net.fresh c.args.net.now) (g.N.Net.sent c.chief_aborts.new.net) (g.N.Net.fresh c.chief_aborts.new.net) c.chief_aborts.ensures.fresh) (sends_none (g.N.Net.sent c.chief_aborts.new.net) (g.N.Net.sent c.round.new.self) c.round.ensures.sent)) (sends_fresh (g.N.Net.sent c.round.new.self) (g.N.Net.fresh c.round.new.self) (g.N.Net.sent c.all_take_end.new.net) (g.N.Net.fresh c.all_take_end.new.net) c.all_take_end.ensures.fresh)) (c.collect.ensures.sent)
+
+pub returns-clause-sent : goal.returns-clause-sent
+returns-clause-sent g c =
+    sends_then (g.N.Net.sent c.args.net.now) (g.N.Net.sent c.all_take_end.new.net) (g.N.Net.sent c.collect.new.net) (sends_then (g.N.Net.sent c.args.net.now) (g.N.Net.sent c.round.new.self) (g.N.Net.sent c.all_take_end.new.net) (sends_then (g.N.Net.sent c.args.net.now) (g.N.Net.sent c.chief_aborts.new.net) (g.N.Net.sent c.round.new.self) (sends_fresh (g.N.Net.sent c.args.net.now) (g.N.Net.fresh c.args.net.now) (g.N.Net.sent c.chief_aborts.new.net) (g.N.Net.fresh c.chief_aborts.new.net) c.chief_aborts.ensures.fresh) (sends_none (g.N.Net.sent c.chief_aborts.new.net) (g.N.Net.sent c.round.new.self) c.round.ensures.sent)) (sends_fresh (g.N.Net.sent c.round.new.self) (g.N.Net.fresh c.round.new.self) (g.N.Net.sent c.all_take_end.new.net) (g.N.Net.fresh c.all_take_end.new.net) c.all_take_end.ensures.fresh)) (c.collect.ensures.sent)

@@ -58,3 +58,8 @@ pub returns-clause-sent : goal.returns-clause-sent
 returns-clause-sent g c =
     let before = c.loop-letter.invariant in
     (subst (λ (ps : List Posted). AreSent ps (g.N.Net.waiting c.next.new.self)) (sym c.next.ensures.sent) (c.waiting_letters_were_sent.ensures.taken (g.N.Net.sent c.loop-letter.net) (g.N.Net.waiting c.loop-letter.net) (g.N.Net.waiting c.next.new.self) c.args.node c.next.result before.sent c.next.ensures.first c.next.ensures.others))
+
+pub returns-in_err-hear_end-clause-fresh : goal.returns-in_err-hear_end-clause-fresh
+returns-in_err-hear_end-clause-fresh g c =
+    let before = c.loop-letter.invariant in
+    fresh_then (g.N.Net.sent c.args.net.now) (g.N.Net.fresh c.args.net.now) (g.N.Net.sent c.next.new.self) (g.N.Net.fresh c.next.new.self) (g.N.Net.sent c.hear_end.new.net) (g.N.Net.fresh c.hear_end.new.net) (record { posts = before.fresh.posts; sent_is = c.next.ensures.sent ∙ before.fresh.sent_is; fresh_is = c.next.ensures.fresh ∙ before.fresh.fresh_is }) (c.hear_end.ensures.fresh)

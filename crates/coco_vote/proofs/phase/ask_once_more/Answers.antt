@@ -1,4 +1,4 @@
-use Rattle.std.proofs.Common.{◌<◌, ◌^◌, true, [], ◌∷◌, arith, refl, sym, ◌∙◌}
+use Rattle.std.proofs.Common.{◌<◌, ◌^◌, [], ◌∷◌, arith, refl, sym, ◌∙◌}
 use Rattle.coco_chief.specs.Table.{has_voted}
 use Rattle.coco_chief.specs.Shown.{chief_of}
 use Rattle.coco_msg.specs.declared.message.Message.TheVariants.{Prepare}
@@ -8,6 +8,7 @@ use Rattle.coco_letters.proofs.TellingLemmas.{adds_one, adds_same, of_chief}
 use Rattle.coco_letters.proofs.WorldLemmas.{nothing_goes}
 use Rattle.coco_vote.specs.Counting.{prepare_of}
 use Rattle.coco_vote.proofs.CountingLemmas.{fresh_new}
+use Rattle.coco_letters.proofs.SendingLemmas.{fresh_same}
 use Rattle.coco_vote.proofs.phase.ask_once_more.Goals as goal
 
 pub returns-then-has_voted-clause-asked : goal.returns-then-has_voted-clause-asked
@@ -32,3 +33,6 @@ returns-clause-says g c =
 
 pub returns-clause-fresh : goal.returns-clause-fresh
 returns-clause-fresh g c = fresh_by (g.N.Net.sent c.args.net.now) (g.N.Net.fresh c.args.net.now) (g.N.Net.sent c.resend.new.net) (g.N.Net.fresh c.resend.new.net) (prepare_of c.args.node c.args.epoch ∷ []) c.in_ok-resend.ensures.sent c.in_ok-resend.ensures.fresh
+
+pub returns-in_err-resend-clause-fresh : goal.returns-in_err-resend-clause-fresh
+returns-in_err-resend-clause-fresh g c = fresh_same (g.N.Net.sent c.args.net.now) (g.N.Net.fresh c.args.net.now) (g.N.Net.sent c.resend.new.net) (g.N.Net.fresh c.resend.new.net) c.in_err-resend.ensures.err.0 c.in_err-resend.ensures.err.1

@@ -13,7 +13,7 @@ use Rattle.coco_vote.specs.Counting.{prepare_of, HasCounted, IsAye}
 use Rattle.coco_vote.specs.Nearing.{all_ahead, Nears}
 use Rattle.coco_vote.specs.Outcomes.{exchanges_in, IsMissing}
 use Rattle.coco_vote.specs.Preparing.{have_durable, Ballot, RestsVoted}
-use Rattle.coco_vote.specs.Taking.{has_lost, vote_of, AreVoting}
+use Rattle.coco_vote.specs.Taking.{has_lost, vote_of, AreVoting, SameElsewhere}
 use Rattle.coco_vote.specs.Voting.{PreparesOnly}
 use Rattle.coco_vote.proofs.CountingLemmas.{told_still}
 use Rattle.coco_vote.proofs.GivingLemmas.{gives_counts, gives_same, gives_then, nothing_given, same_more, since_both}
@@ -24,6 +24,8 @@ use Rattle.coco_vote.proofs.StepLemmas.{between_none, only_same, only_then}
 use Rattle.coco_vote.proofs.StopLemmas.{unless_kept}
 use Rattle.coco_vote.proofs.TakingLemmas.{cores_then, cores_voting, knows_same}
 use Rattle.coco_vote.proofs.VoterLemmas.{apart_still, elsewhere_still, held_still, logs_still, places_same, places_then}
+use Rattle.coco_vote.proofs.FileLemmas.{become_none, become_then, become_wider, elsewhere_both, elsewhere_first, elsewhere_same, follow_none, follow_then, follow_wider}
+use Rattle.coco_letters.proofs.SendingLemmas.{sends_such, sends_then}
 use Rattle.coco_vote.proofs.phase.exchanges.Goals as goal
 
 pub asking-init : goal.asking-init
@@ -50,6 +52,8 @@ asking-init g c =
       ready = c.requires.ready;
       places = places_same c.args.voters.now;
       others = λ other away stands. stands;
+      read = become_none (SameElsewhere c.args.voters.now) (elsewhere_same c.args.voters.now) (g.H.Host.reads c.args.host.now);
+      crash = follow_none (SameElsewhere c.args.voters.now) (elsewhere_same c.args.voters.now) (g.H.Host.may_leave c.args.host.now);
       said = refl;
       disk = refl;
       stream = refl;
@@ -133,6 +137,10 @@ asking-preserved g c =
       ready = c.in_ok-stops.ensures.ready;
       places = places_then c.args.voters.now c.asking.voters c.exchange.new.voters before.places c.exchange.ensures.places;
       others = λ other away stands. c.exchange.ensures.others other (elsewhere_still c.args.voters.now c.asking.voters other before.places away) (before.others other away stands);
+      read = become_then (SameElsewhere c.args.voters.now) (elsewhere_both c.args.voters.now) (g.H.Host.reads c.args.host.now) (g.H.Host.reads c.asking.host) (g.H.Host.reads c.exchange.new.host) before.read
+          (become_wider (SameElsewhere c.asking.voters) (SameElsewhere c.args.voters.now) (elsewhere_first c.args.voters.now c.asking.voters before.places) (g.H.Host.reads c.asking.host) (g.H.Host.reads c.exchange.new.host) c.exchange.ensures.read);
+      crash = follow_then (SameElsewhere c.args.voters.now) (elsewhere_both c.args.voters.now) (g.H.Host.may_leave c.args.host.now) (g.H.Host.may_leave c.asking.host) (g.H.Host.may_leave c.exchange.new.host) before.crash
+          (follow_wider (SameElsewhere c.asking.voters) (SameElsewhere c.args.voters.now) (elsewhere_first c.args.voters.now c.asking.voters before.places) (g.H.Host.may_leave c.asking.host) (g.H.Host.may_leave c.exchange.new.host) c.exchange.ensures.crash);
       said = c.exchange.ensures.said ∙ before.said;
       disk = c.in_ok-stops.ensures.disk ∙ before.disk;
       stream = c.exchange.ensures.stream ∙ before.stream;
@@ -419,3 +427,71 @@ returns-then-is_early-clause-cores g c = cores_then c.args.epoch c.args.cores.no
 
 pub returns-in-Some-clause-cores : goal.returns-in-Some-clause-cores
 returns-in-Some-clause-cores g c = cores_then c.args.epoch c.args.cores.now c.asking.cores c.exchange.new.cores c.asking.invariant.cores c.in_ok-stops.ensures.cores
+
+pub returns-in_err-stops-clause-read : goal.returns-in_err-stops-clause-read
+returns-in_err-stops-clause-read g c =
+    let before = c.asking.invariant in
+    become_then (SameElsewhere c.args.voters.now) (elsewhere_both c.args.voters.now) (g.H.Host.reads c.args.host.now) (g.H.Host.reads c.asking.host) (g.H.Host.reads c.exchange.new.host) before.read
+    (become_wider (SameElsewhere c.asking.voters) (SameElsewhere c.args.voters.now) (elsewhere_first c.args.voters.now c.asking.voters before.places) (g.H.Host.reads c.asking.host) (g.H.Host.reads c.exchange.new.host) c.exchange.ensures.read)
+
+pub returns-in_err-stops-clause-crash : goal.returns-in_err-stops-clause-crash
+returns-in_err-stops-clause-crash g c =
+    let before = c.asking.invariant in
+    follow_then (SameElsewhere c.args.voters.now) (elsewhere_both c.args.voters.now) (g.H.Host.may_leave c.args.host.now) (g.H.Host.may_leave c.asking.host) (g.H.Host.may_leave c.exchange.new.host) before.crash
+    (follow_wider (SameElsewhere c.asking.voters) (SameElsewhere c.args.voters.now) (elsewhere_first c.args.voters.now c.asking.voters before.places) (g.H.Host.may_leave c.asking.host) (g.H.Host.may_leave c.exchange.new.host) c.exchange.ensures.crash)
+
+pub returns-in_err-stops-clause-sent : goal.returns-in_err-stops-clause-sent
+returns-in_err-stops-clause-sent g c =
+    let before = c.asking.invariant in
+    sends_then (g.N.Net.sent c.args.net.now) (g.N.Net.sent c.asking.net) (g.N.Net.sent c.exchange.new.net) (sends_such (g.N.Net.sent c.args.net.now) (g.N.Net.sent c.asking.net) before.says) (c.exchange.ensures.sent)
+
+pub returns-then-is_early-clause-read : goal.returns-then-is_early-clause-read
+returns-then-is_early-clause-read g c =
+    let before = c.asking.invariant in
+    become_then (SameElsewhere c.args.voters.now) (elsewhere_both c.args.voters.now) (g.H.Host.reads c.args.host.now) (g.H.Host.reads c.asking.host) (g.H.Host.reads c.exchange.new.host) before.read
+    (become_wider (SameElsewhere c.asking.voters) (SameElsewhere c.args.voters.now) (elsewhere_first c.args.voters.now c.asking.voters before.places) (g.H.Host.reads c.asking.host) (g.H.Host.reads c.exchange.new.host) c.exchange.ensures.read)
+
+pub returns-then-is_early-clause-crash : goal.returns-then-is_early-clause-crash
+returns-then-is_early-clause-crash g c =
+    let before = c.asking.invariant in
+    follow_then (SameElsewhere c.args.voters.now) (elsewhere_both c.args.voters.now) (g.H.Host.may_leave c.args.host.now) (g.H.Host.may_leave c.asking.host) (g.H.Host.may_leave c.exchange.new.host) before.crash
+    (follow_wider (SameElsewhere c.asking.voters) (SameElsewhere c.args.voters.now) (elsewhere_first c.args.voters.now c.asking.voters before.places) (g.H.Host.may_leave c.asking.host) (g.H.Host.may_leave c.exchange.new.host) c.exchange.ensures.crash)
+
+pub returns-then-is_early-clause-sent : goal.returns-then-is_early-clause-sent
+returns-then-is_early-clause-sent g c =
+    let before = c.asking.invariant in
+    sends_then (g.N.Net.sent c.args.net.now) (g.N.Net.sent c.asking.net) (g.N.Net.sent c.exchange.new.net) (sends_such (g.N.Net.sent c.args.net.now) (g.N.Net.sent c.asking.net) before.says) (c.exchange.ensures.sent)
+
+pub returns-in-Some-clause-read : goal.returns-in-Some-clause-read
+returns-in-Some-clause-read g c =
+    let before = c.asking.invariant in
+    become_then (SameElsewhere c.args.voters.now) (elsewhere_both c.args.voters.now) (g.H.Host.reads c.args.host.now) (g.H.Host.reads c.asking.host) (g.H.Host.reads c.exchange.new.host) before.read
+    (become_wider (SameElsewhere c.asking.voters) (SameElsewhere c.args.voters.now) (elsewhere_first c.args.voters.now c.asking.voters before.places) (g.H.Host.reads c.asking.host) (g.H.Host.reads c.exchange.new.host) c.exchange.ensures.read)
+
+pub returns-in-Some-clause-crash : goal.returns-in-Some-clause-crash
+returns-in-Some-clause-crash g c =
+    let before = c.asking.invariant in
+    follow_then (SameElsewhere c.args.voters.now) (elsewhere_both c.args.voters.now) (g.H.Host.may_leave c.args.host.now) (g.H.Host.may_leave c.asking.host) (g.H.Host.may_leave c.exchange.new.host) before.crash
+    (follow_wider (SameElsewhere c.asking.voters) (SameElsewhere c.args.voters.now) (elsewhere_first c.args.voters.now c.asking.voters before.places) (g.H.Host.may_leave c.asking.host) (g.H.Host.may_leave c.exchange.new.host) c.exchange.ensures.crash)
+
+pub returns-in-Some-clause-sent : goal.returns-in-Some-clause-sent
+returns-in-Some-clause-sent g c =
+    let before = c.asking.invariant in
+    sends_then (g.N.Net.sent c.args.net.now) (g.N.Net.sent c.asking.net) (g.N.Net.sent c.exchange.new.net) (sends_such (g.N.Net.sent c.args.net.now) (g.N.Net.sent c.asking.net) before.says) (c.exchange.ensures.sent)
+
+pub returns-in_err-ask_again-in-None-clause-read : goal.returns-in_err-ask_again-in-None-clause-read
+returns-in_err-ask_again-in-None-clause-read g c =
+    let before = c.asking.invariant in
+    become_then (SameElsewhere c.args.voters.now) (elsewhere_both c.args.voters.now) (g.H.Host.reads c.args.host.now) (g.H.Host.reads c.asking.host) (g.H.Host.reads c.exchange.new.host) before.read
+    (become_wider (SameElsewhere c.asking.voters) (SameElsewhere c.args.voters.now) (elsewhere_first c.args.voters.now c.asking.voters before.places) (g.H.Host.reads c.asking.host) (g.H.Host.reads c.exchange.new.host) c.exchange.ensures.read)
+
+pub returns-in_err-ask_again-in-None-clause-crash : goal.returns-in_err-ask_again-in-None-clause-crash
+returns-in_err-ask_again-in-None-clause-crash g c =
+    let before = c.asking.invariant in
+    follow_then (SameElsewhere c.args.voters.now) (elsewhere_both c.args.voters.now) (g.H.Host.may_leave c.args.host.now) (g.H.Host.may_leave c.asking.host) (g.H.Host.may_leave c.exchange.new.host) before.crash
+    (follow_wider (SameElsewhere c.asking.voters) (SameElsewhere c.args.voters.now) (elsewhere_first c.args.voters.now c.asking.voters before.places) (g.H.Host.may_leave c.asking.host) (g.H.Host.may_leave c.exchange.new.host) c.exchange.ensures.crash)
+
+pub returns-in_err-ask_again-in-None-clause-sent : goal.returns-in_err-ask_again-in-None-clause-sent
+returns-in_err-ask_again-in-None-clause-sent g c =
+    let before = c.asking.invariant in
+    sends_then (g.N.Net.sent c.args.net.now) (g.N.Net.sent c.exchange.new.net) (g.N.Net.sent c.ask_again.new.net) (sends_then (g.N.Net.sent c.args.net.now) (g.N.Net.sent c.asking.net) (g.N.Net.sent c.exchange.new.net) (sends_such (g.N.Net.sent c.args.net.now) (g.N.Net.sent c.asking.net) before.says) (c.exchange.ensures.sent)) (c.ask_again.ensures.sent)

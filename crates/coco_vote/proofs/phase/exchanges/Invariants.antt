@@ -6,13 +6,14 @@ use Rattle.coco_net.specs.declared.letter.Posted.{Posted}
 use Rattle.coco_letters.specs.Telling.{Adds, IsOfVote}
 use Rattle.coco_letters.specs.Worlds.{GoesBetween}
 use Rattle.coco_log.specs.LogState.{LogState}
+use Rattle.coco_host.specs.Files.{Become, Follows}
 use Rattle.coco_store.specs.Contents.{Contents}
 use Rattle.coco_append.specs.Gaining.{Stands}
 use Rattle.coco_vote.specs.Asking.{IsLater}
 use Rattle.coco_vote.specs.Counting.{prepare_of, GivesOn, HasCounted, IsAye}
 use Rattle.coco_vote.specs.Nearing.{all_ahead}
 use Rattle.coco_vote.specs.Preparing.{have_durable, Ballot, KeepsVoted, MayForce, RestsVoted}
-use Rattle.coco_vote.specs.Taking.{AreHeld, AreMarked, AreReady, AreTold, AreVoting, HaveLogs, IsElsewhere, KeepPlaces, KeepsCores}
+use Rattle.coco_vote.specs.Taking.{AreHeld, AreMarked, AreReady, AreTold, AreVoting, HaveLogs, IsElsewhere, KeepPlaces, KeepsCores, SameElsewhere}
 use Rattle.coco_vote.specs.Voting.{PreparesOnly}
 use Rattle.coco_vote.proofs.phase.exchanges.Given as goal
 
@@ -40,6 +41,8 @@ invariant-asking g l = record {
   ready : AreReady l.voters (g.H.Host.reads l.host) (g.H.Host.may_leave l.host);
   places : KeepPlaces l.initial.voters l.voters;
   others : (other : LogState) → IsElsewhere other l.initial.voters → Stands other (g.H.Host.reads l.initial.host) (g.H.Host.may_leave l.initial.host) → Stands other (g.H.Host.reads l.host) (g.H.Host.may_leave l.host);
+  read : Become (SameElsewhere l.initial.voters) (g.H.Host.reads l.initial.host) (g.H.Host.reads l.host);
+  crash : Follows (SameElsewhere l.initial.voters) (g.H.Host.may_leave l.initial.host) (g.H.Host.may_leave l.host);
   said : g.H.Host.said l.host ≡ g.H.Host.said l.initial.host;
   disk : g.H.Host.disk_faults l.host ≡ g.H.Host.disk_faults l.initial.host;
   stream : g.H.Host.say_faults l.host ≡ g.H.Host.say_faults l.initial.host;

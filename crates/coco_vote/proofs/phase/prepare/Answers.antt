@@ -18,6 +18,9 @@ use Rattle.coco_vote.proofs.PowerLemmas.{later_same}
 use Rattle.coco_vote.proofs.PreparingLemmas.{keeps_same, none_ok}
 use Rattle.coco_vote.proofs.TakingLemmas.{fresh_has}
 use Rattle.coco_vote.proofs.VoterLemmas.{places_same}
+use Rattle.coco_letters.proofs.SendingLemmas.{sends_fresh, sends_then}
+use Rattle.coco_vote.proofs.FileLemmas.{become_none, elsewhere_same, follow_none}
+use Rattle.coco_vote.specs.Taking.{SameElsewhere}
 use Rattle.coco_vote.proofs.phase.prepare.Goals as goal
 
 pub exchanges-requires-clause-nodes : goal.exchanges-requires-clause-nodes
@@ -119,3 +122,21 @@ returns-clause-world g c =
 pub returns-clause-net : goal.returns-clause-net
 returns-clause-net g c =
     (gives_then (g.N.Net.given c.args.net.now) (g.N.Net.faults c.args.net.now) (g.N.Net.last_seed c.args.net.now) (g.N.Net.given c.chief_begins.new.net) (g.N.Net.faults c.chief_begins.new.net) (g.N.Net.last_seed c.chief_begins.new.net) (g.N.Net.given c.exchanges.new.net) (g.N.Net.faults c.exchanges.new.net) (g.N.Net.last_seed c.exchanges.new.net) (gives_counts (g.N.Net.given c.args.net.now) (g.N.Net.faults c.args.net.now) (g.N.Net.last_seed c.args.net.now) (g.N.Net.given c.chief_begins.new.net) (g.N.Net.faults c.chief_begins.new.net) (g.N.Net.last_seed c.chief_begins.new.net) c.chief_begins.ensures.counts) c.exchanges.ensures.net)
+
+pub returns-in_err-chief_begins-clause-sent : goal.returns-in_err-chief_begins-clause-sent
+returns-in_err-chief_begins-clause-sent g c =
+    sends_fresh (g.N.Net.sent c.args.net.now) (g.N.Net.fresh c.args.net.now) (g.N.Net.sent c.chief_begins.new.net) (g.N.Net.fresh c.chief_begins.new.net) c.chief_begins.ensures.fresh
+
+pub returns-in_err-votes-clause-sent : goal.returns-in_err-votes-clause-sent
+returns-in_err-votes-clause-sent g c =
+    sends_then (g.N.Net.sent c.args.net.now) (g.N.Net.sent c.chief_begins.new.net) (g.N.Net.sent c.exchanges.new.net) (sends_fresh (g.N.Net.sent c.args.net.now) (g.N.Net.fresh c.args.net.now) (g.N.Net.sent c.chief_begins.new.net) (g.N.Net.fresh c.chief_begins.new.net) c.chief_begins.ensures.fresh) (c.exchanges.ensures.sent)
+
+pub returns-clause-sent : goal.returns-clause-sent
+returns-clause-sent g c =
+    sends_then (g.N.Net.sent c.args.net.now) (g.N.Net.sent c.chief_begins.new.net) (g.N.Net.sent c.exchanges.new.net) (sends_fresh (g.N.Net.sent c.args.net.now) (g.N.Net.fresh c.args.net.now) (g.N.Net.sent c.chief_begins.new.net) (g.N.Net.fresh c.chief_begins.new.net) c.chief_begins.ensures.fresh) (c.exchanges.ensures.sent)
+
+pub returns-in_err-chief_begins-clause-read : goal.returns-in_err-chief_begins-clause-read
+returns-in_err-chief_begins-clause-read g c = become_none (SameElsewhere c.args.voters.now) (elsewhere_same c.args.voters.now) (g.H.Host.reads c.args.host.now)
+
+pub returns-in_err-chief_begins-clause-crash : goal.returns-in_err-chief_begins-clause-crash
+returns-in_err-chief_begins-clause-crash g c = follow_none (SameElsewhere c.args.voters.now) (elsewhere_same c.args.voters.now) (g.H.Host.may_leave c.args.host.now)

@@ -8,7 +8,7 @@ use Rattle.coco_letters.proofs.TellingLemmas.{adds_same, adds_then}
 use Rattle.coco_letters.proofs.WorldLemmas.{between_then}
 use Rattle.coco_vote.specs.Nearing.{all_ahead, Nears}
 use Rattle.coco_vote.specs.Preparing.{have_durable, Ballot, RestsVoted}
-use Rattle.coco_vote.specs.Taking.{has_lost, AreVoting, CountsStops, UnlessLost}
+use Rattle.coco_vote.specs.Taking.{has_lost, AreVoting, CountsStops, UnlessLost, SameElsewhere}
 use Rattle.coco_vote.specs.Voting.{PreparesOnly}
 use Rattle.coco_vote.proofs.NearLemmas.{near_one, nears_both}
 use Rattle.coco_vote.proofs.PowerLemmas.{later_same, later_then}
@@ -17,6 +17,8 @@ use Rattle.coco_vote.proofs.StepLemmas.{between_none, fresh_then, only_same, onl
 use Rattle.coco_vote.proofs.StopLemmas.{counts_both, never_both, stops_at, unless_both, unless_kept}
 use Rattle.coco_vote.proofs.TakingLemmas.{cores_then, cores_voting, knows_same}
 use Rattle.coco_vote.proofs.VoterLemmas.{apart_still, elsewhere_still, given_more, held_still, log_is_still, marked_set, places_same, places_set, places_then, ready_set}
+use Rattle.coco_vote.proofs.FileLemmas.{become_none, become_then, become_wider, but_elsewhere, elsewhere_both, elsewhere_same, follow_none, follow_then, follow_wider}
+use Rattle.coco_log.specs.LogState.{SameBut}
 use Rattle.coco_vote.proofs.taking.nodes_take.Goals as goal
 
 pub loop-node-init : goal.loop-node-init
@@ -36,6 +38,8 @@ loop-node-init g c = record {
   ready = c.requires.ready;
   places = places_same c.args.voters.now;
   others = λ other away stands. stands;
+  read = become_none (SameElsewhere c.args.voters.now) (elsewhere_same c.args.voters.now) (g.H.Host.reads c.args.host.now);
+  crash = follow_none (SameElsewhere c.args.voters.now) (elsewhere_same c.args.voters.now) (g.H.Host.may_leave c.args.host.now);
   said = refl;
   disk = refl;
   stream = refl;
@@ -102,6 +106,10 @@ loop-node-preserved g c =
       ready = ready_set c.loop-node.voters c.loop-node.node (get_or c.loop-node.voters c.loop-node.node c.index-voters-node.result) c.take_letters.new.voter there (g.H.Host.reads c.loop-node.host) (g.H.Host.reads c.take_letters.new.host) (g.H.Host.may_leave c.loop-node.host) (g.H.Host.may_leave c.take_letters.new.host) (apart_still c.args.voters.now c.loop-node.voters before.places c.requires.apart) before.ready c.take_letters.ensures.others c.in_ok-taken.ensures.unspent c.in_ok-taken.ensures.stands;
       places = places_then c.args.voters.now c.loop-node.voters (set c.loop-node.voters c.loop-node.node c.take_letters.new.voter) before.places (places_set c.loop-node.voters c.loop-node.node (get_or c.loop-node.voters c.loop-node.node c.index-voters-node.result) c.take_letters.new.voter there (record { held = c.take_letters.ensures.held; file = c.take_letters.ensures.log.0; kind = c.take_letters.ensures.log.1 }));
       others = λ other away stands. c.take_letters.ensures.others other (elsewhere_still c.args.voters.now c.loop-node.voters other before.places away c.loop-node.node (get_or c.loop-node.voters c.loop-node.node c.index-voters-node.result) there) (before.others other away stands);
+      read = become_then (SameElsewhere c.args.voters.now) (elsewhere_both c.args.voters.now) (g.H.Host.reads c.args.host.now) (g.H.Host.reads c.loop-node.host) (g.H.Host.reads c.take_letters.new.host) before.read
+          (become_wider (SameBut (get_or c.loop-node.voters c.loop-node.node c.index-voters-node.result).log.file) (SameElsewhere c.args.voters.now) (but_elsewhere c.args.voters.now c.loop-node.voters before.places c.loop-node.node (get_or c.loop-node.voters c.loop-node.node c.index-voters-node.result) there) (g.H.Host.reads c.loop-node.host) (g.H.Host.reads c.take_letters.new.host) c.take_letters.ensures.read);
+      crash = follow_then (SameElsewhere c.args.voters.now) (elsewhere_both c.args.voters.now) (g.H.Host.may_leave c.args.host.now) (g.H.Host.may_leave c.loop-node.host) (g.H.Host.may_leave c.take_letters.new.host) before.crash
+          (follow_wider (SameBut (get_or c.loop-node.voters c.loop-node.node c.index-voters-node.result).log.file) (SameElsewhere c.args.voters.now) (but_elsewhere c.args.voters.now c.loop-node.voters before.places c.loop-node.node (get_or c.loop-node.voters c.loop-node.node c.index-voters-node.result) there) (g.H.Host.may_leave c.loop-node.host) (g.H.Host.may_leave c.take_letters.new.host) c.take_letters.ensures.crash);
       said = c.take_letters.ensures.said ∙ before.said;
       disk = c.in_ok-taken.ensures.disk ∙ before.disk;
       stream = c.take_letters.ensures.stream ∙ before.stream;
@@ -175,3 +183,24 @@ returns-clause-files g c k hold held may nodes logs rests =
 
 pub returns-clause-votes : goal.returns-clause-votes
 returns-clause-votes g c = λ never n less. c.loop-node.invariant.votes never n (omega (arith, less, c.loop-node-test.false, c.loop-node.auto.cores, c.requires.few))
+
+pub returns-in_err-taken-clause-read : goal.returns-in_err-taken-clause-read
+returns-in_err-taken-clause-read g c =
+    let before = c.loop-node.invariant in
+    let within : c.loop-node.node < length c.loop-node.voters = omega (arith, c.loop-node-test.true, c.requires.voters, c.loop-node.auto.voters, c.requires.few) in
+    let there : slice_get c.loop-node.voters c.loop-node.node ≡ Some (get_or c.loop-node.voters c.loop-node.node c.index-voters-node.result) = slice_get-get_or c.loop-node.voters c.loop-node.node c.index-voters-node.result within in
+    become_then (SameElsewhere c.args.voters.now) (elsewhere_both c.args.voters.now) (g.H.Host.reads c.args.host.now) (g.H.Host.reads c.loop-node.host) (g.H.Host.reads c.take_letters.new.host) before.read
+    (become_wider (SameBut (get_or c.loop-node.voters c.loop-node.node c.index-voters-node.result).log.file) (SameElsewhere c.args.voters.now) (but_elsewhere c.args.voters.now c.loop-node.voters before.places c.loop-node.node (get_or c.loop-node.voters c.loop-node.node c.index-voters-node.result) there) (g.H.Host.reads c.loop-node.host) (g.H.Host.reads c.take_letters.new.host) c.take_letters.ensures.read)
+
+pub returns-in_err-taken-clause-crash : goal.returns-in_err-taken-clause-crash
+returns-in_err-taken-clause-crash g c =
+    let before = c.loop-node.invariant in
+    let within : c.loop-node.node < length c.loop-node.voters = omega (arith, c.loop-node-test.true, c.requires.voters, c.loop-node.auto.voters, c.requires.few) in
+    let there : slice_get c.loop-node.voters c.loop-node.node ≡ Some (get_or c.loop-node.voters c.loop-node.node c.index-voters-node.result) = slice_get-get_or c.loop-node.voters c.loop-node.node c.index-voters-node.result within in
+    follow_then (SameElsewhere c.args.voters.now) (elsewhere_both c.args.voters.now) (g.H.Host.may_leave c.args.host.now) (g.H.Host.may_leave c.loop-node.host) (g.H.Host.may_leave c.take_letters.new.host) before.crash
+    (follow_wider (SameBut (get_or c.loop-node.voters c.loop-node.node c.index-voters-node.result).log.file) (SameElsewhere c.args.voters.now) (but_elsewhere c.args.voters.now c.loop-node.voters before.places c.loop-node.node (get_or c.loop-node.voters c.loop-node.node c.index-voters-node.result) there) (g.H.Host.may_leave c.loop-node.host) (g.H.Host.may_leave c.take_letters.new.host) c.take_letters.ensures.crash)
+
+pub returns-in_err-taken-clause-fresh : goal.returns-in_err-taken-clause-fresh
+returns-in_err-taken-clause-fresh g c =
+    let before = c.loop-node.invariant in
+    fresh_then (g.N.Net.sent c.args.net.now) (g.N.Net.fresh c.args.net.now) (g.N.Net.sent c.loop-node.net) (g.N.Net.fresh c.loop-node.net) (g.N.Net.sent c.take_letters.new.net) (g.N.Net.fresh c.take_letters.new.net) before.fresh c.take_letters.ensures.fresh

@@ -13,8 +13,10 @@ use Rattle.coco_vote.specs.Voting.{PreparesOnly}
 use Rattle.coco_vote.proofs.NearLemmas.{nears_same}
 use Rattle.coco_vote.proofs.PreparingLemmas.{none_ok, rests_same, votes_same}
 use Rattle.coco_vote.proofs.SayingLemmas.{ends_say, heard_say, steps_say}
-use Rattle.coco_vote.proofs.StepLemmas.{only_same}
+use Rattle.coco_vote.proofs.StepLemmas.{only_same, fresh_then}
 use Rattle.coco_vote.proofs.TakingLemmas.{between_heard, cores_stepped, cores_voting, durable_ended, elsewhere, near_ended, near_stepped, fresh_has, fresh_still, heard_durable, never_voted, told_ended, told_stepped, unless_any, voting_behind, voting_ended, voting_unless, vote_in, knows_ended, knows_same}
+use Rattle.coco_vote.proofs.FileLemmas.{become_none, but_same, follow_none}
+use Rattle.coco_log.specs.LogState.{SameBut}
 use Rattle.coco_vote.proofs.taking.take_letter.Goals as goal
 
 pub returns-in-Nothing-clause-files : goal.returns-in-Nothing-clause-files
@@ -166,3 +168,35 @@ returns-in_ok-step-in-Forces-clause-says g c =
     adds_then (g.N.Net.sent c.args.net.now) (g.N.Net.sent c.hear_vote.new.net) (g.N.Net.sent c.force_and_vote.new.net)
     (heard_say c.in_ok-hear_vote.field-0 c.args.node c.args.epoch c.args.letter.now c.args.cores.now (g.N.Net.sent c.args.net.now) c.hear_vote.new.cores (g.N.Net.sent c.hear_vote.new.net) few c.in_ok-hear_vote.ensures.heard)
     (steps_say c.in_ok-step-in-Forces.step c.args.node c.args.epoch c.hear_vote.new.cores (g.N.Net.sent c.hear_vote.new.net) c.force_and_vote.new.cores (g.N.Net.sent c.force_and_vote.new.net) few c.in_ok-step-in-Forces.ensures.steps)
+
+pub returns-in_err-hear_vote-clause-read : goal.returns-in_err-hear_vote-clause-read
+returns-in_err-hear_vote-clause-read g c = become_none (SameBut c.args.voter.now.log.file) (but_same c.args.voter.now.log.file) (g.H.Host.reads c.args.host.now)
+
+pub returns-in_err-hear_vote-clause-crash : goal.returns-in_err-hear_vote-clause-crash
+returns-in_err-hear_vote-clause-crash g c = follow_none (SameBut c.args.voter.now.log.file) (but_same c.args.voter.now.log.file) (g.H.Host.may_leave c.args.host.now)
+
+pub returns-in-Nothing-clause-read : goal.returns-in-Nothing-clause-read
+returns-in-Nothing-clause-read g c = become_none (SameBut c.args.voter.now.log.file) (but_same c.args.voter.now.log.file) (g.H.Host.reads c.args.host.now)
+
+pub returns-in-Nothing-clause-crash : goal.returns-in-Nothing-clause-crash
+returns-in-Nothing-clause-crash g c = follow_none (SameBut c.args.voter.now.log.file) (but_same c.args.voter.now.log.file) (g.H.Host.may_leave c.args.host.now)
+
+pub returns-in_err-step-in-Voted-clause-read : goal.returns-in_err-step-in-Voted-clause-read
+returns-in_err-step-in-Voted-clause-read g c = become_none (SameBut c.args.voter.now.log.file) (but_same c.args.voter.now.log.file) (g.H.Host.reads c.args.host.now)
+
+pub returns-in_err-step-in-Voted-clause-crash : goal.returns-in_err-step-in-Voted-clause-crash
+returns-in_err-step-in-Voted-clause-crash g c = follow_none (SameBut c.args.voter.now.log.file) (but_same c.args.voter.now.log.file) (g.H.Host.may_leave c.args.host.now)
+
+pub returns-in_ok-step-in-Voted-clause-read : goal.returns-in_ok-step-in-Voted-clause-read
+returns-in_ok-step-in-Voted-clause-read g c = become_none (SameBut c.args.voter.now.log.file) (but_same c.args.voter.now.log.file) (g.H.Host.reads c.args.host.now)
+
+pub returns-in_ok-step-in-Voted-clause-crash : goal.returns-in_ok-step-in-Voted-clause-crash
+returns-in_ok-step-in-Voted-clause-crash g c = follow_none (SameBut c.args.voter.now.log.file) (but_same c.args.voter.now.log.file) (g.H.Host.may_leave c.args.host.now)
+
+pub returns-in_err-step-in-Voted-clause-fresh : goal.returns-in_err-step-in-Voted-clause-fresh
+returns-in_err-step-in-Voted-clause-fresh g c =
+    fresh_then (g.N.Net.sent c.args.net.now) (g.N.Net.fresh c.args.net.now) (g.N.Net.sent c.hear_vote.new.net) (g.N.Net.fresh c.hear_vote.new.net) (g.N.Net.sent c.vote_again.new.net) (g.N.Net.fresh c.vote_again.new.net) (c.hear_vote.ensures.fresh) (c.vote_again.ensures.fresh)
+
+pub returns-in_err-step-in-Forces-clause-fresh : goal.returns-in_err-step-in-Forces-clause-fresh
+returns-in_err-step-in-Forces-clause-fresh g c =
+    fresh_then (g.N.Net.sent c.args.net.now) (g.N.Net.fresh c.args.net.now) (g.N.Net.sent c.hear_vote.new.net) (g.N.Net.fresh c.hear_vote.new.net) (g.N.Net.sent c.force_and_vote.new.net) (g.N.Net.fresh c.force_and_vote.new.net) (c.hear_vote.ensures.fresh) (c.force_and_vote.ensures.fresh)

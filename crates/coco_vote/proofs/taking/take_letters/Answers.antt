@@ -1,4 +1,4 @@
-use Rattle.std.proofs.Common.{◌≡◌, ◌≤◌, List, ◌∷◌, ap, arith, false, inl, refl, subst, sym, true, ◌∙◌}
+use Rattle.std.proofs.Common.{◌≡◌, ◌≤◌, List, ◌∷◌, ap, arith, false, inl, refl, subst, sym, true, ◌∙◌, ℕ}
 use Rattle.std.proofs.lemmas.Result.{err_from_is_err_and}
 use Rattle.coco_net.specs.declared.letter.Letter.{Letter}
 use Rattle.coco_net.specs.declared.letter.Posted.{Posted}
@@ -20,6 +20,9 @@ use Rattle.coco_letters.proofs.WorldLemmas.{between_then}
 use Rattle.coco_vote.proofs.StepLemmas.{between_none, fresh_then, only_same, only_then}
 use Rattle.coco_vote.proofs.StopLemmas.{counts_both, never_lost, sent_more, stops_at, unless_both, unless_kept}
 use Rattle.coco_vote.proofs.TakingLemmas.{cores_then, cores_voting, fresh_still, given_all, votes_more, knows_same}
+use Rattle.coco_vote.proofs.FileLemmas.{become_none, become_then, but_both, but_same, follow_none, follow_then}
+use Rattle.coco_host.specs.Files.{Become, Follows}
+use Rattle.coco_log.specs.LogState.{SameBut}
 use Rattle.coco_vote.proofs.taking.take_letters.Goals as goal
 
 pub loop-net-init : goal.loop-net-init
@@ -41,6 +44,8 @@ loop-net-init g c = record {
   unspent = c.requires.unspent;
   log = (refl, refl);
   others = λ other apart stands. stands;
+  read = become_none (SameBut c.args.voter.now.log.file) (but_same c.args.voter.now.log.file) (g.H.Host.reads c.args.host.now);
+  crash = follow_none (SameBut c.args.voter.now.log.file) (but_same c.args.voter.now.log.file) (g.H.Host.may_leave c.args.host.now);
   said = refl;
   disk = refl;
   stream = refl;
@@ -103,6 +108,10 @@ loop-net-preserved g c =
       unspent = c.in_ok-taken-in-Some.ensures.unspent;
       log = (c.take_letter.ensures.log.0 ∙ before.log.0, c.take_letter.ensures.log.1 ∙ before.log.1);
       others = λ other apart stands. c.take_letter.ensures.others other (λ at. apart (at ∙ before.log.0)) (before.others other apart stands);
+      read = become_then (SameBut c.args.voter.now.log.file) (but_both c.args.voter.now.log.file) (g.H.Host.reads c.args.host.now) (g.H.Host.reads c.loop-net.host) (g.H.Host.reads c.take_letter.new.host) before.read
+          (subst (λ (file : ℕ). Become (SameBut file) (g.H.Host.reads c.loop-net.host) (g.H.Host.reads c.take_letter.new.host)) before.log.0 c.take_letter.ensures.read);
+      crash = follow_then (SameBut c.args.voter.now.log.file) (but_both c.args.voter.now.log.file) (g.H.Host.may_leave c.args.host.now) (g.H.Host.may_leave c.loop-net.host) (g.H.Host.may_leave c.take_letter.new.host) before.crash
+          (subst (λ (file : ℕ). Follows (SameBut file) (g.H.Host.may_leave c.loop-net.host) (g.H.Host.may_leave c.take_letter.new.host)) before.log.0 c.take_letter.ensures.crash);
       said = c.take_letter.ensures.said ∙ before.said;
       disk = c.in_ok-taken-in-Some.ensures.disk ∙ before.disk;
       stream = c.take_letter.ensures.stream ∙ before.stream;
@@ -191,3 +200,20 @@ returns-clause-files g c k hold same may node log rests =
 
 pub returns-clause-votes : goal.returns-clause-votes
 returns-clause-votes g c = λ never. absurd (never_lost c.loop-net.stops never (sym c.is_early.ensures ∙ c.loop-net-test.false))
+
+pub returns-in_err-taken-in-Some-clause-read : goal.returns-in_err-taken-in-Some-clause-read
+returns-in_err-taken-in-Some-clause-read g c =
+    let before = c.loop-net.invariant in
+    become_then (SameBut c.args.voter.now.log.file) (but_both c.args.voter.now.log.file) (g.H.Host.reads c.args.host.now) (g.H.Host.reads c.loop-net.host) (g.H.Host.reads c.take_letter.new.host) before.read
+    (subst (λ (file : ℕ). Become (SameBut file) (g.H.Host.reads c.loop-net.host) (g.H.Host.reads c.take_letter.new.host)) before.log.0 c.take_letter.ensures.read)
+
+pub returns-in_err-taken-in-Some-clause-crash : goal.returns-in_err-taken-in-Some-clause-crash
+returns-in_err-taken-in-Some-clause-crash g c =
+    let before = c.loop-net.invariant in
+    follow_then (SameBut c.args.voter.now.log.file) (but_both c.args.voter.now.log.file) (g.H.Host.may_leave c.args.host.now) (g.H.Host.may_leave c.loop-net.host) (g.H.Host.may_leave c.take_letter.new.host) before.crash
+    (subst (λ (file : ℕ). Follows (SameBut file) (g.H.Host.may_leave c.loop-net.host) (g.H.Host.may_leave c.take_letter.new.host)) before.log.0 c.take_letter.ensures.crash)
+
+pub returns-in_err-taken-in-Some-clause-fresh : goal.returns-in_err-taken-in-Some-clause-fresh
+returns-in_err-taken-in-Some-clause-fresh g c =
+    let before = c.loop-net.invariant in
+    fresh_then (g.N.Net.sent c.args.net.now) (g.N.Net.fresh c.args.net.now) (g.N.Net.sent c.next.new.self) (g.N.Net.fresh c.next.new.self) (g.N.Net.sent c.take_letter.new.net) (g.N.Net.fresh c.take_letter.new.net) (record { posts = before.fresh.posts; sent_is = c.next.ensures.sent ∙ before.fresh.sent_is; fresh_is = c.next.ensures.fresh ∙ before.fresh.fresh_is }) c.take_letter.ensures.fresh

@@ -6,7 +6,8 @@ use Rattle.coco_chief.specs.Chief.{Chief}
 use Rattle.coco_letters.specs.Telling.{Adds, IsOfVote}
 use Rattle.coco_letters.specs.Turns.{AreFresh, AreSent, Counts, IsFrom}
 use Rattle.coco_letters.specs.Worlds.{GoesBetween}
-use Rattle.coco_log.specs.LogState.{LogState}
+use Rattle.coco_log.specs.LogState.{LogState, SameBut}
+use Rattle.coco_host.specs.Files.{Become, Follows}
 use Rattle.coco_store.specs.Contents.{Contents}
 use Rattle.coco_append.specs.Gaining.{IsNodeLog, Stands}
 use Rattle.coco_vote.specs.declared.step.Stops.TheVariants.{Never}
@@ -37,6 +38,8 @@ invariant-loop-net g l = record {
   unspent : l.voter.log.spent ≡ false;
   log : (l.voter.log.file ≡ l.initial.voter.log.file) × (l.voter.log.kind ≡ l.initial.voter.log.kind);
   others : (other : LogState) → other.file ≢ l.initial.voter.log.file → Stands other (g.H.Host.reads l.initial.host) (g.H.Host.may_leave l.initial.host) → Stands other (g.H.Host.reads l.host) (g.H.Host.may_leave l.host);
+  read : Become (SameBut l.initial.voter.log.file) (g.H.Host.reads l.initial.host) (g.H.Host.reads l.host);
+  crash : Follows (SameBut l.initial.voter.log.file) (g.H.Host.may_leave l.initial.host) (g.H.Host.may_leave l.host);
   said : g.H.Host.said l.host ≡ g.H.Host.said l.initial.host;
   disk : g.H.Host.disk_faults l.host ≡ g.H.Host.disk_faults l.initial.host;
   stream : g.H.Host.say_faults l.host ≡ g.H.Host.say_faults l.initial.host;
