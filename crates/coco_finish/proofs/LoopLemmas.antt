@@ -26,7 +26,7 @@ answered_next Told answer q letter before after rest sent fresh sent_new fresh_n
 -- ---- what is sent
 
 of_finish : (e n : ℕ) → n < 8 → IsOfFinish e (finished_of n e)
-of_finish e n few = inr (inl (record { node = n; few = few; is = refl }))
+of_finish e n few = inr (record { node = n; few = few; is = refl })
 
 -- a letter that one node takes
 pub says_by_one : (first : Bool) (e n : ℕ) (letter : Letter) (cores : List Node) (sent : List Posted) (cores_new : List Node) (sent_new : List Posted) → n < 8 → FinishesSo first e n letter cores sent cores_new sent_new

@@ -14,7 +14,7 @@ use Rattle.coco_node.specs.declared.machine.Decision.TheVariants.{Unknown, Abort
 use Rattle.coco_node.specs.Node.{restarted, Node}
 use Rattle.coco_letters.specs.declared.voter.Voter.{Voter}
 use Rattle.coco_letters.proofs.SayingLemmas.{same_message}
-use Rattle.coco_letters.specs.Telling.{Adds, IsOfFinish}
+use Rattle.coco_letters.specs.Telling.{Adds, IsOfSettling}
 use Rattle.coco_letters.proofs.TellingLemmas.{adds_none, adds_one}
 use Rattle.coco_letters.proofs.WorldLemmas.{contains_cases, contains_here}
 use Rattle.coco_finish.specs.Exchanges.{AreInStep}
@@ -69,9 +69,9 @@ module _ (epoch k : ℕ) (stopped stopped_new : ℕ → ℕ) (cores : List Node)
   can_step = each_core (λ n core. CanFinish epoch core) (record { has = omega (arith, max_none epoch); stands = λ _. unknown_not })
 
   -- it asks, or says nothing
-  pub says_step : k < 8 → Adds (IsOfFinish epoch) sent sent_new
+  pub says_step : k < 8 → Adds (IsOfSettling epoch) sent sent_new
   says_step eight = elim here [
-    | inl stops ↦ adds_one sent sent_new (query_of k epoch) stops.3 (inr (inr (record { node = k; few = eight; is = refl })))
+    | inl stops ↦ adds_one sent sent_new (query_of k epoch) stops.3 (inr (record { node = k; few = eight; is = refl }))
     | inr goes ↦ adds_none sent sent_new goes.3
   ]
 

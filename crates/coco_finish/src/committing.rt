@@ -61,7 +61,7 @@ pub fn commit<H: Host, N: Net>(
     // The world.
     ensures world { OnOk result ((cores : List NodeState) → GoesOnWith (Commits epoch) (record { cores = cores; chief = chief_of chief.old; sent = N.sent net.old }) (record { cores = cores; chief = chief_of chief.new; sent = N.sent net.new })) }
     // The counts.
-    ensures fresh { OnOk result (AreFresh (N.sent net.old) (N.fresh net.old) (N.sent net.new) (N.fresh net.new)) }
+    ensures fresh { AreFresh (N.sent net.old) (N.fresh net.old) (N.sent net.new) (N.fresh net.new) }
     ensures waiting { (p : ℕ) → N.waiting net.new p ≡ N.waiting net.old p }
     ensures counts { Counts (N.given net.old) (N.faults net.old) (N.last_seed net.old) (N.given net.new) (N.faults net.new) (N.last_seed net.new) }
 {

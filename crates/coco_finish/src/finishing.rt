@@ -5,9 +5,10 @@ ghost use Rattle.std.specs.Bool.{MatchBool};
 ghost use Rattle.coco_ast.specs.Keyed.{Rows};
 ghost use Rattle.coco_chief.specs.Shown.{chief_of};
 ghost use Rattle.coco_letters.specs.Telling.{Adds, IsOfFinish};
-ghost use Rattle.coco_letters.specs.Turns.{AreSent};
+ghost use Rattle.coco_letters.specs.Turns.{AreSent, SendsMore};
 ghost use Rattle.coco_letters.specs.Worlds.{GoesOn};
 ghost use Rattle.coco_finish.specs.Exchanges.{AreInStep, AreReminded, AsksAll, HaveAllFinished, HearsGiven, IsSilent, OneHasNot, StaysSilent, UnlessFault};
+ghost use Rattle.coco_vote.specs.Counting.{GivesOn};
 ghost use Rattle.coco_finish.specs.Finishing.{AllCanFinish, AreWhole, Finish, HaveMap};
 
 use crate::NodeTables;
@@ -27,8 +28,8 @@ pub fn limits()
     ensures { EXCHANGES ≡ 16 }
 {}
 
-// Whether all nodes have finished.
-fn have_all_finished(chief: &ChiefCore, nodes: u8) -> bool
+/// Whether all nodes have finished what was committed last.
+pub fn have_all_finished(chief: &ChiefCore, nodes: u8) -> bool
     requires { (chief_of chief.now).nodes ≡ nodes }
     ensures { MatchBool result (HaveAllFinished (chief_of chief.now)) (OneHasNot (chief_of chief.now)) }
 {
@@ -67,6 +68,8 @@ fn remind_and_exchange<N: Net>(
     ensures ends { OnOk result (UnlessFault (N.faults net.old) (N.faults net.new) (HaveAllFinished (chief_of chief.new))) }
     ensures said { OnOk result (Adds (IsOfFinish epoch) (N.sent net.old) (N.sent net.new)) }
     ensures world { OnOk result (GoesOn (record { cores = cores.old; chief = chief_of chief.old; sent = N.sent net.old }) (record { cores = cores.new; chief = chief_of chief.new; sent = N.sent net.new })) }
+    ensures sends { SendsMore (N.sent net.old) (N.sent net.new) }
+    ensures net { GivesOn (N.given net.old) (N.faults net.old) (N.last_seed net.old) (N.given net.new) (N.faults net.new) (N.last_seed net.new) }
     ensures sent { OnOk result (AreSent (N.sent net.new) (N.waiting net.new)) }
     ensures nodes { (chief_of chief.new).nodes ≡ (chief_of chief.old).nodes }
     ensures faults { N.faults net.old ≤ N.faults net.new }
@@ -104,6 +107,8 @@ fn remind<N: Net>(
     ensures all { IfOk result (λ all. MatchBool all (HaveAllFinished (chief_of chief.new)) (StaysSilent 15 epoch (chief_of chief.new) (N.sent net.old) (N.sent net.new) (N.faults net.old) (N.faults net.new))) }
     ensures said { OnOk result (Adds (IsOfFinish epoch) (N.sent net.old) (N.sent net.new)) }
     ensures world { OnOk result (GoesOn (record { cores = cores.old; chief = chief_of chief.old; sent = N.sent net.old }) (record { cores = cores.new; chief = chief_of chief.new; sent = N.sent net.new })) }
+    ensures sends { SendsMore (N.sent net.old) (N.sent net.new) }
+    ensures net { GivesOn (N.given net.old) (N.faults net.old) (N.last_seed net.old) (N.given net.new) (N.faults net.new) (N.last_seed net.new) }
     ensures sent { OnOk result (AreSent (N.sent net.new) (N.waiting net.new)) }
     ensures nodes { (chief_of chief.new).nodes ≡ (chief_of chief.old).nodes }
     ensures faults { N.faults net.old ≤ N.faults net.new }
@@ -151,6 +156,8 @@ pub fn finish<N: Net>(
     // The letters and the world.
     ensures said { OnOk result (Adds (IsOfFinish epoch) (N.sent net.old) (N.sent net.new)) }
     ensures world { OnOk result (GoesOn (record { cores = cores.old; chief = chief_of chief.old; sent = N.sent net.old }) (record { cores = cores.new; chief = chief_of chief.new; sent = N.sent net.new })) }
+    ensures sends { SendsMore (N.sent net.old) (N.sent net.new) }
+    ensures net { GivesOn (N.given net.old) (N.faults net.old) (N.last_seed net.old) (N.given net.new) (N.faults net.new) (N.last_seed net.new) }
     ensures sent { OnOk result (AreSent (N.sent net.new) (N.waiting net.new)) }
     ensures faults { N.faults net.old ≤ N.faults net.new }
     ensures seed { N.last_seed net.new ≡ N.last_seed net.old }

@@ -10,7 +10,7 @@ mod tables;
 mod taking;
 
 pub use committing::commit;
-pub use finishing::{finish, limits};
+pub use finishing::{finish, have_all_finished, limits};
 pub use laws::unfinished_nodes_are_told;
 pub use rounds::exchange;
 pub use stopping::stop_last;

@@ -5,10 +5,11 @@ ghost use Rattle.coco_ast.specs.Keyed.{Rows};
 ghost use Rattle.coco_chief.specs.Shown.{chief_of};
 ghost use Rattle.coco_chief.specs.Table.{has_finished};
 ghost use Rattle.coco_letters.specs.Telling.{Adds, IsOfChief, IsOfFinish};
-ghost use Rattle.coco_letters.specs.Turns.{AreSent};
+ghost use Rattle.coco_letters.specs.Turns.{AreSent, SendsMore};
 ghost use Rattle.coco_letters.specs.Worlds.{GoesOn};
 ghost use Rattle.coco_node.specs.Node.{Node as NodeState};
 ghost use Rattle.coco_finish.specs.Exchanges.{commit_of, AreInStep, AreReminded, HaveAllFinished, HearsGiven, UnlessFault};
+ghost use Rattle.coco_vote.specs.Counting.{GivesOn};
 ghost use Rattle.coco_finish.specs.Finishing.{finished_of, AllCanFinish, AreWhole, Finish, HaveMap};
 
 use crate::NodeTables;
@@ -34,6 +35,8 @@ fn answer_round<N: Net>(
     ensures in_step { OnOk result ((cores : List NodeState) (marks : List Bool) → AreInStep epoch cores (chief_of chief.old) (N.sent net.old) marks → AreInStep epoch cores (chief_of chief.new) (N.sent net.new) marks) }
     ensures says { OnOk result (Adds IsOfChief (N.sent net.old) (N.sent net.new)) }
     ensures world { OnOk result ((cores : List NodeState) → GoesOn (record { cores = cores; chief = chief_of chief.old; sent = N.sent net.old }) (record { cores = cores; chief = chief_of chief.new; sent = N.sent net.new })) }
+    ensures sends { SendsMore (N.sent net.old) (N.sent net.new) }
+    ensures net { GivesOn (N.given net.old) (N.faults net.old) (N.last_seed net.old) (N.given net.new) (N.faults net.new) (N.last_seed net.new) }
     ensures sent { OnOk result (AreSent (N.sent net.new) (N.waiting net.new)) }
     ensures nodes { (chief_of chief.new).nodes ≡ (chief_of chief.old).nodes }
     ensures faults { N.faults net.old ≤ N.faults net.new }
@@ -71,6 +74,8 @@ fn tell_round<N: Net>(
     ensures answers { OnOk result (UnlessFault (N.faults net.old) (N.faults net.new) ((n : ℕ) → n < length cores.old → Contains (N.fresh net.old) (commit_of n epoch) → Contains (N.fresh net.new) (finished_of n epoch))) }
     ensures said { OnOk result (Adds (IsOfFinish epoch) (N.sent net.old) (N.sent net.new)) }
     ensures world { OnOk result (GoesOn (record { cores = cores.old; chief = chief_of chief.old; sent = N.sent net.old }) (record { cores = cores.new; chief = chief_of chief.new; sent = N.sent net.new })) }
+    ensures sends { SendsMore (N.sent net.old) (N.sent net.new) }
+    ensures net { GivesOn (N.given net.old) (N.faults net.old) (N.last_seed net.old) (N.given net.new) (N.faults net.new) (N.last_seed net.new) }
     ensures nodes { (chief_of chief.new).nodes ≡ (chief_of chief.old).nodes }
     ensures faults { N.faults net.old ≤ N.faults net.new }
     ensures seed { N.last_seed net.new ≡ N.last_seed net.old }
@@ -109,6 +114,8 @@ pub fn exchange<N: Net>(
     ensures ends { OnOk result (AreReminded epoch (chief_of chief.old) (N.fresh net.old) → UnlessFault (N.faults net.old) (N.faults net.new) (HaveAllFinished (chief_of chief.new))) }
     ensures said { OnOk result (Adds (IsOfFinish epoch) (N.sent net.old) (N.sent net.new)) }
     ensures world { OnOk result (GoesOn (record { cores = cores.old; chief = chief_of chief.old; sent = N.sent net.old }) (record { cores = cores.new; chief = chief_of chief.new; sent = N.sent net.new })) }
+    ensures sends { SendsMore (N.sent net.old) (N.sent net.new) }
+    ensures net { GivesOn (N.given net.old) (N.faults net.old) (N.last_seed net.old) (N.given net.new) (N.faults net.new) (N.last_seed net.new) }
     ensures sent { OnOk result (AreSent (N.sent net.new) (N.waiting net.new)) }
     ensures nodes { (chief_of chief.new).nodes ≡ (chief_of chief.old).nodes }
     ensures faults { N.faults net.old ≤ N.faults net.new }

@@ -2,7 +2,7 @@
 
 ghost use Rattle.std.specs.Prelude.{◌≡◌, ◌≢◌, ◌<◌, ◌≤◌, ℕ, Bool, true, List, length, OnOk};
 ghost use Rattle.coco_chief.specs.Chief.{Chief as ChiefState};
-ghost use Rattle.coco_letters.specs.Telling.{Adds, IsOfFinish};
+ghost use Rattle.coco_letters.specs.Telling.{Adds, IsOfSettling};
 ghost use Rattle.coco_letters.specs.Turns.{AreFresh, Counts};
 ghost use Rattle.coco_letters.specs.Worlds.{GoesBetween, SameEntries};
 ghost use Rattle.coco_vote.specs.Asking.{IsLater};
@@ -40,7 +40,7 @@ fn stop_here<N: Net, P: Power>(
     ensures later { IsLater P.stops_seen P.early_stops P.stopped P.begun P.asked power.old power.new }
     ensures asked { P.asked power.new node 6 ≡ true }
     ensures world { OnOk result ((chief : ChiefState) → GoesBetween (P.stopped power.old) (P.stopped power.new) SameEntries (record { cores = cores.old; chief = chief; sent = N.sent net.old }) (record { cores = cores.new; chief = chief; sent = N.sent net.new })) }
-    ensures fresh { OnOk result (AreFresh (N.sent net.old) (N.fresh net.old) (N.sent net.new) (N.fresh net.new)) }
+    ensures fresh { AreFresh (N.sent net.old) (N.fresh net.old) (N.sent net.new) (N.fresh net.new) }
     ensures waiting { (p : ℕ) → N.waiting net.new p ≡ N.waiting net.old p }
     ensures counts { Counts (N.given net.old) (N.faults net.old) (N.last_seed net.old) (N.given net.new) (N.faults net.new) (N.last_seed net.new) }
 {
@@ -65,7 +65,7 @@ pub fn stop_last<N: Net, P: Power>(
     requires some { 0 < epoch }
     requires newest { AllHaveNewest epoch cores.old }
     ensures stops { OnOk result (StopSome epoch (length cores.old) (P.stopped power.old) (P.stopped power.new) cores.old voters.old (N.sent net.old) cores.new voters.new (N.sent net.new)) }
-    ensures said { OnOk result (Adds (IsOfFinish epoch) (N.sent net.old) (N.sent net.new)) }
+    ensures said { OnOk result (Adds (IsOfSettling epoch) (N.sent net.old) (N.sent net.new)) }
     ensures newest { OnOk result (AllHaveNewest epoch cores.new) }
     ensures can { OnOk result (AllCanFinish epoch cores.old → AllCanFinish epoch cores.new) }
     ensures in_step { OnOk result ((chief : ChiefState) (marks : List Bool) → AreInStep epoch cores.old chief (N.sent net.old) marks → AreInStep epoch cores.new chief (N.sent net.new) marks) }
@@ -73,7 +73,7 @@ pub fn stop_last<N: Net, P: Power>(
     ensures later { IsLater P.stops_seen P.early_stops P.stopped P.begun P.asked power.old power.new }
     ensures asked { OnOk result ((n : ℕ) → n < length cores.old → P.asked power.new n 6 ≡ true) }
     ensures world { OnOk result ((chief : ChiefState) → GoesBetween (P.stopped power.old) (P.stopped power.new) SameEntries (record { cores = cores.old; chief = chief; sent = N.sent net.old }) (record { cores = cores.new; chief = chief; sent = N.sent net.new })) }
-    ensures fresh { OnOk result (AreFresh (N.sent net.old) (N.fresh net.old) (N.sent net.new) (N.fresh net.new)) }
+    ensures fresh { AreFresh (N.sent net.old) (N.fresh net.old) (N.sent net.new) (N.fresh net.new) }
     ensures waiting { (p : ℕ) → N.waiting net.new p ≡ N.waiting net.old p }
     ensures counts { Counts (N.given net.old) (N.faults net.old) (N.last_seed net.old) (N.given net.new) (N.faults net.new) (N.last_seed net.new) }
 {

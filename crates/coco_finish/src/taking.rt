@@ -33,7 +33,7 @@ fn hear_committed<N: Net>(
     requires can { AllCanFinish epoch cores.old }
     ensures heard { IfOk result (λ first. FinishesSo first epoch node letter.now cores.old (N.sent net.old) cores.new (N.sent net.new)) }
     ensures world { OnOk result ((chief : ChiefState) → GoesOn (record { cores = cores.old; chief = chief; sent = N.sent net.old }) (record { cores = cores.new; chief = chief; sent = N.sent net.new })) }
-    ensures fresh { OnOk result (AreFresh (N.sent net.old) (N.fresh net.old) (N.sent net.new) (N.fresh net.new)) }
+    ensures fresh { AreFresh (N.sent net.old) (N.fresh net.old) (N.sent net.new) (N.fresh net.new) }
     ensures waiting { (p : ℕ) → N.waiting net.new p ≡ N.waiting net.old p }
     ensures counts { Counts (N.given net.old) (N.faults net.old) (N.last_seed net.old) (N.given net.new) (N.faults net.new) (N.last_seed net.new) }
 {
@@ -71,7 +71,7 @@ pub fn take_committed<N: Net>(
     // Told that the epoch is committed, it answers.
     ensures answers { OnOk result (TellsCommitted epoch letter.now → Contains (N.fresh net.new) (finished_of node epoch)) }
     ensures world { OnOk result ((chief : ChiefState) → GoesOn (record { cores = cores.old; chief = chief; sent = N.sent net.old }) (record { cores = cores.new; chief = chief; sent = N.sent net.new })) }
-    ensures fresh { OnOk result (AreFresh (N.sent net.old) (N.fresh net.old) (N.sent net.new) (N.fresh net.new)) }
+    ensures fresh { AreFresh (N.sent net.old) (N.fresh net.old) (N.sent net.new) (N.fresh net.new) }
     ensures waiting { (p : ℕ) → N.waiting net.new p ≡ N.waiting net.old p }
     ensures counts { Counts (N.given net.old) (N.faults net.old) (N.last_seed net.old) (N.given net.new) (N.faults net.new) (N.last_seed net.new) }
 {
@@ -113,7 +113,7 @@ pub fn finish_at<N: Net>(
     ensures sent { OnOk result (AreSent (N.sent net.new) (N.waiting net.new)) }
     ensures taken { OnOk result (N.waiting net.new node ≡ []) }
     ensures others { (p : ℕ) → p ≢ node → N.waiting net.new p ≡ N.waiting net.old p }
-    ensures fresh { OnOk result (AreFresh (N.sent net.old) (N.fresh net.old) (N.sent net.new) (N.fresh net.new)) }
+    ensures fresh { AreFresh (N.sent net.old) (N.fresh net.old) (N.sent net.new) (N.fresh net.new) }
     ensures counts { Counts (N.given net.old) (N.faults net.old) (N.last_seed net.old) (N.given net.new) (N.faults net.new) (N.last_seed net.new) }
 {
     while let Some(letter) = net.next(node) {
@@ -151,7 +151,7 @@ pub fn nodes_finish<N: Net>(
     ensures sent { OnOk result (AreSent (N.sent net.new) (N.waiting net.new)) }
     ensures taken { OnOk result ((n : ℕ) → n < length cores.old → N.waiting net.new n ≡ []) }
     ensures others { (p : ℕ) → length cores.old ≤ p → N.waiting net.new p ≡ N.waiting net.old p }
-    ensures fresh { OnOk result (AreFresh (N.sent net.old) (N.fresh net.old) (N.sent net.new) (N.fresh net.new)) }
+    ensures fresh { AreFresh (N.sent net.old) (N.fresh net.old) (N.sent net.new) (N.fresh net.new) }
     ensures counts { Counts (N.given net.old) (N.faults net.old) (N.last_seed net.old) (N.given net.new) (N.faults net.new) (N.last_seed net.new) }
 {
     for node in 0..cores.len() as u8 {

@@ -3,7 +3,7 @@ use Rattle.std.proofs.Common.{◌≡◌, inl, inr, ℕ, ◌<◌, ◌≤◌, true
 use Rattle.std.specs.List.{Contains}
 use Rattle.std.proofs.lemmas.List.Elements.{Contains-append_cases}
 use Rattle.coco_letters.specs.Saying.{is_of_commit, posted}
-use Rattle.coco_letters.specs.Telling.{Adds, IsOfChief, IsOfFinish, IsOfNode, IsOfVote, FinishedBelow, VotesBelow}
+use Rattle.coco_letters.specs.Telling.{Adds, IsOfChief, IsOfFinish, IsOfNode, IsOfVote, FinishedBelow, VotesBelow, IsOfSettling}
 use Rattle.coco_msg.specs.Bytes.{bytes_of}
 use Rattle.coco_msg.specs.declared.message.Message.{Message}
 use Rattle.coco_msg.specs.declared.message.Message.TheVariants.{Ship, Total, Missing, All, Prepare, Vote, Commit, Finished, Abort, Query, Tell}
@@ -74,8 +74,11 @@ vote_letter epoch p (inr (inr is)) = node_letter (Query epoch) refl p is
 
 pub finish_letter : (epoch : ℕ) (p : Posted) → IsOfFinish epoch p → IsCommitLetter p
 finish_letter epoch p (inl is) = chief_letter p is
-finish_letter epoch p (inr (inl is)) = node_letter (Finished epoch) refl p is
-finish_letter epoch p (inr (inr is)) = node_letter (Query epoch) refl p is
+finish_letter epoch p (inr is) = node_letter (Finished epoch) refl p is
+
+pub settling_letter : (epoch : ℕ) (p : Posted) → IsOfSettling epoch p → IsCommitLetter p
+settling_letter epoch p (inl is) = finish_letter epoch p is
+settling_letter epoch p (inr is) = node_letter (Query epoch) refl p is
 
 -- where only letters of a commit are sent, the ship phase of an epoch from this one on isn't begun
 module _ (Such : Posted → Type 0) (commit : (p : Posted) → Such p → IsCommitLetter p) where
@@ -94,6 +97,9 @@ ships_below_vote epoch = ships_below_with (IsOfVote epoch) (vote_letter epoch)
 
 pub ships_below_finish : (epoch next : ℕ) (sent sent_new : List Posted) → Adds (IsOfFinish epoch) sent sent_new → ShipsBelow next sent → ShipsBelow next sent_new
 ships_below_finish epoch = ships_below_with (IsOfFinish epoch) (finish_letter epoch)
+
+pub ships_below_settling : (epoch next : ℕ) (sent sent_new : List Posted) → Adds (IsOfSettling epoch) sent sent_new → ShipsBelow next sent → ShipsBelow next sent_new
+ships_below_settling epoch = ships_below_with (IsOfSettling epoch) (settling_letter epoch)
 
 -- ---- later epochs
 

@@ -9,7 +9,7 @@ use Rattle.coco_entry.specs.declared.layout.Layout.{Layout}
 use Rattle.coco_finish.specs.Exchanges.{AreInStep, HearsGiven}
 use Rattle.coco_finish.specs.Finishing.{AllCanFinish, AreWhole, Finish}
 use Rattle.coco_finish.specs.Stopping.{StopSome}
-use Rattle.coco_letters.specs.Telling.{Adds, IsOfChief, IsOfFinish}
+use Rattle.coco_letters.specs.Telling.{Adds, IsOfChief, IsOfFinish, IsOfSettling}
 use Rattle.coco_letters.specs.Worlds.{Commits, SameEntries}
 use Rattle.coco_letters.specs.declared.voter.Voter.{Voter}
 use Rattle.coco_members.specs.AtRest.{AreAtRest, AreMembers, LettersBelow, ShardsHaveMap}
@@ -20,8 +20,8 @@ use Rattle.coco_vote.specs.Beginning.{AreNew}
 use Rattle.coco_vote.specs.Taking.{AreApart}
 use Rattle.coco_world.specs.World.{World}
 use Rattle.coco_settle.specs.Settling.{AreToFinish, MarkStops}
-use Rattle.coco_letters.proofs.TellingLemmas.{adds_finish, adds_then, finished_by_finish, finished_weaker, votes_by_finish}
-use Rattle.coco_members.proofs.LetterLemmas.{ships_below_finish}
+use Rattle.coco_letters.proofs.TellingLemmas.{adds_finish, adds_then, finished_by_finish, finished_weaker, votes_by_finish, finished_by_settling, votes_by_settling}
+use Rattle.coco_members.proofs.LetterLemmas.{ships_below_finish, ships_below_settling}
 use Rattle.coco_settle.proofs.NodeLemmas.{apart_stopped, elsewhere_stopped, marks_stopped, new_finish, new_stopped, new_voted}
 use Rattle.coco_settle.proofs.RestLemmas.{shards_finish, told_chief}
 
@@ -88,7 +88,7 @@ module _ (e : ℕ) (k mid : Members) (sent between : List Posted) (m : Rows) (co
     (was : cores ≡ k.cores.items) (held : voters ≡ k.voters.items) (now : mid.cores.items ≡ cores_new) (holds : mid.voters.items ≡ voters_new) (cores_many : length cores_new ≡ length cores) (voters_many : length voters_new ≡ length voters)
     (to : AreToFinish e sent k) (chief : chief_of mid.chief ≡ chief_of k.chief) (file : mid.log.file ≡ k.log.file) (layout : mid.tables.layout ≡ k.tables.layout)
     (marked : length mid.tables.behind.items ≡ length k.tables.behind.items) (whole : AreWhole mid.tables) (stops : StopSome e (length cores) stopped stopped_new cores voters sent cores_new voters_new between)
-    (can : AllCanFinish e cores_new) (in_step : AreInStep e cores_new (chief_of k.chief) between mid.tables.behind.items) (stand : ShardsHaveMap m mid.tables) (asked : Adds (IsOfFinish e) sent between) where
+    (can : AllCanFinish e cores_new) (in_step : AreInStep e cores_new (chief_of k.chief) between mid.tables.behind.items) (stand : ShardsHaveMap m mid.tables) (asked : Adds (IsOfSettling e) sent between) where
   node_count : length mid.cores.items ≡ length k.cores.items
   node_count = ap (λ (cs : List Node). length cs) now ∙ cores_many ∙ ap (λ (cs : List Node). length cs) was
 
@@ -130,9 +130,9 @@ module _ (e : ℕ) (k mid : Members) (sent between : List Posted) (m : Rows) (co
         (subst (λ (c : Chief). AreInStep e cores_new c between mid.tables.behind.items) (sym chief) in_step));
     map = (m, stand);
     letters = record {
-      ships = ships_below_finish e (e + 1) sent between asked to.ships;
-      votes = votes_by_finish (e + 1) e sent between to.votes asked;
-      finished = finished_by_finish (e + 1) e sent between (finished_weaker e (e + 1) sent (omega arith) to.finished) asked (omega arith);
+      ships = ships_below_settling e (e + 1) sent between asked to.ships;
+      votes = votes_by_settling (e + 1) e sent between to.votes asked;
+      finished = finished_by_settling (e + 1) e sent between (finished_weaker e (e + 1) sent (omega arith) to.finished) asked (omega arith);
     };
   }
 

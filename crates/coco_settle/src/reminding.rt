@@ -4,35 +4,22 @@ ghost use Rattle.std.specs.Prelude.{◌≡◌, ◌<◌, ◌≤◌, ℕ, false, t
 ghost use Rattle.std.specs.Bool.{MatchBool};
 ghost use Rattle.coco_ast.specs.Keyed.{Rows};
 ghost use Rattle.coco_chief.specs.Shown.{chief_of};
-ghost use Rattle.coco_finish.specs.Exchanges.{HaveAllFinished, IsSilent, OneHasNot};
+ghost use Rattle.coco_finish.specs.Exchanges.{HaveAllFinished, IsSilent};
 ghost use Rattle.coco_finish.specs.Finishing.{AllCanFinish, Finish, HaveMap};
 ghost use Rattle.coco_letters.specs.GivingUp.{Awaits, since};
 ghost use Rattle.coco_letters.specs.Telling.{Adds, IsOfFinish};
 ghost use Rattle.coco_letters.specs.Worlds.{GoesOn};
 ghost use Rattle.coco_members.specs.AtRest.{scene_of, AreAtRest, AreMembers, ShardsHaveMap};
 ghost use Rattle.coco_vote.specs.Counting.{GivesOn};
+ghost use Rattle.coco_letters.specs.Turns.{SendsMore};
 ghost use Rattle.coco_settle.specs.Reminding.{KeepsRest};
 
-use coco_chief::ChiefCore;
-use coco_finish::{finish, unfinished_nodes_are_told};
+use coco_finish::{finish, have_all_finished, unfinished_nodes_are_told};
 use coco_letters::chief_reminds;
 use coco_members::Members;
 use coco_net::Net;
 use coco_types::NoMemory;
 use std::alloc::Global;
-
-// Whether all nodes have finished.
-fn have_all_finished(chief: &ChiefCore, nodes: u8) -> bool
-    requires { (chief_of chief.now).nodes ≡ nodes }
-    ensures { MatchBool result (HaveAllFinished (chief_of chief.now)) (OneHasNot (chief_of chief.now)) }
-{
-    for node in 0..nodes {
-        if !chief.finished(node) {
-            return false;
-        }
-    }
-    true
-}
 
 // The nodes that haven't finished are reminded, and all finish.
 fn remind_all<N: Net>(alloc: Global, net: &mut N, members: &mut Members) -> Result<bool, NoMemory>
@@ -41,6 +28,7 @@ fn remind_all<N: Net>(alloc: Global, net: &mut N, members: &mut Members) -> Resu
     requires can { AllCanFinish (chief_of members.old.chief).last members.old.cores.items }
     ensures rest { OnOk result ((next : ℕ) → AreAtRest next (N.sent net.old) members.old → AreAtRest next (N.sent net.new) members.new) }
     ensures finish { OnOk result (Finish (chief_of members.old.chief).last members.old.cores.items members.new.cores.items members.old.tables members.new.tables) }
+    ensures committed { OnOk result ((chief_of members.new.chief).committed ≡ (chief_of members.old.chief).committed) }
     ensures stays { KeepsRest members.old members.new }
     ensures map { (m : Rows) → HaveMap m members.old.tables → HaveMap m members.new.tables }
     ensures shards { OnOk result ((m : Rows) → ShardsHaveMap m members.old.tables → ShardsHaveMap m members.new.tables) }
@@ -48,8 +36,9 @@ fn remind_all<N: Net>(alloc: Global, net: &mut N, members: &mut Members) -> Resu
         (IsSilent (chief_of members.old.chief).last (chief_of members.new.chief) (N.sent net.old) (N.given net.old) (N.sent net.new) (N.given net.new) (N.faults net.old) (N.faults net.new))) }
     ensures awaits { IfOk result (λ all. all ≡ false → Awaits (since (N.sent net.old) (N.sent net.new)) (since (N.given net.old) (N.given net.new))) }
     ensures said { OnOk result (Adds (IsOfFinish (chief_of members.old.chief).last) (N.sent net.old) (N.sent net.new)) }
+    ensures sent { SendsMore (N.sent net.old) (N.sent net.new) }
     ensures world { OnOk result (GoesOn (scene_of members.old (N.sent net.old)) (scene_of members.new (N.sent net.new))) }
-    ensures net { OnOk result (GivesOn (N.given net.old) (N.faults net.old) (N.last_seed net.old) (N.given net.new) (N.faults net.new) (N.last_seed net.new)) }
+    ensures net { GivesOn (N.given net.old) (N.faults net.old) (N.last_seed net.old) (N.given net.new) (N.faults net.new) (N.last_seed net.new) }
     ensures faults { N.faults net.old ≤ N.faults net.new }
     ensures seed { N.last_seed net.new ≡ N.last_seed net.old }
 {
@@ -75,6 +64,7 @@ pub fn remind<N: Net>(alloc: Global, net: &mut N, members: &mut Members) -> Resu
     // What became of nodes, coordinator and tables.
     ensures rest { OnOk result ((next : ℕ) → AreAtRest next (N.sent net.old) members.old → AreAtRest next (N.sent net.new) members.new) }
     ensures finish { OnOk result (Finish (chief_of members.old.chief).last members.old.cores.items members.new.cores.items members.old.tables members.new.tables) }
+    ensures committed { OnOk result ((chief_of members.new.chief).committed ≡ (chief_of members.old.chief).committed) }
     ensures stays { KeepsRest members.old members.new }
     ensures map { (m : Rows) → HaveMap m members.old.tables → HaveMap m members.new.tables }
     ensures shards { OnOk result ((m : Rows) → ShardsHaveMap m members.old.tables → ShardsHaveMap m members.new.tables) }
@@ -85,8 +75,9 @@ pub fn remind<N: Net>(alloc: Global, net: &mut N, members: &mut Members) -> Resu
     ensures awaits { IfOk result (λ all. all ≡ false → Awaits (since (N.sent net.old) (N.sent net.new)) (since (N.given net.old) (N.given net.new))) }
     // The letters, the world and the counts.
     ensures said { OnOk result (Adds (IsOfFinish (chief_of members.old.chief).last) (N.sent net.old) (N.sent net.new)) }
+    ensures sent { SendsMore (N.sent net.old) (N.sent net.new) }
     ensures world { OnOk result (GoesOn (scene_of members.old (N.sent net.old)) (scene_of members.new (N.sent net.new))) }
-    ensures net { OnOk result (GivesOn (N.given net.old) (N.faults net.old) (N.last_seed net.old) (N.given net.new) (N.faults net.new) (N.last_seed net.new)) }
+    ensures net { GivesOn (N.given net.old) (N.faults net.old) (N.last_seed net.old) (N.given net.new) (N.faults net.new) (N.last_seed net.new) }
     ensures faults { N.faults net.old ≤ N.faults net.new }
     ensures seed { N.last_seed net.new ≡ N.last_seed net.old }
 {

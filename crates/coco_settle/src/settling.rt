@@ -9,7 +9,7 @@ ghost use Rattle.coco_entry.specs.declared.commit.Commit.{Commit};
 ghost use Rattle.coco_finish.specs.Exchanges.{AreReminded};
 ghost use Rattle.coco_finish.specs.Finishing.{HaveMap};
 ghost use Rattle.coco_host.specs.Files.{Become, Follows};
-ghost use Rattle.coco_letters.specs.Telling.{Adds, IsOfFinish};
+ghost use Rattle.coco_letters.specs.Telling.{Adds, IsOfSettling};
 ghost use Rattle.coco_letters.specs.Worlds.{Commits, GoesBetween, SameEntries};
 ghost use Rattle.coco_log.specs.Faults.{CountsFault};
 ghost use Rattle.coco_log.specs.LogState.{LogState, SameBut, with_entry};
@@ -21,6 +21,7 @@ ghost use Rattle.coco_store.specs.Laws.{MayCommit, with_commit};
 ghost use Rattle.coco_vote.specs.Asking.{IsLater};
 ghost use Rattle.coco_vote.specs.Counting.{GivesOn};
 ghost use Rattle.coco_vote.specs.Taking.{AreReady};
+ghost use Rattle.coco_letters.specs.Turns.{SendsMore};
 ghost use Rattle.coco_settle.specs.Settling.{AreToFinish, HasCommitted, KeepsChief, MarkStops};
 
 use coco_finish::{commit, finish, stop_last, unfinished_nodes_are_told};
@@ -53,6 +54,7 @@ fn finish_committed<N: Net, P: Power>(
     ensures rest { OnOk result ((after : Rows) → TablesStand (primaries_of members.old.tables.layout) after all_behind members.old.tables.shards.items [] → AreAtRest (epoch + 1) (N.sent net.new) members.new) }
     ensures shards { OnOk result ((after : Rows) → TablesStand (primaries_of members.old.tables.layout) after all_behind members.old.tables.shards.items [] → ShardsHaveMap after members.new.tables) }
     ensures map { OnOk result ((after : Rows) → TablesStand members.old.tables.layout after all_behind members.old.tables.shards.items members.old.tables.copies.items → HaveMap after members.new.tables) }
+    ensures layout { OnOk result (members.new.tables.layout ≡ members.old.tables.layout) }
     ensures chief { OnOk result (KeepsChief (chief_of members.old.chief) (chief_of members.new.chief)) }
     ensures stops { OnOk result (MarkStops (P.stopped power.old) (P.stopped power.new) members.old.voters.items members.new.voters.items) }
     ensures log { members.new.log ≡ members.old.log }
@@ -60,8 +62,9 @@ fn finish_committed<N: Net, P: Power>(
     ensures world { OnOk result (GoesBetween (P.stopped power.old) (P.stopped power.new) SameEntries (scene_of members.old (N.sent net.old)) (scene_of members.new (N.sent net.new))) }
     ensures early { P.early_stops power.new ≡ P.early_stops power.old }
     ensures later { IsLater P.stops_seen P.early_stops P.stopped P.begun P.asked power.old power.new }
-    ensures says { OnOk result (Adds (IsOfFinish epoch) (N.sent net.old) (N.sent net.new)) }
-    ensures net { OnOk result (GivesOn (N.given net.old) (N.faults net.old) (N.last_seed net.old) (N.given net.new) (N.faults net.new) (N.last_seed net.new)) }
+    ensures says { OnOk result (Adds (IsOfSettling epoch) (N.sent net.old) (N.sent net.new)) }
+    ensures sent { SendsMore (N.sent net.old) (N.sent net.new) }
+    ensures net { GivesOn (N.given net.old) (N.faults net.old) (N.last_seed net.old) (N.given net.new) (N.faults net.new) (N.last_seed net.new) }
     ensures faults { N.faults net.old ≤ N.faults net.new }
     ensures seed { N.last_seed net.new ≡ N.last_seed net.old }
 {
@@ -105,6 +108,7 @@ pub fn settle<H: Host, N: Net, P: Power>(
     ensures rest { OnOk result (AreAtRest (epoch + 1) (N.sent net.new) members.new) }
     ensures shards { OnOk result ((after : Rows) → HaveVoted epoch after (N.sent net.old) members.old → ShardsHaveMap after members.new.tables) }
     ensures map { OnOk result ((after : Rows) → TablesStand members.old.tables.layout after all_behind members.old.tables.shards.items members.old.tables.copies.items → HaveMap after members.new.tables) }
+    ensures layout { OnOk result (members.new.tables.layout ≡ members.old.tables.layout) }
     ensures committed { OnOk result (HasCommitted epoch (chief_of members.old.chief) (chief_of members.new.chief)) }
     ensures stops { OnOk result (MarkStops (P.stopped power.old) (P.stopped power.new) members.old.voters.items members.new.voters.items) }
     // Where the entry isn't durable, nothing was done.
@@ -129,8 +133,9 @@ pub fn settle<H: Host, N: Net, P: Power>(
     ensures asked { OnOk result ((n : ℕ) → n < length members.old.cores.items → P.asked power.new n 6 ≡ true) }
     ensures early { P.early_stops power.new ≡ P.early_stops power.old }
     ensures later { IsLater P.stops_seen P.early_stops P.stopped P.begun P.asked power.old power.new }
-    ensures says { OnOk result (Adds (IsOfFinish epoch) (N.sent net.old) (N.sent net.new)) }
-    ensures net { OnOk result (GivesOn (N.given net.old) (N.faults net.old) (N.last_seed net.old) (N.given net.new) (N.faults net.new) (N.last_seed net.new)) }
+    ensures says { OnOk result (Adds (IsOfSettling epoch) (N.sent net.old) (N.sent net.new)) }
+    ensures sent { SendsMore (N.sent net.old) (N.sent net.new) }
+    ensures net { GivesOn (N.given net.old) (N.faults net.old) (N.last_seed net.old) (N.given net.new) (N.faults net.new) (N.last_seed net.new) }
     ensures faults { N.faults net.old ≤ N.faults net.new }
     ensures seed { N.last_seed net.new ≡ N.last_seed net.old }
 {

@@ -1,6 +1,6 @@
 //! What an epoch wrote, shipped to the copies of all partitions.
 
-ghost use Rattle.std.specs.Prelude.{◌≡◌, ◌≤◌, ◌++◌, List, IfErr, IsOk, OnOk};
+ghost use Rattle.std.specs.Prelude.{◌≡◌, ◌≤◌, ◌++◌, List, IfErr, IsOk, OnOk, All, Contains, length};
 ghost use Rattle.coco_ast.specs.History.{rows_after};
 ghost use Rattle.coco_ast.specs.Keyed.{Rows};
 ghost use Rattle.coco_early.specs.Runs.{HasRun};
@@ -43,6 +43,7 @@ pub fn ship<N: Net>(
     ensures keep { (m : Rows) → KeepAll m tables.old → KeepAll m tables.new }
     ensures places { SamePlaces tables.old tables.new }
     ensures shards { tables.new.shards ≡ tables.old.shards }
+    ensures copies { length tables.new.copies.items ≡ length tables.old.copies.items }
     // Each copy has its pieces and has answered so, and each letter says what is so.
     ensures whole { OnOk result (AreWhole (ring_of tables.old.layout) epoch pieces.now tables.new.copies.items) }
     ensures answered { OnOk result (HaveAnswered (ring_of tables.old.layout) epoch (news (N.given net.old) (N.given net.new))) }
@@ -53,6 +54,8 @@ pub fn ship<N: Net>(
     ensures given { N.given net.new ≡ N.given net.old ++ news (N.given net.old) (N.given net.new) }
     ensures sent { N.sent net.new ≡ N.sent net.old ++ news (N.sent net.old) (N.sent net.new) }
     ensures phase { ArePhase epoch (news (N.sent net.old) (N.sent net.new)) }
+    // What is given was sent.
+    ensures were_sent { All (Contains (N.sent net.new)) (news (N.given net.old) (N.given net.new)) }
     ensures alone { tables.old.layout.copies ≡ 0 → IsOk result × (net.new ≡ net.old) }
     // Silent comes only after 16 exchanges, in each of which the count of faults rose.
     ensures silent { IfErr result (OnSilent (ring_of tables.old.layout) epoch (news (N.sent net.old) (N.sent net.new)) (news (N.given net.old) (N.given net.new)) (N.faults net.old) (N.faults net.new)) }

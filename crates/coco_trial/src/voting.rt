@@ -16,8 +16,10 @@ ghost use Rattle.coco_vote.specs.Asking.{IsLater};
 ghost use Rattle.coco_vote.specs.Beginning.{AreNew, GoesOnVoted};
 ghost use Rattle.coco_vote.specs.Counting.{GivesOn};
 ghost use Rattle.coco_vote.specs.Preparing.{have_durable, Ballot, MayForce, Votes as KeepsVotes};
-ghost use Rattle.coco_vote.specs.Taking.{vote_of, AreApart, AreHeld, AreReady, HaveLogs, IsElsewhere, KeepPlaces};
+ghost use Rattle.coco_vote.specs.Taking.{vote_of, AreApart, AreHeld, AreReady, HaveLogs, IsElsewhere, KeepPlaces, SameElsewhere};
 ghost use Rattle.coco_vote.specs.declared.phase.Votes.TheVariants.{All};
+ghost use Rattle.coco_host.specs.Files.{Become, Follows};
+ghost use Rattle.coco_letters.specs.Turns.{SendsMore};
 ghost use Rattle.coco_trial.specs.Voting.{unmarked, ComesOf, Decided, KeepsTables, MayVote};
 
 use coco_chief::ChiefCore;
@@ -83,6 +85,7 @@ fn decide<H: Host, N: Net, P: Power>(
     ensures last { OnOk result ((chief_of chief.new).last ≡ (chief_of chief.old).last) }
     ensures committed { OnOk result ((chief_of chief.new).committed ≡ (chief_of chief.old).committed) }
     ensures says { OnOk result (Adds (IsOfVote epoch) (N.sent net.old) (N.sent net.new)) }
+    ensures sent { SendsMore (N.sent net.old) (N.sent net.new) }
     // The files.
     ensures files { (c : Contents) (hold : ℕ → List Bool) → let b : Ballot = record { epoch = epoch; pieces = pieces.now; held = hold } in
         AreHeld hold voters.old → MayForce c b → c.setting.entry.layout.nodes ≡ length cores.old → HaveLogs c voters.old
@@ -91,6 +94,8 @@ fn decide<H: Host, N: Net, P: Power>(
     ensures ready { OnOk result (AreReady voters.new (H.reads host.new) (H.may_leave host.new)) }
     ensures places { KeepPlaces voters.old voters.new }
     ensures others { (other : LogState) → IsElsewhere other voters.old → Stands other (H.reads host.old) (H.may_leave host.old) → Stands other (H.reads host.new) (H.may_leave host.new) }
+    ensures read { Become (SameElsewhere voters.old) (H.reads host.old) (H.reads host.new) }
+    ensures crash { Follows (SameElsewhere voters.old) (H.may_leave host.old) (H.may_leave host.new) }
     ensures said { H.said host.new ≡ H.said host.old }
     ensures disk { CountsFault result (H.disk_faults host.old) (H.disk_faults host.new) }
     ensures stream { H.say_faults host.new ≡ H.say_faults host.old }
@@ -130,6 +135,7 @@ pub fn vote<H: Host, N: Net, P: Power>(
     ensures last { OnOk result ((chief_of members.new.chief).last ≡ (chief_of members.old.chief).last) }
     ensures committed { OnOk result ((chief_of members.new.chief).committed ≡ (chief_of members.old.chief).committed) }
     ensures says { OnOk result (Adds (IsOfVote epoch) (N.sent net.old) (N.sent net.new)) }
+    ensures sent { SendsMore (N.sent net.old) (N.sent net.new) }
     // The files: just the nodes whose core has the epoch have its entry.
     ensures files { (c : Contents) (hold : ℕ → List Bool) → let b : Ballot = record { epoch = epoch; pieces = pieces.now; held = hold } in
         AreHeld hold members.old.voters.items → MayForce c b → c.setting.entry.layout.nodes ≡ length members.old.cores.items → HaveLogs c members.old.voters.items
@@ -137,6 +143,8 @@ pub fn vote<H: Host, N: Net, P: Power>(
         → KeepsVotes H.moment H.observed H.said H.reads H.may_leave result c b (have_durable epoch members.new.cores.items) host.old host.new }
     ensures ready { OnOk result (AreReady members.new.voters.items (H.reads host.new) (H.may_leave host.new)) }
     ensures others { (other : LogState) → IsElsewhere other members.old.voters.items → Stands other (H.reads host.old) (H.may_leave host.old) → Stands other (H.reads host.new) (H.may_leave host.new) }
+    ensures read { Become (SameElsewhere members.old.voters.items) (H.reads host.old) (H.reads host.new) }
+    ensures crash { Follows (SameElsewhere members.old.voters.items) (H.may_leave host.old) (H.may_leave host.new) }
     ensures said { H.said host.new ≡ H.said host.old }
     ensures disk { CountsFault result (H.disk_faults host.old) (H.disk_faults host.new) }
     ensures stream { H.say_faults host.new ≡ H.say_faults host.old }

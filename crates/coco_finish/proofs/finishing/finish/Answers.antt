@@ -8,6 +8,8 @@ use Rattle.coco_letters.proofs.TellingLemmas.{adds_then}
 use Rattle.coco_letters.proofs.WorldLemmas.{goes_on_then}
 use Rattle.coco_finish.proofs.ExchangeLemmas.{all_or_silent, hears_then}
 use Rattle.coco_finish.proofs.FinishLemmas.{finish_then}
+use Rattle.coco_letters.proofs.SendingLemmas.{sends_then}
+use Rattle.coco_vote.proofs.GivingLemmas.{gives_then}
 use Rattle.coco_finish.proofs.finishing.finish.Goals as goal
 
 pub remind-requires-clause-nodes : goal.remind-requires-clause-nodes
@@ -52,3 +54,27 @@ returns-clause-map g c = λ m has. c.remind.ensures.map m (c.exchange.ensures.ma
 
 pub returns-clause-in_step : goal.returns-clause-in_step
 returns-clause-in_step g c = λ step. c.in_ok-all.ensures.in_step (c.in_ok-exchange.ensures.in_step step)
+
+pub returns-in_err-exchange-clause-sends : goal.returns-in_err-exchange-clause-sends
+returns-in_err-exchange-clause-sends g c =
+    c.exchange.ensures.sends
+
+pub returns-in_err-exchange-clause-net : goal.returns-in_err-exchange-clause-net
+returns-in_err-exchange-clause-net g c =
+    c.exchange.ensures.net
+
+pub returns-in_err-all-clause-sends : goal.returns-in_err-all-clause-sends
+returns-in_err-all-clause-sends g c =
+    sends_then (g.N.Net.sent c.args.net.now) (g.N.Net.sent c.exchange.new.net) (g.N.Net.sent c.remind.new.net) (c.exchange.ensures.sends) (c.remind.ensures.sends)
+
+pub returns-in_err-all-clause-net : goal.returns-in_err-all-clause-net
+returns-in_err-all-clause-net g c =
+    gives_then (g.N.Net.given c.args.net.now) (g.N.Net.faults c.args.net.now) (g.N.Net.last_seed c.args.net.now) (g.N.Net.given c.exchange.new.net) (g.N.Net.faults c.exchange.new.net) (g.N.Net.last_seed c.exchange.new.net) (g.N.Net.given c.remind.new.net) (g.N.Net.faults c.remind.new.net) (g.N.Net.last_seed c.remind.new.net) (c.exchange.ensures.net) (c.remind.ensures.net)
+
+pub returns-clause-sends : goal.returns-clause-sends
+returns-clause-sends g c =
+    sends_then (g.N.Net.sent c.args.net.now) (g.N.Net.sent c.exchange.new.net) (g.N.Net.sent c.remind.new.net) (c.exchange.ensures.sends) (c.remind.ensures.sends)
+
+pub returns-clause-net : goal.returns-clause-net
+returns-clause-net g c =
+    gives_then (g.N.Net.given c.args.net.now) (g.N.Net.faults c.args.net.now) (g.N.Net.last_seed c.args.net.now) (g.N.Net.given c.exchange.new.net) (g.N.Net.faults c.exchange.new.net) (g.N.Net.last_seed c.exchange.new.net) (g.N.Net.given c.remind.new.net) (g.N.Net.faults c.remind.new.net) (g.N.Net.last_seed c.remind.new.net) (c.exchange.ensures.net) (c.remind.ensures.net)

@@ -8,6 +8,8 @@ use Rattle.coco_letters.proofs.TellingLemmas.{adds_same, adds_then}
 use Rattle.coco_letters.proofs.WorldLemmas.{goes_on_then, nothing_goes}
 use Rattle.coco_finish.proofs.ExchangeLemmas.{asks_later, hears_same, hears_then, lost_all, lost_more}
 use Rattle.coco_finish.proofs.FinishLemmas.{finish_same, finish_then}
+use Rattle.coco_letters.proofs.SendingLemmas.{sends_none, sends_then}
+use Rattle.coco_vote.proofs.GivingLemmas.{gives_same, gives_then}
 use Rattle.coco_finish.proofs.finishing.remind.Goals as goal
 
 pub loop-exchange-init : goal.loop-exchange-init
@@ -23,6 +25,8 @@ loop-exchange-init g c = record {
   lost = inl (omega arith);
   said = adds_same (g.N.Net.sent c.args.net.now);
   world = nothing_goes (record { cores = c.args.cores.now; chief = chief_of c.args.chief.now; sent = g.N.Net.sent c.args.net.now });
+  sends = sends_none (g.N.Net.sent c.args.net.now) (g.N.Net.sent c.args.net.now) refl;
+  net = gives_same (g.N.Net.given c.args.net.now) (g.N.Net.faults c.args.net.now) (g.N.Net.last_seed c.args.net.now);
   sent = c.requires.sent;
   faults = omega arith;
   seed = refl;
@@ -61,6 +65,8 @@ loop-exchange-preserved g c =
       lost = lost_more c.loop-exchange._exchange (g.N.Net.faults start.net.now) (g.N.Net.faults now.net) (g.N.Net.faults after.net) (chief_of now.chief) (chief_of after.chief) c.if-have_all_finished.ensures before.lost did.ends;
       said = adds_then (g.N.Net.sent start.net.now) (g.N.Net.sent now.net) (g.N.Net.sent after.net) before.said did.said;
       world = goes_on_then (scene start.cores.now (chief_of start.chief.now) (g.N.Net.sent start.net.now)) (scene now.cores (chief_of now.chief) (g.N.Net.sent now.net)) (scene after.cores (chief_of after.chief) (g.N.Net.sent after.net)) before.world did.world;
+      sends = sends_then (g.N.Net.sent c.args.net.now) (g.N.Net.sent c.loop-exchange.net) (g.N.Net.sent c.remind_and_exchange.new.net) (c.loop-exchange.invariant.sends) (c.remind_and_exchange.ensures.sends);
+      net = gives_then (g.N.Net.given c.args.net.now) (g.N.Net.faults c.args.net.now) (g.N.Net.last_seed c.args.net.now) (g.N.Net.given c.loop-exchange.net) (g.N.Net.faults c.loop-exchange.net) (g.N.Net.last_seed c.loop-exchange.net) (g.N.Net.given c.remind_and_exchange.new.net) (g.N.Net.faults c.remind_and_exchange.new.net) (g.N.Net.last_seed c.remind_and_exchange.new.net) (c.loop-exchange.invariant.net) (c.remind_and_exchange.ensures.net);
       sent = did.sent;
       faults = omega (arith, before.faults, c.remind_and_exchange.ensures.faults);
       seed = c.remind_and_exchange.ensures.seed ∙ before.seed;
@@ -73,3 +79,11 @@ pub returns-clause-all : goal.returns-clause-all
 returns-clause-all g c =
     lost_all c.have_all_finished-2.result c.args.epoch c.loop-exchange._exchange (chief_of c.loop-exchange.chief) (g.N.Net.sent c.args.net.now) (g.N.Net.sent c.loop-exchange.net) (g.N.Net.faults c.args.net.now) (g.N.Net.faults c.loop-exchange.net)
     c.loop-exchange-test.false c.loop-exchange.invariant.lost c.loop-exchange.invariant.asks c.have_all_finished-2.ensures
+
+pub returns-in_err-remind_and_exchange-clause-sends : goal.returns-in_err-remind_and_exchange-clause-sends
+returns-in_err-remind_and_exchange-clause-sends g c =
+    sends_then (g.N.Net.sent c.args.net.now) (g.N.Net.sent c.loop-exchange.net) (g.N.Net.sent c.remind_and_exchange.new.net) (c.loop-exchange.invariant.sends) (c.remind_and_exchange.ensures.sends)
+
+pub returns-in_err-remind_and_exchange-clause-net : goal.returns-in_err-remind_and_exchange-clause-net
+returns-in_err-remind_and_exchange-clause-net g c =
+    gives_then (g.N.Net.given c.args.net.now) (g.N.Net.faults c.args.net.now) (g.N.Net.last_seed c.args.net.now) (g.N.Net.given c.loop-exchange.net) (g.N.Net.faults c.loop-exchange.net) (g.N.Net.last_seed c.loop-exchange.net) (g.N.Net.given c.remind_and_exchange.new.net) (g.N.Net.faults c.remind_and_exchange.new.net) (g.N.Net.last_seed c.remind_and_exchange.new.net) (c.loop-exchange.invariant.net) (c.remind_and_exchange.ensures.net)

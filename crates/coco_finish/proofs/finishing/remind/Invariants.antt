@@ -2,8 +2,9 @@ use Rattle.std.proofs.Common.{◌≡◌, ◌⊎◌, ◌+◌, ◌<◌, ◌≤◌,
 use Rattle.coco_ast.specs.Keyed.{Rows}
 use Rattle.coco_chief.specs.Shown.{chief_of}
 use Rattle.coco_letters.specs.Telling.{Adds, IsOfFinish}
-use Rattle.coco_letters.specs.Turns.{AreSent}
+use Rattle.coco_letters.specs.Turns.{AreSent, SendsMore}
 use Rattle.coco_letters.specs.Worlds.{GoesOn}
+use Rattle.coco_vote.specs.Counting.{GivesOn}
 use Rattle.coco_finish.specs.Exchanges.{AreInStep, AsksAll, HaveAllFinished, HearsGiven}
 use Rattle.coco_finish.specs.Finishing.{AllCanFinish, AreWhole, Finish, HaveMap}
 use Rattle.coco_finish.proofs.finishing.remind.Given as goal
@@ -22,6 +23,8 @@ invariant-loop-exchange g l = record {
   lost : (g.N.Net.faults l.initial.net + l._exchange ≤ g.N.Net.faults l.net + 1) ⊎ HaveAllFinished (chief_of l.chief);
   said : Adds (IsOfFinish l.epoch) (g.N.Net.sent l.initial.net) (g.N.Net.sent l.net);
   world : GoesOn (record { cores = l.initial.cores; chief = chief_of l.initial.chief; sent = g.N.Net.sent l.initial.net }) (record { cores = l.cores; chief = chief_of l.chief; sent = g.N.Net.sent l.net });
+  sends : SendsMore (g.N.Net.sent l.initial.net) (g.N.Net.sent l.net);
+  net : GivesOn (g.N.Net.given l.initial.net) (g.N.Net.faults l.initial.net) (g.N.Net.last_seed l.initial.net) (g.N.Net.given l.net) (g.N.Net.faults l.net) (g.N.Net.last_seed l.net);
   sent : AreSent (g.N.Net.sent l.net) (g.N.Net.waiting l.net);
   faults : g.N.Net.faults l.initial.net ≤ g.N.Net.faults l.net;
   seed : g.N.Net.last_seed l.net ≡ g.N.Net.last_seed l.initial.net;

@@ -11,6 +11,8 @@ use Rattle.coco_letters.proofs.WaitingLemmas.{round_sent}
 use Rattle.coco_finish.specs.Exchanges.{UnlessFault}
 use Rattle.coco_finish.specs.Finishing.{finished_of}
 use Rattle.coco_finish.proofs.ExchangeLemmas.{came_all, hears_given, told_by_chief, up_so}
+use Rattle.coco_letters.proofs.SendingLemmas.{sends_fresh, sends_none, sends_then}
+use Rattle.coco_vote.proofs.GivingLemmas.{gives_counts, gives_round, gives_then}
 use Rattle.coco_finish.proofs.rounds.answer_round.Goals as goal
 
 pub chief_takes-requires-clause-sent : goal.chief_takes-requires-clause-sent
@@ -57,3 +59,27 @@ returns-clause-in_step g c = λ cores marks step.
       told = told_by_chief c.args.epoch (g.N.Net.sent c.args.net.now) (g.N.Net.sent c.chief_takes.new.net) marks says step.told;
       up = up_so c.args.epoch (chief_of c.args.chief.now) (chief_of c.chief_takes.new.chief) marks (g.N.Net.sent c.args.net.now) (g.N.Net.waiting c.round.new.self) c.requires.last sent c.in_ok-chief_takes.ensures.finished step.told step.up;
     }
+
+pub returns-in_err-round-clause-sends : goal.returns-in_err-round-clause-sends
+returns-in_err-round-clause-sends g c =
+    sends_none (g.N.Net.sent c.args.net.now) (g.N.Net.sent c.round.new.self) c.round.ensures.sent
+
+pub returns-in_err-round-clause-net : goal.returns-in_err-round-clause-net
+returns-in_err-round-clause-net g c =
+    gives_round c.round.result (g.N.Net.sent c.args.net.now) (g.N.Net.fresh c.args.net.now) (g.N.Net.waiting c.round.new.self) (g.N.Net.given c.args.net.now) (g.N.Net.faults c.args.net.now) (g.N.Net.last_seed c.args.net.now) (g.N.Net.given c.round.new.self) (g.N.Net.faults c.round.new.self) (g.N.Net.last_seed c.round.new.self) (g.N.Net.fresh c.round.new.self) c.round.ensures.ok c.round.ensures.faults c.round.ensures.err c.round.ensures.seed
+
+pub returns-in_err-chief_takes-clause-sends : goal.returns-in_err-chief_takes-clause-sends
+returns-in_err-chief_takes-clause-sends g c =
+    sends_then (g.N.Net.sent c.args.net.now) (g.N.Net.sent c.round.new.self) (g.N.Net.sent c.chief_takes.new.net) (sends_none (g.N.Net.sent c.args.net.now) (g.N.Net.sent c.round.new.self) c.round.ensures.sent) (sends_fresh (g.N.Net.sent c.round.new.self) (g.N.Net.fresh c.round.new.self) (g.N.Net.sent c.chief_takes.new.net) (g.N.Net.fresh c.chief_takes.new.net) c.chief_takes.ensures.fresh)
+
+pub returns-in_err-chief_takes-clause-net : goal.returns-in_err-chief_takes-clause-net
+returns-in_err-chief_takes-clause-net g c =
+    gives_then (g.N.Net.given c.args.net.now) (g.N.Net.faults c.args.net.now) (g.N.Net.last_seed c.args.net.now) (g.N.Net.given c.round.new.self) (g.N.Net.faults c.round.new.self) (g.N.Net.last_seed c.round.new.self) (g.N.Net.given c.chief_takes.new.net) (g.N.Net.faults c.chief_takes.new.net) (g.N.Net.last_seed c.chief_takes.new.net) (gives_round c.round.result (g.N.Net.sent c.args.net.now) (g.N.Net.fresh c.args.net.now) (g.N.Net.waiting c.round.new.self) (g.N.Net.given c.args.net.now) (g.N.Net.faults c.args.net.now) (g.N.Net.last_seed c.args.net.now) (g.N.Net.given c.round.new.self) (g.N.Net.faults c.round.new.self) (g.N.Net.last_seed c.round.new.self) (g.N.Net.fresh c.round.new.self) c.round.ensures.ok c.round.ensures.faults c.round.ensures.err c.round.ensures.seed) (gives_counts (g.N.Net.given c.round.new.self) (g.N.Net.faults c.round.new.self) (g.N.Net.last_seed c.round.new.self) (g.N.Net.given c.chief_takes.new.net) (g.N.Net.faults c.chief_takes.new.net) (g.N.Net.last_seed c.chief_takes.new.net) c.chief_takes.ensures.counts)
+
+pub returns-clause-sends : goal.returns-clause-sends
+returns-clause-sends g c =
+    sends_then (g.N.Net.sent c.args.net.now) (g.N.Net.sent c.round.new.self) (g.N.Net.sent c.chief_takes.new.net) (sends_none (g.N.Net.sent c.args.net.now) (g.N.Net.sent c.round.new.self) c.round.ensures.sent) (sends_fresh (g.N.Net.sent c.round.new.self) (g.N.Net.fresh c.round.new.self) (g.N.Net.sent c.chief_takes.new.net) (g.N.Net.fresh c.chief_takes.new.net) c.chief_takes.ensures.fresh)
+
+pub returns-clause-net : goal.returns-clause-net
+returns-clause-net g c =
+    gives_then (g.N.Net.given c.args.net.now) (g.N.Net.faults c.args.net.now) (g.N.Net.last_seed c.args.net.now) (g.N.Net.given c.round.new.self) (g.N.Net.faults c.round.new.self) (g.N.Net.last_seed c.round.new.self) (g.N.Net.given c.chief_takes.new.net) (g.N.Net.faults c.chief_takes.new.net) (g.N.Net.last_seed c.chief_takes.new.net) (gives_round c.round.result (g.N.Net.sent c.args.net.now) (g.N.Net.fresh c.args.net.now) (g.N.Net.waiting c.round.new.self) (g.N.Net.given c.args.net.now) (g.N.Net.faults c.args.net.now) (g.N.Net.last_seed c.args.net.now) (g.N.Net.given c.round.new.self) (g.N.Net.faults c.round.new.self) (g.N.Net.last_seed c.round.new.self) (g.N.Net.fresh c.round.new.self) c.round.ensures.ok c.round.ensures.faults c.round.ensures.err c.round.ensures.seed) (gives_counts (g.N.Net.given c.round.new.self) (g.N.Net.faults c.round.new.self) (g.N.Net.last_seed c.round.new.self) (g.N.Net.given c.chief_takes.new.net) (g.N.Net.faults c.chief_takes.new.net) (g.N.Net.last_seed c.chief_takes.new.net) c.chief_takes.ensures.counts)

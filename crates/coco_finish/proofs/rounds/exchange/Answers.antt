@@ -7,6 +7,8 @@ use Rattle.coco_letters.specs.Worlds.{Scene}
 use Rattle.coco_letters.proofs.TellingLemmas.{adds_finish, adds_then}
 use Rattle.coco_letters.proofs.WorldLemmas.{goes_on_then}
 use Rattle.coco_finish.proofs.ExchangeLemmas.{ends_so, hears_then}
+use Rattle.coco_letters.proofs.SendingLemmas.{sends_then}
+use Rattle.coco_vote.proofs.GivingLemmas.{gives_then}
 use Rattle.coco_finish.proofs.rounds.exchange.Goals as goal
 
 pub returns-clause-in_step : goal.returns-clause-in_step
@@ -35,3 +37,27 @@ returns-clause-world g c =
     let scene : List Node → Chief → List Posted → Scene = λ cores chief sent. record { cores = cores; chief = chief; sent = sent } in
     goes_on_then (scene c.args.cores.now (chief_of c.args.chief.now) (g.N.Net.sent c.args.net.now)) (scene c.tell_round.new.cores (chief_of c.tell_round.new.chief) (g.N.Net.sent c.tell_round.new.net))
     (scene c.tell_round.new.cores (chief_of c.answer_round.new.chief) (g.N.Net.sent c.answer_round.new.net)) c.in_ok-tell_round.ensures.world (c.in_ok-answer_round.ensures.world c.tell_round.new.cores)
+
+pub returns-in_err-tell_round-clause-sends : goal.returns-in_err-tell_round-clause-sends
+returns-in_err-tell_round-clause-sends g c =
+    c.tell_round.ensures.sends
+
+pub returns-in_err-tell_round-clause-net : goal.returns-in_err-tell_round-clause-net
+returns-in_err-tell_round-clause-net g c =
+    c.tell_round.ensures.net
+
+pub returns-in_err-answer_round-clause-sends : goal.returns-in_err-answer_round-clause-sends
+returns-in_err-answer_round-clause-sends g c =
+    sends_then (g.N.Net.sent c.args.net.now) (g.N.Net.sent c.tell_round.new.net) (g.N.Net.sent c.answer_round.new.net) (c.tell_round.ensures.sends) (c.answer_round.ensures.sends)
+
+pub returns-in_err-answer_round-clause-net : goal.returns-in_err-answer_round-clause-net
+returns-in_err-answer_round-clause-net g c =
+    gives_then (g.N.Net.given c.args.net.now) (g.N.Net.faults c.args.net.now) (g.N.Net.last_seed c.args.net.now) (g.N.Net.given c.tell_round.new.net) (g.N.Net.faults c.tell_round.new.net) (g.N.Net.last_seed c.tell_round.new.net) (g.N.Net.given c.answer_round.new.net) (g.N.Net.faults c.answer_round.new.net) (g.N.Net.last_seed c.answer_round.new.net) (c.tell_round.ensures.net) (c.answer_round.ensures.net)
+
+pub returns-clause-sends : goal.returns-clause-sends
+returns-clause-sends g c =
+    sends_then (g.N.Net.sent c.args.net.now) (g.N.Net.sent c.tell_round.new.net) (g.N.Net.sent c.answer_round.new.net) (c.tell_round.ensures.sends) (c.answer_round.ensures.sends)
+
+pub returns-clause-net : goal.returns-clause-net
+returns-clause-net g c =
+    gives_then (g.N.Net.given c.args.net.now) (g.N.Net.faults c.args.net.now) (g.N.Net.last_seed c.args.net.now) (g.N.Net.given c.tell_round.new.net) (g.N.Net.faults c.tell_round.new.net) (g.N.Net.last_seed c.tell_round.new.net) (g.N.Net.given c.answer_round.new.net) (g.N.Net.faults c.answer_round.new.net) (g.N.Net.last_seed c.answer_round.new.net) (c.tell_round.ensures.net) (c.answer_round.ensures.net)

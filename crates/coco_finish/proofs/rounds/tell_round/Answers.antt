@@ -15,6 +15,8 @@ use Rattle.coco_letters.proofs.WorldLemmas.{goes_on_then}
 use Rattle.coco_finish.specs.Exchanges.{commit_of, UnlessFault}
 use Rattle.coco_finish.specs.Finishing.{finished_of, AreTold}
 use Rattle.coco_finish.proofs.ExchangeLemmas.{fresh_more, hears_given, told_all, told_by_chief, up_so, up_still}
+use Rattle.coco_letters.proofs.SendingLemmas.{sends_fresh, sends_none, sends_then}
+use Rattle.coco_vote.proofs.GivingLemmas.{gives_counts, gives_round, gives_then}
 use Rattle.coco_finish.proofs.rounds.tell_round.Goals as goal
 
 pub nodes_finish-requires-clause-sent : goal.nodes_finish-requires-clause-sent
@@ -70,3 +72,35 @@ returns-clause-world g c =
     (scene c.nodes_finish.new.cores (chief_of c.chief_takes.new.chief) (g.N.Net.sent c.chief_takes.new.net))
     (subst (λ (ps : List Posted). GoesOn (scene c.args.cores.now (chief_of c.args.chief.now) ps) (scene c.nodes_finish.new.cores (chief_of c.args.chief.now) (g.N.Net.sent c.nodes_finish.new.net))) c.round.ensures.sent (c.in_ok-nodes_finish.ensures.world (chief_of c.args.chief.now)))
     (c.in_ok-chief_takes.ensures.world c.nodes_finish.new.cores)
+
+pub returns-in_err-round-clause-sends : goal.returns-in_err-round-clause-sends
+returns-in_err-round-clause-sends g c =
+    sends_none (g.N.Net.sent c.args.net.now) (g.N.Net.sent c.round.new.self) c.round.ensures.sent
+
+pub returns-in_err-round-clause-net : goal.returns-in_err-round-clause-net
+returns-in_err-round-clause-net g c =
+    gives_round c.round.result (g.N.Net.sent c.args.net.now) (g.N.Net.fresh c.args.net.now) (g.N.Net.waiting c.round.new.self) (g.N.Net.given c.args.net.now) (g.N.Net.faults c.args.net.now) (g.N.Net.last_seed c.args.net.now) (g.N.Net.given c.round.new.self) (g.N.Net.faults c.round.new.self) (g.N.Net.last_seed c.round.new.self) (g.N.Net.fresh c.round.new.self) c.round.ensures.ok c.round.ensures.faults c.round.ensures.err c.round.ensures.seed
+
+pub returns-in_err-nodes_finish-clause-sends : goal.returns-in_err-nodes_finish-clause-sends
+returns-in_err-nodes_finish-clause-sends g c =
+    sends_then (g.N.Net.sent c.args.net.now) (g.N.Net.sent c.round.new.self) (g.N.Net.sent c.nodes_finish.new.net) (sends_none (g.N.Net.sent c.args.net.now) (g.N.Net.sent c.round.new.self) c.round.ensures.sent) (sends_fresh (g.N.Net.sent c.round.new.self) (g.N.Net.fresh c.round.new.self) (g.N.Net.sent c.nodes_finish.new.net) (g.N.Net.fresh c.nodes_finish.new.net) c.nodes_finish.ensures.fresh)
+
+pub returns-in_err-nodes_finish-clause-net : goal.returns-in_err-nodes_finish-clause-net
+returns-in_err-nodes_finish-clause-net g c =
+    gives_then (g.N.Net.given c.args.net.now) (g.N.Net.faults c.args.net.now) (g.N.Net.last_seed c.args.net.now) (g.N.Net.given c.round.new.self) (g.N.Net.faults c.round.new.self) (g.N.Net.last_seed c.round.new.self) (g.N.Net.given c.nodes_finish.new.net) (g.N.Net.faults c.nodes_finish.new.net) (g.N.Net.last_seed c.nodes_finish.new.net) (gives_round c.round.result (g.N.Net.sent c.args.net.now) (g.N.Net.fresh c.args.net.now) (g.N.Net.waiting c.round.new.self) (g.N.Net.given c.args.net.now) (g.N.Net.faults c.args.net.now) (g.N.Net.last_seed c.args.net.now) (g.N.Net.given c.round.new.self) (g.N.Net.faults c.round.new.self) (g.N.Net.last_seed c.round.new.self) (g.N.Net.fresh c.round.new.self) c.round.ensures.ok c.round.ensures.faults c.round.ensures.err c.round.ensures.seed) (gives_counts (g.N.Net.given c.round.new.self) (g.N.Net.faults c.round.new.self) (g.N.Net.last_seed c.round.new.self) (g.N.Net.given c.nodes_finish.new.net) (g.N.Net.faults c.nodes_finish.new.net) (g.N.Net.last_seed c.nodes_finish.new.net) c.nodes_finish.ensures.counts)
+
+pub returns-in_err-chief_takes-clause-sends : goal.returns-in_err-chief_takes-clause-sends
+returns-in_err-chief_takes-clause-sends g c =
+    sends_then (g.N.Net.sent c.args.net.now) (g.N.Net.sent c.nodes_finish.new.net) (g.N.Net.sent c.chief_takes.new.net) (sends_then (g.N.Net.sent c.args.net.now) (g.N.Net.sent c.round.new.self) (g.N.Net.sent c.nodes_finish.new.net) (sends_none (g.N.Net.sent c.args.net.now) (g.N.Net.sent c.round.new.self) c.round.ensures.sent) (sends_fresh (g.N.Net.sent c.round.new.self) (g.N.Net.fresh c.round.new.self) (g.N.Net.sent c.nodes_finish.new.net) (g.N.Net.fresh c.nodes_finish.new.net) c.nodes_finish.ensures.fresh)) (sends_fresh (g.N.Net.sent c.nodes_finish.new.net) (g.N.Net.fresh c.nodes_finish.new.net) (g.N.Net.sent c.chief_takes.new.net) (g.N.Net.fresh c.chief_takes.new.net) c.chief_takes.ensures.fresh)
+
+pub returns-in_err-chief_takes-clause-net : goal.returns-in_err-chief_takes-clause-net
+returns-in_err-chief_takes-clause-net g c =
+    gives_then (g.N.Net.given c.args.net.now) (g.N.Net.faults c.args.net.now) (g.N.Net.last_seed c.args.net.now) (g.N.Net.given c.nodes_finish.new.net) (g.N.Net.faults c.nodes_finish.new.net) (g.N.Net.last_seed c.nodes_finish.new.net) (g.N.Net.given c.chief_takes.new.net) (g.N.Net.faults c.chief_takes.new.net) (g.N.Net.last_seed c.chief_takes.new.net) (gives_then (g.N.Net.given c.args.net.now) (g.N.Net.faults c.args.net.now) (g.N.Net.last_seed c.args.net.now) (g.N.Net.given c.round.new.self) (g.N.Net.faults c.round.new.self) (g.N.Net.last_seed c.round.new.self) (g.N.Net.given c.nodes_finish.new.net) (g.N.Net.faults c.nodes_finish.new.net) (g.N.Net.last_seed c.nodes_finish.new.net) (gives_round c.round.result (g.N.Net.sent c.args.net.now) (g.N.Net.fresh c.args.net.now) (g.N.Net.waiting c.round.new.self) (g.N.Net.given c.args.net.now) (g.N.Net.faults c.args.net.now) (g.N.Net.last_seed c.args.net.now) (g.N.Net.given c.round.new.self) (g.N.Net.faults c.round.new.self) (g.N.Net.last_seed c.round.new.self) (g.N.Net.fresh c.round.new.self) c.round.ensures.ok c.round.ensures.faults c.round.ensures.err c.round.ensures.seed) (gives_counts (g.N.Net.given c.round.new.self) (g.N.Net.faults c.round.new.self) (g.N.Net.last_seed c.round.new.self) (g.N.Net.given c.nodes_finish.new.net) (g.N.Net.faults c.nodes_finish.new.net) (g.N.Net.last_seed c.nodes_finish.new.net) c.nodes_finish.ensures.counts)) (gives_counts (g.N.Net.given c.nodes_finish.new.net) (g.N.Net.faults c.nodes_finish.new.net) (g.N.Net.last_seed c.nodes_finish.new.net) (g.N.Net.given c.chief_takes.new.net) (g.N.Net.faults c.chief_takes.new.net) (g.N.Net.last_seed c.chief_takes.new.net) c.chief_takes.ensures.counts)
+
+pub returns-clause-sends : goal.returns-clause-sends
+returns-clause-sends g c =
+    sends_then (g.N.Net.sent c.args.net.now) (g.N.Net.sent c.nodes_finish.new.net) (g.N.Net.sent c.chief_takes.new.net) (sends_then (g.N.Net.sent c.args.net.now) (g.N.Net.sent c.round.new.self) (g.N.Net.sent c.nodes_finish.new.net) (sends_none (g.N.Net.sent c.args.net.now) (g.N.Net.sent c.round.new.self) c.round.ensures.sent) (sends_fresh (g.N.Net.sent c.round.new.self) (g.N.Net.fresh c.round.new.self) (g.N.Net.sent c.nodes_finish.new.net) (g.N.Net.fresh c.nodes_finish.new.net) c.nodes_finish.ensures.fresh)) (sends_fresh (g.N.Net.sent c.nodes_finish.new.net) (g.N.Net.fresh c.nodes_finish.new.net) (g.N.Net.sent c.chief_takes.new.net) (g.N.Net.fresh c.chief_takes.new.net) c.chief_takes.ensures.fresh)
+
+pub returns-clause-net : goal.returns-clause-net
+returns-clause-net g c =
+    gives_then (g.N.Net.given c.args.net.now) (g.N.Net.faults c.args.net.now) (g.N.Net.last_seed c.args.net.now) (g.N.Net.given c.nodes_finish.new.net) (g.N.Net.faults c.nodes_finish.new.net) (g.N.Net.last_seed c.nodes_finish.new.net) (g.N.Net.given c.chief_takes.new.net) (g.N.Net.faults c.chief_takes.new.net) (g.N.Net.last_seed c.chief_takes.new.net) (gives_then (g.N.Net.given c.args.net.now) (g.N.Net.faults c.args.net.now) (g.N.Net.last_seed c.args.net.now) (g.N.Net.given c.round.new.self) (g.N.Net.faults c.round.new.self) (g.N.Net.last_seed c.round.new.self) (g.N.Net.given c.nodes_finish.new.net) (g.N.Net.faults c.nodes_finish.new.net) (g.N.Net.last_seed c.nodes_finish.new.net) (gives_round c.round.result (g.N.Net.sent c.args.net.now) (g.N.Net.fresh c.args.net.now) (g.N.Net.waiting c.round.new.self) (g.N.Net.given c.args.net.now) (g.N.Net.faults c.args.net.now) (g.N.Net.last_seed c.args.net.now) (g.N.Net.given c.round.new.self) (g.N.Net.faults c.round.new.self) (g.N.Net.last_seed c.round.new.self) (g.N.Net.fresh c.round.new.self) c.round.ensures.ok c.round.ensures.faults c.round.ensures.err c.round.ensures.seed) (gives_counts (g.N.Net.given c.round.new.self) (g.N.Net.faults c.round.new.self) (g.N.Net.last_seed c.round.new.self) (g.N.Net.given c.nodes_finish.new.net) (g.N.Net.faults c.nodes_finish.new.net) (g.N.Net.last_seed c.nodes_finish.new.net) c.nodes_finish.ensures.counts)) (gives_counts (g.N.Net.given c.nodes_finish.new.net) (g.N.Net.faults c.nodes_finish.new.net) (g.N.Net.last_seed c.nodes_finish.new.net) (g.N.Net.given c.chief_takes.new.net) (g.N.Net.faults c.chief_takes.new.net) (g.N.Net.last_seed c.chief_takes.new.net) c.chief_takes.ensures.counts)

@@ -74,3 +74,7 @@ loop-node-preserved g c =
       counts = counts_then (g.N.Net.given start.net.now) (g.N.Net.faults start.net.now) (g.N.Net.last_seed start.net.now) (g.N.Net.given now.net) (g.N.Net.faults now.net) (g.N.Net.last_seed now.net)
           (g.N.Net.given after.net) (g.N.Net.faults after.net) (g.N.Net.last_seed after.net) before.counts c.stop_here.ensures.counts;
     }
+
+pub returns-in_err-stop_here-clause-fresh : goal.returns-in_err-stop_here-clause-fresh
+returns-in_err-stop_here-clause-fresh g c =
+    fresh_then (g.N.Net.sent c.args.net.now) (g.N.Net.fresh c.args.net.now) (g.N.Net.sent c.loop-node.net) (g.N.Net.fresh c.loop-node.net) (g.N.Net.sent c.stop_here.new.net) (g.N.Net.fresh c.stop_here.new.net) (c.loop-node.invariant.fresh) (c.stop_here.ensures.fresh)

@@ -1,7 +1,7 @@
 use Rattle.std.proofs.Common.{◌≡◌, ◌<◌, ◌≤◌, ℕ, Bool, List, true}
 use Rattle.std.specs.List.{slice_get}
 use Rattle.coco_chief.specs.Chief.{Chief}
-use Rattle.coco_letters.specs.Telling.{Adds, IsOfFinish}
+use Rattle.coco_letters.specs.Telling.{Adds, IsOfSettling}
 use Rattle.coco_letters.specs.Turns.{AreFresh, Counts}
 use Rattle.coco_letters.specs.Worlds.{GoesBetween, SameEntries}
 use Rattle.coco_vote.specs.Asking.{IsLater}
@@ -16,7 +16,7 @@ invariant-loop-node g l = record {
   stops : StopSome l.epoch l.node (g.P.Power.stopped l.initial.power) (g.P.Power.stopped l.power) l.initial.cores l.initial.voters (g.N.Net.sent l.initial.net) l.cores l.voters (g.N.Net.sent l.net);
   waits : (n : ℕ) → l.node ≤ n → (slice_get l.cores n ≡ slice_get l.initial.cores n) × (slice_get l.voters n ≡ slice_get l.initial.voters n);
   counted : (n : ℕ) → l.node ≤ n → n < 8 → g.P.Power.stopped l.power n ≡ g.P.Power.stopped l.initial.power n;
-  said : Adds (IsOfFinish l.epoch) (g.N.Net.sent l.initial.net) (g.N.Net.sent l.net);
+  said : Adds (IsOfSettling l.epoch) (g.N.Net.sent l.initial.net) (g.N.Net.sent l.net);
   newest : AllHaveNewest l.epoch l.cores;
   can : AllCanFinish l.epoch l.initial.cores → AllCanFinish l.epoch l.cores;
   in_step : (chief : Chief) (marks : List Bool) → AreInStep l.epoch l.initial.cores chief (g.N.Net.sent l.initial.net) marks → AreInStep l.epoch l.cores chief (g.N.Net.sent l.net) marks;

@@ -107,3 +107,8 @@ returns-clause-sent g c =
 
 pub returns-clause-said : goal.returns-clause-said
 returns-clause-said g c = subst (λ (ps : List Posted). Adds (IsOfFinish c.args.epoch) (g.N.Net.sent c.args.net.now) ps) (sym c.next.ensures.sent) c.loop-letter.invariant.said
+
+pub returns-in_err-take_committed-clause-fresh : goal.returns-in_err-take_committed-clause-fresh
+returns-in_err-take_committed-clause-fresh g c =
+    fresh_then (g.N.Net.sent c.args.net.now) (g.N.Net.fresh c.args.net.now) (g.N.Net.sent c.loop-letter.net) (g.N.Net.fresh c.loop-letter.net) (g.N.Net.sent c.take_committed.new.net) (g.N.Net.fresh c.take_committed.new.net) (c.loop-letter.invariant.fresh) (subst (λ (ps : List Posted). AreFresh (g.N.Net.sent c.loop-letter.net) ps (g.N.Net.sent c.take_committed.new.net) (g.N.Net.fresh c.take_committed.new.net)) c.next.ensures.fresh
+    (subst (λ (ps : List Posted). AreFresh ps (g.N.Net.fresh c.next.new.self) (g.N.Net.sent c.take_committed.new.net) (g.N.Net.fresh c.take_committed.new.net)) c.next.ensures.sent c.take_committed.ensures.fresh))

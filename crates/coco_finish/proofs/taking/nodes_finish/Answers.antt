@@ -78,3 +78,7 @@ returns-clause-taken g c = λ n less. c.loop-node.invariant.taken n (let below :
 
 pub returns-clause-others : goal.returns-clause-others
 returns-clause-others g c = λ p le. c.loop-node.invariant.waits p (let above : c.loop-node.node ≤ p = omega (arith, le, c.loop-node-test.false, c.requires.few, c.loop-node.auto.cores) in above)
+
+pub returns-in_err-finish_at-clause-fresh : goal.returns-in_err-finish_at-clause-fresh
+returns-in_err-finish_at-clause-fresh g c =
+    fresh_then (g.N.Net.sent c.args.net.now) (g.N.Net.fresh c.args.net.now) (g.N.Net.sent c.loop-node.net) (g.N.Net.fresh c.loop-node.net) (g.N.Net.sent c.finish_at.new.net) (g.N.Net.fresh c.finish_at.new.net) (c.loop-node.invariant.fresh) (c.finish_at.ensures.fresh)

@@ -15,6 +15,8 @@ use Rattle.coco_letters.proofs.TellingLemmas.{adds_finish, adds_then}
 use Rattle.coco_settle.proofs.MemberLemmas.{rest_finish}
 use Rattle.coco_settle.proofs.RestLemmas.{shards_finish}
 use Rattle.coco_settle.proofs.SilentLemmas.{silent_awaits, silent_since}
+use Rattle.coco_letters.proofs.SendingLemmas.{sends_fresh, sends_then}
+use Rattle.coco_vote.proofs.GivingLemmas.{gives_counts, gives_then}
 use Rattle.coco_settle.proofs.reminding.remind_all.Goals as goal
 
 pub finish-requires-clause-told : goal.finish-requires-clause-told
@@ -83,3 +85,30 @@ returns-clause-world g c =
     subst (λ (cores : List Node). GoesOn first (scene cores new (sent c.finish.new.net))) (sym (with_items_is c.args.members.now.cores c.finish.new.cores (c.finish.auto.cores ∙ c.as_mut_slice.ensures.len)))
     (goes_on_then first between last (c.in_ok-chief_reminds.ensures.world c.args.members.now.cores.items)
     (subst (λ (cores : List Node). GoesOn (scene cores chief (sent c.chief_reminds.new.net)) last) c.as_mut_slice.ensures.value c.in_ok-finished.ensures.world))
+
+pub returns-in_err-chief_reminds-clause-sent : goal.returns-in_err-chief_reminds-clause-sent
+returns-in_err-chief_reminds-clause-sent g c =
+    sends_fresh (g.N.Net.sent c.args.net.now) (g.N.Net.fresh c.args.net.now) (g.N.Net.sent c.chief_reminds.new.net) (g.N.Net.fresh c.chief_reminds.new.net) c.chief_reminds.ensures.fresh
+
+pub returns-in_err-chief_reminds-clause-net : goal.returns-in_err-chief_reminds-clause-net
+returns-in_err-chief_reminds-clause-net g c =
+    gives_counts (g.N.Net.given c.args.net.now) (g.N.Net.faults c.args.net.now) (g.N.Net.last_seed c.args.net.now) (g.N.Net.given c.chief_reminds.new.net) (g.N.Net.faults c.chief_reminds.new.net) (g.N.Net.last_seed c.chief_reminds.new.net) c.chief_reminds.ensures.counts
+
+pub returns-in_err-finished-clause-sent : goal.returns-in_err-finished-clause-sent
+returns-in_err-finished-clause-sent g c =
+    sends_then (g.N.Net.sent c.args.net.now) (g.N.Net.sent c.chief_reminds.new.net) (g.N.Net.sent c.finish.new.net) (sends_fresh (g.N.Net.sent c.args.net.now) (g.N.Net.fresh c.args.net.now) (g.N.Net.sent c.chief_reminds.new.net) (g.N.Net.fresh c.chief_reminds.new.net) c.chief_reminds.ensures.fresh) (c.finish.ensures.sends)
+
+pub returns-in_err-finished-clause-net : goal.returns-in_err-finished-clause-net
+returns-in_err-finished-clause-net g c =
+    gives_then (g.N.Net.given c.args.net.now) (g.N.Net.faults c.args.net.now) (g.N.Net.last_seed c.args.net.now) (g.N.Net.given c.chief_reminds.new.net) (g.N.Net.faults c.chief_reminds.new.net) (g.N.Net.last_seed c.chief_reminds.new.net) (g.N.Net.given c.finish.new.net) (g.N.Net.faults c.finish.new.net) (g.N.Net.last_seed c.finish.new.net) (gives_counts (g.N.Net.given c.args.net.now) (g.N.Net.faults c.args.net.now) (g.N.Net.last_seed c.args.net.now) (g.N.Net.given c.chief_reminds.new.net) (g.N.Net.faults c.chief_reminds.new.net) (g.N.Net.last_seed c.chief_reminds.new.net) c.chief_reminds.ensures.counts) (c.finish.ensures.net)
+
+pub returns-clause-sent : goal.returns-clause-sent
+returns-clause-sent g c =
+    sends_then (g.N.Net.sent c.args.net.now) (g.N.Net.sent c.chief_reminds.new.net) (g.N.Net.sent c.finish.new.net) (sends_fresh (g.N.Net.sent c.args.net.now) (g.N.Net.fresh c.args.net.now) (g.N.Net.sent c.chief_reminds.new.net) (g.N.Net.fresh c.chief_reminds.new.net) c.chief_reminds.ensures.fresh) (c.finish.ensures.sends)
+
+pub returns-clause-net : goal.returns-clause-net
+returns-clause-net g c =
+    gives_then (g.N.Net.given c.args.net.now) (g.N.Net.faults c.args.net.now) (g.N.Net.last_seed c.args.net.now) (g.N.Net.given c.chief_reminds.new.net) (g.N.Net.faults c.chief_reminds.new.net) (g.N.Net.last_seed c.chief_reminds.new.net) (g.N.Net.given c.finish.new.net) (g.N.Net.faults c.finish.new.net) (g.N.Net.last_seed c.finish.new.net) (gives_counts (g.N.Net.given c.args.net.now) (g.N.Net.faults c.args.net.now) (g.N.Net.last_seed c.args.net.now) (g.N.Net.given c.chief_reminds.new.net) (g.N.Net.faults c.chief_reminds.new.net) (g.N.Net.last_seed c.chief_reminds.new.net) c.chief_reminds.ensures.counts) (c.finish.ensures.net)
+
+pub returns-clause-committed : goal.returns-clause-committed
+returns-clause-committed g c = c.in_ok-finished.ensures.hears.committed

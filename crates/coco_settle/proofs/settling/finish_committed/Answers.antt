@@ -18,10 +18,12 @@ use Rattle.coco_net.specs.declared.letter.Posted.{Posted}
 use Rattle.coco_node.specs.Node.{Node}
 use Rattle.coco_vote.proofs.StepLemmas.{same_then}
 use Rattle.coco_settle.specs.Settling.{MarkStop}
-use Rattle.coco_letters.proofs.TellingLemmas.{adds_same, adds_then}
+use Rattle.coco_letters.proofs.TellingLemmas.{adds_same, adds_then, adds_settling}
 use Rattle.coco_settle.proofs.MemberLemmas.{rest_finish, rest_stopped}
 use Rattle.coco_settle.proofs.NodeLemmas.{can_voted, marks_stopped, yet_voted}
 use Rattle.coco_settle.proofs.RestLemmas.{marked_stand, shards_finish, voted_in_step}
+use Rattle.coco_letters.proofs.SendingLemmas.{sends_fresh, sends_then}
+use Rattle.coco_vote.proofs.GivingLemmas.{gives_counts, gives_then}
 use Rattle.coco_settle.proofs.settling.finish_committed.Goals as goal
 
 pub finish-requires-clause-told : goal.finish-requires-clause-told
@@ -114,4 +116,33 @@ returns-clause-world g c =
     (subst (λ (cores : List Node). GoesOn (scene cores chief (sent c.stop_last.new.net)) last) (c.as_mut_slice-4.ensures.value ∙ back) c.in_ok-_all.ensures.world)))
 
 pub returns-clause-says : goal.returns-clause-says
-returns-clause-says g c = adds_then (g.N.Net.sent c.args.net.now) (g.N.Net.sent c.stop_last.new.net) (g.N.Net.sent c.finish.new.net) c.in_ok-stop_last.ensures.said c.in_ok-_all.ensures.said
+returns-clause-says g c =
+    adds_then (g.N.Net.sent c.args.net.now) (g.N.Net.sent c.stop_last.new.net) (g.N.Net.sent c.finish.new.net) c.in_ok-stop_last.ensures.said
+    (adds_settling c.args.epoch (g.N.Net.sent c.stop_last.new.net) (g.N.Net.sent c.finish.new.net) c.in_ok-_all.ensures.said)
+
+pub returns-in_err-stop_last-clause-sent : goal.returns-in_err-stop_last-clause-sent
+returns-in_err-stop_last-clause-sent g c =
+    sends_fresh (g.N.Net.sent c.args.net.now) (g.N.Net.fresh c.args.net.now) (g.N.Net.sent c.stop_last.new.net) (g.N.Net.fresh c.stop_last.new.net) c.stop_last.ensures.fresh
+
+pub returns-in_err-stop_last-clause-net : goal.returns-in_err-stop_last-clause-net
+returns-in_err-stop_last-clause-net g c =
+    gives_counts (g.N.Net.given c.args.net.now) (g.N.Net.faults c.args.net.now) (g.N.Net.last_seed c.args.net.now) (g.N.Net.given c.stop_last.new.net) (g.N.Net.faults c.stop_last.new.net) (g.N.Net.last_seed c.stop_last.new.net) c.stop_last.ensures.counts
+
+pub returns-in_err-_all-clause-sent : goal.returns-in_err-_all-clause-sent
+returns-in_err-_all-clause-sent g c =
+    sends_then (g.N.Net.sent c.args.net.now) (g.N.Net.sent c.stop_last.new.net) (g.N.Net.sent c.finish.new.net) (sends_fresh (g.N.Net.sent c.args.net.now) (g.N.Net.fresh c.args.net.now) (g.N.Net.sent c.stop_last.new.net) (g.N.Net.fresh c.stop_last.new.net) c.stop_last.ensures.fresh) (c.finish.ensures.sends)
+
+pub returns-in_err-_all-clause-net : goal.returns-in_err-_all-clause-net
+returns-in_err-_all-clause-net g c =
+    gives_then (g.N.Net.given c.args.net.now) (g.N.Net.faults c.args.net.now) (g.N.Net.last_seed c.args.net.now) (g.N.Net.given c.stop_last.new.net) (g.N.Net.faults c.stop_last.new.net) (g.N.Net.last_seed c.stop_last.new.net) (g.N.Net.given c.finish.new.net) (g.N.Net.faults c.finish.new.net) (g.N.Net.last_seed c.finish.new.net) (gives_counts (g.N.Net.given c.args.net.now) (g.N.Net.faults c.args.net.now) (g.N.Net.last_seed c.args.net.now) (g.N.Net.given c.stop_last.new.net) (g.N.Net.faults c.stop_last.new.net) (g.N.Net.last_seed c.stop_last.new.net) c.stop_last.ensures.counts) (c.finish.ensures.net)
+
+pub returns-clause-sent : goal.returns-clause-sent
+returns-clause-sent g c =
+    sends_then (g.N.Net.sent c.args.net.now) (g.N.Net.sent c.stop_last.new.net) (g.N.Net.sent c.finish.new.net) (sends_fresh (g.N.Net.sent c.args.net.now) (g.N.Net.fresh c.args.net.now) (g.N.Net.sent c.stop_last.new.net) (g.N.Net.fresh c.stop_last.new.net) c.stop_last.ensures.fresh) (c.finish.ensures.sends)
+
+pub returns-clause-net : goal.returns-clause-net
+returns-clause-net g c =
+    gives_then (g.N.Net.given c.args.net.now) (g.N.Net.faults c.args.net.now) (g.N.Net.last_seed c.args.net.now) (g.N.Net.given c.stop_last.new.net) (g.N.Net.faults c.stop_last.new.net) (g.N.Net.last_seed c.stop_last.new.net) (g.N.Net.given c.finish.new.net) (g.N.Net.faults c.finish.new.net) (g.N.Net.last_seed c.finish.new.net) (gives_counts (g.N.Net.given c.args.net.now) (g.N.Net.faults c.args.net.now) (g.N.Net.last_seed c.args.net.now) (g.N.Net.given c.stop_last.new.net) (g.N.Net.faults c.stop_last.new.net) (g.N.Net.last_seed c.stop_last.new.net) c.stop_last.ensures.counts) (c.finish.ensures.net)
+
+pub returns-clause-layout : goal.returns-clause-layout
+returns-clause-layout g c = c.in_ok-_all.ensures.finish.layout

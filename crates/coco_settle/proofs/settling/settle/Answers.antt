@@ -1,4 +1,7 @@
-use Rattle.std.proofs.Common.{◌≡◌, ◌<◌, ◌≤◌, ◌^◌, ◌+◌, Bool, false, ℕ, List, length, sym, ap, subst, ◌∙◌, arith}
+use Rattle.std.proofs.Common.{◌≡◌, ◌<◌, ◌≤◌, ◌^◌, ◌+◌, Bool, false, ℕ, List, Result, length, sym, ap, subst, ◌∙◌, arith}
+use Rattle.std.proofs.lemmas.Result.{err_from_is_err_and}
+use Rattle.std.specs.Prelude.{OnOk}
+use Rattle.coco_append.specs.Gaining.{HasStore, RestsAs}
 use Rattle.coco_chief.specs.Chief.{Chief}
 use Rattle.coco_chief.specs.Shown.{chief_of}
 use Rattle.coco_chief.specs.Table.{has_finished}
@@ -6,13 +9,17 @@ use Rattle.coco_letters.specs.Telling.{Adds, IsOfChief}
 use Rattle.coco_letters.specs.Worlds.{Commits, SameEntries, Scene}
 use Rattle.coco_letters.proofs.WorldLemmas.{between_on, between_then}
 use Rattle.coco_log.specs.LogState.{LogState}
+use Rattle.coco_log.specs.declared.fault.LogFault.{LogFault}
 use Rattle.coco_members.specs.AtRest.{scene_of}
 use Rattle.coco_members.specs.declared.members.Members.{Members}
 use Rattle.coco_net.specs.declared.letter.Posted.{Posted}
-use Rattle.coco_letters.proofs.TellingLemmas.{adds_finish, adds_then, finished_by_chief, forced_says, votes_by_chief}
+use Rattle.coco_letters.proofs.TellingLemmas.{adds_finish, adds_then, finished_by_chief, forced_says, votes_by_chief, adds_settling}
 use Rattle.coco_members.proofs.LetterLemmas.{ships_below_chief}
+use Rattle.coco_store.specs.Laws.{with_commit}
 use Rattle.coco_settle.proofs.MemberLemmas.{commits_then}
 use Rattle.coco_settle.proofs.NodeLemmas.{ready_stopped}
+use Rattle.coco_letters.proofs.SendingLemmas.{sends_fresh, sends_then}
+use Rattle.coco_vote.proofs.GivingLemmas.{gives_counts, gives_then}
 use Rattle.coco_settle.proofs.settling.settle.Goals as goal
 
 pub finish_committed-requires-clause-members : goal.finish_committed-requires-clause-members
@@ -104,5 +111,41 @@ returns-clause-says g c =
     let chief : Chief = chief_of c.args.members.now.chief in
     let few : chief.nodes ≤ 8 = omega (arith, c.requires.voted.1.are.chief, c.requires.voted.1.are.few) in
     adds_then (sent c.args.net.now) (sent c.commit.new.net) (sent c.finish_committed.new.net)
-    (adds_finish c.args.epoch (sent c.args.net.now) (sent c.commit.new.net) (forced_says chief (chief_of c.commit.new.chief) (sent c.args.net.now) (sent c.commit.new.net) few c.args.epoch fits c.in_ok-commit.ensures.turns))
+    (adds_settling c.args.epoch (sent c.args.net.now) (sent c.commit.new.net) (adds_finish c.args.epoch (sent c.args.net.now) (sent c.commit.new.net)
+    (forced_says chief (chief_of c.commit.new.chief) (sent c.args.net.now) (sent c.commit.new.net) few c.args.epoch fits c.in_ok-commit.ensures.turns)))
     c.in_ok-finish_committed.ensures.says
+
+pub returns-in_err-commit-clause-sent : goal.returns-in_err-commit-clause-sent
+returns-in_err-commit-clause-sent g c =
+    sends_fresh (g.N.Net.sent c.args.net.now) (g.N.Net.fresh c.args.net.now) (g.N.Net.sent c.commit.new.net) (g.N.Net.fresh c.commit.new.net) c.commit.ensures.fresh
+
+pub returns-in_err-commit-clause-net : goal.returns-in_err-commit-clause-net
+returns-in_err-commit-clause-net g c =
+    gives_counts (g.N.Net.given c.args.net.now) (g.N.Net.faults c.args.net.now) (g.N.Net.last_seed c.args.net.now) (g.N.Net.given c.commit.new.net) (g.N.Net.faults c.commit.new.net) (g.N.Net.last_seed c.commit.new.net) c.commit.ensures.counts
+
+-- what the commit left is there, though a later step failed
+pub returns-in_err-finish_committed-clause-files : goal.returns-in_err-finish_committed-clause-files
+returns-in_err-finish_committed-clause-files g c before rests of may =
+    let gains = c.commit.ensures.files before rests of may in
+    let p = err_from_is_err_and c.from_residual-in_err-finish_committed.result c.from_residual-in_err-finish_committed.ensures.1 in
+    record {
+      ok = subst (λ (r : Result (Unit {0}) LogFault). OnOk r (RestsAs (HasStore (with_commit (record { epoch = c.args.epoch; dones = c.args.dones.now }) before)) (g.H.Host.reads c.commit.new.host) (g.H.Host.may_leave c.commit.new.host))) (sym p.1) tt;
+      moments = gains.moments;
+      left = gains.left;
+    }
+
+pub returns-in_err-finish_committed-clause-sent : goal.returns-in_err-finish_committed-clause-sent
+returns-in_err-finish_committed-clause-sent g c =
+    sends_then (g.N.Net.sent c.args.net.now) (g.N.Net.sent c.commit.new.net) (g.N.Net.sent c.finish_committed.new.net) (sends_fresh (g.N.Net.sent c.args.net.now) (g.N.Net.fresh c.args.net.now) (g.N.Net.sent c.commit.new.net) (g.N.Net.fresh c.commit.new.net) c.commit.ensures.fresh) (c.finish_committed.ensures.sent)
+
+pub returns-in_err-finish_committed-clause-net : goal.returns-in_err-finish_committed-clause-net
+returns-in_err-finish_committed-clause-net g c =
+    gives_then (g.N.Net.given c.args.net.now) (g.N.Net.faults c.args.net.now) (g.N.Net.last_seed c.args.net.now) (g.N.Net.given c.commit.new.net) (g.N.Net.faults c.commit.new.net) (g.N.Net.last_seed c.commit.new.net) (g.N.Net.given c.finish_committed.new.net) (g.N.Net.faults c.finish_committed.new.net) (g.N.Net.last_seed c.finish_committed.new.net) (gives_counts (g.N.Net.given c.args.net.now) (g.N.Net.faults c.args.net.now) (g.N.Net.last_seed c.args.net.now) (g.N.Net.given c.commit.new.net) (g.N.Net.faults c.commit.new.net) (g.N.Net.last_seed c.commit.new.net) c.commit.ensures.counts) (c.finish_committed.ensures.net)
+
+pub returns-clause-sent : goal.returns-clause-sent
+returns-clause-sent g c =
+    sends_then (g.N.Net.sent c.args.net.now) (g.N.Net.sent c.commit.new.net) (g.N.Net.sent c.finish_committed.new.net) (sends_fresh (g.N.Net.sent c.args.net.now) (g.N.Net.fresh c.args.net.now) (g.N.Net.sent c.commit.new.net) (g.N.Net.fresh c.commit.new.net) c.commit.ensures.fresh) (c.finish_committed.ensures.sent)
+
+pub returns-clause-net : goal.returns-clause-net
+returns-clause-net g c =
+    gives_then (g.N.Net.given c.args.net.now) (g.N.Net.faults c.args.net.now) (g.N.Net.last_seed c.args.net.now) (g.N.Net.given c.commit.new.net) (g.N.Net.faults c.commit.new.net) (g.N.Net.last_seed c.commit.new.net) (g.N.Net.given c.finish_committed.new.net) (g.N.Net.faults c.finish_committed.new.net) (g.N.Net.last_seed c.finish_committed.new.net) (gives_counts (g.N.Net.given c.args.net.now) (g.N.Net.faults c.args.net.now) (g.N.Net.last_seed c.args.net.now) (g.N.Net.given c.commit.new.net) (g.N.Net.faults c.commit.new.net) (g.N.Net.last_seed c.commit.new.net) c.commit.ensures.counts) (c.finish_committed.ensures.net)

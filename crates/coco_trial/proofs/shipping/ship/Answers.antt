@@ -66,3 +66,10 @@ returns-clause-places g c = record { layout = refl; behind = refl }
 
 pub returns-clause-alone : goal.returns-clause-alone
 returns-clause-alone g c none = let all = c.ship.ensures.alone none in (all.0, all.1)
+
+pub returns-clause-copies : goal.returns-clause-copies
+returns-clause-copies g c =
+    let t = c.args.tables.now in
+    let new : List CopyState = c.ship.new.copies in
+    let same : take t.copies.len (new ++ drop (length new) t.copies.items) ≡ new = back new t.copies.items t.copies.len (sym c.as_mut_slice.ensures.len ∙ ap length c.as_mut_slice.ensures.value) (c.ship.ensures.tables.count ∙ sym c.requires.whole.copy_count) in
+    ap length same ∙ c.ship.ensures.tables.count ∙ sym c.requires.whole.copy_count

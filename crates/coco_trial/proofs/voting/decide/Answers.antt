@@ -7,7 +7,7 @@ use Rattle.coco_letters.specs.GivingUp.{since}
 use Rattle.coco_letters.specs.declared.voter.Voter.{Voter}
 use Rattle.coco_vote.specs.Outcomes.{Comes}
 use Rattle.coco_vote.specs.Preparing.{have_durable, Ballot, RestsVoted}
-use Rattle.coco_vote.specs.Taking.{AreMarked, AreReady, KeepPlaces}
+use Rattle.coco_vote.specs.Taking.{AreMarked, AreReady, KeepPlaces, SameElsewhere}
 use Rattle.coco_vote.specs.declared.phase.Votes.{Votes}
 use Rattle.coco_vote.specs.declared.phase.Votes.TheVariants.{All}
 use Rattle.coco_vote.proofs.GivingLemmas.{gives_then}
@@ -16,6 +16,8 @@ use Rattle.coco_vote.proofs.VoterLemmas.{apart_still, elsewhere_still, held_stil
 use Rattle.coco_trial.specs.Voting.{unmarked}
 use Rattle.coco_letters.proofs.TellingLemmas.{adds_then, adds_vote}
 use Rattle.coco_trial.proofs.VoteLemmas.{all_vote, can_given_up, can_voted, cause_is, durable_given_up, given_is, new_given_up, open_still, rests_told, unmarked_marked, unmarked_places, unmarked_ready, voted_then}
+use Rattle.coco_vote.proofs.FileLemmas.{become_wider, elsewhere_first, follow_wider}
+use Rattle.coco_letters.proofs.SendingLemmas.{sends_then}
 use Rattle.coco_trial.proofs.voting.decide.Goals as goal
 
 pub prepare-requires-clause-voters : goal.prepare-requires-clause-voters
@@ -175,3 +177,51 @@ returns-clause-world g c =
 
 pub returns-clause-net : goal.returns-clause-net
 returns-clause-net g c = gives_then (g.N.Net.given c.args.net.now) (g.N.Net.faults c.args.net.now) (g.N.Net.last_seed c.args.net.now) (g.N.Net.given c.prepare.new.net) (g.N.Net.faults c.prepare.new.net) (g.N.Net.last_seed c.prepare.new.net) (g.N.Net.given c.give_up.new.net) (g.N.Net.faults c.give_up.new.net) (g.N.Net.last_seed c.give_up.new.net) c.prepare.ensures.net c.give_up.ensures.net
+
+pub returns-in_err-votes-clause-read : goal.returns-in_err-votes-clause-read
+returns-in_err-votes-clause-read g c =
+    become_wider (SameElsewhere c.unmark.new.voters) (SameElsewhere c.args.voters.now) (elsewhere_first c.args.voters.now c.unmark.new.voters (subst (KeepPlaces c.args.voters.now) (sym c.unmark.ensures) (unmarked_places c.args.voters.now)))
+    (g.H.Host.reads c.args.host.now) (g.H.Host.reads c.prepare.new.host) c.prepare.ensures.read
+
+pub returns-in_err-votes-clause-crash : goal.returns-in_err-votes-clause-crash
+returns-in_err-votes-clause-crash g c =
+    follow_wider (SameElsewhere c.unmark.new.voters) (SameElsewhere c.args.voters.now) (elsewhere_first c.args.voters.now c.unmark.new.voters (subst (KeepPlaces c.args.voters.now) (sym c.unmark.ensures) (unmarked_places c.args.voters.now)))
+    (g.H.Host.may_leave c.args.host.now) (g.H.Host.may_leave c.prepare.new.host) c.prepare.ensures.crash
+
+pub returns-then-is_all-clause-read : goal.returns-then-is_all-clause-read
+returns-then-is_all-clause-read g c =
+    become_wider (SameElsewhere c.unmark.new.voters) (SameElsewhere c.args.voters.now) (elsewhere_first c.args.voters.now c.unmark.new.voters (subst (KeepPlaces c.args.voters.now) (sym c.unmark.ensures) (unmarked_places c.args.voters.now)))
+    (g.H.Host.reads c.args.host.now) (g.H.Host.reads c.prepare.new.host) c.prepare.ensures.read
+
+pub returns-then-is_all-clause-crash : goal.returns-then-is_all-clause-crash
+returns-then-is_all-clause-crash g c =
+    follow_wider (SameElsewhere c.unmark.new.voters) (SameElsewhere c.args.voters.now) (elsewhere_first c.args.voters.now c.unmark.new.voters (subst (KeepPlaces c.args.voters.now) (sym c.unmark.ensures) (unmarked_places c.args.voters.now)))
+    (g.H.Host.may_leave c.args.host.now) (g.H.Host.may_leave c.prepare.new.host) c.prepare.ensures.crash
+
+pub returns-in_err-give_up-clause-read : goal.returns-in_err-give_up-clause-read
+returns-in_err-give_up-clause-read g c =
+    become_wider (SameElsewhere c.unmark.new.voters) (SameElsewhere c.args.voters.now) (elsewhere_first c.args.voters.now c.unmark.new.voters (subst (KeepPlaces c.args.voters.now) (sym c.unmark.ensures) (unmarked_places c.args.voters.now)))
+    (g.H.Host.reads c.args.host.now) (g.H.Host.reads c.prepare.new.host) c.prepare.ensures.read
+
+pub returns-in_err-give_up-clause-crash : goal.returns-in_err-give_up-clause-crash
+returns-in_err-give_up-clause-crash g c =
+    follow_wider (SameElsewhere c.unmark.new.voters) (SameElsewhere c.args.voters.now) (elsewhere_first c.args.voters.now c.unmark.new.voters (subst (KeepPlaces c.args.voters.now) (sym c.unmark.ensures) (unmarked_places c.args.voters.now)))
+    (g.H.Host.may_leave c.args.host.now) (g.H.Host.may_leave c.prepare.new.host) c.prepare.ensures.crash
+
+pub returns-clause-read : goal.returns-clause-read
+returns-clause-read g c =
+    become_wider (SameElsewhere c.unmark.new.voters) (SameElsewhere c.args.voters.now) (elsewhere_first c.args.voters.now c.unmark.new.voters (subst (KeepPlaces c.args.voters.now) (sym c.unmark.ensures) (unmarked_places c.args.voters.now)))
+    (g.H.Host.reads c.args.host.now) (g.H.Host.reads c.prepare.new.host) c.prepare.ensures.read
+
+pub returns-clause-crash : goal.returns-clause-crash
+returns-clause-crash g c =
+    follow_wider (SameElsewhere c.unmark.new.voters) (SameElsewhere c.args.voters.now) (elsewhere_first c.args.voters.now c.unmark.new.voters (subst (KeepPlaces c.args.voters.now) (sym c.unmark.ensures) (unmarked_places c.args.voters.now)))
+    (g.H.Host.may_leave c.args.host.now) (g.H.Host.may_leave c.prepare.new.host) c.prepare.ensures.crash
+
+pub returns-in_err-give_up-clause-sent : goal.returns-in_err-give_up-clause-sent
+returns-in_err-give_up-clause-sent g c =
+    sends_then (g.N.Net.sent c.args.net.now) (g.N.Net.sent c.prepare.new.net) (g.N.Net.sent c.give_up.new.net) (c.prepare.ensures.sent) (c.give_up.ensures.sent)
+
+pub returns-clause-sent : goal.returns-clause-sent
+returns-clause-sent g c =
+    sends_then (g.N.Net.sent c.args.net.now) (g.N.Net.sent c.prepare.new.net) (g.N.Net.sent c.give_up.new.net) (c.prepare.ensures.sent) (c.give_up.ensures.sent)

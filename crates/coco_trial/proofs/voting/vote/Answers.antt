@@ -6,13 +6,14 @@ use Rattle.coco_letters.specs.Around.{Around, around}
 use Rattle.coco_letters.specs.declared.voter.Voter.{Voter}
 use Rattle.coco_node.specs.Node.{Node}
 use Rattle.coco_vote.specs.Beginning.{AreNew, GoesOnVoted}
-use Rattle.coco_vote.specs.Taking.{AreApart, AreHeld, AreReady, HaveLogs, IsElsewhere, KeepPlaces}
+use Rattle.coco_vote.specs.Taking.{AreApart, AreHeld, AreReady, HaveLogs, IsElsewhere, KeepPlaces, SameElsewhere}
 use Rattle.coco_finish.specs.Finishing.{AllCanFinish}
 use Rattle.coco_vote.specs.Preparing.{have_durable, Ballot, RestsVoted}
 use Rattle.coco_vote.proofs.PreparingLemmas.{none_ok}
 use Rattle.std.proofs.lemmas.Result.{err_from_is_err_and}
 use Rattle.coco_trial.specs.Voting.{ComesOf}
 use Rattle.coco_trial.proofs.VoteLemmas.{decided_by}
+use Rattle.coco_host.specs.Files.{Become, Follows}
 use Rattle.coco_trial.proofs.voting.vote.Goals as goal
 
 pub decide-requires-clause-few : goal.decide-requires-clause-few
@@ -169,3 +170,19 @@ returns-clause-decided g c =
     decided_by c.in_ok-all.all c.args.epoch (g.N.Net.sent c.args.net.now) (g.N.Net.sent c.decide.new.net) k a b (let fits : c.args.epoch < 2 ^ 64 = omega (arith, c.ranges.epoch.fits) in fits) c.requires.may
     (returns-clause-keeps g c) c.decide.ensures.nodes (ap length voters_are ∙ (let many : length c.decide.new.voters ≡ length c.as_mut_slice-2.result.now = omega (arith, c.decide.auto.voters) in many) ∙ ap length c.as_mut_slice-2.ensures.value) c.in_ok-all.ensures.last can c.in_ok-all.ensures.says
     (subst (λ (x : List Node). ComesOf c.in_ok-all.all c.args.epoch x (chief_of c.decide.new.chief) a b) (sym cores_are) c.in_ok-all.ensures.comes)
+
+pub returns-in_err-all-clause-read : goal.returns-in_err-all-clause-read
+returns-in_err-all-clause-read g c =
+    subst (λ (vs : List Voter). Become (SameElsewhere vs) (g.H.Host.reads c.args.host.now) (g.H.Host.reads c.decide.new.host)) c.as_mut_slice-2.ensures.value c.decide.ensures.read
+
+pub returns-in_err-all-clause-crash : goal.returns-in_err-all-clause-crash
+returns-in_err-all-clause-crash g c =
+    subst (λ (vs : List Voter). Follows (SameElsewhere vs) (g.H.Host.may_leave c.args.host.now) (g.H.Host.may_leave c.decide.new.host)) c.as_mut_slice-2.ensures.value c.decide.ensures.crash
+
+pub returns-clause-read : goal.returns-clause-read
+returns-clause-read g c =
+    subst (λ (vs : List Voter). Become (SameElsewhere vs) (g.H.Host.reads c.args.host.now) (g.H.Host.reads c.decide.new.host)) c.as_mut_slice-2.ensures.value c.decide.ensures.read
+
+pub returns-clause-crash : goal.returns-clause-crash
+returns-clause-crash g c =
+    subst (λ (vs : List Voter). Follows (SameElsewhere vs) (g.H.Host.may_leave c.args.host.now) (g.H.Host.may_leave c.decide.new.host)) c.as_mut_slice-2.ensures.value c.decide.ensures.crash
