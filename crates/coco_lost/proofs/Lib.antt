@@ -1,4 +1,10 @@
 pub mod Places
 pub mod Asking
 pub mod StoppingLemmas
+pub mod EpochLemmas
+pub mod ReadingLemmas
 pub mod RequestLemmas
+pub mod UnionLemmas
+pub mod RestLemmas
+pub mod MembersLemmas
+pub mod MapLemmas

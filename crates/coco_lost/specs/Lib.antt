@@ -1,2 +1,4 @@
 pub mod Stopping
+pub mod Reading
 pub mod Requests
+pub mod Laws

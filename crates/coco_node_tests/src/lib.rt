@@ -9,6 +9,8 @@ mod copies;
 #[cfg(test)]
 mod letters;
 #[cfg(test)]
+mod lost;
+#[cfg(test)]
 mod messages;
 #[cfg(test)]
 mod net;
