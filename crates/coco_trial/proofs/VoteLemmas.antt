@@ -31,7 +31,7 @@ use Rattle.coco_vote.specs.Counting.{prepare_of, GivesOn}
 use Rattle.coco_vote.specs.Ending.{GiveUp}
 use Rattle.coco_vote.specs.Outcomes.{Comes}
 use Rattle.coco_vote.specs.Preparing.{durable_at, have_durable, Ballot, HavePrepared, RestsVoted}
-use Rattle.coco_vote.specs.Taking.{vote_of, AreMarked, AreReady, AreTold, KeepPlaces, KeepsCores, KeepsPlace}
+use Rattle.coco_vote.specs.Taking.{vote_of, AreMarked, AreReady, AreTold, KeepPlaces, KeepsCores, KeepsPlace, StayWhole}
 use Rattle.coco_vote.specs.Voting.{GainsNewest}
 use Rattle.coco_vote.specs.declared.phase.Votes.{Votes}
 use Rattle.coco_vote.specs.declared.phase.Votes.TheVariants.{All, Stopped, Silent}
@@ -65,6 +65,11 @@ pub unmarked_places : (vs : List Voter) → KeepPlaces vs (map unmarked vs)
 unmarked_places vs n now there =
     let was = unmarked_at vs n now there in
     (was.0, was.1, subst (λ (v : Voter). KeepsPlace was.0 v) was.2 (record { held = refl; file = refl; kind = refl }))
+
+pub unmarked_whole : (seen : ℕ) (vs : List Voter) → StayWhole seen seen vs (map unmarked vs)
+unmarked_whole seen vs same n now there =
+    let was = unmarked_at vs n now there in
+    (was.0, was.1, ap (λ (v : Voter). v.is_lost) (sym was.2))
 
 pub unmarked_ready : (vs : List Voter) (reads : Option Files) (may_leave : Files → Type 0) → AreReady vs reads may_leave → AreReady (map unmarked vs) reads may_leave
 unmarked_ready vs reads may_leave ready n now there =

@@ -16,7 +16,7 @@ ghost use Rattle.coco_vote.specs.Asking.{IsLater};
 ghost use Rattle.coco_vote.specs.Beginning.{AreNew, GoesOnVoted};
 ghost use Rattle.coco_vote.specs.Counting.{GivesOn};
 ghost use Rattle.coco_vote.specs.Preparing.{have_durable, Ballot, MayForce, Votes as KeepsVotes};
-ghost use Rattle.coco_vote.specs.Taking.{vote_of, AreApart, AreHeld, AreReady, HaveLogs, IsElsewhere, KeepPlaces, SameElsewhere};
+ghost use Rattle.coco_vote.specs.Taking.{vote_of, AreApart, AreHeld, AreReady, HaveLogs, IsElsewhere, KeepPlaces, SameElsewhere, StayWhole};
 ghost use Rattle.coco_vote.specs.declared.phase.Votes.TheVariants.{All};
 ghost use Rattle.coco_host.specs.Files.{Become, Follows};
 ghost use Rattle.coco_letters.specs.Turns.{SendsMore};
@@ -93,6 +93,7 @@ fn decide<H: Host, N: Net, P: Power>(
         → KeepsVotes H.moment H.observed H.said H.reads H.may_leave result c b (have_durable epoch cores.new) host.old host.new }
     ensures ready { OnOk result (AreReady voters.new (H.reads host.new) (H.may_leave host.new)) }
     ensures places { KeepPlaces voters.old voters.new }
+    ensures whole { OnOk result (StayWhole (P.stops_seen power.old) (P.stops_seen power.new) voters.old voters.new) }
     ensures others { (other : LogState) → IsElsewhere other voters.old → Stands other (H.reads host.old) (H.may_leave host.old) → Stands other (H.reads host.new) (H.may_leave host.new) }
     ensures read { Become (SameElsewhere voters.old) (H.reads host.old) (H.reads host.new) }
     ensures crash { Follows (SameElsewhere voters.old) (H.may_leave host.old) (H.may_leave host.new) }
@@ -132,6 +133,7 @@ pub fn vote<H: Host, N: Net, P: Power>(
         (around N.sent N.given N.faults N.last_seed P.stops_seen P.early_stops P.stopped P.begun P.asked net.old power.old)
         (around N.sent N.given N.faults N.last_seed P.stops_seen P.early_stops P.stopped P.begun P.asked net.new power.new)) }
     ensures keeps { KeepsTables members.old members.new }
+    ensures whole { OnOk result (StayWhole (P.stops_seen power.old) (P.stops_seen power.new) members.old.voters.items members.new.voters.items) }
     ensures last { OnOk result ((chief_of members.new.chief).last ≡ (chief_of members.old.chief).last) }
     ensures committed { OnOk result ((chief_of members.new.chief).committed ≡ (chief_of members.old.chief).committed) }
     ensures says { OnOk result (Adds (IsOfVote epoch) (N.sent net.old) (N.sent net.new)) }

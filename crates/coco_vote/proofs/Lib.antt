@@ -13,3 +13,4 @@ pub mod BeginningLemmas
 pub mod EndingLemmas
 pub mod SayingLemmas
 pub mod FileLemmas
+pub mod WholeLemmas

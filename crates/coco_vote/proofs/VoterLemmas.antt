@@ -49,8 +49,8 @@ logs_still c a b keep logs n voter here = log_is_still c a b n voter keep logs h
 
 -- one node's are others
 module _ (voters : List Voter) (n : ℕ) (voter now : Voter) (there : slice_get voters n ≡ Some voter) where
-  split : (k : ℕ) (x : Voter) → slice_get (set voters n now) k ≡ Some x → ((k ≡ n) × (now ≡ x)) ⊎ ((k ≢ n) × (slice_get voters k ≡ Some x))
-  split k x here = by_place (eqb k n) refl
+  pub at_place : (k : ℕ) (x : Voter) → slice_get (set voters n now) k ≡ Some x → ((k ≡ n) × (now ≡ x)) ⊎ ((k ≢ n) × (slice_get voters k ≡ Some x))
+  at_place k x here = by_place (eqb k n) refl
     where
       by_place : (b : Bool) → eqb k n ≡ b → ((k ≡ n) × (now ≡ x)) ⊎ ((k ≢ n) × (slice_get voters k ≡ Some x))
       by_place true at = let same : k ≡ n = eqb-true k n at in
@@ -58,20 +58,20 @@ module _ (voters : List Voter) (n : ℕ) (voter now : Voter) (there : slice_get 
       by_place false at = inr (eqb-false k n at, sym (get_set_other voters n k now (eqb-false k n at)) ∙ here)
 
   pub places_set : KeepsPlace voter now → KeepPlaces voters (set voters n now)
-  places_set keeps k x here = elim (split k x here) [
+  places_set keeps k x here = elim (at_place k x here) [
     | inl at ↦ (voter, ap (slice_get voters) at.0 ∙ there, subst (KeepsPlace voter) at.1 keeps)
     | inr other ↦ (x, other.1, record { held = refl; file = refl; kind = refl })
   ]
 
   pub marked_set : (asked asked_new : ℕ → ℕ → Bool) → length voters ≤ 8 → ((m p : ℕ) → m < 8 → p ≤ 6 → asked m p ≡ true → asked_new m p ≡ true) → AreMarked voters asked → IsMarked n now asked_new → AreMarked (set voters n now) asked_new
-  marked_set asked asked_new few later marked here_is k x here mark = elim (split k x here) [
+  marked_set asked asked_new few later marked here_is k x here mark = elim (at_place k x here) [
     | inl at ↦ (ap (λ (m : ℕ). asked_new m 5) at.0 ∙ here_is (ap (λ (v : Voter). v.asked_after_vote) at.1 ∙ mark))
     | inr other ↦ (let within : k < length voters = slice_get_within voters k x other.1 in later k 5 (omega arith) (omega arith) (marked k x other.1 mark))
   ]
 
   pub ready_set : (reads after : Option Files) (may_leave leaves : Files → Type 0) → AreApart voters → AreReady voters reads may_leave
       → ((log : LogState) → log.file ≢ voter.log.file → Stands log reads may_leave → Stands log after leaves) → now.log.spent ≡ false → Stands now.log after leaves → AreReady (set voters n now) after leaves
-  ready_set reads after may_leave leaves apart ready others unspent stands k x here = elim (split k x here) [
+  ready_set reads after may_leave leaves apart ready others unspent stands k x here = elim (at_place k x here) [
     | inl at ↦ subst (λ (v : Voter). (v.log.spent ≡ false) × Stands v.log after leaves) at.1 (unspent, stands)
     | inr other ↦ (let was = ready k x other.1 in (was.0, others x.log (apart k n x voter other.1 there other.0) was.1))
   ]

@@ -143,3 +143,11 @@ IsElsewhere log voters = (n : ℕ) (voter : Voter) → slice_get voters n ≡ So
 -- all files are as they were but those of the nodes' logs
 abbrev pub SameElsewhere : List Voter → Files → Files → Type 0
 SameElsewhere voters old new = (file : ℕ) → ((n : ℕ) (voter : Voter) → slice_get voters n ≡ Some voter → file ≢ voter.log.file) → new file ≡ old file
+
+-- where no stop was told meanwhile, a node has lost its tables only if it had before
+abbrev pub StaysWhole : ℕ → ℕ → Voter → Voter → Type 0
+StaysWhole seen seen_new voter voter_new = seen_new ≡ seen → voter_new.is_lost ≡ voter.is_lost
+
+-- so it is with each
+abbrev pub StayWhole : ℕ → ℕ → List Voter → List Voter → Type 0
+StayWhole seen seen_new voters voters_new = seen_new ≡ seen → (n : ℕ) (now : Voter) → slice_get voters_new n ≡ Some now → (was : Voter) × (slice_get voters n ≡ Some was) × (now.is_lost ≡ was.is_lost)

@@ -17,7 +17,7 @@ ghost use Rattle.coco_vote.specs.Asking.{IsLater};
 ghost use Rattle.coco_vote.specs.Counting.{prepare_of, GivesOn, HasCounted, IsAye};
 ghost use Rattle.coco_vote.specs.Nearing.{all_ahead, Nears};
 ghost use Rattle.coco_vote.specs.Preparing.{have_durable, Ballot, MayForce, RestsVoted, Votes};
-ghost use Rattle.coco_vote.specs.Taking.{has_lost, vote_of, AreApart, AreHeld, AreMarked, AreReady, AreTold, AreVoting, CountsStops, HaveLogs, IsElsewhere, KeepPlaces, KeepsCores, UnlessLost, SameElsewhere};
+ghost use Rattle.coco_vote.specs.Taking.{has_lost, vote_of, AreApart, AreHeld, AreMarked, AreReady, AreTold, AreVoting, CountsStops, HaveLogs, IsElsewhere, KeepPlaces, KeepsCores, UnlessLost, SameElsewhere, StayWhole};
 ghost use Rattle.coco_vote.specs.Voting.{PreparesOnly};
 ghost use Rattle.coco_host.specs.Files.{Become, Follows};
 ghost use Rattle.coco_vote.specs.declared.step.Stops.TheVariants.{Never as NoStop};
@@ -110,6 +110,7 @@ pub(crate) fn exchange<H: Host, N: Net, P: Power>(
         → Votes H.moment H.observed H.said H.reads H.may_leave result c b (have_durable epoch cores.new) host.old host.new }
     ensures ready { OnOk result (AreReady voters.new (H.reads host.new) (H.may_leave host.new)) }
     ensures places { KeepPlaces voters.old voters.new }
+    ensures whole { OnOk result (StayWhole (P.stops_seen power.old) (P.stops_seen power.new) voters.old voters.new) }
     ensures others { (other : LogState) → IsElsewhere other voters.old → Stands other (H.reads host.old) (H.may_leave host.old) → Stands other (H.reads host.new) (H.may_leave host.new) }
     ensures read { Become (SameElsewhere voters.old) (H.reads host.old) (H.reads host.new) }
     ensures crash { Follows (SameElsewhere voters.old) (H.may_leave host.old) (H.may_leave host.new) }

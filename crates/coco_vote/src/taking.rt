@@ -15,7 +15,7 @@ ghost use Rattle.coco_vote.specs.Asking.{IsLater, TellsStops};
 ghost use Rattle.coco_vote.specs.Nearing.{ahead_of, all_ahead, Nears};
 ghost use Rattle.coco_vote.specs.Preparing.{durable_at, have_durable, Ballot, MayForce, RestsVoted, Votes};
 ghost use Rattle.coco_vote.specs.Steps.{has_stopped, EndsVote, HasNewest, Marks};
-ghost use Rattle.coco_vote.specs.Taking.{vote_of, AreApart, AreHeld, AreMarked, AreReady, AreTold, AreVoting, CountsStops, HasGiven, HaveLogs, HeardSo, IsElsewhere, IsMarked, KeepPlaces, KeepsCores, UnlessLost, SameElsewhere};
+ghost use Rattle.coco_vote.specs.Taking.{vote_of, AreApart, AreHeld, AreMarked, AreReady, AreTold, AreVoting, CountsStops, HasGiven, HaveLogs, HeardSo, IsElsewhere, IsMarked, KeepPlaces, KeepsCores, UnlessLost, SameElsewhere, StaysWhole, StayWhole};
 ghost use Rattle.coco_vote.specs.Voting.{PreparesOnly};
 ghost use Rattle.coco_host.specs.Files.{Become, Follows};
 ghost use Rattle.coco_vote.specs.declared.step.Stops.TheVariants.{Never as NoStop};
@@ -114,6 +114,7 @@ fn take_letter<H: Host, N: Net, P: Power>(
     ensures told { OnOk result (AreTold epoch cores.old (N.sent net.old) (P.asked power.old) → AreTold epoch cores.new (N.sent net.new) (P.asked power.new)) }
     ensures marked { OnOk result (IsMarked node voter.new (P.asked power.new)) }
     ensures held { voter.new.held ≡ voter.old.held }
+    ensures whole { OnOk result (StaysWhole (P.stops_seen power.old) (P.stops_seen power.new) voter.old voter.new) }
     // Asked for its vote, a node that doesn't stop gives it.
     ensures votes { IfOk result (λ stops. IsFrom Chiefs letter.now (Asks epoch) → stops ≡ NoStop → Contains (N.fresh net.new) (vote_of node epoch true)) }
     // Its entry, or being asked for a stop behind its vote, isn't ahead of it any more where it has stopped.
@@ -182,6 +183,7 @@ pub(crate) fn take_letters<H: Host, N: Net, P: Power>(
     ensures told { OnOk result (AreTold epoch cores.old (N.sent net.old) (P.asked power.old) → AreTold epoch cores.new (N.sent net.new) (P.asked power.new)) }
     ensures marked { OnOk result (IsMarked node voter.new (P.asked power.new)) }
     ensures held { voter.new.held ≡ voter.old.held }
+    ensures whole { OnOk result (StaysWhole (P.stops_seen power.old) (P.stops_seen power.new) voter.old voter.new) }
     // Where it was asked for its vote and didn't stop, it has given it.
     ensures votes { IfOk result (λ stops. stops ≡ NoStop → HasGiven epoch node (N.waiting net.old node) (N.fresh net.new)) }
     ensures taken { IfOk result (λ stops. UnlessLost stops (N.waiting net.new node ≡ [])) }
@@ -264,6 +266,7 @@ pub(crate) fn nodes_take<H: Host, N: Net, P: Power>(
         → Votes H.moment H.observed H.said H.reads H.may_leave result c b (have_durable epoch cores.new) host.old host.new }
     ensures ready { OnOk result (AreReady voters.new (H.reads host.new) (H.may_leave host.new)) }
     ensures places { KeepPlaces voters.old voters.new }
+    ensures whole { OnOk result (StayWhole (P.stops_seen power.old) (P.stops_seen power.new) voters.old voters.new) }
     ensures others { (other : LogState) → IsElsewhere other voters.old → Stands other (H.reads host.old) (H.may_leave host.old) → Stands other (H.reads host.new) (H.may_leave host.new) }
     ensures read { Become (SameElsewhere voters.old) (H.reads host.old) (H.reads host.new) }
     ensures crash { Follows (SameElsewhere voters.old) (H.may_leave host.old) (H.may_leave host.new) }

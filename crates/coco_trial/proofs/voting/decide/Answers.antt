@@ -7,15 +7,16 @@ use Rattle.coco_letters.specs.GivingUp.{since}
 use Rattle.coco_letters.specs.declared.voter.Voter.{Voter}
 use Rattle.coco_vote.specs.Outcomes.{Comes}
 use Rattle.coco_vote.specs.Preparing.{have_durable, Ballot, RestsVoted}
-use Rattle.coco_vote.specs.Taking.{AreMarked, AreReady, KeepPlaces, SameElsewhere}
+use Rattle.coco_vote.specs.Taking.{AreMarked, AreReady, KeepPlaces, SameElsewhere, StayWhole}
 use Rattle.coco_vote.specs.declared.phase.Votes.{Votes}
 use Rattle.coco_vote.specs.declared.phase.Votes.TheVariants.{All}
 use Rattle.coco_vote.proofs.GivingLemmas.{gives_then}
 use Rattle.coco_vote.proofs.PreparingLemmas.{none_ok}
+use Rattle.coco_vote.proofs.WholeLemmas.{all_whole_then}
 use Rattle.coco_vote.proofs.VoterLemmas.{apart_still, elsewhere_still, held_still, logs_still, places_then}
 use Rattle.coco_trial.specs.Voting.{unmarked}
 use Rattle.coco_letters.proofs.TellingLemmas.{adds_then, adds_vote}
-use Rattle.coco_trial.proofs.VoteLemmas.{all_vote, can_given_up, can_voted, cause_is, durable_given_up, given_is, new_given_up, open_still, rests_told, unmarked_marked, unmarked_places, unmarked_ready, voted_then}
+use Rattle.coco_trial.proofs.VoteLemmas.{all_vote, can_given_up, can_voted, cause_is, durable_given_up, given_is, new_given_up, open_still, rests_told, unmarked_marked, unmarked_places, unmarked_ready, unmarked_whole, voted_then}
 use Rattle.coco_vote.proofs.FileLemmas.{become_wider, elsewhere_first, follow_wider}
 use Rattle.coco_letters.proofs.SendingLemmas.{sends_then}
 use Rattle.coco_trial.proofs.voting.decide.Goals as goal
@@ -225,3 +226,9 @@ returns-in_err-give_up-clause-sent g c =
 pub returns-clause-sent : goal.returns-clause-sent
 returns-clause-sent g c =
     sends_then (g.N.Net.sent c.args.net.now) (g.N.Net.sent c.prepare.new.net) (g.N.Net.sent c.give_up.new.net) (c.prepare.ensures.sent) (c.give_up.ensures.sent)
+
+pub returns-then-is_all-clause-whole : goal.returns-then-is_all-clause-whole
+returns-then-is_all-clause-whole g c = all_whole_then (g.P.Power.stops_seen c.args.power.now) (g.P.Power.stops_seen c.args.power.now) (g.P.Power.stops_seen c.prepare.new.power) c.args.voters.now c.unmark.new.voters c.prepare.new.voters (omega arith) c.prepare.ensures.later.seen_rises (subst (StayWhole (g.P.Power.stops_seen c.args.power.now) (g.P.Power.stops_seen c.args.power.now) c.args.voters.now) (sym c.unmark.ensures) (unmarked_whole (g.P.Power.stops_seen c.args.power.now) c.args.voters.now)) c.in_ok-votes.ensures.whole
+
+pub returns-clause-whole : goal.returns-clause-whole
+returns-clause-whole g c = all_whole_then (g.P.Power.stops_seen c.args.power.now) (g.P.Power.stops_seen c.args.power.now) (g.P.Power.stops_seen c.prepare.new.power) c.args.voters.now c.unmark.new.voters c.prepare.new.voters (omega arith) c.prepare.ensures.later.seen_rises (subst (StayWhole (g.P.Power.stops_seen c.args.power.now) (g.P.Power.stops_seen c.args.power.now) c.args.voters.now) (sym c.unmark.ensures) (unmarked_whole (g.P.Power.stops_seen c.args.power.now) c.args.voters.now)) c.in_ok-votes.ensures.whole

@@ -6,7 +6,7 @@ use Rattle.coco_letters.specs.Around.{Around, around}
 use Rattle.coco_letters.specs.declared.voter.Voter.{Voter}
 use Rattle.coco_node.specs.Node.{Node}
 use Rattle.coco_vote.specs.Beginning.{AreNew, GoesOnVoted}
-use Rattle.coco_vote.specs.Taking.{AreApart, AreHeld, AreReady, HaveLogs, IsElsewhere, KeepPlaces, SameElsewhere}
+use Rattle.coco_vote.specs.Taking.{AreApart, AreHeld, AreReady, HaveLogs, IsElsewhere, KeepPlaces, SameElsewhere, StayWhole}
 use Rattle.coco_finish.specs.Finishing.{AllCanFinish}
 use Rattle.coco_vote.specs.Preparing.{have_durable, Ballot, RestsVoted}
 use Rattle.coco_vote.proofs.PreparingLemmas.{none_ok}
@@ -186,3 +186,13 @@ returns-clause-read g c =
 pub returns-clause-crash : goal.returns-clause-crash
 returns-clause-crash g c =
     subst (λ (vs : List Voter). Follows (SameElsewhere vs) (g.H.Host.may_leave c.args.host.now) (g.H.Host.may_leave c.decide.new.host)) c.as_mut_slice-2.ensures.value c.decide.ensures.crash
+
+pub returns-clause-whole : goal.returns-clause-whole
+returns-clause-whole g c =
+    let k = c.args.members.now in
+    let cores : List Node = c.decide.new.cores in
+    let voters : List Voter = c.decide.new.voters in
+    let cores_are : take k.cores.len (cores ++ drop (length cores) k.cores.items) ≡ cores = back cores k.cores.items k.cores.len (sym c.as_mut_slice.ensures.len ∙ ap length c.as_mut_slice.ensures.value) ((let many : length c.decide.new.cores ≡ length c.as_mut_slice.result.now = omega (arith, c.decide.auto.cores) in many) ∙ ap length c.as_mut_slice.ensures.value) in
+    let voters_are : take k.voters.len (voters ++ drop (length voters) k.voters.items) ≡ voters = back voters k.voters.items k.voters.len (sym c.as_mut_slice-2.ensures.len ∙ ap length c.as_mut_slice-2.ensures.value) ((let many : length c.decide.new.voters ≡ length c.as_mut_slice-2.result.now = omega (arith, c.decide.auto.voters) in many) ∙ ap length c.as_mut_slice-2.ensures.value) in
+    subst (StayWhole (g.P.Power.stops_seen c.args.power.now) (g.P.Power.stops_seen c.decide.new.power) k.voters.items) (sym voters_are)
+    (subst (λ (x : List Voter). StayWhole (g.P.Power.stops_seen c.args.power.now) (g.P.Power.stops_seen c.decide.new.power) x voters) c.as_mut_slice-2.ensures.value c.in_ok-all.ensures.whole)

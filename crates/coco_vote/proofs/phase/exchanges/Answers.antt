@@ -24,6 +24,7 @@ use Rattle.coco_vote.proofs.StepLemmas.{between_none, only_same, only_then}
 use Rattle.coco_vote.proofs.StopLemmas.{unless_kept}
 use Rattle.coco_vote.proofs.TakingLemmas.{cores_then, cores_voting, knows_same}
 use Rattle.coco_vote.proofs.VoterLemmas.{apart_still, elsewhere_still, held_still, logs_still, places_same, places_then}
+use Rattle.coco_vote.proofs.WholeLemmas.{all_whole_same, all_whole_then}
 use Rattle.coco_vote.proofs.FileLemmas.{become_none, become_then, become_wider, elsewhere_both, elsewhere_first, elsewhere_same, follow_none, follow_then, follow_wider}
 use Rattle.coco_letters.proofs.SendingLemmas.{sends_such, sends_then}
 use Rattle.coco_vote.proofs.phase.exchanges.Goals as goal
@@ -51,6 +52,7 @@ asking-init g c =
           (keeps_same g.H.Host.moment g.H.Host.observed g.H.Host.said g.H.Host.reads g.H.Host.may_leave k b g.met.H.Host.only_now (have_durable c.args.epoch c.args.cores.now) c.args.host.now rests, rests);
       ready = c.requires.ready;
       places = places_same c.args.voters.now;
+      whole = all_whole_same (g.P.Power.stops_seen c.args.power.now) c.args.voters.now;
       others = λ other away stands. stands;
       read = become_none (SameElsewhere c.args.voters.now) (elsewhere_same c.args.voters.now) (g.H.Host.reads c.args.host.now);
       crash = follow_none (SameElsewhere c.args.voters.now) (elsewhere_same c.args.voters.now) (g.H.Host.may_leave c.args.host.now);
@@ -136,6 +138,7 @@ asking-preserved g c =
           (keeps_then g.H.Host.moment g.H.Host.observed g.H.Host.said g.H.Host.reads g.H.Host.may_leave k b c.args.host.now c.asking.host c.exchange.new.host one.0 (c.exchange.ensures.files k hold (held_still hold c.args.voters.now c.asking.voters before.places held) may (nodes ∙ sym many) (logs_still k c.args.voters.now c.asking.voters before.places logs) one.1).keeps, (c.in_ok-stops.ensures.files k hold (held_still hold c.args.voters.now c.asking.voters before.places held) may (nodes ∙ sym many) (logs_still k c.args.voters.now c.asking.voters before.places logs) one.1).ok);
       ready = c.in_ok-stops.ensures.ready;
       places = places_then c.args.voters.now c.asking.voters c.exchange.new.voters before.places c.exchange.ensures.places;
+      whole = all_whole_then (g.P.Power.stops_seen c.args.power.now) (g.P.Power.stops_seen c.asking.power) (g.P.Power.stops_seen c.exchange.new.power) c.args.voters.now c.asking.voters c.exchange.new.voters before.later.seen_rises c.exchange.ensures.later.seen_rises before.whole c.in_ok-stops.ensures.whole;
       others = λ other away stands. c.exchange.ensures.others other (elsewhere_still c.args.voters.now c.asking.voters other before.places away) (before.others other away stands);
       read = become_then (SameElsewhere c.args.voters.now) (elsewhere_both c.args.voters.now) (g.H.Host.reads c.args.host.now) (g.H.Host.reads c.asking.host) (g.H.Host.reads c.exchange.new.host) before.read
           (become_wider (SameElsewhere c.asking.voters) (SameElsewhere c.args.voters.now) (elsewhere_first c.args.voters.now c.asking.voters before.places) (g.H.Host.reads c.asking.host) (g.H.Host.reads c.exchange.new.host) c.exchange.ensures.read);
@@ -495,3 +498,13 @@ pub returns-in_err-ask_again-in-None-clause-sent : goal.returns-in_err-ask_again
 returns-in_err-ask_again-in-None-clause-sent g c =
     let before = c.asking.invariant in
     sends_then (g.N.Net.sent c.args.net.now) (g.N.Net.sent c.exchange.new.net) (g.N.Net.sent c.ask_again.new.net) (sends_then (g.N.Net.sent c.args.net.now) (g.N.Net.sent c.asking.net) (g.N.Net.sent c.exchange.new.net) (sends_such (g.N.Net.sent c.args.net.now) (g.N.Net.sent c.asking.net) before.says) (c.exchange.ensures.sent)) (c.ask_again.ensures.sent)
+
+pub returns-then-is_early-clause-whole : goal.returns-then-is_early-clause-whole
+returns-then-is_early-clause-whole g c =
+    let before = c.asking.invariant in
+    all_whole_then (g.P.Power.stops_seen c.args.power.now) (g.P.Power.stops_seen c.asking.power) (g.P.Power.stops_seen c.exchange.new.power) c.args.voters.now c.asking.voters c.exchange.new.voters before.later.seen_rises c.exchange.ensures.later.seen_rises before.whole c.in_ok-stops.ensures.whole
+
+pub returns-in-Some-clause-whole : goal.returns-in-Some-clause-whole
+returns-in-Some-clause-whole g c =
+    let before = c.asking.invariant in
+    all_whole_then (g.P.Power.stops_seen c.args.power.now) (g.P.Power.stops_seen c.asking.power) (g.P.Power.stops_seen c.exchange.new.power) c.args.voters.now c.asking.voters c.exchange.new.voters before.later.seen_rises c.exchange.ensures.later.seen_rises before.whole c.in_ok-stops.ensures.whole

@@ -13,7 +13,7 @@ use Rattle.coco_vote.specs.Asking.{IsLater}
 use Rattle.coco_vote.specs.Counting.{prepare_of, GivesOn, HasCounted, IsAye}
 use Rattle.coco_vote.specs.Nearing.{all_ahead}
 use Rattle.coco_vote.specs.Preparing.{have_durable, Ballot, KeepsVoted, MayForce, RestsVoted}
-use Rattle.coco_vote.specs.Taking.{AreHeld, AreMarked, AreReady, AreTold, AreVoting, HaveLogs, IsElsewhere, KeepPlaces, KeepsCores, SameElsewhere}
+use Rattle.coco_vote.specs.Taking.{AreHeld, AreMarked, AreReady, AreTold, AreVoting, HaveLogs, IsElsewhere, KeepPlaces, KeepsCores, SameElsewhere, StayWhole}
 use Rattle.coco_vote.specs.Voting.{PreparesOnly}
 use Rattle.coco_vote.proofs.phase.exchanges.Given as goal
 
@@ -40,6 +40,7 @@ invariant-asking g l = record {
       → KeepsVoted g.H.Host.moment g.H.Host.observed g.H.Host.said g.H.Host.may_leave c b l.initial.host l.host × RestsVoted c b (have_durable l.epoch l.cores) (g.H.Host.reads l.host) (g.H.Host.may_leave l.host);
   ready : AreReady l.voters (g.H.Host.reads l.host) (g.H.Host.may_leave l.host);
   places : KeepPlaces l.initial.voters l.voters;
+  whole : StayWhole (g.P.Power.stops_seen l.initial.power) (g.P.Power.stops_seen l.power) l.initial.voters l.voters;
   others : (other : LogState) → IsElsewhere other l.initial.voters → Stands other (g.H.Host.reads l.initial.host) (g.H.Host.may_leave l.initial.host) → Stands other (g.H.Host.reads l.host) (g.H.Host.may_leave l.host);
   read : Become (SameElsewhere l.initial.voters) (g.H.Host.reads l.initial.host) (g.H.Host.reads l.host);
   crash : Follows (SameElsewhere l.initial.voters) (g.H.Host.may_leave l.initial.host) (g.H.Host.may_leave l.host);

@@ -17,6 +17,7 @@ use Rattle.coco_vote.proofs.StepLemmas.{between_none, fresh_then, only_same, onl
 use Rattle.coco_vote.proofs.StopLemmas.{counts_both, never_both, stops_at, unless_both, unless_kept}
 use Rattle.coco_vote.proofs.TakingLemmas.{cores_then, cores_voting, knows_same}
 use Rattle.coco_vote.proofs.VoterLemmas.{apart_still, elsewhere_still, given_more, held_still, log_is_still, marked_set, places_same, places_set, places_then, ready_set}
+use Rattle.coco_vote.proofs.WholeLemmas.{all_whole_same, all_whole_then, whole_set}
 use Rattle.coco_vote.proofs.FileLemmas.{become_none, become_then, become_wider, but_elsewhere, elsewhere_both, elsewhere_same, follow_none, follow_then, follow_wider}
 use Rattle.coco_log.specs.LogState.{SameBut}
 use Rattle.coco_vote.proofs.taking.nodes_take.Goals as goal
@@ -37,6 +38,7 @@ loop-node-init g c = record {
       (keeps_same g.H.Host.moment g.H.Host.observed g.H.Host.said g.H.Host.reads g.H.Host.may_leave k b g.met.H.Host.only_now (have_durable c.args.epoch c.args.cores.now) c.args.host.now rests, rests);
   ready = c.requires.ready;
   places = places_same c.args.voters.now;
+  whole = all_whole_same (g.P.Power.stops_seen c.args.power.now) c.args.voters.now;
   others = λ other away stands. stands;
   read = become_none (SameElsewhere c.args.voters.now) (elsewhere_same c.args.voters.now) (g.H.Host.reads c.args.host.now);
   crash = follow_none (SameElsewhere c.args.voters.now) (elsewhere_same c.args.voters.now) (g.H.Host.may_leave c.args.host.now);
@@ -105,6 +107,8 @@ loop-node-preserved g c =
           (keeps_then g.H.Host.moment g.H.Host.observed g.H.Host.said g.H.Host.reads g.H.Host.may_leave k b c.args.host.now c.loop-node.host c.take_letters.new.host one.0 (c.take_letters.ensures.files k hold (held_still hold c.args.voters.now c.loop-node.voters before.places held c.loop-node.node (get_or c.loop-node.voters c.loop-node.node c.index-voters-node.result) there) may inside (log_is_still k c.args.voters.now c.loop-node.voters c.loop-node.node (get_or c.loop-node.voters c.loop-node.node c.index-voters-node.result) before.places logs there) one.1).keeps, (c.in_ok-taken.ensures.files k hold (held_still hold c.args.voters.now c.loop-node.voters before.places held c.loop-node.node (get_or c.loop-node.voters c.loop-node.node c.index-voters-node.result) there) may inside (log_is_still k c.args.voters.now c.loop-node.voters c.loop-node.node (get_or c.loop-node.voters c.loop-node.node c.index-voters-node.result) before.places logs there) one.1).ok);
       ready = ready_set c.loop-node.voters c.loop-node.node (get_or c.loop-node.voters c.loop-node.node c.index-voters-node.result) c.take_letters.new.voter there (g.H.Host.reads c.loop-node.host) (g.H.Host.reads c.take_letters.new.host) (g.H.Host.may_leave c.loop-node.host) (g.H.Host.may_leave c.take_letters.new.host) (apart_still c.args.voters.now c.loop-node.voters before.places c.requires.apart) before.ready c.take_letters.ensures.others c.in_ok-taken.ensures.unspent c.in_ok-taken.ensures.stands;
       places = places_then c.args.voters.now c.loop-node.voters (set c.loop-node.voters c.loop-node.node c.take_letters.new.voter) before.places (places_set c.loop-node.voters c.loop-node.node (get_or c.loop-node.voters c.loop-node.node c.index-voters-node.result) c.take_letters.new.voter there (record { held = c.take_letters.ensures.held; file = c.take_letters.ensures.log.0; kind = c.take_letters.ensures.log.1 }));
+      whole = all_whole_then (g.P.Power.stops_seen c.args.power.now) (g.P.Power.stops_seen c.loop-node.power) (g.P.Power.stops_seen c.take_letters.new.power) c.args.voters.now c.loop-node.voters (set c.loop-node.voters c.loop-node.node c.take_letters.new.voter) before.later.seen_rises c.take_letters.ensures.later.seen_rises before.whole
+          (whole_set (g.P.Power.stops_seen c.loop-node.power) (g.P.Power.stops_seen c.take_letters.new.power) c.loop-node.voters c.loop-node.node (get_or c.loop-node.voters c.loop-node.node c.index-voters-node.result) c.take_letters.new.voter there c.in_ok-taken.ensures.whole);
       others = λ other away stands. c.take_letters.ensures.others other (elsewhere_still c.args.voters.now c.loop-node.voters other before.places away c.loop-node.node (get_or c.loop-node.voters c.loop-node.node c.index-voters-node.result) there) (before.others other away stands);
       read = become_then (SameElsewhere c.args.voters.now) (elsewhere_both c.args.voters.now) (g.H.Host.reads c.args.host.now) (g.H.Host.reads c.loop-node.host) (g.H.Host.reads c.take_letters.new.host) before.read
           (become_wider (SameBut (get_or c.loop-node.voters c.loop-node.node c.index-voters-node.result).log.file) (SameElsewhere c.args.voters.now) (but_elsewhere c.args.voters.now c.loop-node.voters before.places c.loop-node.node (get_or c.loop-node.voters c.loop-node.node c.index-voters-node.result) there) (g.H.Host.reads c.loop-node.host) (g.H.Host.reads c.take_letters.new.host) c.take_letters.ensures.read);

@@ -15,6 +15,7 @@ use Rattle.coco_vote.proofs.PreparingLemmas.{none_ok, rests_same, votes_same}
 use Rattle.coco_vote.proofs.SayingLemmas.{ends_say, heard_say, steps_say}
 use Rattle.coco_vote.proofs.StepLemmas.{only_same, fresh_then}
 use Rattle.coco_vote.proofs.TakingLemmas.{between_heard, cores_stepped, cores_voting, durable_ended, elsewhere, near_ended, near_stepped, fresh_has, fresh_still, heard_durable, never_voted, told_ended, told_stepped, unless_any, voting_behind, voting_ended, voting_unless, vote_in, knows_ended, knows_same}
+use Rattle.coco_vote.proofs.WholeLemmas.{whole_step}
 use Rattle.coco_vote.proofs.FileLemmas.{become_none, but_same, follow_none}
 use Rattle.coco_log.specs.LogState.{SameBut}
 use Rattle.coco_vote.proofs.taking.take_letter.Goals as goal
@@ -200,3 +201,9 @@ returns-in_err-step-in-Voted-clause-fresh g c =
 pub returns-in_err-step-in-Forces-clause-fresh : goal.returns-in_err-step-in-Forces-clause-fresh
 returns-in_err-step-in-Forces-clause-fresh g c =
     fresh_then (g.N.Net.sent c.args.net.now) (g.N.Net.fresh c.args.net.now) (g.N.Net.sent c.hear_vote.new.net) (g.N.Net.fresh c.hear_vote.new.net) (g.N.Net.sent c.force_and_vote.new.net) (g.N.Net.fresh c.force_and_vote.new.net) (c.hear_vote.ensures.fresh) (c.force_and_vote.ensures.fresh)
+
+pub returns-in_ok-step-in-Voted-clause-whole : goal.returns-in_ok-step-in-Voted-clause-whole
+returns-in_ok-step-in-Voted-clause-whole g c = whole_step c.in_ok-step-in-Voted.step (g.P.Power.stops_seen c.args.power.now) (g.P.Power.early_stops c.args.power.now) (g.P.Power.stops_seen c.vote_again.new.power) (g.P.Power.early_stops c.vote_again.new.power) c.args.voter.now c.vote_again.new.voter c.in_ok-step-in-Voted.ensures.stops c.in_ok-step-in-Voted.ensures.marks
+
+pub returns-in_ok-step-in-Forces-clause-whole : goal.returns-in_ok-step-in-Forces-clause-whole
+returns-in_ok-step-in-Forces-clause-whole g c = whole_step c.in_ok-step-in-Forces.step (g.P.Power.stops_seen c.args.power.now) (g.P.Power.early_stops c.args.power.now) (g.P.Power.stops_seen c.force_and_vote.new.power) (g.P.Power.early_stops c.force_and_vote.new.power) c.args.voter.now c.force_and_vote.new.voter c.in_ok-step-in-Forces.ensures.stops c.in_ok-step-in-Forces.ensures.marks

@@ -20,6 +20,7 @@ use Rattle.coco_letters.proofs.WorldLemmas.{between_then}
 use Rattle.coco_vote.proofs.StepLemmas.{between_none, fresh_then, only_same, only_then}
 use Rattle.coco_vote.proofs.StopLemmas.{counts_both, never_lost, sent_more, stops_at, unless_both, unless_kept}
 use Rattle.coco_vote.proofs.TakingLemmas.{cores_then, cores_voting, fresh_still, given_all, votes_more, knows_same}
+use Rattle.coco_vote.proofs.WholeLemmas.{whole_then}
 use Rattle.coco_vote.proofs.FileLemmas.{become_none, become_then, but_both, but_same, follow_none, follow_then}
 use Rattle.coco_host.specs.Files.{Become, Follows}
 use Rattle.coco_log.specs.LogState.{SameBut}
@@ -32,6 +33,7 @@ loop-net-init g c = record {
   told = λ told. told;
   marked = c.requires.marked;
   held = refl;
+  whole = λ same. refl;
   nears = omega arith;
   elsewhere = λ m other. refl;
   votes = λ _ letter among _. inl among;
@@ -91,6 +93,7 @@ loop-net-preserved g c =
       told = λ told. c.in_ok-taken-in-Some.ensures.told (subst (λ (ps : List Posted). AreTold c.args.epoch c.loop-net.cores ps (g.P.Power.asked c.loop-net.power)) (sym c.next.ensures.sent) (before.told told));
       marked = c.in_ok-taken-in-Some.ensures.marked;
       held = c.take_letter.ensures.held ∙ before.held;
+      whole = whole_then (g.P.Power.stops_seen c.args.power.now) (g.P.Power.stops_seen c.loop-net.power) (g.P.Power.stops_seen c.take_letter.new.power) c.args.voter.now c.loop-net.voter c.take_letter.new.voter before.later.seen_rises c.take_letter.ensures.later.seen_rises before.whole c.in_ok-taken-in-Some.ensures.whole;
       nears = stops_at c.and-stops.result c.loop-net.stops taken (λ stops. Nears stops (ahead_of c.args.epoch c.args.cores.now c.args.node c.args.voter.now) (ahead_of c.args.epoch c.take_letter.new.cores c.args.node c.take_letter.new.voter)) both
           (nears_both c.loop-net.stops taken (ahead_of c.args.epoch c.args.cores.now c.args.node c.args.voter.now) (ahead_of c.args.epoch c.loop-net.cores c.args.node c.loop-net.voter) (ahead_of c.args.epoch c.take_letter.new.cores c.args.node c.take_letter.new.voter) before.nears c.in_ok-taken-in-Some.ensures.nears);
       elsewhere = λ m other. c.in_ok-taken-in-Some.ensures.elsewhere m other ∙ before.elsewhere m other;

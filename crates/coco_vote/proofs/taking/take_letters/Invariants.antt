@@ -14,7 +14,7 @@ use Rattle.coco_vote.specs.declared.step.Stops.TheVariants.{Never}
 use Rattle.coco_vote.specs.Asking.{IsLater}
 use Rattle.coco_vote.specs.Nearing.{ahead_of, Nears}
 use Rattle.coco_vote.specs.Preparing.{durable_at, have_durable, Ballot, KeepsVoted, MayForce, RestsVoted}
-use Rattle.coco_vote.specs.Taking.{vote_of, AreTold, AreVoting, CountsStops, IsMarked, KeepsCores, UnlessLost}
+use Rattle.coco_vote.specs.Taking.{vote_of, AreTold, AreVoting, CountsStops, IsMarked, KeepsCores, UnlessLost, StaysWhole}
 use Rattle.coco_vote.specs.Voting.{PreparesOnly}
 use Rattle.coco_vote.proofs.taking.take_letters.Given as goal
 
@@ -26,6 +26,7 @@ invariant-loop-net g l = record {
   told : AreTold l.epoch l.initial.cores (g.N.Net.sent l.initial.net) (g.P.Power.asked l.initial.power) → AreTold l.epoch l.cores (g.N.Net.sent l.net) (g.P.Power.asked l.power);
   marked : IsMarked l.node l.voter (g.P.Power.asked l.power);
   held : l.voter.held ≡ l.initial.voter.held;
+  whole : StaysWhole (g.P.Power.stops_seen l.initial.power) (g.P.Power.stops_seen l.power) l.initial.voter l.voter;
   nears : Nears l.stops (ahead_of l.epoch l.initial.cores l.node l.initial.voter) (ahead_of l.epoch l.cores l.node l.voter);
   elsewhere : (m : ℕ) → m ≢ l.node → durable_at l.cores m ≡ durable_at l.initial.cores m;
   votes : l.stops ≡ Never → (letter : Letter) → Contains (g.N.Net.waiting l.initial.net l.node) letter → IsFrom 8 letter (Prepare l.epoch) → Contains (g.N.Net.waiting l.net l.node) letter ⊎ Contains (g.N.Net.fresh l.net) (vote_of l.node l.epoch true);
