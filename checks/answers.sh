@@ -104,8 +104,10 @@ run examples/builtin/requests.jsonl run --
 expect 'no word behind two hyphens' 1 'coco: bad command line'
 run /dev/null dump --epoch 1
 expect 'an epoch for a dump' 1 'coco: bad command line'
-run /dev/null init --nodes 2
-expect 'a store of two nodes' 1 'coco: bad command line'
+run /dev/null init --nodes 9
+expect 'a store of nine nodes' 1 'coco: bad command line'
+run /dev/null init --nodes 3 --copies 3
+expect 'as many copies as nodes' 1 'coco: bad command line'
 run examples/builtin/requests.jsonl run $'\xff'
 expect 'a word that is no text' 1 'coco: bad command line'
 run "$work" run

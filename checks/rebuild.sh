@@ -1,8 +1,8 @@
 #!/usr/bin/env bash
 # The file of a lost node made again, on real files: its bytes, and what the store says then; what can't be made again is
 # refused; then kills in the middle, each of which leaves the store without the file or with it.
-# Words: the program, and how many kills; without a number there are 40. No command makes a store of several nodes yet, so
-# several_nodes.py writes them.
+# Words: the program, and how many kills; without a number there are 40. several_nodes.py writes the stores, since no run
+# leaves entries that were never committed.
 . "$(dirname "$0")/store.bash"
 draws
 
@@ -85,7 +85,7 @@ names 1 2 3 5
 cmp -s "$work/store/5.coco" "$work/store/3.coco" || wrong 'the file of the other node'
 says_all 1
 on "$work/store" run
-ends 'a run of three nodes' 7 'coco: not a store: file 0 at byte 53'
+ends 'a run of three nodes' 0
 rm "$work/store/4.coco"
 rebuilt 2 4
 names 1 2 3 4

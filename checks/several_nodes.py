@@ -1,6 +1,6 @@
 #!/usr/bin/env python3
-"""Writes the files of a store of several nodes with an empty text, which no command makes yet, and what the file of one of
-its nodes becomes when it is made again.
+"""Writes the files of a store of several nodes with an empty text, and what the file of one of its nodes becomes when it is
+made again.
 usage: several_nodes.py FOLDER NODES PARTITIONS COPIES EPOCHS NODE AGAIN
 
 Epoch E is put(4 + E, 70 * E) as id E; each seventh one was prepared by the nodes and never committed. Files 0 and 1 are

@@ -1,7 +1,7 @@
 #!/usr/bin/env bash
 # Epochs run by several workers over several partitions, killed at random moments and run again on the same lines: however
 # the workers interleave, the history is serial, what was answered stands, and no money and no piece is lost or made. And
-# money that goes round in whole runs, each line with its answer.
+# money that goes round in whole runs, each line with its answer, on three nodes too.
 . "$(dirname "$0")/store.bash"
 draws
 
@@ -106,13 +106,13 @@ same() {
     differs=$(diff "$2" "$3") || wrong "$name, $1: $(head -5 <<<"$differs")"
 }
 
-# round WORKERS: 20 accounts on three partitions are opened with 1,000 each, in one epoch and at one time, since no two lines
-# touch one account. Then 200 moves go round, 50 in an epoch: each is answered at its place, and none is refused. Each account
-# gives as often as it gets.
+# round WORKERS [WORD..]: on a store that `init` makes by these words, of three partitions, 20 accounts are opened with 1,000
+# each, in one epoch and at one time, since no two lines touch one account. Then 200 moves go round, 50 in an epoch: each is
+# answered at its place, and none is refused. Each account gives as often as it gets.
 round() {
-    name="round by $1"
+    name="round by $*"
     rm -rf "$work/store"
-    "$program" "$work/store" init --partitions 3 <<'TEXT' || wrong "$name: init"
+    "$program" "$work/store" init --partitions 3 "${@:2}" <<'TEXT' || wrong "$name: init"
 table acct;
 proc open(a, n) { put acct[a] = n; reply n; }
 proc move(a, b, n) {
@@ -164,4 +164,5 @@ one shop 8 4 16 2 1000
 one shop 300 16 5 8 500
 [ "$cut_off" -gt 0 ] || wrong 'no kill met a run at work'
 for workers in 1 2 4 16; do round "$workers"; done
+round 4 --nodes 3 --copies 2
 ended

@@ -47,7 +47,7 @@ use Rattle.coco_commands.specs.Keeping.{contents_keeping}
 use Rattle.coco_commands.specs.Migrating.{ending_of_adding}
 use Rattle.coco_commands.specs.Querying.{IsNotAsked, MayBeAsked, ending_of_asking, past_at, streams_of}
 use Rattle.coco_commands.specs.Rebuilding.{ending_of_rebuilding}
-use Rattle.coco_commands.specs.Opening.{FailsToOpen, IsRefusedInRun, RefusedIsNotRun}
+use Rattle.coco_commands.specs.Opening.{FailsToOpen}
 use Rattle.coco_commands.specs.Running.{Opens, ending_of_run}
 use Rattle.coco_lines.proofs.ClassLemmas.{classes_length}
 use Rattle.coco_commands.specs.Served as served
@@ -96,13 +96,13 @@ few_lines_have_numbers c next bounds bytes few p used =
 -- ---- openings and texts
 
 -- a store that isn't refused is opened, unless memory runs out
-opened_or_memory : (Refused : Files → ℕ → ℕ → Type 0) (how : Ending) (told : Option Files) (files : Files) (before after : ℕ) → told ≡ Some files → ((file at : ℕ) → ¬ (Refused files file at))
-    → ¬ (Rose before after) → FailsToOpen Refused how told before after → how ≡ ending.NoMemory
-opened_or_memory Refused ending.DiskFault told files before after are sound faultless cause = absurd (faultless cause)
-opened_or_memory Refused (ending.NotAStore file at) told files before after are sound faultless cause =
-    absurd (sound file at (subst (λ (r : Option Files). IfSome r (λ fs. Refused fs file at)) are cause.1))
-opened_or_memory Refused ending.NoMemory told files before after are sound faultless cause = refl
-opened_or_memory Refused how told files before after are sound faultless cause = absurd cause
+opened_or_memory : (how : Ending) (told : Option Files) (files : Files) (before after : ℕ) → told ≡ Some files → ((file at : ℕ) → ¬ (IsFirstRefusal files file at))
+    → ¬ (Rose before after) → FailsToOpen how told before after → how ≡ ending.NoMemory
+opened_or_memory ending.DiskFault told files before after are sound faultless cause = absurd (faultless cause)
+opened_or_memory (ending.NotAStore file at) told files before after are sound faultless cause =
+    absurd (sound file at (subst (λ (r : Option Files). IfSome r (λ fs. IsFirstRefusal fs file at)) are cause.1))
+opened_or_memory ending.NoMemory told files before after are sound faultless cause = refl
+opened_or_memory how told files before after are sound faultless cause = absurd cause
 
 -- a text is said whole, unless memory runs out
 said_or_memory : (text : List ℕ) (own how : Ending) (before now : Option (List ℕ)) (old new : Counts) → ¬ (Rose old.say new.say) → SaysText text own how before now old new
@@ -145,6 +145,7 @@ module _ {H : Type 0} (moment : H → ℕ) (observed : H → ℕ → Observation
       absurd (⊎_elim faultless.source (λ full. omega (arith, few, full)) cause)
   served_or_memory c next bounds bytes how before after old opened new served.SayFault ends faultless few numbers cause serves = absurd (faultless.stream cause)
   served_or_memory c next bounds bytes how before after old opened new served.DiskFault ends faultless few numbers cause serves = absurd (faultless.disk cause)
+  served_or_memory c next bounds bytes how before after old opened new (served.NotAStore file at) ends faultless few numbers cause serves = absurd serves.ends
   served_or_memory c next bounds bytes how before after old opened new served.Unreachable ends faultless few numbers cause serves =
       let given_up = all_spare 4 cause.0 after.around cause.2 in
       let none = none_spare before.around after.around faultless.net faultless.power in
@@ -153,15 +154,12 @@ module _ {H : Type 0} (moment : H → ℕ) (observed : H → ℕ → Observation
   served_or_memory c next bounds bytes how before after old opened new served.EpochsUsedUp ends faultless few numbers cause serves = absurd (numbers serves.progress serves.ends.2)
   served_or_memory c next bounds bytes how before after old opened new served.NoMemory ends faultless few numbers cause serves = inr ends
 
-  pub run_succeeds : RefusedIsNotRun → RunSucceeds moment observed said reads may_leave
+  pub run_succeeds : RefusedIsNone → RunSucceeds moment observed said reads may_leave
   run_succeeds refused run how before after old new c bytes faultless store gives may =
       ⊎_elim
-      (λ does. ⊎_elim (λ closed. inr (opened_or_memory IsRefusedInRun how (reads old) store.files before.disk_faults after.disk_faults store.are one faultless.none_rose.disk closed.cause)) answered does)
+      (λ does. ⊎_elim (λ closed. inr (opened_or_memory how (reads old) store.files before.disk_faults after.disk_faults store.are (λ file at is. refused store.files file at is c store.good.holds) faultless.none_rose.disk closed.cause)) answered does)
       (λ lacks. inr lacks.0) (faultless.obeyed.command (Run run) faultless.is)
     where
-      one : (file at : ℕ) → ¬ (IsRefusedInRun store.files file at)
-      one file at is = refused store.files file at is (record { contents = c; holds = store.good.holds; one = may.one })
-
       answered : Opens moment observed said reads may_leave (bounds_of run) how before after old new → DoneOrNoMemory how (AllAreAnswered moment observed said reads may_leave c (bounds_of run) bytes after old new)
       answered opens =
           let next = opens.is_next store.files c store.are store.good.holds in
@@ -205,7 +203,7 @@ module _ {H : Type 0} (moment : H → ℕ) (observed : H → ℕ → Observation
   dump_succeeds refused how before after old new c faultless store =
       ⊎_elim
       (λ does. ⊎_elim
-      (λ closed. inr (opened_or_memory IsFirstRefusal how (reads old) store.files before.disk_faults after.disk_faults store.are (λ file at is. refused store.files file at is c store.good.holds) faultless.none_rose.disk closed.cause))
+      (λ closed. inr (opened_or_memory how (reads old) store.files before.disk_faults after.disk_faults store.are (λ file at is. refused store.files file at is c store.good.holds) faultless.none_rose.disk closed.cause))
       (λ tells.
       let is = tells.of_store store.files c store.are store.good.holds store.good.rows in
       ⊎_elim (λ done. inl (done.0 ∙ tells.ends, done.1 ∙ ap (append_known (said old)) is)) inr
@@ -216,7 +214,7 @@ module _ {H : Type 0} (moment : H → ℕ) (observed : H → ℕ → Observation
   verify_succeeds refused how before after old new c faultless store =
       ⊎_elim
       (λ does. ⊎_elim
-      (λ closed. inr (opened_or_memory IsFirstRefusal how (reads old) store.files before.disk_faults after.disk_faults store.are (λ file at is. refused store.files file at is c store.good.holds) faultless.none_rose.disk closed.cause))
+      (λ closed. inr (opened_or_memory how (reads old) store.files before.disk_faults after.disk_faults store.are (λ file at is. refused store.files file at is c store.good.holds) faultless.none_rose.disk closed.cause))
       (λ tells.
       let is = verdict_is_serial c tells.text tells.own store.good.serial (tells.of_store store.files c store.are store.good.holds tt) in
       ⊎_elim (λ done. inl (done.0 ∙ is.0, done.1 ∙ ap (append_known (said old)) is.1)) inr
@@ -234,7 +232,7 @@ module _ {H : Type 0} (moment : H → ℕ) (observed : H → ℕ → Observation
   migrate_succeeds refused keep how before after old new c faultless store =
       ⊎_elim
       (λ does. ⊎_elim
-      (λ closed. inr (opened_or_memory IsFirstRefusal how (reads old) store.files before.disk_faults after.disk_faults store.are (λ file at is. refused store.files file at is c store.good.holds) faultless.none_rose.disk closed.cause))
+      (λ closed. inr (opened_or_memory how (reads old) store.files before.disk_faults after.disk_faults store.are (λ file at is. refused store.files file at is c store.good.holds) faultless.none_rose.disk closed.cause))
       (λ sets. added_or_memory (HasStore c) (HasStore (contents_keeping keep c)) how before.disk_faults after.disk_faults sets.opened new sets.added sets.ends faultless.none_rose.disk sets.cause (sets.gains store.files c store.are store.good)) does.1)
       (λ lacks. inr lacks.0) (faultless.obeyed.command (Migrate keep) faultless.is)
 
@@ -242,7 +240,7 @@ module _ {H : Type 0} (moment : H → ℕ) (observed : H → ℕ → Observation
   compact_succeeds refused how before after old new c faultless store =
       ⊎_elim
       (λ does. ⊎_elim
-      (λ closed. inr (opened_or_memory IsFirstRefusal how (reads old) store.files before.disk_faults after.disk_faults store.are (λ file at is. refused store.files file at is c store.good.holds) faultless.none_rose.disk closed.cause))
+      (λ closed. inr (opened_or_memory how (reads old) store.files before.disk_faults after.disk_faults store.are (λ file at is. refused store.files file at is c store.good.holds) faultless.none_rose.disk closed.cause))
       (λ makes. added_or_memory (HasStore c) (HasCompacted c) how before.disk_faults after.disk_faults makes.opened new makes.added makes.ends faultless.none_rose.disk makes.cause (makes.gains store.files c store.are store.good)) does.1)
       (λ lacks. inr lacks.0) (faultless.obeyed.command Compact faultless.is)
 
@@ -285,7 +283,7 @@ module _ {H : Type 0} (moment : H → ℕ) (observed : H → ℕ → Observation
   query_succeeds refused at readers how before after old new c bytes faultless store gives few may =
       ⊎_elim
       (λ does. ⊎_elim
-      (λ closed. inr (opened_or_memory IsFirstRefusal how (reads old) store.files before.disk_faults after.disk_faults store.are (λ file place is. refused store.files file place is c store.good.holds) faultless.none_rose.disk closed.cause))
+      (λ closed. inr (opened_or_memory how (reads old) store.files before.disk_faults after.disk_faults store.are (λ file place is. refused store.files file place is c store.good.holds) faultless.none_rose.disk closed.cause))
       (λ found. ⊎_elim (λ unasked. inr (not_asked_or_memory at how (reads old) store.files c store.are store.good.holds may unasked.cause))
       (λ asks.
       let same = one_giving before.source after.source asks.bytes bytes asks.gives gives in

@@ -73,9 +73,8 @@ HaveNumbers c next bounds bytes = (p : Progress (manner_of c.setting bounds) (hi
 abbrev pub FewLinesHaveNumbers : Type 0
 FewLinesHaveNumbers = (c : Contents) (next : ℕ) (bounds : RunBounds) (bytes : List ℕ) → next + length (lines_of bytes) ≤ epochs_end → HaveNumbers c next bounds bytes
 
--- a store of one node may take all lines of these bytes
+-- a store may take all lines of these bytes
 pub record MayTake (c : Contents) (bounds : RunBounds) (bytes : List ℕ) : Type 0 where
-  pub one : c.setting.entry.layout.nodes ≡ 1
   pub few : length bytes < most_input_bytes
   pub numbers : (next : ℕ) → IsNextOf c next → HaveNumbers c next bounds bytes
 
@@ -108,7 +107,7 @@ module _ {H : Type 0} (moment : H → ℕ) (observed : H → ℕ → Observation
 
   -- ---- each command
 
-  -- `run` on a good store of one node that may take all lines of the bytes given
+  -- `run` on a good store that may take all lines of the bytes given
   abbrev pub RunSucceeds : Type 0
   RunSucceeds = (run : RunOptions) (how : Ending) (before after : Outside) (old new : H) (c : Contents) (bytes : List ℕ)
       → IsFaultless (Run run) how before after old new → ReadsAs c (reads old) → Gives before.source after.source bytes → MayTake c (bounds_of run) bytes

@@ -2,14 +2,13 @@
 
 ghost use Rattle.coco.specs.Success.{CompactSucceeds, DumpSucceeds, FewLinesHaveNumbers, InitSucceeds, MigrateSucceeds, QuerySucceeds, RebuildSucceeds, RunSucceeds, VerifySucceeds};
 
-use coco_commands::a_refused_store_is_not_run;
 use coco_host::Host;
 use coco_init::one_answer;
 use coco_store::a_refused_store_is_none;
 
-/// Where no count of faults rose, a command ends with status 0, or with 6 for want of memory: `run` on a good store of
-/// one node, by fewer than 2^62 bytes and with a number for each epoch, and then all lines are answered; `init` by an
-/// accepted text, where file 0 is empty; `dump`, `verify`, `migrate` and `compact` on a good store; `rebuild` on one that
+/// Where no count of faults rose, a command ends with status 0, or with 6 for want of memory: `run` on a good store, by
+/// fewer than 2^62 bytes and with a number for each epoch, and then all lines are answered; `init` by an accepted text,
+/// where file 0 is empty; `dump`, `verify`, `migrate` and `compact` on a good store; `rebuild` on one that
 /// is good but for the node's file, where each partition of the node has another holder; `query` on a good store at one of
 /// its epochs, by fewer than 2^62 bytes, and then all lines are answered.
 pub fn commands_succeed<H: Host>()
@@ -24,6 +23,5 @@ pub fn commands_succeed<H: Host>()
     ensures numbers { FewLinesHaveNumbers }
 {
     a_refused_store_is_none();
-    a_refused_store_is_not_run();
     one_answer();
 }

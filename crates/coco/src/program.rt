@@ -1,6 +1,6 @@
 //! The program over the arguments, the host and the streams that `main` makes.
 
-ghost use Rattle.std.specs.Prelude.{◌≡◌, IfErr, IfOk, drop, map};
+ghost use Rattle.std.specs.Prelude.{◌≡◌, [], IfErr, IfOk, drop, map};
 ghost use Rattle.std.specs.String.{string_bytes};
 ghost use Rattle.coco_ending.specs.declared.ending.Ending.{Ending as CallEnding};
 ghost use Rattle.coco_commands.specs.Serving.{around};
@@ -22,7 +22,8 @@ use std::thread::Threads;
 use std::time::Clock;
 
 /// Does what the arguments ask of the store in the host's files: their first two are the program's own name and the
-/// folder's. Where there are no arguments, or memory ran out for the host, that is the ending, and nothing is touched.
+/// folder's. Where there are no arguments, or memory ran out for the host, that is the ending, and nothing is touched. The
+/// net has no letter of before.
 pub fn program<
     R: Threads + Wait + Clock + Sync,
     H: Host,
@@ -42,6 +43,7 @@ pub fn program<
     errs: &mut E,
     gate: &G,
 ) -> Reported
+    requires { N.sent net.old ≡ [] }
     ensures obeys { IfOk given.now (λ arguments. IfOk host.old (λ old. (new : H) × (host.new ≡ Ok new)
         × ((ending : CallEnding) × IsReported ending result (E.contents errs.old) (E.contents errs.new) (E.faults errs.old) (E.faults errs.new)
         × Obeys H.moment H.observed H.said H.reads H.may_leave (map string_bytes (drop 2 arguments.items)) ending

@@ -1,9 +1,9 @@
 //! The top call: words in, a status out.
 
-ghost use Rattle.std.specs.Prelude.{◌≡◌, map};
+ghost use Rattle.std.specs.Prelude.{◌≡◌, [], map};
 ghost use Rattle.std.specs.String.{string_bytes};
 ghost use Rattle.coco_ending.specs.declared.ending.Ending.{Ending as CallEnding};
-ghost use Rattle.coco_words.specs.Commands.{numbers_of, options_of};
+ghost use Rattle.coco_words.specs.Commands.{Agree, kind_of, numbers_of, options_of};
 ghost use Rattle.coco_words.specs.Options.{AreInRange};
 ghost use Rattle.coco_commands.specs.Serving.{around};
 ghost use Rattle.coco.specs.Commands.{Does, Inits, Obeys, bounds_of};
@@ -35,7 +35,8 @@ pub struct Reported {
 
 /// Does what the words ask of the store in the host's files, and answers the program's status. A status other than 0
 /// has its line on the error stream, whose faults change nothing. Where several workers run, they pass the gate as an
-/// attempt begins and as one commits; one worker passes none. Readers pass it before each request and behind it.
+/// attempt begins and as one commits; one worker passes none. Readers pass it before each request and behind it. The net
+/// has no letter of before.
 pub fn coco<
     R: Threads + Wait + Clock + Sync,
     H: Host,
@@ -55,6 +56,7 @@ pub fn coco<
     errs: &mut E,
     gate: &G,
 ) -> Reported
+    requires { N.sent net.old ≡ [] }
     // The status and the line on the error stream are those of one ending, in which the words were obeyed.
     ensures obeys { (ending : CallEnding) × IsReported ending result (E.contents errs.old) (E.contents errs.new) (E.faults errs.old) (E.faults errs.new)
         × Obeys H.moment H.observed H.said H.reads H.may_leave (map string_bytes words.now) ending
@@ -96,6 +98,7 @@ fn obey<
     input: &mut I,
     gate: &G,
 ) -> Ending
+    requires { N.sent net.old ≡ [] }
     ensures obeys { Obeys H.moment H.observed H.said H.reads H.may_leave (map string_bytes words.now) result
         (record { source = record { given = I.given input.old; left = I.remaining input.old; at_end = I.at_end input.old }; source_faults = I.faults input.old; say_faults = H.say_faults host.old; disk_faults = H.disk_faults host.old; around = around N.sent N.given N.faults N.last_seed P.stops_seen P.early_stops P.stopped P.begun P.asked net.old power.old })
         (record { source = record { given = I.given input.new; left = I.remaining input.new; at_end = I.at_end input.new }; source_faults = I.faults input.new; say_faults = H.say_faults host.new; disk_faults = H.disk_faults host.new; around = around N.sent N.given N.faults N.last_seed P.stops_seen P.early_stops P.stopped P.begun P.asked net.new power.new })
@@ -127,7 +130,9 @@ fn execute<
     input: &mut I,
     gate: &G,
 ) -> Ending
-    requires { AreInRange (options_of command) (numbers_of command) }
+    requires range { AreInRange (options_of command) (numbers_of command) }
+    requires agree { Agree (kind_of command) (numbers_of command) }
+    requires unsent { N.sent net.old ≡ [] }
     ensures { Does H.moment H.observed H.said H.reads H.may_leave command result
         (record { source = record { given = I.given input.old; left = I.remaining input.old; at_end = I.at_end input.old }; source_faults = I.faults input.old; say_faults = H.say_faults host.old; disk_faults = H.disk_faults host.old; around = around N.sent N.given N.faults N.last_seed P.stops_seen P.early_stops P.stopped P.begun P.asked net.old power.old })
         (record { source = record { given = I.given input.new; left = I.remaining input.new; at_end = I.at_end input.new }; source_faults = I.faults input.new; say_faults = H.say_faults host.new; disk_faults = H.disk_faults host.new; around = around N.sent N.given N.faults N.last_seed P.stops_seen P.early_stops P.stopped P.begun P.asked net.new power.new })

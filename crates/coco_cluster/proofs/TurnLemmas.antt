@@ -1,446 +1,329 @@
--- What a run of new requests, and its two entries, make of the store that a cluster stands at.
-use Rattle.std.proofs.Common.{◌≡◌, ◌⊎◌, inl, inr, ⊎_elim, ℕ, ◌+◌, ◌<◌, ◌≤◌, ◌^◌, Bool, true, false, ◌==◌, List, [], ◌∷◌, ◌++◌, append-nil, length, length-append, map, filter, not, Option, None, Some, Result, Ok, Err, refl, sym, ap, ◌∙◌, subst, arith}
+-- A turn, attempt by attempt.
+use Rattle.std.specs.Global.{Vec}
+use Rattle.std.proofs.Common.{◌≡◌, ◌≢◌, ◌⊎◌, inl, inr, ⊎_elim, ℕ, suc, ◌+◌, ◌*◌, ◌<◌, ◌≤◌, ◌==◌, true, false, List, [], ◌∷◌, ◌++◌, length, map, Option, Some, None, Result, Ok, Err, refl, sym, ap, ◌∙◌, subst, arith}
 use Rattle.std.specs.Prelude.{OnOk}
 use Rattle.std.specs.List.{AllByRecursion}
+use Rattle.std.specs.Option.{option_map}
 use Rattle.std.proofs.lemmas.Bool.Decides.{nat_tests}
-use Rattle.std.proofs.lemmas.List.{map-append}
-use Rattle.std.proofs.lemmas.List.Filters.{length-filter_both}
-use Rattle.coco_types.specs.Limits.{epochs_end}
-use Rattle.coco_types.specs.declared.call.Done.{Done}
-use Rattle.coco_types.specs.declared.call.Request.{Request}
-use Rattle.coco_host.specs.Files.{Files}
-use Rattle.coco_host.specs.Moments.{Observation, SeesOnly}
-use Rattle.coco_host.proofs.Sees.{started}
-use Rattle.coco_ast.specs.Fitting.{Fits}
+use Rattle.coco_append.specs.Gaining.{RestsOn, IsChiefLog}
 use Rattle.coco_ast.specs.Growth.{GrowsBy}
-use Rattle.coco_ast.specs.History.{AreAbove, Epoch, History, RepliesAreRuns, done_of, floor, floor_of, followed_by, is_held, kept, kept_of, map_of, rows_after}
+use Rattle.coco_ast.specs.Fitting.{Fits}
+use Rattle.coco_ast.specs.History.{AreAbove, History, all_dones, done_of, followed_by, kept_of}
 use Rattle.coco_ast.specs.Keyed.{Rows}
-use Rattle.coco_ast.proofs.KeptLemmas.{follows}
-use Rattle.coco_ast.proofs.Lists.{all_map}
-use Rattle.coco_append.specs.Gaining.{RestsOn}
-use Rattle.coco_commits.specs.EpochEntries.{AreRun, HasRunReady, IsNextIn, MayPrepareRun, MayRun, pieces_in}
-use Rattle.coco_bytes.specs.Lists.{FitInTurn}
-use Rattle.coco_entry.specs.Commits.{IsCommit}
-use Rattle.coco_entry.specs.Rows.{IsPrepared}
-use Rattle.coco_entry.specs.declared.commit.Commit.{Commit}
-use Rattle.coco_entry.specs.declared.prepared.Prepared.{Prepared}
-use Rattle.coco_entry.specs.declared.prepared.Row.{Row}
-use Rattle.coco_epoch.specs.Pieces.{pieces_of}
-use Rattle.coco_epoch.specs.Shards.{AreOfPartitions, HaveNewest, HaveStable, HoldMap}
-use Rattle.coco_kept.specs.Holding.{NeverFall}
-use Rattle.coco_kept.specs.Keeping.{HoldsKept, Keeping}
-use Rattle.coco_load.specs.Keeping.{MayFollow}
-use Rattle.coco_log.specs.LogState.{LogState}
-use Rattle.coco_log.specs.declared.fault.LogFault.{LogFault}
-use Rattle.coco_log.specs.declared.fault.LogFault.TheVariants as log
-use Rattle.coco_parallel.specs.Epochs.{beginning_with}
-use Rattle.coco_prepared.specs.LastWrites.{AreLastWrites}
-use Rattle.coco_shard.specs.RowState.{ShardState}
-use Rattle.coco_store.specs.Contents.{Contents, IsGoodStore, epoch_of, history_of, map_in}
-use Rattle.coco_store.specs.Laws.{HasReady, MayCommit, MayPrepare, with_commit}
-use Rattle.coco_worker.specs.declared.slot.EpochConfig.{EpochConfig}
-use Rattle.coco_cluster.specs.Standing.{ClusterState, IsBehindAll, IsSound, KeepsBelow, StandsAt}
-use Rattle.coco_cluster.specs.Storing.{AreEntries, IsOneOf, MayStore, ShowsOneOf, Stores, commit_of, prepared_of, with_epoch, with_rows}
-use Rattle.coco_parallel.specs.Traces.{IsTraceOf, Traced}
-use Rattle.coco_work.specs.Working.{MayWork}
-use Rattle.coco_cluster.specs.Turning.{EndsWithout, Grown, HasRoom, HasTurned, IsStoreOf, KeepsHistory, MayTurn, RanOn, ShowsHistory, ShowsStore, Turns, beginning_at, beginning_on, without_trace}
-use Rattle.coco_cluster.specs.Faults.{MayHaveCommitted, turn_fault_of}
+use Rattle.coco_commits.specs.EpochEntries.{HasRoomFor}
+use Rattle.coco_entry.specs.declared.layout.Layout.{Layout}
+use Rattle.coco_host.specs.Files.{Files}
+use Rattle.coco_host.specs.Moments.{Observation}
+use Rattle.coco_letters.specs.Around.{Around, IsLater, IsTaken, SkipsFew, spare}
+use Rattle.coco_letters.specs.GivingUp.{AreGivenUp}
+use Rattle.coco_log.proofs.OnlyRead.{sees_then, sees_weaker}
+use Rattle.coco_net.specs.declared.letter.Posted.{Posted}
+use Rattle.coco_parallel.specs.Traces.{IsTraceOf, Traced, traced}
+use Rattle.coco_store.specs.Contents.{Contents, history_of, map_in}
+use Rattle.coco_types.specs.declared.call.Request.{Request}
+use Rattle.coco_cluster.specs.Attempts.{AttemptsOn, CommitsOn, KeepsOn, StandsOn}
+use Rattle.coco_cluster.specs.Faults.{CountsAttempt, CountsTurn, MayHaveCommitted}
+use Rattle.coco_cluster.specs.Standing.{IsBehindAll, IsSound, MayStop, StandsAt, KeepsBelow}
+use Rattle.coco_cluster.specs.Trying.{GivesUp, Keeps}
+use Rattle.coco_cluster.specs.Turning.{AddsOnlyPrepared, EndsWithout, Grown, HasRoom, HasTurned, IsStoreOf, KeepsHistory, MayTurn, RestsWithout, ShowsHistory, ShowsStore, Turns, beginning_on, epochs_of}
+use Rattle.coco_cluster.specs.Writing.{WritesLogs}
+use Rattle.coco_cluster.specs.declared.cluster.Cluster.{Cluster}
 use Rattle.coco_cluster.specs.declared.fault.TurnFault.{TurnFault}
 use Rattle.coco_cluster.specs.declared.fault.TurnFault.TheVariants as fault
-use Rattle.coco_cluster.proofs.BehindLemmas.{behind_epoch, behind_later, behind_rows}
-use Rattle.coco_cluster.proofs.KeepLemmas.{as_many, floor_now, keeps_on, kept_now, may_follow, same_kept}
-use Rattle.coco_cluster.proofs.MapLemmas.{given_back}
-use Rattle.coco_cluster.proofs.StoreLemmas.{at_ok, no_ok}
-use Rattle.coco_cluster.proofs.WriteLemmas.{writes_none}
-use Rattle.coco_log.proofs.OnlyRead.{sees_weaker}
+use Rattle.coco_cluster.proofs.AroundLemmas.{gives_later, gives_spare, one_more, spare_then}
+use Rattle.coco_cluster.proofs.BehindLemmas.{behind_later}
+use Rattle.coco_cluster.proofs.SeeingLemmas.{OnlyNow, adds_none, adds_then, as_before, keeps_as, keeps_later, keeps_same, keeps_then, same_history, same_map}
+use Rattle.coco_cluster.proofs.WriteLemmas.{writes_then}
+use Rattle.coco_chief.specs.Shown.{chief_of}
+use Rattle.coco_finish.specs.Finishing.{HaveMap}
+use Rattle.coco_load.specs.RowMaps.{joined}
+use Rattle.coco_lost.specs.Reading.{KnowsCommitted}
+use Rattle.coco_members.specs.AtRest.{AreAtRest, NoneLost}
+use Rattle.coco_members.specs.Opened.{HoldTheirs}
+use Rattle.coco_types.specs.Limits.{epochs_end, most_partitions}
+use Rattle.coco_vote.specs.Taking.{HaveLogs}
+use Rattle.coco_store.specs.Rules.{Setting}
+use Rattle.coco_types.specs.RowKey.{RowKey}
+use Rattle.coco_types.specs.declared.value.Value.{Value}
+use Rattle.coco_kept.specs.Keeping.{Keeping}
+use Rattle.coco_members.specs.declared.members.Members.{Members}
 
--- the history of contents with a commit entry more
-history_grows : (c : Contents) (commit : Commit) → history_of (with_commit commit c) ≡ followed_by (history_of c) (epoch_of commit)
-history_grows c commit = ap (λ es. record (history_of c) { epochs = es }) (map-append epoch_of c.commits (commit ∷ []))
+-- ---- clusters that differ in room and trace alone
 
--- where a cluster stands doesn't hang on what its last turn left
-pub stands_untraced : (c : Contents) (k : ClusterState) → StandsAt c k → StandsAt c (without_trace k)
-stands_untraced c k stands = record {
-  one = stands.one;
-  procs = stands.procs;
-  dones = stands.dones;
-  floor = stands.floor;
-  keep = stands.keep;
-  map = stands.map;
-  partitions = stands.partitions;
-  chief = stands.chief;
-  node = stands.node;
-  held = stands.held;
-  next = stands.next;
+-- what belongs to the store is the same in both
+pub record SameStore (old new : Cluster) : Type 0 where
+  pub procs : new.procs ≡ old.procs
+  pub kept : new.kept ≡ old.kept
+  pub members : new.members ≡ old.members
+  pub base : new.base ≡ old.base
+  pub next : new.next_epoch ≡ old.next_epoch
+
+pub same_stands : (c : Contents) (old new : Cluster) → SameStore old new → StandsAt c old → StandsAt c new
+same_stands c old new same stands = record {
+  belongs = record {
+    procs = same.procs ∙ stands.belongs.procs;
+    dones = ap (λ (k : Keeping). k.dones) same.kept ∙ stands.belongs.dones;
+    floor = ap (λ (k : Keeping). k.floor) same.kept ∙ stands.belongs.floor;
+    keep = ap (λ (k : Keeping). k.keep) same.kept ∙ stands.belongs.keep;
+    layout = ap (λ (m : Members). m.tables.layout) same.members ∙ stands.belongs.layout;
+    base = stands.belongs.base ∙ ap (λ (b : Vec (List (RowKey × Value))). joined b.items) (sym same.base);
+    chief = subst (λ (m : Members). IsChiefLog c m.log) (sym same.members) stands.belongs.chief;
+    logs = subst (λ (m : Members). HaveLogs c m.voters.items) (sym same.members) stands.belongs.logs;
+    held = subst (λ (m : Members). HoldTheirs c.setting.entry.layout m.voters.items) (sym same.members) stands.belongs.held;
+    commits = subst (λ (m : Members). KnowsCommitted c (chief_of m.chief)) (sym same.members) stands.belongs.commits;
+  };
+  map = subst (λ (m : Members). HaveMap (map_in c) m.tables) (sym same.members) stands.map;
+  next = subst (IsBehindAll c) (sym same.next) stands.next;
 }
 
--- ---- the laws of runs, as they are called
+pub same_sound : (sent : List Posted) (old new : Cluster) → SameStore old new → IsSound old sent → IsSound new sent
+same_sound sent old new same sound = record {
+  rests = record {
+    keeps = subst (λ k. KeepsBelow k new.next_epoch) (sym same.kept) (subst (KeepsBelow old.kept) (sym same.next) sound.rests.keeps);
+    first = subst (λ n. 0 < n) (sym same.next) sound.rests.first;
+    end = subst (λ n. n ≤ epochs_end) (sym same.next) sound.rests.end;
+    base = subst (λ n. new.members.tables.layout.base_epoch < n) (sym same.next) (subst (λ (m : Members). m.tables.layout.base_epoch < old.next_epoch) (sym same.members) sound.rests.base);
+    partitions = subst (λ (m : Members). m.tables.layout.partitions ≤ most_partitions) (sym same.members) sound.rests.partitions;
+    rest = subst (λ n. AreAtRest n sent new.members) (sym same.next) (subst (λ (m : Members). AreAtRest old.next_epoch sent m) (sym same.members) sound.rests.rest);
+    unspent = ap (λ (m : Members). m.log.spent) same.members ∙ sound.rests.unspent;
+    stops = subst MayStop (sym same.members) sound.rests.stops;
+  };
+  whole = subst (λ (m : Members). NoneLost m.voters.items) (sym same.members) sound.whole;
+}
 
-abbrev RunsAreCommits : Type 0
-RunsAreCommits = (files : Files) (c : Contents) → IsGoodStore files c → (requests : List Request) (epoch : ℕ) → MayRun c requests epoch
-    → (dones : List Done) → AreRun c requests epoch dones → IsNextIn c requests (commit_of epoch dones)
+-- ---- numbers
 
-pub record RunsArePrepared : Type 0 where
-  pub may : (files : Files) (c : Contents) → IsGoodStore files c → (requests : List Request) (epoch : ℕ) → MayRun c requests epoch → (dones : List Done) → MayPrepareRun c requests epoch dones
-  pub ready : (files : Files) (c : Contents) → IsGoodStore files c → (requests : List Request) (epoch : ℕ) → MayRun c requests epoch → (dones : List Done) → HasRunReady c requests epoch dones
-
--- no more pass a test than there are
-few_pass : {X : Type 0} (p : X → Bool) (xs : List X) → length (filter p xs) ≤ length xs
-few_pass p xs = (let both = length-filter_both p (λ x. not (p x)) (λ x. refl) xs in omega (arith, both))
-
-zero_alone : (n : ℕ) → n < 1 → n ≡ 0
-zero_alone n less = omega (arith, less)
-
--- ---- a run on a cluster's shards
-
--- a cluster ran new requests: its shards, kept Dones, what is to be written, and what the workers left
-pub record HasRun (k : ClusterState) (requests : List Request) (workers attempts : ℕ) (shards : List ShardState) (now : Keeping) (dones : List Done) (rows : List Row) (trace : Traced) : Type 0 where
-  pub sound : IsSound k.kept k.shards k.chief k.node k.next_epoch k.spent
-  pub unspent : k.spent ≡ false
-  pub may : MayTurn k requests
-  pub below : k.next_epoch < epochs_end
-  pub some : 0 < length requests
-  pub count : length shards ≡ length k.shards
-  pub ran : (m : Rows) → HoldMap m k.shards → RanOn (beginning_at k m requests workers attempts) k.next_epoch k.held shards dones rows trace
-  pub few : length rows < 2 ^ 32
-  pub same : now ≡ record k.kept { room = now.room }
+some_of : (n : ℕ) → (n == 0) ≡ false → 0 < n
+some_of n not_none = grind (arith, nat_tests)
 
 pub none_of : (rs : List Request) (n : ℕ) → (n == 0) ≡ true → n ≡ length rs → rs ≡ []
 none_of [] n test len = refl
 none_of (r ∷ rs) n test len = (let none : n ≡ 0 = grind (arith, nat_tests) in absurd (omega (arith, none, len)))
 
-some_of : (n : ℕ) → (n == 0) ≡ false → 0 < n
-some_of n not_none = grind (arith, nat_tests)
+pub some_left : (rs : List Request) (n : ℕ) → (n == 0) ≡ false → n ≡ length rs → 0 < length rs
+some_left rs n test len = (let some = some_of n test in omega (arith, some, len))
 
-pub has_run : (k seen : ClusterState) (requests given : List Request) (workers attempts : ℕ) (config : EpochConfig) (shards : List ShardState) (held : List Bool) (now : Keeping) (dones : List Done) (rows : List Row) (trace : Traced)
-    → k ≡ seen → seen.spent ≡ false → IsSound k.kept k.shards k.chief k.node k.next_epoch k.spent → MayTurn seen requests → k.next_epoch < epochs_end
-    → (n : ℕ) → (n == 0) ≡ false → n ≡ length requests → config ≡ record { epoch = k.next_epoch; workers = workers; started = workers; attempts = attempts; nodes = 1; copies = 0 } → given ≡ requests → length shards ≡ length k.shards → held ≡ k.held
-    → ((m : Rows) → HoldMap m k.shards → RanOn (beginning_with k.procs m given k.shards config) config.epoch held shards dones rows trace) → length rows < 2 ^ 32 → now ≡ record k.kept { room = now.room }
-    → HasRun k requests workers attempts shards now dones rows trace
-has_run k seen requests given workers attempts config shards held now dones rows trace is unspent sound may below n not_none len one_node same count same_held ran few kept = record {
-  sound = sound;
-  unspent = ap (λ (s : ClusterState). s.spent) is ∙ unspent;
-  may = subst (λ (s : ClusterState). MayTurn s requests) (sym is) may;
-  below = below;
-  some = (let s = some_of n not_none in omega (arith, s, len));
-  count = count;
-  ran = λ m holds. subst (λ rs. RanOn (beginning_at k m rs workers attempts) k.next_epoch k.held shards dones rows trace) same
-      (subst (λ hs. RanOn (beginning_at k m given workers attempts) k.next_epoch hs shards dones rows trace) same_held
-      (subst (λ (told : EpochConfig). RanOn (beginning_with k.procs m given k.shards told) told.epoch held shards dones rows trace) one_node (ran m holds)));
-  few = few;
-  same = kept;
-}
+pub none_left : (rs : List Request) → 0 < length rs → rs ≡ [] → ⊥
+none_left rs some none = (let never_so : length rs ≡ 0 = ap (length {A = Request}) none in omega (arith, some, never_so))
 
--- the requests may be run
-pub may_work : (k seen : ClusterState) (requests : List Request) (workers attempts : ℕ) (config : EpochConfig) → k ≡ seen → seen.spent ≡ false → IsSound k.kept k.shards k.chief k.node k.next_epoch k.spent
-    → MayTurn seen requests → 0 < workers → 0 < attempts → config ≡ record { epoch = k.next_epoch; workers = workers; started = workers; attempts = attempts; nodes = 1; copies = 0 } → MayWork k.procs requests config k.shards
-may_work k seen requests workers attempts config is unspent sound may some_workers some_attempts one_node = subst (λ (told : EpochConfig). MayWork k.procs requests told k.shards) (sym one_node) (record {
-  some = sound.some;
-  most = sound.most;
-  holds = sound.holds (ap (λ (s : ClusterState). s.spent) is ∙ unspent);
-  fit = subst (λ (s : ClusterState). AllByRecursion (λ (r : Request). Fits s.procs r.call) requests) (sym is) may.fit;
-  few = may.few;
+one_epoch : (rs : List Request) → 0 < length rs → epochs_of rs ≡ 1
+one_epoch [] some = absurd (omega (arith, some))
+one_epoch (r ∷ rs) some = refl
+
+-- an attempt more, that was given up
+pub more_given : (n : ℕ) (a b c : Around) → AreGivenUp n a b → GivesUp b c → AreGivenUp (n + 1) a c
+more_given n a b c given more = subst (λ (m : ℕ). AreGivenUp m a c) (let next : suc n ≡ n + 1 = omega arith in next) (one_more n a b c given more)
+
+-- what was left of numbers goes on being enough
+pub few_until : (number next : ℕ) (a b c : Around) → 16 * number ≤ 16 * next + spare a b → IsLater a b → IsLater b c → 16 * number ≤ 16 * next + spare a c
+few_until number next a b c few first second = (let adds = spare_then a b c first second in omega (arith, few, adds))
+
+pub few_more : (number later next : ℕ) (a b c : Around) → 16 * number ≤ 16 * next + spare a b → IsLater a b → GivesUp b c → later ≤ number + 1 → 16 * later ≤ 16 * next + spare a c
+few_more number later next a b c few first gives up = (
+    let adds = spare_then a b c first (gives_later b c gives) in
+    let more = gives_spare b c gives in
+    omega (arith, few, adds, more, up))
+
+pub skips_few : (rs : List Request) (number later next : ℕ) (a c : Around) → 0 < length rs → 16 * number ≤ 16 * next + spare a c → later ≡ number + 1 → SkipsFew next later (epochs_of rs) (spare a c)
+skips_few rs number later next a c some few up = (let one = one_epoch rs some in omega (arith, few, up, one))
+
+-- ---- faults
+
+-- an attempt that failed may have committed its epoch
+may_have : (f : TurnFault) (disk disk_new : ℕ) → CountsAttempt {T = Unit {0}} (Err f) disk disk_new → MayHaveCommitted {T = Unit {0}} (Err f)
+may_have fault.Disk disk disk_new counts = tt
+may_have (fault.NotAStore file at) disk disk_new counts = tt
+may_have fault.NoMemory disk disk_new counts = tt
+may_have fault.Unreachable disk disk_new counts = absurd counts
+may_have fault.EpochsUsedUp disk disk_new counts = absurd counts
+
+ends_nothing : (f : TurnFault) (disk disk_new : ℕ) (c : Contents) (end : ℕ) (reads : Option Files) (may_leave : Files → Type 0) → CountsAttempt {T = Unit {0}} (Err f) disk disk_new → EndsWithout c end reads may_leave (Err f)
+ends_nothing fault.Disk disk disk_new c end reads may_leave counts = tt
+ends_nothing (fault.NotAStore file at) disk disk_new c end reads may_leave counts = tt
+ends_nothing fault.NoMemory disk disk_new c end reads may_leave counts = tt
+ends_nothing fault.Unreachable disk disk_new c end reads may_leave counts = absurd counts
+ends_nothing fault.EpochsUsedUp disk disk_new c end reads may_leave counts = absurd counts
+
+counts_one : (f : TurnFault) (next : ℕ) (a b : Around) (disk disk_new : ℕ) → CountsAttempt {T = Unit {0}} (Err f) disk disk_new → CountsTurn {T = Unit {0}} (Err f) next a b disk disk_new
+counts_one fault.Disk next a b disk disk_new counts = counts
+counts_one (fault.NotAStore file at) next a b disk disk_new counts = counts
+counts_one fault.NoMemory next a b disk disk_new counts = counts
+counts_one fault.Unreachable next a b disk disk_new counts = absurd counts
+counts_one fault.EpochsUsedUp next a b disk disk_new counts = absurd counts
+
+pub counts_failed : (turned : Result (Unit {0}) TurnFault) (f : TurnFault) (next : ℕ) (a b : Around) (first disk disk_new : ℕ) → turned ≡ Err f → disk ≡ first → CountsAttempt {T = Unit {0}} (Err f) disk disk_new → CountsTurn turned next a b first disk_new
+counts_failed turned f next a b first disk disk_new failed same counts = subst (λ (r : Result (Unit {0}) TurnFault). CountsTurn r next a b first disk_new) (sym failed)
+    (counts_one f next a b first disk_new (subst (λ n. CountsAttempt {T = Unit {0}} (Err f) n disk_new) same counts))
+
+pub not_used_up : (turned : Result (Unit {0}) TurnFault) (f : TurnFault) (disk disk_new : ℕ) → turned ≡ Err f → CountsAttempt {T = Unit {0}} (Err f) disk disk_new → turned ≢ Err fault.EpochsUsedUp
+not_used_up turned f disk disk_new failed counts is =
+    let used : f ≡ fault.EpochsUsedUp = cc in
+    subst (λ (e : TurnFault). CountsAttempt {T = Unit {0}} (Err e) disk disk_new) used counts
+
+-- ---- a turn's requests on a cluster that goes on
+
+pub may_still : (old k : Cluster) (requests left : List Request) → left ≡ requests → k.procs ≡ old.procs → k.kept ≡ record old.kept { room = k.kept.room } → MayTurn old requests → MayTurn k left
+may_still old k requests left same procs kept may = subst (MayTurn k) (sym same) (record {
+  fit = subst (λ ps. AllByRecursion (λ (r : Request). Fits ps r.call) requests) (sym procs) may.fit;
   distinct = may.distinct;
-  workers = some_workers;
-  attempts = some_attempts;
-  nodes = omega arith;
+  unkept = subst (λ (n : Keeping). AllByRecursion (λ (r : Request). done_of r.id n.dones ≡ None) requests) (sym kept) may.unkept;
+  above = subst (λ (n : Keeping). AreAbove n.floor (map (λ (r : Request). r.id) requests)) (sym kept) may.above;
+  few = may.few;
 })
 
--- and its epoch was ended
-pub record HasEnded (shards : List ShardState) (now : Keeping) (dones : List Done) (last : List ShardState) (end : Keeping) : Type 0 where
-  pub count : length last ≡ length shards
-  pub ends : (n : Rows) → AreOfPartitions shards → HaveNewest n shards → HoldMap n last
-  pub keep : end.keep ≡ now.keep
-  pub more : (before : Option ℕ) (added : List Done) → HoldsKept now before added → NeverFall (added ++ dones) → HoldsKept end before (added ++ dones)
+pub room_as : (c d : Contents) (requests left : List Request) → AddsOnlyPrepared c d → left ≡ requests → HasRoom c requests → HasRoom d left
+room_as c d requests left only same room = subst (HasRoom d) (sym same)
+    (subst (λ (s : Setting). HasRoomFor s.entry.keep (length (all_dones (history_of d)) + length requests)) (sym only.setting)
+    (subst (λ (h : History). HasRoomFor c.setting.entry.keep (length (all_dones h) + length requests)) (sym (same_history c d only)) room))
 
-pub has_ended : (shards mid : List ShardState) (now : Keeping) (dones : List Done) (last : List ShardState) (end : Keeping) → mid ≡ shards → length last ≡ length mid
-    → ((n : Rows) → AreOfPartitions mid → HaveNewest n mid → HoldMap n last) → end.keep ≡ now.keep
-    → ((before : Option ℕ) (added : List Done) → HoldsKept now before added → NeverFall (added ++ dones) → HoldsKept end before (added ++ dones)) → HasEnded shards now dones last end
-has_ended shards mid now dones last end same count ends keep more = record {
-  count = count ∙ ap length same;
-  ends = λ n partitions newest. ends n (subst AreOfPartitions (sym same) partitions) (subst (HaveNewest n) (sym same) newest);
-  keep = keep;
-  more = more;
+-- what was committed on it was committed on the one that the turn began with
+pub turned_first : (first k after : Cluster) (requests left : List Request) (workers attempts : ℕ) (m : Rows) → left ≡ requests → k.procs ≡ first.procs → k.members.tables.layout ≡ first.members.tables.layout → k.kept ≡ record first.kept { room = k.kept.room }
+    → HasTurned left workers attempts m k after → HasTurned requests workers attempts m first after
+turned_first first k after requests left workers attempts m same procs layout kept turned = record {
+  dones = turned.dones;
+  trace = turned.trace;
+  number = turned.number;
+  next = turned.next;
+  trace_is = turned.trace_is;
+  traced = subst (λ b. IsTraceOf b turned.number turned.dones turned.trace)
+      (ap (λ ps. record { procs = ps; opening = m; requests = left; partitions = k.members.tables.layout.partitions; workers = workers; attempts = attempts }) procs
+      ∙ ap (λ rs. record { procs = first.procs; opening = m; requests = rs; partitions = k.members.tables.layout.partitions; workers = workers; attempts = attempts }) same
+      ∙ ap (λ (l : Layout). record { procs = first.procs; opening = m; requests = requests; partitions = l.partitions; workers = workers; attempts = attempts }) layout) turned.traced;
+  kept = turned.kept ∙ ap (λ (n : Keeping). kept_of n.keep (n.dones ++ turned.dones)) kept;
 }
 
-fit_all : (epoch : ℕ) (before : Option Done) (ds : List Done) → AllByRecursion (λ (d : Done). d.epoch ≡ epoch) ds → FitInTurn (λ _ (d : Done). d.epoch ≡ epoch) before ds
-fit_all epoch before [] all = tt
-fit_all epoch before (d ∷ ds) all = (all.0, fit_all epoch (Some d) ds all.1)
-
-module _ (k : ClusterState) (requests : List Request) (workers attempts : ℕ) (shards : List ShardState) (now : Keeping) (dones : List Done) (rows : List Row) (trace : Traced) (run : HasRun k requests workers attempts shards now dones rows trace) where
-  abbrev m : Rows
-  m = (run.sound.holds run.unspent).0
-
-  ran : RanOn (beginning_at k m requests workers attempts) k.next_epoch k.held shards dones rows trace
-  ran = run.ran m (run.sound.holds run.unspent).1
-
-  keeps : KeepsBelow now k.next_epoch
-  keeps = same_kept k.kept now k.next_epoch (ap (λ (n : Keeping). n.dones) run.same) (ap (λ (n : Keeping). n.floor) run.same) (ap (λ (n : Keeping). n.keep) run.same) run.sound.keeps
-
-  unkept : AllByRecursion (λ (r : Request). done_of r.id now.dones ≡ None) requests
-  unkept = subst (λ ds. AllByRecursion (λ (r : Request). done_of r.id ds ≡ None) requests) (sym (ap (λ (n : Keeping). n.dones) run.same)) run.may.unkept
-
-  pub follow : MayFollow now dones
-  follow = may_follow requests k.next_epoch dones ran.worked.serial.each run.may.distinct now keeps unkept
-
-  pub entries : AreEntries k.next_epoch rows dones
-  entries = record {
-    few_rows = run.few;
-    few_dones = (let same = as_many requests k.next_epoch dones ran.worked.serial.each run.may.distinct in let few = run.may.few in omega (arith, same, few));
-    rise = ran.last.rising;
-    numbered = fit_all k.next_epoch None dones ran.worked.serial.each.numbered;
-  }
-
-  -- a revert gives back the shards
-  pub reverts : (mid back : List ShardState) → mid ≡ shards → length back ≡ length mid → ((n : Rows) → AreOfPartitions mid → HaveStable n mid → HoldMap n back) → back ≡ k.shards
-  reverts mid back same as_many holds = given_back m k.shards shards mid back (run.sound.holds run.unspent).1 run.count ran.worked.serial.partitions ran.worked.serial.stable same as_many (holds m)
-
-  -- the epoch is over
-  module _ (last : List ShardState) (end : Keeping) (over : HasEnded shards now dones last end) where
-    pub sound_then : (tables : List ShardState) → tables ≡ last → (chief node : LogState) → chief.file ≡ k.chief.file → node.file ≡ k.node.file → (node.spent ≡ false) × (chief.spent ≡ false)
-        → IsSound end tables chief node (k.next_epoch + 1) false
-    sound_then tables same chief node chief_file node_file unspent = subst (λ ts. IsSound end ts chief node (k.next_epoch + 1) false) (sym same) (record {
-      some = (let s = run.sound.some in omega (arith, s, over.count, run.count));
-      most = (let s = run.sound.most in omega (arith, s, over.count, run.count));
-      keeps = keeps_on requests k.next_epoch dones ran.worked.serial.each run.may.distinct now keeps end over.keep over.more unkept;
-      first = omega arith;
-      end = (let b = run.below in omega (arith, b));
-      holds = λ _. (rows_after k.procs m dones, over.ends (rows_after k.procs m dones) ran.worked.serial.partitions ran.worked.serial.newest);
-      unspent = λ _. (unspent.1, unspent.0);
-      apart = λ one. run.sound.apart (sym chief_file ∙ one ∙ node_file);
-    })
-
-    kept_then : end.dones ≡ kept_of k.kept.keep (k.kept.dones ++ dones)
-    kept_then = kept_now requests k.next_epoch dones ran.worked.serial.each run.may.distinct now keeps end over.keep over.more
-        ∙ ap (λ (n : Keeping). kept_of n.keep (n.dones ++ dones)) run.same
-
-    -- no more are kept than were, and those of the epoch
-    pub few_then : length end.dones ≤ length k.kept.dones + length requests
-    few_then =
-        let same = as_many requests k.next_epoch dones ran.worked.serial.each run.may.distinct in
-        let passed = few_pass (is_held k.kept.keep (k.kept.dones ++ dones)) (k.kept.dones ++ dones) in
-        omega (arith, same, passed, ap (length {A = Done}) kept_then, length-append k.kept.dones dones)
-
-    -- the cluster has turned from the map that its shards held
-    pub turned_from : (seen after : ClusterState) → k ≡ seen → after.next_epoch ≡ k.next_epoch + 1 → after.trace ≡ Some trace → after.kept ≡ end → after.shards ≡ last → (from : Rows) → HoldMap from seen.shards → HasTurned requests workers attempts from seen after
-    turned_from seen after is next trace_is kept tables from holds =
-        let here = run.ran from (subst (λ (s : ClusterState). HoldMap from s.shards) (sym is) holds) in
-        subst (λ (s : ClusterState). HasTurned requests workers attempts from s after) is (record {
-          dones = dones;
-          trace = trace;
-          number = k.next_epoch;
-          next = next;
-          trace_is = trace_is;
-          traced = here.worked.traced;
-          kept = ap (λ (n : Keeping). n.dones) kept ∙ kept_then;
-          map = subst (HoldMap (rows_after k.procs from dones)) (sym tables) (over.ends (rows_after k.procs from dones) here.worked.serial.partitions here.worked.serial.newest);
-        })
-
-    floor_then : end.floor ≡ floor_of k.kept.keep k.kept.floor (k.kept.dones ++ dones)
-    floor_then = floor_now requests k.next_epoch dones ran.worked.serial.each run.may.distinct now keeps end over.keep over.more
-        ∙ ap (λ (n : Keeping). floor_of n.keep n.floor (n.dones ++ dones)) run.same
-
--- a fault of the logs leaves open what is committed
-may_have_committed : (f : LogFault) → MayHaveCommitted {T = Unit {0}} (Err (turn_fault_of f))
-may_have_committed log.Disk = tt
-may_have_committed log.NoMemory = tt
-may_have_committed (log.NotALog at) = tt
-
--- ---- where nothing was written
+-- ---- what is told of the store
 
 module _ {H : Type 0} (moment : H → ℕ) (observed : H → ℕ → Observation → Type 0) (said : H → Option (List ℕ)) (reads : H → Option Files) (may_leave : H → Files → Type 0) where
-  abbrev pub OnlyNow : Type 0
-  OnlyNow = (host : H) (seen : Observation) → observed host (moment host) seen → may_leave host seen.image × (said host ≡ Some seen.said)
+  -- so far all attempts were given up: the cluster stands at contents with prepared entries more
+  pub record GoesOn (c : Contents) (k : Cluster) (first now : H) : Type 0 where
+    pub on : StandsOn c k (reads now) (may_leave now)
+    pub keeps : Keeps moment observed said reads may_leave c (k.next_epoch + 1) first now
 
-  pub unmoved : OnlyNow → (c : Contents) (end : ℕ) (host : H) → RestsOn c (reads host) (may_leave host) → IsBehindAll c end → SeesOnly moment observed host host (ShowsHistory c.setting (history_of c) end (said host))
-  unmoved only_now c end host rests below = started moment observed host (ShowsHistory c.setting (history_of c) end (said host)) (λ seen since.
-      let now = only_now host seen since in
-      (record { contents = c; setting = refl; good = rests.left seen.image now.0; history = refl; below = below }, now.1))
-
-  rests_so : (result : Result (Unit {0}) TurnFault) (c : Contents) (end : ℕ) (host : H) → RestsOn c (reads host) (may_leave host) → IsBehindAll c end → EndsWithout c end (reads host) (may_leave host) result
-  rests_so (Ok x) c end host rests below = tt
-  rests_so (Err fault.Disk) c end host rests below = tt
-  rests_so (Err fault.NoMemory) c end host rests below = tt
-  rests_so (Err fault.Unreachable) c end host rests below = (c, record { earlier = refl; setting = refl; base = refl; commits = refl; prepared = λ n. ([], sym (append-nil (c.prepared n))) }, below, rests)
-  rests_so (Err fault.EpochsUsedUp) c end host rests below = (c, record { earlier = refl; setting = refl; base = refl; commits = refl; prepared = λ n. ([], sym (append-nil (c.prepared n))) }, below, rests)
-
-  pub untouched : OnlyNow → (result : Result (Unit {0}) TurnFault) (requests : List Request) (spare : ℕ) (c : Contents) (before : ClusterState) (host : H) → RestsOn c (reads host) (may_leave host) → StandsAt c before
-      → OnOk result (requests ≡ []) → KeepsHistory moment observed said reads may_leave result requests before.next_epoch spare c host host
-  untouched only_now result requests spare c before host rests stands ok =
-      let later = behind_later c before.next_epoch (before.next_epoch + 1) (omega arith) stands.next in
+  pub goes_first : OnlyNow moment observed said reads may_leave → (c : Contents) (old k : Cluster) (host : H) → SameStore old k → RestsOn c (reads host) (may_leave host) → StandsAt c old → GoesOn c k host host
+  goes_first only_now c old k host same rests stands =
+      let now = same_stands c old k same stands in
       record {
-        number = before.next_epoch;
-        taken = record { low = omega arith; few = omega arith };
-        ok = ok;
-        moments = unmoved only_now c (before.next_epoch + 1) host rests later;
-        left = λ bytes spoke image leaves. record { contents = c; setting = refl; good = rests.left image leaves; history = refl; below = later };
-        others = writes_none c.setting (reads host) (reads host) (may_leave host) (may_leave host) refl (λ image leaves. leaves);
-        ends = rests_so result c before.next_epoch host rests stands.next;
+        on = record { d = c; only = adds_none c; rests = rests; stands = now };
+        keeps = keeps_same moment observed said reads may_leave only_now c (k.next_epoch + 1) host rests (behind_later c k.next_epoch (k.next_epoch + 1) (omega arith) now.next);
       }
 
--- ---- on a host that rests on the store
+  -- what is told of contents with prepared entries more is told of those before
+  begins_as : (c d : Contents) (requests : List Request) (workers attempts : ℕ) → AddsOnlyPrepared c d → beginning_on d requests workers attempts ≡ beginning_on c requests workers attempts
+  begins_as c d requests workers attempts only =
+      ap (λ (s : Setting). record { procs = s.tree; opening = map_in d; requests = requests; partitions = s.entry.layout.partitions; workers = workers; attempts = attempts }) only.setting
+      ∙ ap (λ m. record { procs = c.setting.tree; opening = m; requests = requests; partitions = c.setting.entry.layout.partitions; workers = workers; attempts = attempts }) (same_map c d only)
 
-module _ {H : Type 0} (moment : H → ℕ) (observed : H → ℕ → Observation → Type 0) (said : H → Option (List ℕ)) (reads : H → Option Files) (may_leave : H → Files → Type 0) (old : H)
-    (commits : RunsAreCommits) (prepares : RunsArePrepared)
-    (k : ClusterState) (requests : List Request) (workers attempts spare : ℕ) (shards : List ShardState) (now : Keeping) (dones : List Done) (rows : List Row) (trace : Traced)
-    (run : HasRun k requests workers attempts shards now dones rows trace)
-    (seen_as : ClusterState) (view_is : k ≡ seen_as) (c : Contents) (rests : RestsOn c (reads old) (may_leave old)) (stands_so : StandsAt c seen_as) (room : HasRoom c requests) where
-  stands : StandsAt c k
-  stands = subst (StandsAt c) (sym view_is) stands_so
-
-  abbrev epoch : ℕ
-  epoch = k.next_epoch
-
-  abbrev h : History
-  h = history_of c
-
-  abbrev e : Epoch
-  e = record { number = epoch; dones = dones }
-
-  abbrev d : Contents
-  d = with_epoch epoch rows dones c
-
-  ran_here : RanOn (beginning_at k (map_in c) requests workers attempts) epoch k.held shards dones rows trace
-  ran_here = run.ran (map_in c) stands.map
-
-  may_run : MayRun c requests epoch
-  may_run = record {
-    new = record {
-      distinct = run.may.distinct;
-      unkept = subst (λ ds. AllByRecursion (λ (r : Request). done_of r.id ds ≡ None) requests) stands.dones run.may.unkept;
-      above = subst (λ f. AreAbove f (map (λ (r : Request). r.id) requests)) stands.floor run.may.above;
-    };
-    fit = subst (λ ps. AllByRecursion (λ (r : Request). Fits ps r.call) requests) stands.procs run.may.fit;
-    some = run.some;
-    few = run.may.few;
-    room = room;
-    next = record {
-      above_base = stands.next.base;
-      rises = all_map (λ (x : Commit). x.epoch) (λ n. n < epoch) c.commits stands.next.commits;
-      below_end = run.below;
-    };
+  grown_as : (c d e : Contents) (requests : List Request) (workers attempts number : ℕ) (trace : Traced) → AddsOnlyPrepared c d → Grown requests workers attempts number trace d e → Grown requests workers attempts number trace c e
+  grown_as c d e requests workers attempts number trace only grown = record {
+    setting = grown.setting ∙ only.setting;
+    base = grown.base ∙ only.base;
+    e = grown.e;
+    number = grown.number;
+    traced = subst (λ b. IsTraceOf b number grown.e.dones trace) (begins_as c d requests workers attempts only) grown.traced;
+    history = grown.history ∙ ap (λ h. followed_by h grown.e) (same_history c d only);
+    grows = subst (λ h. GrowsBy h requests (history_of e)) (same_history c d only) grown.grows;
+    below = grown.below;
   }
 
-  is_next : IsNextIn c requests (commit_of epoch dones)
-  is_next = commits rests.files c rests.good requests epoch may_run dones (record {
-    each = ran_here.worked.serial.each;
-    early = ran_here.worked.serial.early;
-    replies = subst (λ ps. RepliesAreRuns ps (map_in c) dones) stands.procs ran_here.worked.serial.replies;
-    times = ran_here.worked.serial.times;
-  })
+  store_as : (c d : Contents) (h : History) (end : ℕ) (files : Files) → d.setting ≡ c.setting → IsStoreOf d.setting h end files → IsStoreOf c.setting h end files
+  store_as c d h end files same store = record { contents = store.contents; setting = store.setting ∙ same; good = store.good; history = store.history; below = store.below }
 
-  pieces_are : ran_here.pieces ≡ pieces_in c requests dones
-  pieces_are =
-      ran_here.worked.serial.pieces ∙ ap (λ n. pieces_of k.procs n requests (map_in c) dones) (run.count ∙ stands.partitions)
-      ∙ ap (λ ps. pieces_of ps c.setting.entry.layout.partitions requests (map_in c) dones) stands.procs
+  module _ (c : Contents) (k after : Cluster) (first mid last : H) (goes : GoesOn c k first mid) (requests : List Request) (workers attempts : ℕ) (result : Result (Option (Vec Request)) TurnFault) where
+    abbrev d : Contents
+    d = goes.on.d
 
-  last_writes : AreLastWrites k.held (pieces_in c requests dones) rows
-  last_writes = subst (λ ps. AreLastWrites k.held ps rows) pieces_are ran_here.last
+    same : history_of d ≡ history_of c
+    same = same_history c d goes.on.only
 
-  prepare : IsPrepared (prepared_of epoch rows) → MayPrepare c 0 (prepared_of epoch rows)
-  prepare is = prepares.may rests.files c rests.good requests epoch may_run dones 0 (omega (arith, stands.one)) (record {
-    above_base = stands.next.base;
-    rises = all_map (λ (x : Prepared). x.epoch) (λ n. n < epoch) (c.prepared 0) stands.next.prepared;
-    below_end = run.below;
-  }) k.held stands.held rows last_writes is
+    keeps_more : KeepsOn moment observed said reads may_leave result d k after mid last → Keeps moment observed said reads may_leave c (k.next_epoch + 1) first last
+    keeps_more keeps = keeps_then moment observed said reads may_leave c (k.next_epoch + 1) first mid last goes.keeps
+        (keeps_as moment observed said reads may_leave c d (k.next_epoch + 1) mid last goes.on.only.setting same keeps.keeps)
 
-  ready : HasReady (with_rows epoch rows c) (commit_of epoch dones) 0
-  ready = prepares.ready rests.files c rests.good requests epoch may_run dones 0 (omega (arith, stands.one)) k.held stands.held rows last_writes (with_rows epoch rows c) refl refl refl (c.prepared 0) [] refl
+    -- one more was given up
+    pub goes_more : (rs : Vec Request) → result ≡ Ok (Some rs) → k.next_epoch ≤ after.next_epoch → AttemptsOn moment observed said reads may_leave result requests workers attempts d k after mid last → GoesOn c after first last
+    goes_more rs is low attempts_on = ⊎_elim
+        (λ keeps.
+        let more = (keeps.again (Some rs) is).1 in
+        record {
+          on = record { d = more.d; only = adds_then c d more.d goes.on.only more.only; rests = more.rests; stands = more.stands };
+          keeps = keeps_later moment observed said reads may_leave c (k.next_epoch + 1) (after.next_epoch + 1) first last (omega (arith, low)) (keeps_more keeps);
+        })
+        (λ commits. let never_so : Some rs ≡ None = (commits.ok (Some rs) is).0 in absurd (cc)) attempts_on
 
-  commit : IsCommit (commit_of epoch dones) → MayCommit (with_rows epoch rows c) (commit_of epoch dones)
-  commit is = record {
-    is = is;
-    next = is_next.next;
-    ordered = is_next.ordered;
-    serial = is_next.serial;
-    ready = λ n less. subst (HasReady (with_rows epoch rows c) (commit_of epoch dones)) (sym (zero_alone n (omega (arith, less, stands.one)))) ready;
+    -- ---- the turn ends
+
+    module _ (old : Cluster) (spare : ℕ) (low : old.next_epoch ≤ k.next_epoch) (few : 16 * k.next_epoch ≤ 16 * old.next_epoch + spare) where
+      taken : IsTaken old.next_epoch k.next_epoch spare
+      taken = record { low = low; few = omega (arith, few) }
+
+      kept_history : (turned : Result (Unit {0}) TurnFault) → ((x : Unit {0}) → turned ≡ Ok x → ⊥) → EndsWithout c k.next_epoch (reads last) (may_leave last) turned → Keeps moment observed said reads may_leave c (k.next_epoch + 1) first last
+          → KeepsHistory moment observed said reads may_leave turned requests old.next_epoch spare c first last
+      kept_history turned failed ends keeps = record {
+        number = k.next_epoch;
+        taken = taken;
+        ok = never turned failed;
+        moments = keeps.moments;
+        left = keeps.left;
+        others = keeps.others;
+        ends = ends;
+      }
+        where
+          never : (r : Result (Unit {0}) TurnFault) → ((x : Unit {0}) → r ≡ Ok x → ⊥) → OnOk r (requests ≡ [])
+          never (Ok x) fails = absurd (fails x refl)
+          never (Err e) fails = tt
+
+      turns_so : (turned : Result (Unit {0}) TurnFault) → MayHaveCommitted turned → (commits : CommitsOn moment observed said reads may_leave result requests workers attempts d k after mid last)
+          → OnOk turned (RestsOn commits.d (reads last) (may_leave last) × StandsAt commits.d after × (option_map traced after.trace ≡ Some commits.trace) × (after.next_epoch ≡ k.next_epoch + 1))
+          → Turns moment observed said reads may_leave turned requests workers attempts spare c old after first last
+      turns_so turned may commits ok = record {
+        may = may;
+        d = commits.d;
+        trace = commits.trace;
+        number = k.next_epoch;
+        taken = taken;
+        grown = grown_as c d commits.d requests workers attempts k.next_epoch commits.trace goes.on.only commits.grown;
+        ok = ok;
+        moments = sees_then moment observed first mid last (ShowsStore c.setting (history_of c) (history_of commits.d) (k.next_epoch + 1) (said first)) (ShowsStore d.setting (history_of d) (history_of commits.d) (k.next_epoch + 1) (said mid))
+            (sees_weaker moment observed first mid (ShowsHistory c.setting (history_of c) (k.next_epoch + 1) (said first)) (ShowsStore c.setting (history_of c) (history_of commits.d) (k.next_epoch + 1) (said first))
+            (λ seen shows. record { store = inl shows.0; said = shows.1 }) goes.keeps.moments)
+            commits.moments
+            (λ seen shows. record { store = one_of seen.image shows.store; said = sym goes.keeps.quiet ∙ shows.said });
+        left = λ bytes spoke image leaves. one_of image (commits.left bytes (goes.keeps.quiet ∙ spoke) image leaves);
+        others = writes_then c.setting (reads first) (reads mid) (reads last) (may_leave first) (may_leave mid) (may_leave last) goes.keeps.others
+            (subst (λ s. WritesLogs s (reads mid) (reads last) (may_leave mid) (may_leave last)) goes.on.only.setting commits.others);
+      }
+        where
+          one_of : (files : Files) → IsStoreOf d.setting (history_of d) (k.next_epoch + 1) files ⊎ IsStoreOf d.setting (history_of commits.d) (k.next_epoch + 1) files
+              → IsStoreOf c.setting (history_of c) (k.next_epoch + 1) files ⊎ IsStoreOf c.setting (history_of commits.d) (k.next_epoch + 1) files
+          one_of files one = ⊎_elim (λ was. inl (as_before c d (k.next_epoch + 1) files goes.on.only.setting same was)) (λ now. inr (store_as c d (history_of commits.d) (k.next_epoch + 1) files goes.on.only.setting now)) one
+
+      -- since the epoch was committed
+      pub ends_committed : result ≡ Ok None → AttemptsOn moment observed said reads may_leave result requests workers attempts d k after mid last
+          → KeepsHistory moment observed said reads may_leave (Ok tt) requests old.next_epoch spare c first last ⊎ Turns moment observed said reads may_leave (Ok tt) requests workers attempts spare c old after first last
+      ends_committed is attempts_on = ⊎_elim
+          (λ keeps. let some = (keeps.again None is).0 in let never_so : None ≡ Some some.0 = some.1 in absurd (cc))
+          (λ commits. let o = commits.ok None is in inr (turns_so (Ok tt) tt commits (o.1, o.2, o.3, o.4))) attempts_on
+
+      -- since an attempt failed
+      pub ends_failed : (turned : Result (Unit {0}) TurnFault) (f : TurnFault) (disk disk_new : ℕ) → turned ≡ Err f → CountsAttempt {T = Unit {0}} (Err f) disk disk_new → AttemptsOn moment observed said reads may_leave result requests workers attempts d k after mid last
+          → KeepsHistory moment observed said reads may_leave turned requests old.next_epoch spare c first last ⊎ Turns moment observed said reads may_leave turned requests workers attempts spare c old after first last
+      ends_failed turned f disk disk_new failed counts attempts_on =
+          subst (λ (r : Result (Unit {0}) TurnFault). KeepsHistory moment observed said reads may_leave r requests old.next_epoch spare c first last ⊎ Turns moment observed said reads may_leave r requests workers attempts spare c old after first last) (sym failed)
+          (⊎_elim
+          (λ keeps. inl (kept_history (Err f) (λ x is. let never_so : Err f ≡ Ok x = is in absurd (cc)) (ends_nothing f disk disk_new c k.next_epoch (reads last) (may_leave last) counts) (keeps_more keeps)))
+          (λ commits. inr (turns_so (Err f) (may_have f disk disk_new counts) commits tt)) attempts_on)
+
+  -- since there was nothing to do, the nodes are unreachable, or no number is left
+  pub ends_without : (c : Contents) (k old : Cluster) (first now : H) (spare : ℕ) (requests : List Request) → GoesOn c k first now → old.next_epoch ≤ k.next_epoch → 16 * k.next_epoch ≤ 16 * old.next_epoch + spare
+      → (turned : Result (Unit {0}) TurnFault) → OnOk turned (requests ≡ []) → (RestsWithout c k.next_epoch (reads now) (may_leave now) → EndsWithout c k.next_epoch (reads now) (may_leave now) turned)
+      → KeepsHistory moment observed said reads may_leave turned requests old.next_epoch spare c first now
+  ends_without c k old first now spare requests goes low few turned nothing ends = record {
+    number = k.next_epoch;
+    taken = record { low = low; few = omega (arith, few) };
+    ok = nothing;
+    moments = goes.keeps.moments;
+    left = goes.keeps.left;
+    others = goes.keeps.others;
+    ends = ends (goes.on.d, goes.on.only, goes.on.stands.next, goes.on.rests);
   }
-
-  may_store : MayStore c epoch rows dones k.node k.chief (reads old) (may_leave old)
-  may_store = record { rests = rests; node = stands.node; chief = stands.chief; prepare = prepare; commit = commit }
-
-  history_is : history_of d ≡ followed_by h e
-  history_is = history_grows (with_rows epoch rows c) (commit_of epoch dones)
-
-  begins_there : beginning_at k (map_in c) requests workers attempts ≡ beginning_on c requests workers attempts
-  begins_there =
-      ap (λ ps. record (beginning_at k (map_in c) requests workers attempts) { procs = ps }) stands.procs
-      ∙ ap (λ n. record (beginning_on c requests workers attempts) { partitions = n }) stands.partitions
-
-  grown : Grown requests workers attempts epoch trace c d
-  grown = record {
-    setting = refl;
-    base = refl;
-    e = e;
-    number = refl;
-    traced = subst (λ b. IsTraceOf b epoch dones trace) begins_there ran_here.worked.traced;
-    history = history_is;
-    grows = subst (GrowsBy h requests) (sym history_is) is_next.grown;
-    below = behind_epoch c epoch rows dones stands.next;
-  }
-
-  -- ---- what is seen
-
-  store_of : (image : Files) → IsOneOf epoch rows dones c image → IsStoreOf c.setting h (epoch + 1) image ⊎ IsStoreOf c.setting (history_of d) (epoch + 1) image
-  store_of image one = ⊎_elim (λ was. inl (record { contents = c; setting = refl; good = was; history = refl; below = behind_later c epoch (epoch + 1) (omega arith) stands.next }))
-      (λ more. ⊎_elim (λ prepared. inl (record { contents = with_rows epoch rows c; setting = refl; good = prepared; history = refl; below = behind_rows c epoch rows stands.next }))
-      (λ both. inr (record { contents = d; setting = refl; good = both; history = refl; below = behind_epoch c epoch rows dones stands.next })) more) one
-
-  shows_store : (bytes : Option (List ℕ)) (seen : Observation) → ShowsOneOf epoch rows dones c bytes seen → ShowsStore c.setting h (history_of d) (epoch + 1) bytes seen
-  shows_store bytes seen shows = record { store = store_of seen.image shows.store; said = shows.said }
-
-  -- ---- the turn, where its entries were to be appended
-
-  module _ (stored : Result (Unit {0}) LogFault) (new : H) (given_rows : List Row) (given_dones : List Done) (same_rows : given_rows ≡ rows) (same_dones : given_dones ≡ dones)
-      (stores : MayStore c epoch given_rows given_dones k.node k.chief (reads old) (may_leave old) → Stores moment observed said reads may_leave stored epoch given_rows given_dones c old new) where
-    abbrev Storing : List Row → List Done → Type 0
-    Storing rs ds = MayStore c epoch rs ds k.node k.chief (reads old) (may_leave old) → Stores moment observed said reads may_leave stored epoch rs ds c old new
-
-    are_stored : Stores moment observed said reads may_leave stored epoch rows dones c old new
-    are_stored = subst (λ rs. Storing rs dones) same_rows (subst (λ ds. Storing given_rows ds) same_dones stores) may_store
-
-    turned : (result : Result (Unit {0}) TurnFault) (after : ClusterState) → MayHaveCommitted result → OnOk result (RestsOn d (reads new) (may_leave new) × StandsAt d after × (after.trace ≡ Some trace) × (after.next_epoch ≡ epoch + 1))
-        → Turns moment observed said reads may_leave result requests workers attempts spare c seen_as after old new
-    turned result after may ok = subst (λ (s : ClusterState). Turns moment observed said reads may_leave result requests workers attempts spare c s after old new) view_is (record {
-      may = may;
-      d = d;
-      trace = trace;
-      number = epoch;
-      taken = record { low = omega arith; few = omega arith };
-      grown = grown;
-      ok = ok;
-      moments = sees_weaker moment observed old new (ShowsOneOf epoch rows dones c (said old)) (ShowsStore c.setting h (history_of d) (epoch + 1) (said old)) (shows_store (said old)) are_stored.moments;
-      left = λ bytes spoke image leaves. store_of image (are_stored.left bytes spoke image leaves);
-      others = are_stored.others;
-    })
-
-    pub failed : (result : Result (Unit {0}) TurnFault) (fault : LogFault) (after : ClusterState) → result ≡ Err (turn_fault_of fault) → Turns moment observed said reads may_leave result requests workers attempts spare c seen_as after old new
-    failed result fault after is = turned result after (subst MayHaveCommitted (sym is) (may_have_committed fault)) (no_ok result (turn_fault_of fault) _ is)
-
-    module _ (last : List ShardState) (end : Keeping) (over : HasEnded shards now dones last end) where
-      module _ (chief node : LogState) (chief_same : (chief.file ≡ k.chief.file) × (chief.kind ≡ k.chief.kind)) (node_same : (node.file ≡ k.node.file) × (node.kind ≡ k.node.kind)) where
-        abbrev after : List ShardState → ClusterState
-        after tables = record { procs = k.procs; kept = end; shards = tables; chief = chief; node = node; held = k.held; next_epoch = epoch + 1; trace = Some trace; spent = false }
-
-        stands_then : StandsAt d (after last)
-        stands_then = record {
-          one = stands.one;
-          procs = stands.procs;
-          dones = kept_then k requests workers attempts shards now dones rows trace run last end over ∙ ap (λ n. kept_of n (k.kept.dones ++ dones)) stands.keep ∙ ap (λ ds. kept_of h.keep (ds ++ dones)) stands.dones
-              ∙ sym (follows c.setting.tree h e).held ∙ ap kept (sym history_is);
-          floor = floor_then k requests workers attempts shards now dones rows trace run last end over ∙ ap (λ n. floor_of n k.kept.floor (k.kept.dones ++ dones)) stands.keep
-              ∙ ap (λ f. floor_of h.keep f (k.kept.dones ++ dones)) stands.floor
-              ∙ ap (λ ds. floor_of h.keep (floor h) (ds ++ dones)) stands.dones ∙ sym (follows c.setting.tree h e).forgotten ∙ ap floor (sym history_is);
-          keep = over.keep ∙ ap (λ (n : Keeping). n.keep) run.same ∙ stands.keep;
-          map = subst (λ n. HoldMap n last)
-              (ap (λ ps. rows_after ps (map_in c) dones) stands.procs ∙ sym (follows c.setting.tree h e).rows ∙ ap (map_of c.setting.tree) (sym history_is))
-              (over.ends (rows_after k.procs (map_in c) dones) ran_here.worked.serial.partitions ran_here.worked.serial.newest);
-          partitions = over.count ∙ run.count ∙ stands.partitions;
-          chief = record { file = chief_same.0 ∙ stands.chief.file; kind = chief_same.1 ∙ stands.chief.kind };
-          node = record { file = node_same.0 ∙ stands.node.file; kind = node_same.1 ∙ stands.node.kind };
-          held = stands.held;
-          next = behind_epoch c epoch rows dones stands.next;
-        }
-
-        pub succeeded : (tables : List ShardState) → tables ≡ last → stored ≡ Ok tt → Turns moment observed said reads may_leave (Ok tt) requests workers attempts spare c seen_as (after tables) old new
-        succeeded tables same is = turned (Ok tt) (after tables) tt (at_ok stored tt (RestsOn d (reads new) (may_leave new)) is are_stored.ok, subst (λ ts. StandsAt d (after ts)) (sym same) stands_then, refl, refl)

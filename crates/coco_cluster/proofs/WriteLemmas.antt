@@ -1,13 +1,17 @@
 -- Which files are written, from call to call.
-use Rattle.std.proofs.Common.{◌≡◌, ◌==◌, ◌||◌, ℕ, Bool, true, false, List, Option, Some, None, refl, sym, subst, ◌∙◌, arith}
-use Rattle.std.specs.List.{list_any}
+use Rattle.std.proofs.Common.{◌≡◌, ◌==◌, ◌||◌, ℕ, ◌<◌, ◌≤◌, length, ap, Bool, true, false, List, Option, Some, None, refl, sym, subst, ◌∙◌, arith}
+use Rattle.std.specs.List.{list_any, slice_get}
+use Rattle.std.proofs.lemmas.List.Folds.{list_any_at}
+use Rattle.std.proofs.lemmas.Option.{slice_get_within}
 use Rattle.std.proofs.lemmas.Bool.Decides.{nat_tests}
 use Rattle.coco_host.specs.Files.{Files, Become, Follows, NoMore}
 use Rattle.coco_log.specs.Changes.{SameBesides}
 use Rattle.coco_log.specs.LogState.{SameBut}
 use Rattle.coco_log.proofs.Changing.{become_wider, besides_one}
-use Rattle.coco_store.specs.Contents.{chief_of, file_of}
+use Rattle.coco_letters.specs.declared.voter.Voter.{Voter}
+use Rattle.coco_store.specs.Contents.{Contents, chief_of, file_of}
 use Rattle.coco_store.specs.Rules.{Setting}
+use Rattle.coco_vote.specs.Taking.{HaveLogs, SameElsewhere}
 use Rattle.coco_cluster.specs.Writing.{WritesLogs, written_files}
 
 become_then : (named : List ℕ) (a b c : Option Files) → Become (SameBesides named) a b → Become (SameBesides named) b c → Become (SameBesides named) a c
@@ -38,11 +42,10 @@ module _ (s : Setting) where
   chief_named : (file : ℕ) → file ≡ chief_of s → list_any (λ n. n == file) named ≡ true
   chief_named file is = subst (λ (f : ℕ). list_any (λ n. n == f) named ≡ true) (sym is) (first_true (chief_of s == chief_of s) _ (is_itself (chief_of s)))
 
-  node_named : (file : ℕ) → file ≡ file_of s 0 → list_any (λ n. n == file) named ≡ true
-  node_named file is = subst (λ (f : ℕ). list_any (λ n. n == f) named ≡ true) (sym is)
-      (then_true (chief_of s == file_of s 0) _ (first_true (file_of s 0 == file_of s 0) false (is_itself (file_of s 0))))
+  node_named : (n : ℕ) → n < length s.entry.layout.node_files → list_any (λ f. f == file_of s n) named ≡ true
+  node_named n less = then_true (chief_of s == file_of s n) _ (list_any_at (λ f. f == file_of s n) s.entry.layout.node_files n 0 less (is_itself (file_of s n)))
 
-  -- a call that writes one of the two
+  -- a call that writes one of them
   writes_one : (file : ℕ) (was reads : Option Files) (might leaves : Files → Type 0) → list_any (λ n. n == file) named ≡ true → Become (SameBut file) was reads → Follows (SameBut file) might leaves → WritesLogs s was reads might leaves
   writes_one file was reads might leaves is files crash = record {
     files = become_wider (SameBut file) named was reads (besides_one named file is) files;
@@ -52,8 +55,24 @@ module _ (s : Setting) where
   pub writes_chief : (file : ℕ) (was reads : Option Files) (might leaves : Files → Type 0) → file ≡ chief_of s → Become (SameBut file) was reads → Follows (SameBut file) might leaves → WritesLogs s was reads might leaves
   writes_chief file was reads might leaves is files crash = writes_one file was reads might leaves (chief_named file is) files crash
 
-  pub writes_node : (file : ℕ) (was reads : Option Files) (might leaves : Files → Type 0) → file ≡ file_of s 0 → Become (SameBut file) was reads → Follows (SameBut file) might leaves → WritesLogs s was reads might leaves
-  writes_node file was reads might leaves is files crash = writes_one file was reads might leaves (node_named file is) files crash
+  -- one that writes into logs of the nodes alone
+  elsewhere : (c : Contents) (voters : List Voter) → c.setting ≡ s → HaveLogs c voters → length voters ≤ length s.entry.layout.node_files → (old new : Files) → SameElsewhere voters old new → SameBesides named old new
+  elsewhere c voters of logs few old new same n out = same n (λ k voter there is. clash k voter there is)
+    where
+      clash : (k : ℕ) (voter : Voter) → slice_get voters k ≡ Some voter → n ≡ voter.log.file → ⊥
+      clash k voter there is =
+          let within = slice_get_within voters k voter there in
+          let at : n ≡ file_of s k = is ∙ (logs k voter there).file ∙ ap (λ (t : Setting). file_of t k) of in
+          let named_it : list_any (λ f. f == n) named ≡ true = subst (λ (f : ℕ). list_any (λ g. g == f) named ≡ true) (sym at) (node_named k (omega (arith, within, few))) in
+          let never_so : true ≡ false = sym named_it ∙ out in
+          absurd (cc)
+
+  pub writes_nodes : (c : Contents) (voters : List Voter) → c.setting ≡ s → HaveLogs c voters → length voters ≤ length s.entry.layout.node_files → (was reads : Option Files) (might leaves : Files → Type 0)
+      → Become (SameElsewhere voters) was reads → Follows (SameElsewhere voters) might leaves → WritesLogs s was reads might leaves
+  writes_nodes c voters of logs few was reads might leaves files crash = record {
+    files = become_wider (SameElsewhere voters) named was reads (elsewhere c voters of logs few) files;
+    crash = λ image left. let from = crash image left in (from.0, from.1, elsewhere c voters of logs few from.0 image from.2);
+  }
 
   -- one behind another
   pub writes_then : (a b c : Option Files) (left_a left_b left_c : Files → Type 0) → WritesLogs s a b left_a left_b → WritesLogs s b c left_b left_c → WritesLogs s a c left_a left_c

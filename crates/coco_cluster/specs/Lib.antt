@@ -1,10 +1,10 @@
+pub mod Attempts
 pub mod Around
 pub mod GivingUp
+pub mod Ending
 pub mod Faults
 pub mod Messages
 pub mod Standing
-pub mod StateCode
-pub mod Storing
-pub mod TraceCode
+pub mod Trying
 pub mod Turning
 pub mod Writing

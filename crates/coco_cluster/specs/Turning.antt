@@ -1,37 +1,33 @@
 -- What a turn makes of the store, and what is seen of it meanwhile.
-use Rattle.std.specs.Prelude.{◌≡◌, ◌⊎◌, ℕ, ◌+◌, ◌≤◌, ⊤, Bool, List, [], ◌∷◌, ◌++◌, map, length, Option, None, Some, Result, Ok, Err, OnOk, nat_eq}
+use Rattle.std.specs.Prelude.{◌≡◌, ◌⊎◌, ℕ, ◌+◌, ◌≤◌, ⊤, List, [], ◌∷◌, ◌++◌, map, length, Option, None, Some, Result, Ok, Err, OnOk, nat_eq}
 use Rattle.std.specs.List.{AllByRecursion, IsDistinct}
+use Rattle.std.specs.Option.{option_map}
 use Rattle.coco_types.specs.Limits.{most_batch_lines}
 use Rattle.coco_types.specs.declared.call.Done.{Done}
-use Rattle.coco_types.specs.declared.call.Piece.{Piece}
 use Rattle.coco_types.specs.declared.call.Request.{Request}
 use Rattle.coco_host.specs.Files.{Files}
 use Rattle.coco_host.specs.Moments.{Observation, SeesOnly}
 use Rattle.coco_append.specs.Gaining.{RestsOn}
 use Rattle.coco_ast.specs.Fitting.{Fits}
 use Rattle.coco_ast.specs.Growth.{GrowsBy}
-use Rattle.coco_ast.specs.History.{AreAbove, Epoch, History, all_dones, done_of, followed_by, kept_of, rows_after}
+use Rattle.coco_ast.specs.History.{AreAbove, Epoch, History, all_dones, done_of, followed_by, kept_of}
 use Rattle.coco_ast.specs.Keyed.{Rows}
 use Rattle.coco_commits.specs.EpochEntries.{HasRoomFor}
 use Rattle.coco_entry.specs.declared.prepared.Prepared.{Prepared}
-use Rattle.coco_entry.specs.declared.prepared.Row.{Row}
-use Rattle.coco_epoch.specs.Shards.{HoldMap}
 use Rattle.coco_order.specs.Execution.{Beginning}
-use Rattle.coco_prepared.specs.LastWrites.{AreLastWrites}
-use Rattle.coco_shard.specs.RowState.{ShardState}
 use Rattle.coco_store.specs.Contents.{Contents, IsGoodStore, history_of, map_in}
 use Rattle.coco_store.specs.Rules.{Setting}
 use Rattle.coco_cluster.specs.Around.{IsTaken}
 use Rattle.coco_cluster.specs.Faults.{MayHaveCommitted}
-use Rattle.coco_cluster.specs.Standing.{ClusterState, IsBehindAll, StandsAt}
+use Rattle.coco_cluster.specs.Standing.{IsBehindAll, StandsAt}
 use Rattle.coco_cluster.specs.Writing.{WritesLogs}
-use Rattle.coco_work.specs.Working.{HasWorked}
-use Rattle.coco_parallel.specs.Traces.{IsTraceOf, Traced}
+use Rattle.coco_parallel.specs.Traces.{IsTraceOf, Traced, traced}
+use Rattle.coco_cluster.specs.declared.cluster.Cluster.{Cluster}
 use Rattle.coco_cluster.specs.declared.fault.TurnFault.{TurnFault}
 use Rattle.coco_cluster.specs.declared.fault.TurnFault.TheVariants as fault
 
 -- requests that a cluster may run: they fit, and each has an id of its own that is neither kept nor forgotten
-pub record MayTurn (k : ClusterState) (requests : List Request) : Type 0 where
+pub record MayTurn (k : Cluster) (requests : List Request) : Type 0 where
   pub fit : AllByRecursion (λ (r : Request). Fits k.procs r.call) requests
   pub distinct : IsDistinct nat_eq (map (λ (r : Request). r.id) requests)
   pub unkept : AllByRecursion (λ (r : Request). done_of r.id k.kept.dones ≡ None) requests
@@ -46,12 +42,6 @@ HasRoom c requests = HasRoomFor c.setting.entry.keep (length (all_dones (history
 abbrev pub epochs_of : List Request → ℕ
 epochs_of [] = 0
 epochs_of (r ∷ rs) = 1
-
--- an epoch with the rows of its prepared entry
-pub record RanOn (b : Beginning) (epoch : ℕ) (held : List Bool) (shards : List ShardState) (dones : List Done) (rows : List Row) (trace : Traced) : Type 0 where
-  pub pieces : List Piece
-  pub worked : HasWorked b epoch shards dones pieces trace
-  pub last : AreLastWrites held pieces rows
 
 -- what an epoch of these requests begins with on contents, with so many workers and attempts at each request
 abbrev pub beginning_on : Contents → List Request → ℕ → ℕ → Beginning
@@ -85,22 +75,27 @@ pub record ShowsStore (s : Setting) (before after : History) (end : ℕ) (bytes 
 -- the store has grown by an epoch, where the turn succeeded, and the cluster has the trace of it; few numbers before the epoch's were skipped. At each moment, and behind the turn whatever it
 -- answered, all that a crash may leave is a good store with the history of before or the grown one, in which no entry is of a later epoch; and behind it the other files are as they were
 pub record Turns {H : Type 0} (moment : H → ℕ) (observed : H → ℕ → Observation → Type 0) (said : H → Option (List ℕ)) (reads : H → Option Files) (may_leave : H → Files → Type 0)
-    (result : Result (Unit {0}) TurnFault) (requests : List Request) (workers attempts spare : ℕ) (c : Contents) (before after : ClusterState) (old new : H) : Type 0 where
+    (result : Result (Unit {0}) TurnFault) (requests : List Request) (workers attempts spare : ℕ) (c : Contents) (before after : Cluster) (old new : H) : Type 0 where
   pub may : MayHaveCommitted result
   pub d : Contents
   pub trace : Traced
   pub number : ℕ
   pub taken : IsTaken before.next_epoch number spare
   pub grown : Grown requests workers attempts number trace c d
-  pub ok : OnOk result (RestsOn d (reads new) (may_leave new) × StandsAt d after × (after.trace ≡ Some trace) × (after.next_epoch ≡ number + 1))
+  pub ok : OnOk result (RestsOn d (reads new) (may_leave new) × StandsAt d after × (option_map traced after.trace ≡ Some trace) × (after.next_epoch ≡ number + 1))
   pub moments : SeesOnly moment observed old new (ShowsStore c.setting (history_of c) (history_of d) (number + 1) (said old))
   pub left : (bytes : List ℕ) → said old ≡ Some bytes → (image : Files) → may_leave new image
       → IsStoreOf c.setting (history_of c) (number + 1) image ⊎ IsStoreOf c.setting (history_of d) (number + 1) image
   pub others : WritesLogs c.setting (reads old) (reads new) (may_leave old) (may_leave new)
 
--- a cluster whose last turn committed no epoch
-abbrev pub without_trace : ClusterState → ClusterState
-without_trace k = record k { trace = None }
+-- the cluster is as it was, and its last turn committed no epoch
+pub record IsUntraced (before after : Cluster) : Type 0 where
+  pub procs : after.procs ≡ before.procs
+  pub kept : after.kept ≡ before.kept
+  pub members : after.members ≡ before.members
+  pub base : after.base ≡ before.base
+  pub next : after.next_epoch ≡ before.next_epoch
+  pub trace : after.trace ≡ None
 
 -- ---- a turn that commits nothing
 
@@ -120,6 +115,7 @@ RestsWithout c end reads may_leave = (d : Contents) × AddsOnlyPrepared c d × I
 abbrev pub EndsWithout : Contents → ℕ → Option Files → (Files → Type 0) → Result (Unit {0}) TurnFault → Type 0
 EndsWithout c end reads may_leave (Ok x) = ⊤
 EndsWithout c end reads may_leave (Err fault.Disk) = ⊤
+EndsWithout c end reads may_leave (Err (fault.NotAStore file at)) = ⊤
 EndsWithout c end reads may_leave (Err fault.NoMemory) = ⊤
 EndsWithout c end reads may_leave (Err fault.Unreachable) = RestsWithout c end reads may_leave
 EndsWithout c end reads may_leave (Err fault.EpochsUsedUp) = RestsWithout c end reads may_leave
@@ -142,18 +138,17 @@ pub record KeepsHistory {H : Type 0} (moment : H → ℕ) (observed : H → ℕ 
 
 -- ---- on every host
 
--- what an epoch of these requests begins with on a cluster whose shards hold this map
-abbrev pub beginning_at : ClusterState → Rows → List Request → ℕ → ℕ → Beginning
+-- what an epoch of these requests begins with on a cluster whose shards have this map
+abbrev pub beginning_at : Cluster → Rows → List Request → ℕ → ℕ → Beginning
 beginning_at k m requests workers attempts =
-    record { procs = k.procs; opening = m; requests = requests; partitions = length k.shards; workers = workers; attempts = attempts }
+    record { procs = k.procs; opening = m; requests = requests; partitions = k.members.tables.layout.partitions; workers = workers; attempts = attempts }
 
 -- the cluster has run an epoch from this map: it has its trace, its Dones among the kept ones, and the map behind it
-pub record HasTurned (requests : List Request) (workers attempts : ℕ) (m : Rows) (before after : ClusterState) : Type 0 where
+pub record HasTurned (requests : List Request) (workers attempts : ℕ) (m : Rows) (before after : Cluster) : Type 0 where
   pub dones : List Done
   pub trace : Traced
   pub number : ℕ
   pub next : after.next_epoch ≡ number + 1
-  pub trace_is : after.trace ≡ Some trace
+  pub trace_is : option_map traced after.trace ≡ Some trace
   pub traced : IsTraceOf (beginning_at before m requests workers attempts) number dones trace
   pub kept : after.kept.dones ≡ kept_of before.kept.keep (before.kept.dones ++ dones)
-  pub map : HoldMap (rows_after before.procs m dones) after.shards

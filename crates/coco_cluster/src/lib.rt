@@ -1,10 +1,13 @@
-//! A cluster of one node: the store in hand, and its turns, each of which commits an epoch.
+//! A cluster of one or more nodes: the store in hand, and its turns, each of which commits an epoch.
 #![tactic(auto)]
 
+mod attempt;
 mod cluster;
-mod epoch;
+mod deciding;
+mod ending;
 mod fault;
-mod storing;
+mod running;
+mod trying;
 
-pub use cluster::{Cluster, InHand};
+pub use cluster::Cluster;
 pub use fault::TurnFault;

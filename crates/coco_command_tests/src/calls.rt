@@ -20,10 +20,12 @@ use std::test::Fail;
 use std::thread::Threads;
 use std::time::Clock;
 
-// A command: runs are by one worker with each line in a batch of its own or with two in each, or by two workers.
+// A command: a store is made of one node, or of three that have all of three partitions; runs are by one worker with each
+// line in a batch of its own or with two in each, or by two workers.
 #[derive(Clone, Copy)]
 enum Asked {
     Init,
+    InitThree,
     Run,
     RunPairs,
     RunSideBySide,
@@ -68,6 +70,13 @@ fn run_on<R: Threads + Wait + Clock + Sync, H: Host, G: Gate + Sync>(
     run(rt, alloc, host, &mut net, &mut power, input, bounds, gate)
 }
 
+fn ending_of(made: Result<(), Ending>) -> Ending {
+    match made {
+        Ok(()) => Ending::Finished,
+        Err(ending) => ending,
+    }
+}
+
 fn call<R: Threads + Wait + Clock + Sync, H: Host, G: Gate + Sync>(
     rt: &R,
     alloc: Global,
@@ -77,10 +86,8 @@ fn call<R: Threads + Wait + Clock + Sync, H: Host, G: Gate + Sync>(
     gate: &G,
 ) -> Ending {
     match asked {
-        Asked::Init => match init(alloc, host, input, 1, 1, 0) {
-            Ok(()) => Ending::Finished,
-            Err(ending) => ending,
-        },
+        Asked::Init => ending_of(init(alloc, host, input, 1, 1, 0)),
+        Asked::InitThree => ending_of(init(alloc, host, input, 3, 3, 2)),
         Asked::Run => run_on(rt, alloc, host, input, ALONE, gate),
         Asked::RunPairs => run_on(rt, alloc, host, input, IN_PAIRS, gate),
         Asked::RunSideBySide => run_on(rt, alloc, host, input, BY_TWO, gate),
@@ -262,11 +269,12 @@ fn text_of(bytes: &[u8]) -> &str {
 fn survives_a_failing_call<R: Threads + Wait + Clock + Sync>(
     rt: &R,
     alloc: Global,
+    made: Asked,
     failing: u64,
     pick: u64,
 ) -> Result<Option<bool>, NoMemory> {
     let mut host = new_host(alloc, failing)?;
-    if ended(rt, alloc, &mut host, Asked::Init, "")? != Ending::Finished {
+    if ended(rt, alloc, &mut host, made, "")? != Ending::Finished {
         return Ok(Some(true));
     }
     let ending = ended(rt, alloc, &mut host, Asked::Run, LINES)?;
@@ -281,31 +289,17 @@ fn survives_a_failing_call<R: Threads + Wait + Clock + Sync>(
     Ok(Some(ending == fault && goes_on(rt, alloc, host, pick)?))
 }
 
-// Every call of the host fails in turn, the twelve of `init` and then those of `run`.
-#[test]
-fn a_failing_call_loses_nothing(rt: HostRuntime) -> Result<(), Fail> {
-    for pick in 0..8 {
-        let mut last = 0;
-        for failing in 0..1000 {
-            let Some(is_well) = survives_a_failing_call(&rt, rt.alloc(), failing, pick)? else {
-                break;
-            };
-            assert!(rt; is_well, "call {failing} fails");
-            last = failing;
-        }
-        assert!(rt; last > 20);
-    }
-    Ok(())
-}
-
 // Whether nothing is lost where the host is given up behind so many writes and syncs, none where the run needs no more.
 fn survives_a_fuse<R: Threads + Wait + Clock + Sync>(
     rt: &R,
     alloc: Global,
+    made: Asked,
     passes: u64,
     pick: u64,
 ) -> Result<Option<bool>, NoMemory> {
-    let mut host = FuseHost::new(new_store(rt, alloc)?, passes);
+    let mut host = new_host(alloc, NEVER)?;
+    ended(rt, alloc, &mut host, made, "")?;
+    let mut host = FuseHost::new(host, passes);
     let ending = ended(rt, alloc, &mut host, Asked::Run, LINES)?;
     if ending == Ending::Finished {
         return Ok(None);
@@ -314,19 +308,46 @@ fn survives_a_fuse<R: Threads + Wait + Clock + Sync>(
     Ok(Some(is_fault && goes_on(rt, alloc, host.inner(), pick)?))
 }
 
-// The host is given up behind every number of writes and syncs.
-#[test]
-fn a_fuse_loses_nothing(rt: HostRuntime) -> Result<(), Fail> {
-    for pick in 0..8 {
-        let mut last = 0;
-        for passes in 0..1000 {
-            let Some(is_well) = survives_a_fuse(&rt, rt.alloc(), passes, pick)? else {
-                break;
-            };
-            assert!(rt; is_well, "{passes} passes");
-            last = passes;
+// How a host fails: one of its calls does, or all behind so many writes and syncs.
+#[derive(Clone, Copy, Debug)]
+enum Failing {
+    Once,
+    FromThereOn,
+}
+
+// Where a host fails at each place in turn, the first place at which something is lost, and the last one.
+fn failing_places<R: Threads + Wait + Clock + Sync>(
+    rt: &R,
+    alloc: Global,
+    made: Asked,
+    failing: Failing,
+    pick: u64,
+) -> Result<(Option<u64>, u64), NoMemory> {
+    let mut last = 0;
+    for place in 0..1000 {
+        let survives = match failing {
+            Failing::Once => survives_a_failing_call(rt, alloc, made, place, pick)?,
+            Failing::FromThereOn => survives_a_fuse(rt, alloc, made, place, pick)?,
+        };
+        match survives {
+            Some(true) => last = place,
+            Some(false) => return Ok((Some(place), last)),
+            None => return Ok((None, last)),
         }
-        assert!(rt; last > 10);
+    }
+    Ok((None, last))
+}
+
+// The calls that fail in turn are those of `init` and then those of `run`.
+#[test]
+fn a_failing_host_loses_nothing(rt: HostRuntime) -> Result<(), Fail> {
+    for made in [Asked::Init, Asked::InitThree] {
+        for failing in [Failing::Once, Failing::FromThereOn] {
+            for pick in 0..8 {
+                let (bad, last) = failing_places(&rt, rt.alloc(), made, failing, pick)?;
+                assert!(rt; bad.is_none() && last > 10, "{failing:?} {bad:?} {pick}");
+            }
+        }
     }
     Ok(())
 }

@@ -3,9 +3,13 @@
 #![tactic(auto)]
 
 #[cfg(test)]
+mod bank;
+#[cfg(test)]
 mod calls;
 #[cfg(test)]
 mod compact;
+#[cfg(test)]
+mod copies;
 #[cfg(test)]
 mod ending;
 #[cfg(test)]
@@ -14,6 +18,10 @@ mod init;
 mod made;
 #[cfg(test)]
 mod migrate;
+#[cfg(test)]
+mod nodes;
+#[cfg(test)]
+mod one_lost;
 #[cfg(test)]
 mod query;
 #[cfg(test)]

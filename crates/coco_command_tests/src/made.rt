@@ -1,60 +1,8 @@
-//! A new store in memory, and the cluster that stands on it; the worked store of one node, and a host that has it.
+//! The worked store of one node, and a host that has it.
 
-ghost use Rattle.std.specs.Prelude.{◌≡◌, ◌<◌, false, [], None, IfOk, IfSome};
-ghost use Rattle.coco_append.specs.Gaining.{Stands};
-ghost use Rattle.coco_ast.specs.Builtins.{builtins};
-ghost use Rattle.coco_log.specs.LogState.{without_entries};
-
-use coco_check::built_in;
-use coco_cluster::{Cluster, InHand};
 use coco_host::{Host, MemoryHost};
-use coco_kept::Kept;
-use coco_log::{Log, LogFault};
-use coco_shard::Shard;
-use coco_types::{NoMemory, OutFault};
+use coco_types::OutFault;
 use std::alloc::Global;
-
-// The logs of a new store, the coordinator's and the node's.
-pub fn new_logs<H: Host>(alloc: Global, host: &mut H) -> Result<(Log, Log), LogFault>
-    ensures empty { IfOk result (λ logs. (logs.0 ≡ without_entries 1 1) × (logs.1 ≡ without_entries 2 2)) }
-    ensures stand { IfOk result (λ logs. Stands logs.1 (H.reads host.new) (H.may_leave host.new) × Stands logs.0 (H.reads host.new) (H.may_leave host.new)) }
-{
-    let chief = Log::make(alloc, host, 1, 1)?;
-    let node = Log::make(alloc, host, 2, 2)?;
-    Ok((chief, node))
-}
-
-// A store of one partition with the built-in procedures, and nothing in it, that keeps the replies of so many epochs.
-pub fn new_cluster(
-    alloc: Global,
-    chief: Log,
-    node: Log,
-    keep: Option<u16>,
-) -> Result<Cluster, NoMemory>
-    requires logs { (chief ≡ without_entries 1 1) × (node ≡ without_entries 2 2) }
-    requires keep { IfSome keep (λ n. 0 < n) }
-    ensures logs { IfOk result (λ k. (k.chief ≡ chief) × (k.node ≡ node)) }
-    ensures empty { IfOk result (λ k. (k.procs ≡ builtins) × (k.kept.dones ≡ []) × (k.kept.floor ≡ None)) }
-    ensures unspent { IfOk result (λ k. k.spent ≡ false) }
-{
-    let procs = built_in(alloc)?;
-    let mut shards = Vec::with_capacity(alloc, 1)?;
-    shards.push(Shard::new(alloc))?;
-    let mut held = Vec::with_capacity(alloc, 1)?;
-    held.push(true)?;
-    Ok(Cluster::of(
-        alloc,
-        InHand {
-            procs,
-            kept: Kept::new(alloc, keep, None),
-            shards,
-            chief,
-            node,
-            held,
-            next_epoch: 1,
-        },
-    ))
-}
 
 /// One node, one partition, no copies, and an empty text.
 pub const LAYOUTS: [u8; 39] = [

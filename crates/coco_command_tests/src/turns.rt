@@ -1,64 +1,85 @@
-//! A turn of one request on a store without epochs, and what the host holds then, byte by byte.
+//! A turn of one request on a new store of one node, and what the host holds then, byte by byte.
 
-ghost use Rattle.std.specs.Prelude.{◌≡◌, [], None, false, IfOk};
-ghost use Rattle.coco_append.specs.Gaining.{Stands};
-ghost use Rattle.coco_ast.specs.Builtins.{builtins};
-ghost use Rattle.coco_cluster.specs.Standing.{ClusterState};
+ghost use Rattle.std.specs.Prelude.{◌≡◌, ◌≤◌, [], length, IfOk};
+ghost use Rattle.coco_types.specs.Limits.{most_kept};
+ghost use Rattle.coco_cluster.specs.Standing.{AllStand, IsSound};
 ghost use Rattle.coco_cluster.specs.Turning.{MayTurn};
 
-use crate::made::{COMMITS, PREPARED, new_cluster, new_logs};
+use crate::made::{COMMITS, PREPARED};
+use coco_batches::{Batch, read_batch};
 use coco_cluster::Cluster;
+use coco_commands::open_cluster;
 use coco_gate::OpenGate;
 use coco_host::{Host, MemoryHost};
-use coco_net::QuietNet;
+use coco_init::init;
+use coco_io::MemorySource;
+use coco_lines::{Reader, Scratch};
+use coco_net::{Net, QuietNet};
 use coco_power::SteadyPower;
-use coco_types::{Args, Call, NoMemory, Request, Value};
+use coco_types::Request;
 use std::alloc::Global;
 use std::sync::Wait;
 use std::test::Fail;
 use std::thread::Threads;
 use std::time::Clock;
 
-// `put(5, 70)` as id 1.
-fn put_of_seventy(alloc: Global) -> Result<Vec<Request>, NoMemory>
-    ensures { IfOk result (λ requests. (k : ClusterState) → k.procs ≡ builtins → k.kept.dones ≡ [] → k.kept.floor ≡ None → MayTurn k requests.items) }
+const PUT_OF_SEVENTY: &str = r#"{"args":[5,70],"call":"put","id":1}
+"#;
+
+// The cluster of a new store of one node and one partition, with the built-in procedures.
+fn new_cluster<H: Host>(alloc: Global, host: &mut H) -> Result<Cluster, Fail>
+    ensures sound { IfOk result (λ k. IsSound k []) }
+    ensures stand { IfOk result (λ k. AllStand k (H.reads host.new) (H.may_leave host.new)) }
+    ensures room { IfOk result (λ k. length k.kept.dones ≤ most_kept) }
 {
-    let mut args = Args::new(alloc);
-    args.push(Some(Value::Int(5)))?;
-    args.push(Some(Value::Int(70)))?;
-    let call = Call {
-        proc_no: 1,
-        snapshot: false,
-        args,
-    };
-    let mut requests = Vec::with_capacity(alloc, 1)?;
-    requests.push(Request { id: 1, call })?;
-    Ok(requests)
+    let mut text = MemorySource::new(Vec::new(alloc), Vec::new(alloc));
+    init(alloc, host, &mut text, 1, 1, 0)?;
+    Ok(open_cluster(alloc, host)?)
 }
 
-fn put_once<R: Threads + Wait + Clock + Sync, H: Host>(
+// The request of a line, if the cluster may run it.
+fn request_of(alloc: Global, cluster: &Cluster, line: &str) -> Result<Vec<Request>, Fail>
+    requires { length cluster.now.kept.dones ≤ most_kept }
+    ensures { IfOk result (λ requests. MayTurn cluster.now requests.items) }
+{
+    let bytes = Vec::from_slice(alloc, line.as_bytes())?;
+    let mut input = MemorySource::new(bytes, Vec::new(alloc));
+    let mut scratch = Scratch::new(alloc);
+    let mut reader = Reader::new(alloc);
+    let batch = read_batch(
+        alloc,
+        &mut scratch,
+        &cluster.procs,
+        &mut reader,
+        &mut input,
+        &cluster.kept,
+        1,
+    )?;
+    let Batch { answers: _, fresh } = batch;
+    Ok(fresh.into_requests(alloc)?)
+}
+
+fn put_once<R: Threads + Wait + Clock + Sync, H: Host, N: Net + Sync>(
     rt: &R,
     alloc: Global,
     host: &mut H,
+    net: &mut N,
 ) -> Result<Cluster, Fail>
-    ensures unspent { IfOk result (λ k. k.spent ≡ false) }
-    ensures stand { IfOk result (λ k. Stands k.node (H.reads host.new) (H.may_leave host.new) × Stands k.chief (H.reads host.new) (H.may_leave host.new)) }
+    requires { N.sent net.old ≡ [] }
+    ensures sound { IfOk result (λ k. IsSound k (N.sent net.new)) }
+    ensures stand { IfOk result (λ k. AllStand k (H.reads host.new) (H.may_leave host.new)) }
 {
-    let (chief, node) = new_logs(alloc, host)?;
-    let mut cluster = new_cluster(alloc, chief, node, None)?;
-    let requests = put_of_seventy(alloc)?;
-    let mut net = QuietNet::new(alloc);
+    let mut cluster = new_cluster(alloc, host)?;
+    let requests = request_of(alloc, &cluster, PUT_OF_SEVENTY)?;
     let mut power = SteadyPower::new();
     // Of four workers one finds a request to draw.
-    cluster.turn(
-        rt, alloc, host, &mut net, &mut power, requests, 4, 3, &OpenGate,
-    )?;
+    cluster.turn(rt, alloc, host, net, &mut power, requests, 4, 3, &OpenGate)?;
     Ok(cluster)
 }
 
 fn has_turned(cluster: &Cluster) -> bool {
-    let first = cluster.kept().nth(0).map(|done| done.id);
-    cluster.next_epoch() == 2 && first == Some(1)
+    let first = cluster.kept.nth(0).map(|done| done.id);
+    cluster.next_epoch == 2 && first == Some(1)
 }
 
 // Whether a file has these bytes and no others.
@@ -73,7 +94,8 @@ fn holds<H: Host>(host: &mut H, file: u32, wanted: &[u8]) -> bool {
 #[test]
 fn a_put_of_seventy_is_committed(rt: HostRuntime) -> Result<(), Fail> {
     let mut host = MemoryHost::new(rt.alloc(), Vec::new(rt.alloc()));
-    let cluster = put_once(&rt, rt.alloc(), &mut host)?;
+    let mut net = QuietNet::new(rt.alloc());
+    let cluster = put_once(&rt, rt.alloc(), &mut host, &mut net)?;
     let is_well = has_turned(&cluster)
         && holds(&mut host, 1, &COMMITS)
         && holds(&mut host, 2, &PREPARED);
@@ -112,20 +134,22 @@ fn told(cluster: &Cluster) -> Option<Counted> {
 }
 
 // What is told behind a put, and behind a turn without requests after it.
-fn told_in_turn<R: Threads + Wait + Clock + Sync, H: Host>(
+fn told_in_turn<R: Threads + Wait + Clock + Sync, H: Host, N: Net + Sync>(
     rt: &R,
     alloc: Global,
     host: &mut H,
-) -> Result<(Option<Counted>, Option<Counted>), Fail> {
-    let mut cluster = put_once(rt, alloc, host)?;
+    net: &mut N,
+) -> Result<(Option<Counted>, Option<Counted>), Fail>
+    requires { N.sent net.old ≡ [] }
+{
+    let mut cluster = put_once(rt, alloc, host, net)?;
     let behind_put = told(&cluster);
-    let mut net = QuietNet::new(alloc);
     let mut power = SteadyPower::new();
     cluster.turn(
         rt,
         alloc,
         host,
-        &mut net,
+        net,
         &mut power,
         Vec::new(alloc),
         4,
@@ -138,7 +162,8 @@ fn told_in_turn<R: Threads + Wait + Clock + Sync, H: Host>(
 #[test]
 fn a_trace_is_told_until_the_next_turn(rt: HostRuntime) -> Result<(), Fail> {
     let mut host = MemoryHost::new(rt.alloc(), Vec::new(rt.alloc()));
-    let (behind_put, behind_nothing) = told_in_turn(&rt, rt.alloc(), &mut host)?;
+    let mut net = QuietNet::new(rt.alloc());
+    let (behind_put, behind_nothing) = told_in_turn(&rt, rt.alloc(), &mut host, &mut net)?;
     // Of four workers one was started, who committed the put in one script.
     let wanted = Counted {
         journals: 1,

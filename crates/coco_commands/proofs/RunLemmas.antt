@@ -1,15 +1,9 @@
 -- What is carried from the opening of a store to the end of its run.
-use Rattle.std.proofs.Common.{◌≡◌, ℕ, List, Option, None, Some, refl, subst}
-use Rattle.std.specs.Option.{IfSome}
+use Rattle.std.proofs.Common.{◌≡◌, ℕ, List, subst}
 use Rattle.coco_cluster.specs.Around.{Around}
 use Rattle.coco_lines.specs.Reads.{SourceMoment}
 use Rattle.coco_serve.specs.Serving.{HasCause, Outside}
 use Rattle.coco_serve.specs.declared.ending.Served.{Served}
-
--- what holds of each value that there is
-pub if_some : {A : Type 0} (P : A → Type 0) (x : Option A) → ((y : A) → x ≡ Some y → P y) → IfSome x P
-if_some P None each = tt
-if_some P (Some y) each = each y refl
 
 -- a cause since the opening is one since entry, where no count of the host's moved before
 pub cause_from : (next : ℕ) (bytes : List ℕ) (source : SourceMoment) (faults say disk later_say later_disk : ℕ) (around : Around) (after : Outside) (served : Served) → later_say ≡ say → later_disk ≡ disk

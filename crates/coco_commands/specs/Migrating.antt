@@ -28,7 +28,7 @@ module _ {H : Type 0} (moment : H → ℕ) (observed : H → ℕ → Observation
   pub record IsLeftAlone (how : Ending) (before after : Counts) (old new : H) : Type 0 where
     pub read : IsOnlyRead moment observed said reads may_leave old new
     pub stream : after.say ≡ before.say
-    pub cause : FailsToOpen IsFirstRefusal how (reads old) before.disk after.disk
+    pub cause : FailsToOpen how (reads old) before.disk after.disk
 
   -- the store is opened, and its layout is added once more, with the keep number. Only files that are a store are opened, and such files are never refused
   -- (`a_refused_store_is_none`): so `NotAStore` comes exactly where the files are none, at the first place, and neither a fault of the disk nor want of

@@ -15,7 +15,6 @@ use Rattle.coco_query.specs.declared.tables.TablesFault.{TablesFault}
 use Rattle.coco_query.specs.declared.tables.TablesFault.TheVariants as fault
 use Rattle.coco_serve.specs.Serving.{Outside}
 use Rattle.coco_store.specs.Contents.{Contents, Holds, IsGoodStore, history_of}
-use Rattle.coco_store.specs.Refusals.{IsFirstRefusal}
 use Rattle.coco_commands.specs.Opening.{IsUnopened}
 
 -- how a call ends whose lines were answered up to this ending
@@ -83,4 +82,4 @@ module _ {H : Type 0} (moment : H → ℕ) (observed : H → ℕ → Observation
   -- the store isn't opened, or it isn't asked, or it is
   abbrev pub Queries : ℕ → Ending → Outside → Outside → H → H → Type 0
   Queries epoch how before after old new =
-      IsUnopened moment observed said reads may_leave IsFirstRefusal how before after old new ⊎ (LeavesUnasked epoch how before after old new ⊎ Asks epoch how before after old new)
+      IsUnopened moment observed said reads may_leave how before after old new ⊎ (LeavesUnasked epoch how before after old new ⊎ Asks epoch how before after old new)

@@ -13,7 +13,7 @@ use Rattle.coco_serve.specs.declared.ending.Served.{Served}
 use Rattle.coco_serve.specs.declared.ending.Served.TheVariants as served
 use Rattle.coco_serve.specs.declared.bounds.RunBounds.{RunBounds}
 use Rattle.coco_store.specs.Contents.{Contents, Holds, IsGoodStore}
-use Rattle.coco_commands.specs.Opening.{HasOneNode, IsRefusedInRun, IsUnopened}
+use Rattle.coco_commands.specs.Opening.{IsUnopened}
 
 -- how a call ends whose lines were answered up to this ending
 abbrev pub ending_of_run : Served → Ending
@@ -21,20 +21,21 @@ ending_of_run served.Finished = ending.Finished
 ending_of_run served.ReadFault = ending.ReadFault
 ending_of_run served.SayFault = ending.SayFault
 ending_of_run served.DiskFault = ending.DiskFault
+ending_of_run (served.NotAStore file at) = ending.NotAStore file at
 ending_of_run served.Unreachable = ending.Unreachable
 ending_of_run served.EpochsUsedUp = ending.EpochsUsedUp
 ending_of_run served.NoMemory = ending.NoMemory
 
 -- the store is opened, and then lines are answered on it. Until the opening has ended nothing is said, and all that a crash may leave it might have left
--- at entry. Only files that are a store of one node are opened, and such files are never refused (`a_refused_store_is_not_run`): so `NotAStore` comes exactly
--- where the files are refused, at that place, and neither a fault of the disk nor want of memory ended the opening. After it, where the files read at entry
--- as a good store, each moment shows a good store whose history is that of entry grown by first batches of the bytes that the source gave, its new epochs
--- numbered from `next` on with few numbers skipped, with a front of their answers said
+-- at entry. Only files that are a store are opened, and such files are never refused (`a_refused_store_is_none`): so the opening ends with `NotAStore`
+-- exactly where the files are none, at the first place, and neither a fault of the disk nor want of memory ended it. After it, where the files read at entry
+-- as a good store, of however many nodes, each moment shows a good store whose history is that of entry grown by first batches of the bytes that the source
+-- gave, its new epochs numbered from `next` on with few numbers skipped, with a front of their answers said; and no file of it is refused any more
 pub record Opens {H : Type 0} (moment : H → ℕ) (observed : H → ℕ → Observation → Type 0) (said : H → Option (List ℕ)) (reads : H → Option Files) (may_leave : H → Files → Type 0)
     (bounds : RunBounds) (ending : Ending) (before after : Outside) (old new : H) : Type 0 where
   pub opened : H
   pub opening : IsOnlyRead moment observed said reads may_leave old opened
-  pub sound : (files : Files) → reads old ≡ Some files → HasOneNode files
+  pub holds : (files : Files) → reads old ≡ Some files → (c : Contents) × Holds files c
   pub bytes : List ℕ
   pub gives : Gives before.source after.source bytes
   pub next : ℕ
@@ -50,5 +51,5 @@ pub record Opens {H : Type 0} (moment : H → ℕ) (observed : H → ℕ → Obs
 abbrev pub RunsOn : {H : Type 0} (moment : H → ℕ) (observed : H → ℕ → Observation → Type 0) (said : H → Option (List ℕ)) (reads : H → Option Files) (may_leave : H → Files → Type 0)
     → RunBounds → Ending → Outside → Outside → H → H → Type 0
 RunsOn moment observed said reads may_leave bounds ending before after old new =
-    IsUnopened moment observed said reads may_leave IsRefusedInRun ending before after old new
+    IsUnopened moment observed said reads may_leave ending before after old new
     ⊎ Opens moment observed said reads may_leave bounds ending before after old new

@@ -19,7 +19,7 @@ pub use coco_recover::{Opened, read_without, recover, recover_whole};
 pub use coco_serve::RunBounds;
 pub use compacting::compact;
 pub use dumping::dump;
-pub use laws::{a_layout_sets_the_keep_number, a_refused_store_is_not_run};
+pub use laws::a_layout_sets_the_keep_number;
 pub use migrating::migrate;
 pub use open::cluster_of;
 pub use opening::{ending_of_opening, open_cluster};

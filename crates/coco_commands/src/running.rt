@@ -1,6 +1,6 @@
 //! The command `run`.
 
-ghost use Rattle.std.specs.Prelude.{◌≡◌, ◌<◌, ◌≤◌};
+ghost use Rattle.std.specs.Prelude.{◌≡◌, ◌<◌, ◌≤◌, []};
 ghost use Rattle.coco_types.specs.Limits.{most_batch_lines};
 ghost use Rattle.coco_cluster.specs.Around.{around};
 ghost use Rattle.coco_commands.specs.Running.{RunsOn, ending_of_run};
@@ -18,7 +18,8 @@ use std::sync::Wait;
 use std::thread::Threads;
 use std::time::Clock;
 
-/// Opens the store, and answers request lines on it to the end of the input, within these bounds.
+/// Opens the store, and answers request lines on it to the end of the input, within these bounds. Its nodes send their
+/// letters over a net that has none of before.
 pub fn run<
     R: Threads + Wait + Clock + Sync,
     H: Host,
@@ -40,6 +41,7 @@ pub fn run<
     requires few { bounds.size ≤ most_batch_lines }
     requires workers { 0 < bounds.workers }
     requires attempts { 0 < bounds.attempts }
+    requires unsent { N.sent net.old ≡ [] }
     ensures { RunsOn H.moment H.observed H.said H.reads H.may_leave bounds result
         (record { source = record { given = S.given input.old; left = S.remaining input.old; at_end = S.at_end input.old }; source_faults = S.faults input.old; say_faults = H.say_faults host.old; disk_faults = H.disk_faults host.old; around = around N.sent N.given N.faults N.last_seed P.stops_seen P.early_stops P.stopped P.begun P.asked net.old power.old })
         (record { source = record { given = S.given input.new; left = S.remaining input.new; at_end = S.at_end input.new }; source_faults = S.faults input.new; say_faults = H.say_faults host.new; disk_faults = H.disk_faults host.new; around = around N.sent N.given N.faults N.last_seed P.stops_seen P.early_stops P.stopped P.begun P.asked net.new power.new })
@@ -70,6 +72,7 @@ fn ending_of_run(served: Served) -> Ending
         Served::ReadFault => Ending::ReadFault,
         Served::SayFault => Ending::SayFault,
         Served::DiskFault => Ending::DiskFault,
+        Served::NotAStore { file, at } => Ending::NotAStore { file, at },
         Served::Unreachable => Ending::Unreachable,
         Served::EpochsUsedUp => Ending::EpochsUsedUp,
         Served::NoMemory => Ending::NoMemory,

@@ -1,6 +1,7 @@
 -- One batch: what its turn and the saying of its answers make of the store.
-use Rattle.std.proofs.Common.{◌≡◌, ℕ, ◌+◌, ◌≤◌, inl, inr, ◌⊎◌, ⊎_elim, List, [], ◌∷◌, ◌++◌, length, take, drop, Option, Some, None, Result, Ok, Err, refl, sym, ap, subst, ◌∙◌, arith, append_assoc, length-append, take-append-drop}
-use Rattle.std.specs.Prelude.{IsOk, OnOk, OnErr}
+use Rattle.std.proofs.Common.{◌≡◌, ◌≢◌, ℕ, ◌+◌, ◌≤◌, inl, inr, ◌⊎◌, ⊎_elim, List, [], ◌∷◌, ◌++◌, length, take, drop, Option, Some, None, Result, Ok, Err, refl, sym, ap, subst, ◌∙◌, arith, append_assoc, length-append, take-append-drop}
+use Rattle.std.specs.Prelude.{OnOk, OnErr}
+use Rattle.std.specs.Option.{option_map}
 use Rattle.std.proofs.Math.Seq.{take-append_seam, take-length}
 use Rattle.std.proofs.lemmas.List.{append_cancel_left}
 use Rattle.std.specs.Io.KnownBytes.{append_known}
@@ -15,11 +16,14 @@ use Rattle.coco_ast.proofs.KeptLemmas.{keeps_all}
 use Rattle.coco_batches.specs.declared.answer.LineAnswer.{LineAnswer}
 use Rattle.coco_batches.specs.declared.batch.Batch.{Batch}
 use Rattle.coco_cluster.specs.Around.{IsTaken}
-use Rattle.coco_cluster.specs.Standing.{ClusterState, IsBehindAll, StandsAt}
-use Rattle.coco_cluster.proofs.TurnLemmas.{stands_untraced, unmoved}
+use Rattle.coco_cluster.specs.Standing.{AllStand, IsBehindAll, StandsAt}
+use Rattle.coco_cluster.specs.declared.cluster.Cluster.{Cluster}
+use Rattle.coco_cluster.proofs.SeeingLemmas.{keeps_same}
+use Rattle.coco_cluster.proofs.TurnLemmas.{SameStore, same_stands}
 use Rattle.coco_cluster.specs.Faults.{MayHaveCommitted}
-use Rattle.coco_parallel.specs.Traces.{IsTraceOf, Traced, execution_in}
-use Rattle.coco_cluster.specs.Turning.{EndsWithout, Grown, HasRoom, KeepsHistory, ShowsHistory, ShowsStore, Turns, beginning_on, epochs_of, without_trace}
+use Rattle.coco_recover.proofs.Resting.{stands_still}
+use Rattle.coco_parallel.specs.Traces.{IsTraceOf, Traced, execution_in, traced}
+use Rattle.coco_cluster.specs.Turning.{EndsWithout, Grown, HasRoom, KeepsHistory, ShowsHistory, ShowsStore, Turns, IsUntraced, beginning_on, epochs_of}
 use Rattle.coco_cluster.specs.declared.fault.TurnFault.{TurnFault}
 use Rattle.coco_cluster.specs.declared.fault.TurnFault.TheVariants as turn
 use Rattle.coco_cluster.specs.Writing.{WritesLogs}
@@ -30,7 +34,6 @@ use Rattle.coco_commits.specs.EpochEntries.{HasRoomFor}
 use Rattle.coco_host.specs.Files.{Files, NoMore}
 use Rattle.coco_host.specs.Moments.{IsNew, IsSaidBetween, Observation, SeesOnly}
 use Rattle.coco_host.specs.Record.{known}
-use Rattle.coco_host.proofs.Sees.{started}
 use Rattle.coco_io.proofs.KnownLemmas.{append_known-nil}
 use Rattle.coco_order.specs.Execution.{Beginning}
 use Rattle.coco_order.specs.Outcome.{ComeOfExecution}
@@ -53,8 +56,8 @@ room_by None h ds n none is few = let same : length ds ≡ length (all_dones h) 
 room_by (Some k) h ds n some is few = tt
 
 -- without a keep number all Dones are kept
-pub has_room : (c : Contents) (k : ClusterState) (requests : List Request) → StandsAt c k → length k.kept.dones + length requests ≤ most_kept → HasRoom c requests
-has_room c k requests stands few = room_by c.setting.entry.keep (history_of c) k.kept.dones (length requests) refl stands.dones few
+pub has_room : (c : Contents) (k : Cluster) (requests : List Request) → StandsAt c k → length k.kept.dones + length requests ≤ most_kept → HasRoom c requests
+has_room c k requests stands few = room_by c.setting.entry.keep (history_of c) k.kept.dones (length requests) refl stands.belongs.dones few
 
 -- ---- what is said
 
@@ -121,11 +124,28 @@ below_one requests workers attempts epoch trace c d g =
 no_growth : (requests : List Request) (m : Manner) (h : History) → requests ≡ [] → GrowsByExecution m h requests h
 no_growth requests m h none = subst (λ rs. GrowsByExecution m h rs h) (sym none) (refl, tt)
 
+-- ---- between two turns
+
+-- a turn without requests leaves what belongs to the store
+same_store : (before after : Cluster) → IsUntraced before after → SameStore before after
+same_store before after same = record { procs = same.procs; kept = same.kept; members = same.members; base = same.base; next = same.next }
+
+-- the logs stand where no file has changed
+pub all_stand_still : (k : Cluster) (was now : Option Files) (might may : Files → Type 0) → now ≡ was → NoMore might may → AllStand k was might → AllStand k now may
+all_stand_still k was now might may same fewer stand = record {
+  chief = stands_still k.members.log was now might may same fewer stand.chief;
+  nodes = λ n voter there. let ready = stand.nodes n voter there in (ready.0, stands_still voter.log was now might may same fewer ready.1);
+}
+
+-- a fault that refuses no file
+abbrev pub RefusesNone : TurnFault → Type 0
+RefusesNone f = (file at : ℕ) → f ≢ turn.NotAStore file at
+
 -- ---- moments
 
 module _ {H : Type 0} (moment : H → ℕ) (observed : H → ℕ → Observation → Type 0) (said : H → Option (List ℕ)) (reads : H → Option Files) (may_leave : H → Files → Type 0) where
   -- what a turn made of the store, where it succeeded
-  pub record Committed (c : Contents) (requests : List Request) (bounds : RunBounds) (next spare : ℕ) (after : ClusterState) (old mid : H) : Type 0 where
+  pub record Committed (c : Contents) (requests : List Request) (bounds : RunBounds) (next spare : ℕ) (after : Cluster) (old mid : H) : Type 0 where
     pub d : Contents
     pub setting : d.setting ≡ c.setting
     pub grows : GrowsByExecution (manner_of c.setting bounds) (history_of c) requests (history_of d)
@@ -143,19 +163,22 @@ module _ {H : Type 0} (moment : H → ℕ) (observed : H → ℕ → Observation
   abbrev pub OnlyNow : Type 0
   OnlyNow = (host : H) (seen : Observation) → observed host (moment host) seen → may_leave host seen.image × (said host ≡ Some seen.said)
 
+  unmoved : OnlyNow → (c : Contents) (end : ℕ) (host : H) → RestsOn c (reads host) (may_leave host) → IsBehindAll c end → SeesOnly moment observed host host (ShowsHistory c.setting (history_of c) end (said host))
+  unmoved only_now c end host rests below = (keeps_same moment observed said reads may_leave only_now c end host rests below).moments
+
   unmoved_so : OnlyNow → (c : Contents) (end : ℕ) (host : H) → RestsOn c (reads host) (may_leave host) → IsBehindAll c end → SeesOnly moment observed host host (ShowsStore c.setting (history_of c) (history_of c) end (said host))
   unmoved_so only_now c end host rests below = sees_weaker moment observed host host (ShowsHistory c.setting (history_of c) end (said host)) (ShowsStore c.setting (history_of c) (history_of c) end (said host))
-      (λ seen shows. record { store = inl shows.0; said = shows.1 }) (unmoved moment observed said reads may_leave only_now c end host rests below)
+      (λ seen shows. record { store = inl shows.0; said = shows.1 }) (unmoved only_now c end host rests below)
 
-  pub committed : OnlyNow → (result : Result (Unit {0}) TurnFault) (x : Unit {0}) (requests : List Request) (bounds : RunBounds) (spare : ℕ) (c : Contents) (before after : ClusterState) (old mid : H) → result ≡ Ok x
-      → (requests ≡ [] → IsOk result × (mid ≡ old) × (after ≡ without_trace before)) → RestsOn c (reads old) (may_leave old) → StandsAt c before
+  pub committed : OnlyNow → (result : Result (Unit {0}) TurnFault) (x : Unit {0}) (requests : List Request) (bounds : RunBounds) (spare : ℕ) (c : Contents) (before after : Cluster) (old mid : H) → result ≡ Ok x
+      → (requests ≡ [] → (mid ≡ old) × IsUntraced before after) → RestsOn c (reads old) (may_leave old) → StandsAt c before
       → KeepsHistory moment observed said reads may_leave result requests before.next_epoch spare c old mid ⊎ Turns moment observed said reads may_leave result requests bounds.workers bounds.attempts spare c before after old mid
       → Committed c requests bounds before.next_epoch spare after old mid
   committed only_now result x requests bounds spare c before after old mid ok still rests stands (inl none) =
       let empty : requests ≡ [] = subst (λ (r : Result _ _). OnOk r (requests ≡ [])) ok none.ok in
       let nothing = still empty in
       let no_epoch : epochs_of requests ≡ 0 = ap epochs_of empty in
-      let same_next = ap (λ (k : ClusterState). k.next_epoch) nothing.2 in
+      let same_next = nothing.1.next in
       record {
         d = c;
         setting = refl;
@@ -166,15 +189,15 @@ module _ {H : Type 0} (moment : H → ℕ) (observed : H → ℕ → Observation
         below = behind_later c before.next_epoch (before.next_epoch + epochs_of requests) (omega arith) stands.next;
         next_is = omega (arith, no_epoch, same_next);
         last = behind_later c before.next_epoch (before.next_epoch + 1) (omega arith) stands.next;
-        rests = subst (λ h. RestsOn c (reads h) (may_leave h)) (sym nothing.1) rests;
-        stands = subst (StandsAt c) (sym nothing.2) (stands_untraced c before stands);
-        moments = subst (λ h. SeesOnly moment observed old h (ShowsStore c.setting (history_of c) (history_of c) (before.next_epoch + 1) (said old))) (sym nothing.1)
+        rests = subst (λ h. RestsOn c (reads h) (may_leave h)) (sym nothing.0) rests;
+        stands = same_stands c before after (same_store before after nothing.1) stands;
+        moments = subst (λ h. SeesOnly moment observed old h (ShowsStore c.setting (history_of c) (history_of c) (before.next_epoch + 1) (said old))) (sym nothing.0)
             (unmoved_so only_now c (before.next_epoch + 1) old rests (behind_later c before.next_epoch (before.next_epoch + 1) (omega arith) stands.next));
-        others = writes_none c.setting (reads old) (reads mid) (may_leave old) (may_leave mid) (ap reads nothing.1) (λ image left. subst (λ h. may_leave h image) nothing.1 left);
+        others = writes_none c.setting (reads old) (reads mid) (may_leave old) (may_leave mid) (ap reads nothing.0) (λ image left. subst (λ h. may_leave h image) nothing.0 left);
       }
   committed only_now result x requests bounds spare c before after old mid ok still rests stands (inr t) =
-      let done : RestsOn t.d (reads mid) (may_leave mid) × StandsAt t.d after × (after.trace ≡ Some t.trace) × (after.next_epoch ≡ t.number + 1) =
-      subst (λ (r : Result _ _). OnOk r (RestsOn t.d (reads mid) (may_leave mid) × StandsAt t.d after × (after.trace ≡ Some t.trace) × (after.next_epoch ≡ t.number + 1))) ok t.ok in
+      let done : RestsOn t.d (reads mid) (may_leave mid) × StandsAt t.d after × (option_map traced after.trace ≡ Some t.trace) × (after.next_epoch ≡ t.number + 1) =
+      subst (λ (r : Result _ _). OnOk r (RestsOn t.d (reads mid) (may_leave mid) × StandsAt t.d after × (option_map traced after.trace ≡ Some t.trace) × (after.next_epoch ≡ t.number + 1))) ok t.ok in
       let one = one_epoch requests bounds.workers bounds.attempts t.number t.trace c t.d t.grown in
       let next_then = done.3 in
       record {
@@ -195,33 +218,34 @@ module _ {H : Type 0} (moment : H → ℕ) (observed : H → ℕ → Observation
 
   -- ---- a turn that failed
 
-  refused_so : (f : TurnFault) (c : Contents) (end : ℕ) (host : H) → EndsWithout c end (reads host) (may_leave host) (Err f) → RefusedEnds c end (reads host) (may_leave host) (Err (fault_of_turn f))
-  refused_so turn.Disk c end host ends = tt
-  refused_so turn.Unreachable c end host ends = ends
-  refused_so turn.EpochsUsedUp c end host ends = ends
-  refused_so turn.NoMemory c end host ends = tt
+  refused_so : (f : TurnFault) (c : Contents) (end : ℕ) (host : H) → RefusesNone f → EndsWithout c end (reads host) (may_leave host) (Err f) → RefusedEnds c end (reads host) (may_leave host) (Err (fault_of_turn f))
+  refused_so turn.Disk c end host none ends = tt
+  refused_so (turn.NotAStore file at) c end host none ends = absurd (none file at refl)
+  refused_so turn.Unreachable c end host none ends = ends
+  refused_so turn.EpochsUsedUp c end host none ends = ends
+  refused_so turn.NoMemory c end host none ends = tt
 
-  refused : (f : TurnFault) (turned : Result (Unit {0}) TurnFault) (requests : List Request) (spare : ℕ) (c : Contents) (before : ClusterState) (old new : H) → turned ≡ Err f → said new ≡ said old
+  refused : (f : TurnFault) (turned : Result (Unit {0}) TurnFault) (requests : List Request) (spare : ℕ) (c : Contents) (before : Cluster) (old new : H) → turned ≡ Err f → RefusesNone f → said new ≡ said old
       → KeepsHistory moment observed said reads may_leave turned requests before.next_epoch spare c old new → IsRefused moment observed said reads may_leave (Err (fault_of_turn f)) c before.next_epoch spare old new
-  refused f turned requests spare c before old new was quiet k = record {
+  refused f turned requests spare c before old new was none quiet k = record {
     number = k.number;
     taken = k.taken;
     moments = k.moments;
     left = k.left;
     others = k.others;
     quiet = quiet;
-    ends = refused_so f c k.number new (subst (EndsWithout c k.number (reads new) (may_leave new)) was k.ends);
+    ends = refused_so f c k.number new none (subst (EndsWithout c k.number (reads new) (may_leave new)) was k.ends);
   }
 
   -- out of memory before the turn
-  pub refused_early : OnlyNow → (result : Result (Unit {0}) BatchFault) (c : Contents) (k : ClusterState) (spare : ℕ) (host : H) → result ≡ Err fault.NoMemory → RestsOn c (reads host) (may_leave host) → StandsAt c k
+  pub refused_early : OnlyNow → (result : Result (Unit {0}) BatchFault) (c : Contents) (k : Cluster) (spare : ℕ) (host : H) → result ≡ Err fault.NoMemory → RestsOn c (reads host) (may_leave host) → StandsAt c k
       → IsRefused moment observed said reads may_leave result c k.next_epoch spare host host
   refused_early only_now result c k spare host is rests stands =
       let later = behind_later c k.next_epoch (k.next_epoch + 1) (omega arith) stands.next in
       subst (λ r. IsRefused moment observed said reads may_leave r c k.next_epoch spare host host) (sym is) (record {
         number = k.next_epoch;
         taken = record { low = omega arith; few = omega arith };
-        moments = unmoved moment observed said reads may_leave only_now c (k.next_epoch + 1) host rests later;
+        moments = unmoved only_now c (k.next_epoch + 1) host rests later;
         left = λ bytes spoke image leaves. record { contents = c; setting = refl; good = rests.left image leaves; history = refl; below = later };
         others = writes_none c.setting (reads host) (reads host) (may_leave host) (may_leave host) refl (λ image leaves. leaves);
         quiet = refl;
@@ -232,10 +256,10 @@ module _ {H : Type 0} (moment : H → ℕ) (observed : H → ℕ → Observation
   turn_shows s before after end bytes texts seen shows =
       ⊎_elim (λ was. inl (was, shows.said)) (λ grown. inr (grown, nothing_said bytes seen.said texts shows.said)) shows.store
 
-  turn_ends : (f : TurnFault) (result : Result (Unit {0}) TurnFault) (batch : Batch) (requests : List Request) (bounds : RunBounds) (spare : ℕ) (c : Contents) (before after : ClusterState) (old new : H) → result ≡ Err f → requests ≡ batch.fresh → said new ≡ said old
+  turn_ends : (f : TurnFault) (result : Result (Unit {0}) TurnFault) (batch : Batch) (requests : List Request) (bounds : RunBounds) (spare : ℕ) (c : Contents) (before after : Cluster) (old new : H) → result ≡ Err f → RefusesNone f → requests ≡ batch.fresh → said new ≡ said old
       → Turns moment observed said reads may_leave result requests bounds.workers bounds.attempts spare c before after old new
       → WorksOffBatch moment observed said reads may_leave (Err (fault_of_turn f)) batch bounds c before.next_epoch spare after old new
-  turn_ends f result batch requests bounds spare c before after old new was same quiet t = by f (subst MayHaveCommitted was t.may)
+  turn_ends f result batch requests bounds spare c before after old new was none same quiet t = by f none (subst MayHaveCommitted was t.may)
     where
       numbers : AddsWithin before.next_epoch (t.number + epochs_of batch.fresh) spare (history_of c) (history_of t.d)
       numbers = subst (λ rs. AddsWithin before.next_epoch (t.number + epochs_of rs) spare (history_of c) (history_of t.d)) same
@@ -252,23 +276,25 @@ module _ {H : Type 0} (moment : H → ℕ) (observed : H → ℕ → Observation
           (ShowsBatch c.setting (history_of c) (history_of t.d) (t.number + 1) (said old) (batch_texts c t.d batch))
           (turn_shows c.setting (history_of c) (history_of t.d) (t.number + 1) (said old) (batch_texts c t.d batch)) t.moments
 
-      by : (f : TurnFault) → MayHaveCommitted {T = Unit {0}} (Err f) → WorksOffBatch moment observed said reads may_leave (Err (fault_of_turn f)) batch bounds c before.next_epoch spare after old new
-      by turn.Disk may = record { d = t.d; setting = t.grown.setting; grows = grows; number = t.number; taken = t.taken; numbers = numbers; below = below; next_is = tt; moments = moments; others = t.others; ends = (t.left, quiet) }
-      by turn.Unreachable may = absurd may
-      by turn.EpochsUsedUp may = absurd may
-      by turn.NoMemory may = record { d = t.d; setting = t.grown.setting; grows = grows; number = t.number; taken = t.taken; numbers = numbers; below = below; next_is = tt; moments = moments; others = t.others; ends = inl (t.left, quiet) }
+      by : (f : TurnFault) → RefusesNone f → MayHaveCommitted {T = Unit {0}} (Err f) → WorksOffBatch moment observed said reads may_leave (Err (fault_of_turn f)) batch bounds c before.next_epoch spare after old new
+      by turn.Disk none may = record { d = t.d; setting = t.grown.setting; grows = grows; number = t.number; taken = t.taken; numbers = numbers; below = below; next_is = tt; moments = moments; others = t.others; ends = (t.left, quiet) }
+      by (turn.NotAStore file at) none may = absurd (none file at refl)
+      by turn.Unreachable none may = absurd may
+      by turn.EpochsUsedUp none may = absurd may
+      by turn.NoMemory none may = record { d = t.d; setting = t.grown.setting; grows = grows; number = t.number; taken = t.taken; numbers = numbers; below = below; next_is = tt; moments = moments; others = t.others; ends = inl (t.left, quiet) }
 
-  pub turn_failed : (f : TurnFault) (turned : Result (Unit {0}) TurnFault) (result : Result (Unit {0}) BatchFault) (batch : Batch) (requests : List Request) (bounds : RunBounds) (spare : ℕ) (c : Contents) (before after : ClusterState) (old new : H)
-      → turned ≡ Err f → result ≡ Err (fault_of_turn f) → requests ≡ batch.fresh → said new ≡ said old
+  pub turn_failed : (f : TurnFault) (turned : Result (Unit {0}) TurnFault) (result : Result (Unit {0}) BatchFault) (batch : Batch) (requests : List Request) (bounds : RunBounds) (spare : ℕ) (c : Contents) (before after : Cluster) (old new : H)
+      → turned ≡ Err f → ((file at : ℕ) → turned ≢ Err (turn.NotAStore file at)) → result ≡ Err (fault_of_turn f) → requests ≡ batch.fresh → said new ≡ said old
       → KeepsHistory moment observed said reads may_leave turned requests before.next_epoch spare c old new ⊎ Turns moment observed said reads may_leave turned requests bounds.workers bounds.attempts spare c before after old new
       → IsRefused moment observed said reads may_leave result c before.next_epoch spare old new ⊎ WorksOffBatch moment observed said reads may_leave result batch bounds c before.next_epoch spare after old new
-  turn_failed f turned result batch requests bounds spare c before after old new was is same quiet turns =
+  turn_failed f turned result batch requests bounds spare c before after old new was never is same quiet turns =
+      let none : RefusesNone f = λ file at same. never file at (was ∙ ap Err same) in
       subst (λ r. IsRefused moment observed said reads may_leave r c before.next_epoch spare old new ⊎ WorksOffBatch moment observed said reads may_leave r batch bounds c before.next_epoch spare after old new) (sym is)
-      (⊎_elim (λ none. inl (refused f turned requests spare c before old new was quiet none)) (λ t. inr (turn_ends f turned batch requests bounds spare c before after old new was same quiet t)) turns)
+      (⊎_elim (λ keeps. inl (refused f turned requests spare c before old new was none quiet keeps)) (λ t. inr (turn_ends f turned batch requests bounds spare c before after old new was none same quiet t)) turns)
 
   -- ---- a turn that committed, and what is said behind it
 
-  module _ (batch : Batch) (requests : List Request) (bounds : RunBounds) (c : Contents) (next spare : ℕ) (after : ClusterState) (old mid : H) (same : requests ≡ batch.fresh) (quiet : said mid ≡ said old)
+  module _ (batch : Batch) (requests : List Request) (bounds : RunBounds) (c : Contents) (next spare : ℕ) (after : Cluster) (old mid : H) (same : requests ≡ batch.fresh) (quiet : said mid ≡ said old)
       (done : Committed c requests bounds next spare after old mid) where
     abbrev texts : List ℕ
     texts = batch_texts c done.d batch
@@ -360,7 +386,7 @@ module _ {H : Type 0} (moment : H → ℕ) (observed : H → ℕ → Observation
 -- ---- texts
 
 -- the early texts, and those of after, are those of the two stores
-pub texts_are : (c d : Contents) (k after : ClusterState) (batch : Batch) (was now : List Done) (answers : List LineAnswer) (piece : List ℕ) → StandsAt c k → StandsAt d after
+pub texts_are : (c d : Contents) (k after : Cluster) (batch : Batch) (was now : List Done) (answers : List LineAnswer) (piece : List ℕ) → StandsAt c k → StandsAt d after
     → was ≡ k.kept.dones → now ≡ after.kept.dones → answers ≡ batch.answers.items → piece ≡ texts_over was now answers → piece ≡ batch_texts c d batch
 texts_are c d k after batch was now answers piece stands then_stands before behind same is =
-    is ∙ ap (λ ds. texts_over ds now answers) (before ∙ stands.dones) ∙ ap (λ ds. texts_over (kept (history_of c)) ds answers) (behind ∙ then_stands.dones) ∙ ap (texts_over (kept (history_of c)) (kept (history_of d))) same
+    is ∙ ap (λ ds. texts_over ds now answers) (before ∙ stands.belongs.dones) ∙ ap (λ ds. texts_over (kept (history_of c)) ds answers) (behind ∙ then_stands.belongs.dones) ∙ ap (texts_over (kept (history_of c)) (kept (history_of d))) same

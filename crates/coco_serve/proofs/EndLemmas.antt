@@ -3,19 +3,18 @@ use Rattle.std.proofs.Common.{◌≡◌, false, ℕ, ◌+◌, ◌<◌, ◌≤◌
 use Rattle.std.specs.Prelude.{Result}
 use Rattle.coco_types.specs.Limits.{epochs_end}
 use Rattle.coco_append.specs.Gaining.{RestsOn}
-use Rattle.coco_ast.specs.Tree.{Procedures}
 use Rattle.coco_batches.specs.Asking.{known_of}
 use Rattle.coco_batches.specs.BatchReading.{BreaksOff, IsCutOff, ReadsBatch, TakesLines}
 use Rattle.coco_batches.specs.declared.batch.Batch.{Batch}
 use Rattle.coco_batches.proofs.BatchLemmas.{takes_both, takes_none}
 use Rattle.coco_cluster.specs.Around.{Around, IsLater, SkipsFew, spare}
-use Rattle.coco_cluster.specs.Standing.{ClusterState, StandsAt}
+use Rattle.coco_cluster.specs.Standing.{StandsAt}
+use Rattle.coco_cluster.specs.declared.cluster.Cluster.{Cluster}
 use Rattle.coco_cluster.specs.Turning.{epochs_of}
 use Rattle.coco_cluster.proofs.AroundLemmas.{spare_then}
 use Rattle.coco_host.specs.Files.{Files}
 use Rattle.coco_host.specs.Moments.{Observation}
 use Rattle.coco_io.specs.Counts.{Rose}
-use Rattle.coco_kept.specs.Keeping.{Keeping}
 use Rattle.coco_lines.specs.Lines.{Line, lines_of}
 use Rattle.coco_lines.specs.ReaderState.{ReaderState}
 use Rattle.coco_lines.specs.Reads.{Gives, HasNoFeed, SourceMoment}
@@ -26,7 +25,7 @@ use Rattle.coco_store.specs.Contents.{Contents}
 use Rattle.coco_serve.specs.Endings.{ending_of}
 use Rattle.coco_serve.specs.Faults.{Counts, CountsBatch}
 use Rattle.coco_serve.specs.OneBatch.{IsRefused, WorksOffBatch}
-use Rattle.coco_serve.specs.Serving.{HasCause, Outside, Serves, spare_of}
+use Rattle.coco_serve.specs.Serving.{HasCause, Outside, Serves}
 use Rattle.coco_serve.specs.declared.ending.Served.{Served}
 use Rattle.coco_serve.specs.declared.ending.Served.TheVariants as ending
 use Rattle.coco_serve.specs.declared.fault.BatchFault.{BatchFault}
@@ -41,6 +40,7 @@ use Rattle.coco_serve.proofs.RunLemmas.{AreServed, AreTaken, OnlyNow, SeenNow, f
 pub reason_of : (f : BatchFault) (next requests : ℕ) (was now : Around) (before after : Counts) → CountsBatch {T = Unit {0}} (Err f) next was now requests before after → HasReason next (spare was now) requests f
 reason_of fault.Say next requests was now before after counts = tt
 reason_of fault.Disk next requests was now before after counts = tt
+reason_of (fault.NotAStore file at) next requests was now before after counts = tt
 reason_of fault.Unreachable next requests was now before after counts = counts.1
 reason_of fault.EpochsUsedUp next requests was now before after counts = counts
 reason_of fault.NoMemory next requests was now before after counts = tt
@@ -51,6 +51,7 @@ pub cause_of : (f : BatchFault) (next now requests : ℕ) (bytes : List ℕ) (st
     → CountsBatch {T = Unit {0}} (Err f) now was end.around requests before (record { say = end.say_faults; disk = end.disk_faults }) → HasCause next bytes start end (ending_of f)
 cause_of fault.Say next now requests bytes start end was before says disks low first second counts = subst (λ n. Rose n end.say_faults) says counts
 cause_of fault.Disk next now requests bytes start end was before says disks low first second counts = subst (λ n. Rose n end.disk_faults) disks counts
+cause_of (fault.NotAStore file at) next now requests bytes start end was before says disks low first second counts = ((λ i. (counts i).say) ∙ says, (λ i. (counts i).disk) ∙ disks)
 cause_of fault.Unreachable next now requests bytes start end was before says disks low first second counts = (was, first, counts.0)
 cause_of fault.EpochsUsedUp next now requests bytes start end was before says disks low first second counts =
     (let used = counts.0 in let adds = spare_then start.around was end.around first second in subst (SkipsFew next epochs_end (length (lines_of bytes))) (sym adds) (omega (arith, used, low)))
@@ -58,33 +59,27 @@ cause_of fault.NoMemory next now requests bytes start end was before says disks 
 
 -- ---- batches
 
--- what a batch is read by
-pub read_at : (procs now : Procedures) (held k : Keeping) (reader reader' : ReaderState) (m n : SourceMoment) (size : ℕ) (batch : Batch) → procs ≡ now → held ≡ k
-    → ReadsBatch procs (known_of held []) reader reader' m n size batch → ReadsBatch now (known_of k []) reader reader' m n size batch
-read_at procs now held k reader reader' m n size batch same kept r =
-    subst (λ p. ReadsBatch p (known_of k []) reader reader' m n size batch) same (subst (λ x. ReadsBatch procs (known_of x []) reader reader' m n size batch) kept r)
-
 module _ {H : Type 0} (moment : H → ℕ) (observed : H → ℕ → Observation → Type 0) (said : H → Option (List ℕ)) (reads : H → Option Files) (may_leave : H → Files → Type 0) where
   -- between two batches
-  pub record IsRunning (next spare : ℕ) (bounds : RunBounds) (reader : ReaderState) (before now : SourceMoment) (start k : ClusterState) (first host : H) : Type 0 where
+  pub record IsRunning (next spare : ℕ) (bounds : RunBounds) (reader : ReaderState) (before now : SourceMoment) (start k : Cluster) (first host : H) : Type 0 where
     pub taken : AreTaken next spare reader before now k
     pub served : (c : Contents) → RestsOn c (reads first) (may_leave first) → StandsAt c start → AreServed moment observed said reads may_leave c next spare bounds taken.lines k first host
 
   -- at the end, where more may be skipped than did so far
-  pub record RunsTo (next spare total : ℕ) (bounds : RunBounds) (reader : ReaderState) (before now : SourceMoment) (start k : ClusterState) (e : Served) (first host : H) : Type 0 where
+  pub record RunsTo (next spare total : ℕ) (bounds : RunBounds) (reader : ReaderState) (before now : SourceMoment) (start k : Cluster) (e : Served) (first host : H) : Type 0 where
     pub bytes : List ℕ
     pub gives : Gives before now bytes
     pub count : reader.taken ≡ length bytes
     pub low : SkipsFew next k.next_epoch (length (lines_of bytes)) spare
     pub serves : (c : Contents) → RestsOn c (reads first) (may_leave first) → StandsAt c start → Serves moment observed said reads may_leave c next total bounds bytes e first host
 
-  pub running_new : OnlyNow moment observed said reads may_leave → (bounds : RunBounds) (s : ReaderState) (m : SourceMoment) (k : ClusterState) (host : H) (spare : ℕ) → s ≡ new_reader → IsRunning k.next_epoch spare bounds s m m k k host host
+  pub running_new : OnlyNow moment observed said reads may_leave → (bounds : RunBounds) (s : ReaderState) (m : SourceMoment) (k : Cluster) (host : H) (spare : ℕ) → s ≡ new_reader → IsRunning k.next_epoch spare bounds s m m k k host host
   running_new only_now bounds s m k host spare fresh = subst (λ r. IsRunning k.next_epoch spare bounds r m m k k host host) (sym fresh) (record {
     taken = record { lines = []; takes = takes_none new_reader m; given = refl; low = omega arith };
     served = λ c rests stands. served_new moment observed said reads may_leave only_now c spare bounds k host rests stands;
   })
 
-  module _ (next spare : ℕ) (bounds : RunBounds) (reader reader' : ReaderState) (before m n : SourceMoment) (start k : ClusterState) (first mid : H) (run : IsRunning next spare bounds reader before m start k first mid) where
+  module _ (next spare : ℕ) (bounds : RunBounds) (reader reader' : ReaderState) (before m n : SourceMoment) (start k : Cluster) (first mid : H) (run : IsRunning next spare bounds reader before m start k first mid) where
     -- with further lines
     takes_on : (more : List Line) (behind : List ℕ) → TakesLines reader reader' m n more behind → TakesLines new_reader reader' before n (run.taken.lines ++ more) behind
     takes_on more behind takes = takes_both new_reader reader reader' before m n run.taken.lines more behind run.taken.takes takes
@@ -155,17 +150,17 @@ module _ {H : Type 0} (moment : H → ℕ) (observed : H → ℕ → Observation
             nothing [] e = refl
             nothing (l ∷ ls) e = absurd (omega arith)
 
-        abbrev Tries : ℕ → Result (Unit {0}) BatchFault → ClusterState → H → Type 0
+        abbrev Tries : ℕ → Result (Unit {0}) BatchFault → Cluster → H → Type 0
         Tries later result k' host =
             (d : Contents) → RestsOn d (reads mid) (may_leave mid) → StandsAt d k
             → IsRefused moment observed said reads may_leave result d k.next_epoch later mid host ⊎ WorksOffBatch moment observed said reads may_leave result batch bounds d k.next_epoch later k' mid host
 
-        answered : (later : ℕ) (k' : ClusterState) (host : H) → Tries later (Ok tt) k' host → (d : Contents) → RestsOn d (reads mid) (may_leave mid) → StandsAt d k
+        answered : (later : ℕ) (k' : Cluster) (host : H) → Tries later (Ok tt) k' host → (d : Contents) → RestsOn d (reads mid) (may_leave mid) → StandsAt d k
             → WorksOffBatch moment observed said reads may_leave (Ok tt) batch bounds d k.next_epoch later k' mid host
         answered later k' host tries d rests stands = ⊎_elim (λ none. absurd none.ends) (λ yes. yes) (tries d rests stands)
 
         -- it was whole, and there are more
-        pub running_more : (later total : ℕ) (result : Result (Unit {0}) BatchFault) (k' : ClusterState) (host : H) → total ≡ spare + later → result ≡ Ok tt → Tries later result k' host → bounds.size ≤ length batch.answers.items
+        pub running_more : (later total : ℕ) (result : Result (Unit {0}) BatchFault) (k' : Cluster) (host : H) → total ≡ spare + later → result ≡ Ok tt → Tries later result k' host → bounds.size ≤ length batch.answers.items
             → 0 < length batch.answers.items → reader'.given ≡ reader.given + length batch.answers.items → SkipsFew k.next_epoch k'.next_epoch (epochs_of batch.fresh) later
             → IsRunning next total bounds reader' before n start k' first host
         running_more later total result k' host adds ok tries full some given numbers =
@@ -184,7 +179,7 @@ module _ {H : Type 0} (moment : H → ℕ) (observed : H → ℕ → Observation
             })
 
         -- it was the last one
-        pub finished_last : (later total : ℕ) (result : Result (Unit {0}) BatchFault) (k' : ClusterState) (host : H) → total ≡ spare + later → result ≡ Ok tt → Tries later result k' host → length batch.answers.items < bounds.size
+        pub finished_last : (later total : ℕ) (result : Result (Unit {0}) BatchFault) (k' : Cluster) (host : H) → total ≡ spare + later → result ≡ Ok tt → Tries later result k' host → length batch.answers.items < bounds.size
             → 0 < length batch.answers.items → RunsTo next spare total bounds reader' before n start k ending.Finished first host
         finished_last later total result k' host adds ok tries short some =
             let good = subst (λ x. Tries later x k' host) ok tries in
@@ -201,7 +196,7 @@ module _ {H : Type 0} (moment : H → ℕ) (observed : H → ℕ → Observation
             })
 
         -- it broke off
-        pub batch_broke : (later total : ℕ) (result : Result (Unit {0}) BatchFault) (f : BatchFault) (k' : ClusterState) (host : H) → total ≡ spare + later → result ≡ Err f → Tries later result k' host
+        pub batch_broke : (later total : ℕ) (result : Result (Unit {0}) BatchFault) (f : BatchFault) (k' : Cluster) (host : H) → total ≡ spare + later → result ≡ Err f → Tries later result k' host
             → HasReason k.next_epoch later (length batch.fresh) f → 0 < length batch.answers.items → RunsTo next spare total bounds reader' before n start k (ending_of f) first host
         batch_broke later total result f k' host adds is tries reason some = subst (λ t. RunsTo next spare t bounds reader' before n start k (ending_of f) first host) (sym adds) (record {
           bytes = took.bytes;

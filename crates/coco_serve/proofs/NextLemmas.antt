@@ -1,21 +1,19 @@
 -- One batch more: what it makes of a run, and how the run ends with it.
-use Rattle.std.proofs.Common.{◌≡◌, true, ℕ, ◌+◌, ◌-◌, ◌<◌, ◌≤◌, inl, inr, ◌⊎◌, ⊎_elim, Err, List, [], ◌∷◌, ◌++◌, length, map, take, Option, Some, refl, sym, ap, subst, ◌∙◌, arith, append_assoc, append-nil, length-append}
+use Rattle.std.proofs.Common.{◌≡◌, true, ℕ, ◌+◌, ◌-◌, ◌<◌, ◌≤◌, inl, inr, ◌⊎◌, ⊎_elim, Err, List, [], ◌∷◌, ◌++◌, length, map, take, Option, Some, refl, sym, ap, subst, ◌∙◌, arith, append-nil, length-append}
 use Rattle.std.specs.Prelude.{Result}
 use Rattle.std.proofs.Math.Seq.{take-append-add, take-append_seam, take-length, take_all}
 use Rattle.std.specs.Io.KnownBytes.{append_known}
-use Rattle.coco_types.specs.Limits.{epochs_end}
-use Rattle.coco_types.specs.declared.call.Request.{Request}
 use Rattle.coco_append.specs.Gaining.{RestsOn}
 use Rattle.coco_ast.specs.Growth.{GrowsInTurn}
 use Rattle.coco_ast.specs.GrowthLaws.{Keeps}
-use Rattle.coco_ast.specs.History.{Epoch, History, all_dones, kept}
+use Rattle.coco_ast.specs.History.{History, all_dones, kept}
 use Rattle.coco_ast.specs.Tree.{Procedures}
 use Rattle.coco_ast.proofs.GrowthLemmas.{growth_keeps}
 use Rattle.coco_batches.specs.Asking.{known_of}
 use Rattle.coco_batches.specs.BatchReading.{ReadsBatch}
 use Rattle.coco_batches.specs.declared.batch.Batch.{Batch}
-use Rattle.coco_cluster.specs.Around.{SkipsFew}
-use Rattle.coco_cluster.specs.Standing.{ClusterState, IsBehindAll, StandsAt}
+use Rattle.coco_cluster.specs.Standing.{StandsAt}
+use Rattle.coco_cluster.specs.declared.cluster.Cluster.{Cluster}
 use Rattle.coco_cluster.specs.Turning.{epochs_of}
 use Rattle.coco_cluster.specs.Writing.{WritesLogs}
 use Rattle.coco_cluster.proofs.BehindLemmas.{behind_later}
@@ -53,14 +51,14 @@ use Rattle.coco_serve.proofs.RunLemmas.{AreServed, SeenNow, all_served, answers-
 
 module _ {H : Type 0} (moment : H → ℕ) (observed : H → ℕ → Observation → Type 0) (said : H → Option (List ℕ)) (reads : H → Option Files) (may_leave : H → Files → Type 0) where
   -- a batch that was read is the next one
-  module _ (c : Contents) (next spare : ℕ) (bounds : RunBounds) (lines : List Line) (k : ClusterState) (first mid : H) (reader reader' : ReaderState) (m n : SourceMoment) (batch : Batch)
+  module _ (c : Contents) (next spare : ℕ) (bounds : RunBounds) (lines : List Line) (k : Cluster) (first mid : H) (reader reader' : ReaderState) (m n : SourceMoment) (batch : Batch)
       (a : AreServed moment observed said reads may_leave c next spare bounds lines k first mid) (r : ReadsBatch k.procs (known_of k.kept []) reader reader' m n bounds.size batch) (bytes : List ℕ)
       (all : lines_of bytes ≡ (lines ++ r.taking.lines) ++ lines_of reader'.pending) (some : 0 < length batch.answers.items) where
     pub read_next : AreFirstBatches bounds.size bytes (a.batches ++ r.taking.lines ∷ [])
     read_next = first_more bounds.size bytes lines r.taking.lines (lines_of reader'.pending) a.batches a.lines_are a.whole (omega (arith, r.taking.as_many, some)) (omega (arith, r.taking.as_many, r.few))
         (λ short. ap lines_of (r.ends (omega (arith, r.taking.as_many, short))).1 ∙ lines_of-nil) all
 
-  module _ (c : Contents) (next spare more_spare : ℕ) (bounds : RunBounds) (lines : List Line) (k k' : ClusterState) (first mid host : H) (reader reader' : ReaderState) (m n : SourceMoment) (batch : Batch) (result : Result (Unit {0}) BatchFault)
+  module _ (c : Contents) (next spare more_spare : ℕ) (bounds : RunBounds) (lines : List Line) (k k' : Cluster) (first mid host : H) (reader reader' : ReaderState) (m n : SourceMoment) (batch : Batch) (result : Result (Unit {0}) BatchFault)
       (a : AreServed moment observed said reads may_leave c next spare bounds lines k first mid) (given : reader.given ≡ length lines) (r : ReadsBatch k.procs (known_of k.kept []) reader reader' m n bounds.size batch)
       (x : WorksOffBatch moment observed said reads may_leave result batch bounds a.d k.next_epoch more_spare k' mid host) where
     abbrev tree : Procedures
@@ -332,6 +330,7 @@ module _ {H : Type 0} (moment : H → ℕ) (observed : H → ℕ → Observation
       batch_fails : (f : BatchFault) → BatchEnds a.d x.d (x.number + 1) k' texts (said mid) (said host) (reads host) (may_leave host) (Err f) → Serves moment observed said reads may_leave c next all bounds bytes (ending_of f) first host
       batch_fails fault.Say ends = say_ends ends
       batch_fails fault.Disk ends = disk_ends ends
+      batch_fails (fault.NotAStore file at) ends = absurd ends
       batch_fails fault.Unreachable ends = absurd ends
       batch_fails fault.EpochsUsedUp ends = absurd ends
       batch_fails fault.NoMemory ends = memory_ends ends

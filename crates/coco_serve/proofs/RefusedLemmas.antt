@@ -1,5 +1,5 @@
 -- A batch that isn't committed: how a run ends with it.
-use Rattle.std.proofs.Common.{◌≡◌, ℕ, ◌+◌, ◌*◌, ◌-◌, ◌<◌, ◌≤◌, inl, Err, List, [], ◌∷◌, ◌++◌, length, length-append, map, take, Option, Some, refl, sym, ap, subst, ◌∙◌, arith, append_assoc}
+use Rattle.std.proofs.Common.{◌≡◌, ℕ, ◌+◌, ◌-◌, ◌<◌, inl, Err, List, [], ◌++◌, length, length-append, map, take, Option, refl, sym, ap, subst, ◌∙◌, arith, append_assoc}
 use Rattle.std.specs.Prelude.{⊤, Result}
 use Rattle.std.proofs.Math.Seq.{take-length, take_all}
 use Rattle.std.specs.Io.KnownBytes.{append_known}
@@ -10,7 +10,7 @@ use Rattle.coco_batches.specs.Asking.{known_of}
 use Rattle.coco_batches.specs.BatchReading.{ReadsBatch}
 use Rattle.coco_batches.specs.declared.batch.Batch.{Batch}
 use Rattle.coco_cluster.specs.Around.{SkipsFew}
-use Rattle.coco_cluster.specs.Standing.{ClusterState}
+use Rattle.coco_cluster.specs.declared.cluster.Cluster.{Cluster}
 use Rattle.coco_cluster.specs.Turning.{AddsOnlyPrepared, RestsWithout, ShowsHistory}
 use Rattle.coco_cluster.specs.Writing.{WritesLogs}
 use Rattle.coco_cluster.proofs.WriteLemmas.{writes_then}
@@ -27,7 +27,7 @@ use Rattle.coco_serve.specs.Endings.{ending_of}
 use Rattle.coco_serve.specs.Growth.{AddsWithin, IsGrown, Manner, answers_of, manner_of}
 use Rattle.coco_serve.specs.OneBatch.{IsRefused, RefusedEnds}
 use Rattle.coco_serve.specs.Seen.{IsServed}
-use Rattle.coco_serve.specs.Serving.{AreUsedUp, HasNext, LeavesLast, Progress, RestsAt, RunEnds, SaysAll, SaysUpTo, Serves}
+use Rattle.coco_serve.specs.Serving.{HasNext, LeavesLast, Progress, RestsAt, RunEnds, SaysAll, SaysUpTo, Serves}
 use Rattle.coco_serve.specs.declared.bounds.RunBounds.{RunBounds}
 use Rattle.coco_serve.specs.declared.ending.Served.{Served}
 use Rattle.coco_serve.specs.declared.ending.Served.TheVariants as ending
@@ -49,12 +49,13 @@ history_stays c d adds =
 abbrev pub HasReason : ℕ → ℕ → ℕ → BatchFault → Type 0
 HasReason next spare requests fault.Say = ⊤
 HasReason next spare requests fault.Disk = ⊤
+HasReason next spare requests (fault.NotAStore file at) = ⊤
 HasReason next spare requests fault.Unreachable = 0 < requests
 HasReason next spare requests fault.EpochsUsedUp = SkipsFew next epochs_end 0 spare × (0 < requests)
 HasReason next spare requests fault.NoMemory = ⊤
 
 module _ {H : Type 0} (moment : H → ℕ) (observed : H → ℕ → Observation → Type 0) (said : H → Option (List ℕ)) (reads : H → Option Files) (may_leave : H → Files → Type 0) where
-  module _ (c : Contents) (next spare more_spare : ℕ) (bounds : RunBounds) (lines : List Line) (k : ClusterState) (first mid host : H) (reader reader' : ReaderState) (m n : SourceMoment) (batch : Batch) (result : Result (Unit {0}) BatchFault)
+  module _ (c : Contents) (next spare more_spare : ℕ) (bounds : RunBounds) (lines : List Line) (k : Cluster) (first mid host : H) (reader reader' : ReaderState) (m n : SourceMoment) (batch : Batch) (result : Result (Unit {0}) BatchFault)
       (a : AreServed moment observed said reads may_leave c next spare bounds lines k first mid) (r : ReadsBatch k.procs (known_of k.kept []) reader reader' m n bounds.size batch) (bytes : List ℕ)
       (lines_are : lines_of bytes ≡ (lines ++ r.taking.lines) ++ lines_of reader'.pending) (some : 0 < length batch.answers.items)
       (x : IsRefused moment observed said reads may_leave result a.d k.next_epoch more_spare mid host) (seen_now : SeenNow moment observed said reads may_leave) where
@@ -155,6 +156,7 @@ module _ {H : Type 0} (moment : H → ℕ) (observed : H → ℕ → Observation
     ends : (f : BatchFault) → HasReason k.next_epoch more_spare (length batch.fresh) f → RefusedEnds a.d x.number (reads host) (may_leave host) (Err f) → Serves moment observed said reads may_leave c next total bounds bytes (ending_of f) first host
     ends fault.Say reason left = absurd left
     ends fault.Disk reason left = ends_so ending.DiskFault (leaves (SaysAll (said first) (said host)) says)
+    ends (fault.NotAStore file at) reason left = absurd left
     ends fault.Unreachable reason left = ends_so ending.Unreachable (rests left, says, has_next reason)
     ends fault.EpochsUsedUp reason left =
         let few = a.numbers.few in

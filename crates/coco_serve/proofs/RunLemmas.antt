@@ -4,19 +4,19 @@ use Rattle.std.proofs.Math.Seq.{take-length, take_all}
 use Rattle.std.proofs.lemmas.Bool.{cases_lt}
 use Rattle.std.proofs.lemmas.List.{take-append-le}
 use Rattle.std.specs.Io.KnownBytes.{append_known}
-use Rattle.coco_types.specs.Limits.{epochs_end}
 use Rattle.coco_types.specs.declared.call.Done.{Done}
 use Rattle.coco_types.specs.declared.call.Request.{Request}
 use Rattle.coco_append.specs.Gaining.{RestsOn}
-use Rattle.coco_ast.specs.Growth.{GrowsBy, GrowsInTurn}
-use Rattle.coco_ast.specs.History.{Epoch, History, IsPrefixOf, floor, kept, request_of}
+use Rattle.coco_ast.specs.Growth.{GrowsInTurn}
+use Rattle.coco_ast.specs.History.{History, IsPrefixOf, floor, kept, request_of}
 use Rattle.coco_ast.specs.Tree.{Procedures}
 use Rattle.coco_ast.proofs.Growths.{prefix_trans}
 use Rattle.coco_ast.proofs.Lists.{all_append}
 use Rattle.coco_batches.specs.Asking.{known_of}
 use Rattle.coco_batches.specs.BatchReading.{TakesLines}
 use Rattle.coco_cluster.specs.Around.{SkipsFew}
-use Rattle.coco_cluster.specs.Standing.{ClusterState, IsBehindAll, StandsAt}
+use Rattle.coco_cluster.specs.Standing.{StandsAt}
+use Rattle.coco_cluster.specs.declared.cluster.Cluster.{Cluster}
 use Rattle.coco_cluster.specs.Turning.{IsStoreOf, epochs_of}
 use Rattle.coco_cluster.specs.Writing.{WritesLogs}
 use Rattle.coco_cluster.proofs.BehindLemmas.{behind_later}
@@ -28,7 +28,7 @@ use Rattle.coco_host.proofs.Sees.{started}
 use Rattle.coco_io.proofs.KnownLemmas.{append_known-nil}
 use Rattle.coco_lines.specs.Answers.{answers_by, answer_by}
 use Rattle.coco_lines.specs.Batches.{AreBatches, Batch as Lines, joined}
-use Rattle.coco_lines.specs.Classes.{AreClasses, Known, known_in, new_in, new_of}
+use Rattle.coco_lines.specs.Classes.{AreClasses, known_in, new_in, new_of}
 use Rattle.coco_lines.specs.Growing.{GrowsByBatch, GrowsByBatches}
 use Rattle.coco_lines.specs.Lines.{Line, ended_lines_of, lines_of}
 use Rattle.coco_lines.specs.ReaderState.{ReaderState}
@@ -37,7 +37,7 @@ use Rattle.coco_lines.specs.declared.class.Class.{Class}
 use Rattle.coco_store.specs.Contents.{Contents, history_of}
 use Rattle.coco_serve.specs.Growth.{AddsWithin, AreFirstBatches, GrowsByExecution, HaveSize, IsGrown, Manner, answers_of, manner_of}
 use Rattle.coco_serve.specs.Seen.{IsServed, LeavesEither}
-use Rattle.coco_serve.specs.Serving.{LeavesLast, Progress, RestsAt, RunEnds, SaysAll, SaysUpTo, Serves}
+use Rattle.coco_serve.specs.Serving.{LeavesLast, Progress, RestsAt, RunEnds, SaysUpTo, Serves}
 use Rattle.coco_serve.specs.declared.ending.Served.{Served}
 use Rattle.coco_serve.specs.declared.ending.Served.TheVariants as ending
 use Rattle.coco_serve.specs.declared.bounds.RunBounds.{RunBounds}
@@ -118,17 +118,17 @@ few_epochs (r ∷ rs) = omega arith
 
 -- ---- what is known
 
-pub known_at : (c : Contents) (k : ClusterState) → StandsAt c k → known_of k.kept [] ≡ known_in (history_of c)
+pub known_at : (c : Contents) (k : Cluster) → StandsAt c k → known_of k.kept [] ≡ known_in (history_of c)
 known_at c k s =
-    let requests : map request_of k.kept.dones ++ [] ≡ map request_of (kept (history_of c)) = append-nil (map request_of k.kept.dones) ∙ ap (map request_of) s.dones in
-    let low : k.kept.floor ≡ floor (history_of c) = s.floor in
+    let requests : map request_of k.kept.dones ++ [] ≡ map request_of (kept (history_of c)) = append-nil (map request_of k.kept.dones) ∙ ap (map request_of) s.belongs.dones in
+    let low : k.kept.floor ≡ floor (history_of c) = s.belongs.floor in
     λ i. record { requests = requests i; floor = low i }
 
 -- the classes of lines at a cluster are those in the history of a store that it stands at
-pub classes_at : (c d : Contents) (k : ClusterState) (lines : List Line) (cs : List Class) → StandsAt d k → d.setting ≡ c.setting → AreClasses k.procs (known_of k.kept []) lines cs
+pub classes_at : (c d : Contents) (k : Cluster) (lines : List Line) (cs : List Class) → StandsAt d k → d.setting ≡ c.setting → AreClasses k.procs (known_of k.kept []) lines cs
     → AreClasses c.setting.tree (known_in (history_of d)) lines cs
 classes_at c d k lines cs stands same are =
-    let procs_are : k.procs ≡ c.setting.tree = stands.procs ∙ ap (λ (s : Setting). s.tree) same in
+    let procs_are : k.procs ≡ c.setting.tree = stands.belongs.procs ∙ ap (λ (s : Setting). s.tree) same in
     subst (λ kn. AreClasses c.setting.tree kn lines cs) (known_at d k stands) (subst (λ p. AreClasses p (known_of k.kept []) lines cs) procs_are are)
 
 -- ---- what is seen
@@ -203,7 +203,7 @@ abbrev pub new_reader : ReaderState
 new_reader = record { pending = []; ended = false; taken = 0; given = 0 }
 
 -- the lines so far, and the numbers of epochs that they took at most, but for those that may be skipped
-pub record AreTaken (next spare : ℕ) (reader : ReaderState) (before now : SourceMoment) (k : ClusterState) : Type 0 where
+pub record AreTaken (next spare : ℕ) (reader : ReaderState) (before now : SourceMoment) (k : Cluster) : Type 0 where
   pub lines : List Line
   pub takes : TakesLines new_reader reader before now lines reader.pending
   pub given : reader.given ≡ length lines
@@ -211,7 +211,7 @@ pub record AreTaken (next spare : ℕ) (reader : ReaderState) (before now : Sour
 
 module _ {H : Type 0} (moment : H → ℕ) (observed : H → ℕ → Observation → Type 0) (said : H → Option (List ℕ)) (reads : H → Option Files) (may_leave : H → Files → Type 0) where
   -- the lines so far are whole batches, a host rests on the store that they make, and all their answers are said
-  pub record AreServed (c : Contents) (next spare : ℕ) (bounds : RunBounds) (lines : List Line) (k : ClusterState) (first host : H) : Type 0 where
+  pub record AreServed (c : Contents) (next spare : ℕ) (bounds : RunBounds) (lines : List Line) (k : Cluster) (first host : H) : Type 0 where
     pub batches : List Lines
     pub classes : List (List Class)
     pub d : Contents
@@ -233,7 +233,7 @@ module _ {H : Type 0} (moment : H → ℕ) (observed : H → ℕ → Observation
   abbrev pub SeenNow : Type 0
   SeenNow = (host : H) (t : ℕ) (seen : Observation) → t ≤ moment host → may_leave host seen.image → said host ≡ Some seen.said → observed host t seen
 
-  pub served_new : OnlyNow → (c : Contents) (spare : ℕ) (bounds : RunBounds) (k : ClusterState) (host : H) → RestsOn c (reads host) (may_leave host) → StandsAt c k → AreServed c k.next_epoch spare bounds [] k host host
+  pub served_new : OnlyNow → (c : Contents) (spare : ℕ) (bounds : RunBounds) (k : Cluster) (host : H) → RestsOn c (reads host) (may_leave host) → StandsAt c k → AreServed c k.next_epoch spare bounds [] k host host
   served_new only_now c spare bounds k host rests stands = record {
     batches = [];
     classes = [];
@@ -263,7 +263,7 @@ module _ {H : Type 0} (moment : H → ℕ) (observed : H → ℕ → Observation
 
   -- ---- where a run ends between two batches
 
-  module _ (seen_now : SeenNow) (c : Contents) (next spare : ℕ) (bounds : RunBounds) (lines : List Line) (k : ClusterState) (first host : H) (a : AreServed c next spare bounds lines k first host) (bytes : List ℕ) (others : List Line)
+  module _ (seen_now : SeenNow) (c : Contents) (next spare : ℕ) (bounds : RunBounds) (lines : List Line) (k : Cluster) (first host : H) (a : AreServed c next spare bounds lines k first host) (bytes : List ℕ) (others : List Line)
       (all : lines_of bytes ≡ lines ++ others) where
     abbrev tree : Procedures
     tree = c.setting.tree

@@ -14,6 +14,7 @@ use Rattle.coco_serve.specs.declared.fault.BatchFault.TheVariants as fault
 -- what a fault of a turn is to its batch
 abbrev pub fault_of_turn : TurnFault → BatchFault
 fault_of_turn turn.Disk = fault.Disk
+fault_of_turn (turn.NotAStore file at) = fault.NotAStore file at
 fault_of_turn turn.Unreachable = fault.Unreachable
 fault_of_turn turn.EpochsUsedUp = fault.EpochsUsedUp
 fault_of_turn turn.NoMemory = fault.NoMemory
@@ -34,6 +35,7 @@ abbrev pub CountsBatch : {T : Type 0} → Result T BatchFault → ℕ → Around
 CountsBatch (Ok x) next was now requests before after = after ≡ before
 CountsBatch (Err fault.Say) next was now requests before after = Rose before.say after.say
 CountsBatch (Err fault.Disk) next was now requests before after = Rose before.disk after.disk
+CountsBatch (Err (fault.NotAStore file at)) next was now requests before after = after ≡ before
 CountsBatch (Err fault.Unreachable) next was now requests before after = AreGivenUp 4 was now × (0 < requests)
 CountsBatch (Err fault.EpochsUsedUp) next was now requests before after = SkipsFew next epochs_end 0 (spare was now) × (0 < requests)
 CountsBatch (Err fault.NoMemory) next was now requests before after = ⊤

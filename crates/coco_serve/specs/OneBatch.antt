@@ -5,9 +5,10 @@ use Rattle.coco_append.specs.Gaining.{RestsOn}
 use Rattle.coco_ast.specs.History.{kept}
 use Rattle.coco_batches.specs.declared.batch.Batch.{Batch}
 use Rattle.coco_cluster.specs.Around.{IsTaken}
-use Rattle.coco_cluster.specs.Standing.{ClusterState, IsBehindAll, StandsAt}
+use Rattle.coco_cluster.specs.Standing.{IsBehindAll, StandsAt}
 use Rattle.coco_cluster.specs.Turning.{IsStoreOf, RestsWithout, ShowsHistory, epochs_of}
 use Rattle.coco_cluster.specs.Writing.{WritesLogs}
+use Rattle.coco_cluster.specs.declared.cluster.Cluster.{Cluster}
 use Rattle.coco_host.specs.Files.{Files}
 use Rattle.coco_host.specs.Moments.{Observation, SeesOnly}
 use Rattle.coco_store.specs.Contents.{Contents, history_of}
@@ -27,11 +28,12 @@ abbrev pub SaysPart : List ℕ → Option (List ℕ) → Option (List ℕ) → T
 SaysPart texts before now = (k : ℕ) × (now ≡ append_known before (take k texts))
 
 -- how a batch ends, by its answer: committed and said whole; committed, and the saying broke off; or its turn failed, and the one store or the other is
--- left, in which no entry is of this epoch or a later one. Memory may run out at either place
-abbrev pub BatchEnds : Contents → Contents → ℕ → ClusterState → List ℕ → Option (List ℕ) → Option (List ℕ) → Option Files → (Files → Type 0) → Result (Unit {0}) BatchFault → Type 0
+-- left, in which no entry is of this epoch or a later one. Memory may run out at either place; no file of such a store is refused when it is read anew
+abbrev pub BatchEnds : Contents → Contents → ℕ → Cluster → List ℕ → Option (List ℕ) → Option (List ℕ) → Option Files → (Files → Type 0) → Result (Unit {0}) BatchFault → Type 0
 BatchEnds c d end after texts before now reads may_leave (Ok x) = RestsOn d reads may_leave × StandsAt d after × (now ≡ append_known before texts)
 BatchEnds c d end after texts before now reads may_leave (Err fault.Say) = RestsOn d reads may_leave × SaysPart texts before now
 BatchEnds c d end after texts before now reads may_leave (Err fault.Disk) = LeavesEither c.setting (history_of c) (history_of d) end before may_leave × (now ≡ before)
+BatchEnds c d end after texts before now reads may_leave (Err (fault.NotAStore file at)) = ⊥
 BatchEnds c d end after texts before now reads may_leave (Err fault.Unreachable) = ⊥
 BatchEnds c d end after texts before now reads may_leave (Err fault.EpochsUsedUp) = ⊥
 BatchEnds c d end after texts before now reads may_leave (Err fault.NoMemory) =
@@ -40,7 +42,7 @@ BatchEnds c d end after texts before now reads may_leave (Err fault.NoMemory) =
 -- the store has grown by a batch, whose epoch, if it has one, has this number, before which few were skipped, and whose answers are said behind it. At each moment there is the
 -- store of before with nothing said, or the grown one with a front of the answers, and no entry is of a later epoch; and behind it the other files are as they were
 pub record WorksOffBatch {H : Type 0} (moment : H → ℕ) (observed : H → ℕ → Observation → Type 0) (said : H → Option (List ℕ)) (reads : H → Option Files) (may_leave : H → Files → Type 0)
-    (result : Result (Unit {0}) BatchFault) (batch : Batch) (bounds : RunBounds) (c : Contents) (next spare : ℕ) (after : ClusterState) (old new : H) : Type 0 where
+    (result : Result (Unit {0}) BatchFault) (batch : Batch) (bounds : RunBounds) (c : Contents) (next spare : ℕ) (after : Cluster) (old new : H) : Type 0 where
   pub d : Contents
   pub setting : d.setting ≡ c.setting
   pub grows : GrowsByExecution (manner_of c.setting bounds) (history_of c) batch.fresh (history_of d)
@@ -53,11 +55,13 @@ pub record WorksOffBatch {H : Type 0} (moment : H → ℕ) (observed : H → ℕ
   pub others : WritesLogs c.setting (reads old) (reads new) (may_leave old) (may_leave new)
   pub ends : BatchEnds c d (number + 1) after (batch_texts c d batch) (said old) (said new) (reads new) (may_leave new) result
 
--- how a batch ends that isn't committed: where its turn gave up, or found no number, the host rests on the store of before, but for prepared entries, and none is of this epoch or a later one
+-- how a batch ends that isn't committed: where its turn gave up, or found no number, the host rests on the store of before, but for prepared entries, and none is of this epoch or a later one.
+-- No file of such a store is refused
 abbrev pub RefusedEnds : Contents → ℕ → Option Files → (Files → Type 0) → Result (Unit {0}) BatchFault → Type 0
 RefusedEnds c end reads may_leave (Ok x) = ⊥
 RefusedEnds c end reads may_leave (Err fault.Say) = ⊥
 RefusedEnds c end reads may_leave (Err fault.Disk) = ⊤
+RefusedEnds c end reads may_leave (Err (fault.NotAStore file at)) = ⊥
 RefusedEnds c end reads may_leave (Err fault.Unreachable) = RestsWithout c end reads may_leave
 RefusedEnds c end reads may_leave (Err fault.EpochsUsedUp) = RestsWithout c end reads may_leave
 RefusedEnds c end reads may_leave (Err fault.NoMemory) = ⊤

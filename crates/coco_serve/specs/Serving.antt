@@ -6,8 +6,9 @@ use Rattle.coco_append.specs.Gaining.{RestsOn}
 use Rattle.coco_ast.specs.History.{History}
 use Rattle.coco_cluster.specs.Around.{Around, IsLater, SkipsFew, spare}
 use Rattle.coco_cluster.specs.GivingUp.{AreGivenUp}
-use Rattle.coco_cluster.specs.Standing.{ClusterState, IsBehindAll, StandsAt}
+use Rattle.coco_cluster.specs.Standing.{IsBehindAll, StandsAt}
 use Rattle.coco_cluster.specs.Writing.{WritesLogs}
+use Rattle.coco_cluster.specs.declared.cluster.Cluster.{Cluster}
 use Rattle.coco_host.specs.Files.{Files}
 use Rattle.coco_host.specs.Moments.{Observation, SeesOnly}
 use Rattle.coco_io.specs.Counts.{Rose}
@@ -22,7 +23,7 @@ use Rattle.coco_serve.specs.Growth.{AddsWithin, AreFirstBatches, HaveSize, IsGro
 use Rattle.coco_serve.specs.Seen.{IsServed, LeavesEither}
 use Rattle.coco_serve.specs.declared.ending.Served.{Served}
 use Rattle.coco_serve.specs.declared.bounds.RunBounds.{RunBounds}
-use Rattle.coco_serve.specs.declared.ending.Served.TheVariants.{Finished, ReadFault, SayFault, DiskFault, Unreachable, EpochsUsedUp, NoMemory}
+use Rattle.coco_serve.specs.declared.ending.Served.TheVariants.{Finished, ReadFault, SayFault, DiskFault, NotAStore, Unreachable, EpochsUsedUp, NoMemory}
 
 -- ---- causes
 
@@ -39,12 +40,14 @@ abbrev pub spare_of : Outside → Outside → ℕ
 spare_of before after = spare before.around after.around
 
 -- why a run ended so, by the bytes that the source gave; nodes are unreachable where from some moment of the run on four attempts were given up, one behind the other; epochs are used up
--- where the numbers from the next one on reach the end, by one for each line and few that may be skipped. Want of memory needs no cause
+-- where the numbers from the next one on reach the end, by one for each line and few that may be skipped. Where a node's file was refused, no
+-- count of the host's rose. Want of memory needs no cause
 abbrev pub HasCause : ℕ → List ℕ → Outside → Outside → Served → Type 0
 HasCause next bytes before after Finished = IsSpent after.source
 HasCause next bytes before after ReadFault = Rose before.source_faults after.source_faults ⊎ (length bytes ≡ most_input_bytes)
 HasCause next bytes before after SayFault = Rose before.say_faults after.say_faults
 HasCause next bytes before after DiskFault = Rose before.disk_faults after.disk_faults
+HasCause next bytes before after (NotAStore file at) = (after.say_faults ≡ before.say_faults) × (after.disk_faults ≡ before.disk_faults)
 HasCause next bytes before after Unreachable = (m : Around) × IsLater before.around m × AreGivenUp 4 m after.around
 HasCause next bytes before after EpochsUsedUp = SkipsFew next epochs_end (length (lines_of bytes)) (spare_of before after)
 HasCause next bytes before after NoMemory = ⊤
@@ -118,13 +121,14 @@ pub record AreUsedUp (m : Manner) (opening : History) (next spare size : ℕ) (b
 
 -- by its ending: an input that was read to its end is committed and answered whole; after a fault of reading so are all whole batches; a fault of saying
 -- leaves all batches committed, the last one said in part; where nodes are unreachable, or epochs used up, all that is committed is said, and the next batch
--- has a new request; and after a fault of the disk, or out of memory, one batch more may be committed than is said
+-- has a new request; and after a fault of the disk, or out of memory, one batch more may be committed than is said. No file of such a store is refused
 abbrev pub RunEnds : (c : Contents) → (next spare : ℕ) → (bounds : RunBounds) → (bytes : List ℕ) → Progress (manner_of c.setting bounds) (history_of c) next spare bounds.size bytes → Option (List ℕ) → Option (List ℕ) → Option Files → (Files → Type 0) → Served → Type 0
 RunEnds c next spare bounds bytes p before now reads may_leave Finished = AreAll bounds.size bytes p.batches × RestsAt c.setting p.history p.end reads may_leave × SaysAll before now p.history p.classes
 RunEnds c next spare bounds bytes p before now reads may_leave ReadFault = AreAllWhole bounds.size bytes p.batches × RestsAt c.setting p.history p.end reads may_leave × SaysAll before now p.history p.classes
 RunEnds c next spare bounds bytes p before now reads may_leave SayFault = RestsAt c.setting p.history p.end reads may_leave × SaysUpTo before now p.history p.classes
 RunEnds c next spare bounds bytes p before now reads may_leave DiskFault =
     LeavesLast c.setting bounds (history_of c) next spare p.batches p.classes p.history (SaysAll before now) now may_leave
+RunEnds c next spare bounds bytes p before now reads may_leave (NotAStore file at) = ⊥
 RunEnds c next spare bounds bytes p before now reads may_leave Unreachable =
     RestsAt c.setting p.history p.end reads may_leave × SaysAll before now p.history p.classes × HasNext (manner_of c.setting bounds) (history_of c) next spare bounds.size bytes p
 RunEnds c next spare bounds bytes p before now reads may_leave EpochsUsedUp =
@@ -143,7 +147,7 @@ pub record Serves {H : Type 0} (moment : H → ℕ) (observed : H → ℕ → Ob
 
 -- the bytes that the source gave, what came of net and power, why the run ended so, and what it made of each store that the cluster stood at
 pub record Runs {H : Type 0} (moment : H → ℕ) (observed : H → ℕ → Observation → Type 0) (said : H → Option (List ℕ)) (reads : H → Option Files) (may_leave : H → Files → Type 0)
-    (cluster : ClusterState) (bounds : RunBounds) (before after : Outside) (ending : Served) (old new : H) : Type 0 where
+    (cluster : Cluster) (bounds : RunBounds) (before after : Outside) (ending : Served) (old new : H) : Type 0 where
   pub bytes : List ℕ
   pub gives : Gives before.source after.source bytes
   pub later : IsLater before.around after.around

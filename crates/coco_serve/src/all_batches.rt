@@ -1,8 +1,8 @@
 //! Request lines answered batch by batch, to the end of the input.
-ghost use Rattle.std.specs.Prelude.{◌≡◌, ◌<◌, ◌≤◌, false, length};
+ghost use Rattle.std.specs.Prelude.{◌<◌, ◌≤◌, length};
 ghost use Rattle.coco_types.specs.Limits.{most_batch_lines, most_kept};
-ghost use Rattle.coco_append.specs.Gaining.{Stands};
 ghost use Rattle.coco_cluster.specs.Around.{around};
+ghost use Rattle.coco_cluster.specs.Standing.{AllStand, IsSound};
 ghost use Rattle.coco_serve.specs.Serving.{Runs};
 
 use crate::bounds::RunBounds;
@@ -45,9 +45,9 @@ pub fn answer_lines<
     requires few { bounds.size ≤ most_batch_lines }
     requires workers { 0 < bounds.workers }
     requires attempts { 0 < bounds.attempts }
-    requires unspent { cluster.old.spent ≡ false }
+    requires sound { IsSound cluster.old (N.sent net.old) }
     requires room { length cluster.old.kept.dones ≤ most_kept }
-    requires stand { Stands cluster.old.node (H.reads host.old) (H.may_leave host.old) × Stands cluster.old.chief (H.reads host.old) (H.may_leave host.old) }
+    requires stand { AllStand cluster.old (H.reads host.old) (H.may_leave host.old) }
     ensures { Runs H.moment H.observed H.said H.reads H.may_leave cluster.old bounds
         (record { source = record { given = S.given input.old; left = S.remaining input.old; at_end = S.at_end input.old }; source_faults = S.faults input.old; say_faults = H.say_faults host.old; disk_faults = H.disk_faults host.old; around = around N.sent N.given N.faults N.last_seed P.stops_seen P.early_stops P.stopped P.begun P.asked net.old power.old })
         (record { source = record { given = S.given input.new; left = S.remaining input.new; at_end = S.at_end input.new }; source_faults = S.faults input.new; say_faults = H.say_faults host.new; disk_faults = H.disk_faults host.new; around = around N.sent N.given N.faults N.last_seed P.stops_seen P.early_stops P.stopped P.begun P.asked net.new power.new })
@@ -59,10 +59,10 @@ pub fn answer_lines<
         let batch = match read_batch(
             alloc,
             &mut scratch,
-            cluster.procs(),
+            &cluster.procs,
             &mut reader,
             input,
-            cluster.kept(),
+            &cluster.kept,
             bounds.size,
         ) {
             Ok(batch) => batch,

@@ -15,6 +15,8 @@ pub enum Served {
     SayFault,
     /// The host's files failed.
     DiskFault,
+    /// A node stopped, and its file, read anew, is no part of the store: it is refused from this byte on.
+    NotAStore { file: u32, at: u64 },
     /// Four attempts at an epoch were given up, since nodes stopped or weren't reached.
     Unreachable,
     /// There is no number for the next epoch.
@@ -29,6 +31,7 @@ impl From<BatchFault> for Served {
         match fault {
             BatchFault::Say => Served::SayFault,
             BatchFault::Disk => Served::DiskFault,
+            BatchFault::NotAStore { file, at } => Served::NotAStore { file, at },
             BatchFault::Unreachable => Served::Unreachable,
             BatchFault::EpochsUsedUp => Served::EpochsUsedUp,
             BatchFault::NoMemory => Served::NoMemory,

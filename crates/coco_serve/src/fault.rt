@@ -14,6 +14,8 @@ pub enum BatchFault {
     Say,
     /// The host's files failed.
     Disk,
+    /// A node stopped, and its file, read anew, is no part of the store: it is refused from this byte on.
+    NotAStore { file: u32, at: u64 },
     /// Four attempts at the epoch were given up, since nodes stopped or weren't reached.
     Unreachable,
     /// There is no number for the next epoch.
@@ -27,6 +29,7 @@ impl From<TurnFault> for BatchFault {
     fn from(fault: TurnFault) -> BatchFault {
         match fault {
             TurnFault::Disk => BatchFault::Disk,
+            TurnFault::NotAStore { file, at } => BatchFault::NotAStore { file, at },
             TurnFault::Unreachable => BatchFault::Unreachable,
             TurnFault::EpochsUsedUp => BatchFault::EpochsUsedUp,
             TurnFault::NoMemory => BatchFault::NoMemory,

@@ -1,10 +1,10 @@
 //! One batch: its turn, and then its answers.
-ghost use Rattle.std.specs.Prelude.{◌≡◌, ◌⊎◌, ◌+◌, ◌≤◌, ◌<◌, false, length, OnOk};
+ghost use Rattle.std.specs.Prelude.{◌≡◌, ◌⊎◌, ◌+◌, ◌≤◌, ◌<◌, length, OnOk};
 ghost use Rattle.coco_types.specs.Limits.{most_batch_lines, most_kept};
-ghost use Rattle.coco_append.specs.Gaining.{RestsOn, Stands};
+ghost use Rattle.coco_append.specs.Gaining.{RestsOn};
 ghost use Rattle.coco_batches.specs.Asking.{MayCommit};
 ghost use Rattle.coco_cluster.specs.Around.{IsLater, SkipsFew, around, spare};
-ghost use Rattle.coco_cluster.specs.Standing.{StandsAt};
+ghost use Rattle.coco_cluster.specs.Standing.{AllStand, IsSound, StandsAt};
 ghost use Rattle.coco_cluster.specs.Turning.{epochs_of};
 ghost use Rattle.coco_store.specs.Contents.{Contents};
 ghost use Rattle.coco_serve.specs.Faults.{CountsBatch};
@@ -43,16 +43,16 @@ pub fn turn_and_say<
     bounds: RunBounds,
     gate: &G,
 ) -> Result<(), BatchFault>
-    requires unspent { cluster.old.spent ≡ false }
+    requires sound { IsSound cluster.old (N.sent net.old) }
     requires workers { 0 < bounds.workers }
     requires attempts { 0 < bounds.attempts }
     requires may { MayCommit cluster.old.procs cluster.old.kept batch.fresh }
     requires few { length batch.fresh ≤ most_batch_lines }
-    requires stand { Stands cluster.old.node (H.reads host.old) (H.may_leave host.old) × Stands cluster.old.chief (H.reads host.old) (H.may_leave host.old) }
+    requires stand { AllStand cluster.old (H.reads host.old) (H.may_leave host.old) }
     ensures answers { (c : Contents) → RestsOn c (H.reads host.old) (H.may_leave host.old) → StandsAt c cluster.old
         → IsRefused H.moment H.observed H.said H.reads H.may_leave result c cluster.old.next_epoch (spare (around N.sent N.given N.faults N.last_seed P.stops_seen P.early_stops P.stopped P.begun P.asked net.old power.old) (around N.sent N.given N.faults N.last_seed P.stops_seen P.early_stops P.stopped P.begun P.asked net.new power.new)) host.old host.new ⊎ WorksOffBatch H.moment H.observed H.said H.reads H.may_leave result batch bounds c cluster.old.next_epoch (spare (around N.sent N.given N.faults N.last_seed P.stops_seen P.early_stops P.stopped P.begun P.asked net.old power.old) (around N.sent N.given N.faults N.last_seed P.stops_seen P.early_stops P.stopped P.begun P.asked net.new power.new)) cluster.new host.old host.new }
-    ensures stand { OnOk result (Stands cluster.new.node (H.reads host.new) (H.may_leave host.new) × Stands cluster.new.chief (H.reads host.new) (H.may_leave host.new)) }
-    ensures unspent { OnOk result (cluster.new.spent ≡ false) }
+    ensures stand { OnOk result (AllStand cluster.new (H.reads host.new) (H.may_leave host.new)) }
+    ensures sound { OnOk result (IsSound cluster.new (N.sent net.new)) }
     ensures few { OnOk result (length cluster.new.kept.dones ≤ most_kept) }
     ensures next { OnOk result (SkipsFew cluster.old.next_epoch cluster.new.next_epoch (epochs_of batch.fresh) (spare (around N.sent N.given N.faults N.last_seed P.stops_seen P.early_stops P.stopped P.begun P.asked net.old power.old) (around N.sent N.given N.faults N.last_seed P.stops_seen P.early_stops P.stopped P.begun P.asked net.new power.new))) }
     ensures later { IsLater (around N.sent N.given N.faults N.last_seed P.stops_seen P.early_stops P.stopped P.begun P.asked net.old power.old) (around N.sent N.given N.faults N.last_seed P.stops_seen P.early_stops P.stopped P.begun P.asked net.new power.new) }
@@ -62,7 +62,7 @@ pub fn turn_and_say<
         (record { say = H.say_faults host.new; disk = H.disk_faults host.new }) }
 {
     let Batch { answers, fresh } = batch;
-    let early = early_texts(alloc, cluster.kept(), answers.as_slice())?;
+    let early = early_texts(alloc, &cluster.kept, answers.as_slice())?;
     let requests = fresh.into_requests(alloc)?;
     cluster.turn(
         rt,
@@ -75,7 +75,7 @@ pub fn turn_and_say<
         bounds.attempts,
         gate,
     )?;
-    let texts = late_texts(alloc, cluster.kept(), answers.as_slice(), early)?;
+    let texts = late_texts(alloc, &cluster.kept, answers.as_slice(), early)?;
     say_all(host, texts.as_slice())?;
     Ok(())
 }

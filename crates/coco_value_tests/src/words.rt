@@ -31,11 +31,13 @@ run --workers 17
 run --attempts 9
 run --workers 2 --workers 2
 init --epoch 5
-init --nodes 2
 init --nodes 0
+init --nodes 9
 init --partitions 0
 init --partitions 65
 init --copies 1
+init --copies 3 --nodes 3
+init --nodes 8 --copies 8
 init --partitions 2 --partitions 2
 dump 1
 dump --epoch 1
@@ -80,11 +82,11 @@ fn is_refused(asked: Result<Command, WordsFault>) -> bool {
     asked == Err(WordsFault::Usage)
 }
 
-fn init(partitions: u8) -> Command {
+fn init(nodes: u8, partitions: u8, copies: u8) -> Command {
     Command::Init {
-        nodes: 1,
+        nodes,
         partitions,
-        copies: 0,
+        copies,
     }
 }
 
@@ -110,9 +112,11 @@ fn each_command_has_the_numbers_that_are_given_or_its_own(rt: HostRuntime) {
         ("run --attempts=8 --epoch=1", run(1, 1, 8)),
         ("run --attempts 1 --workers 2", run(100, 2, 1)),
         ("run --epoch 0000000000000000001", run(1, 1, 3)),
-        ("init", init(1)),
-        ("init --partitions 64", init(64)),
-        ("init --copies=0 --partitions=03 --nodes 1", init(3)),
+        ("init", init(1, 1, 0)),
+        ("init --partitions 64", init(1, 64, 0)),
+        ("init --copies=0 --partitions=03 --nodes 1", init(1, 3, 0)),
+        ("init --copies 2 --nodes 3", init(3, 1, 2)),
+        ("init --nodes=8 --partitions=64 --copies=7", init(8, 64, 7)),
         ("dump", Command::Dump),
         ("verify", Command::Verify),
         ("migrate --keep 1", Command::Migrate { keep: 1 }),

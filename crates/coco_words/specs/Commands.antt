@@ -1,6 +1,6 @@
 -- The commands of the program.
 use Rattle.std.specs.Prelude.{◌≡◌, ⊤, ◌<◌, ◌-◌, ℕ, Bool, true, false, List, [], ◌∷◌, Option, Some, codes}
-use Rattle.coco_types.specs.Limits.{epochs_end, most_attempts, most_batch_lines, most_keep, most_nodes, most_partitions, most_workers}
+use Rattle.coco_types.specs.Limits.{epochs_end, most_attempts, most_batch_lines, most_copies, most_keep, most_nodes, most_partitions, most_workers}
 use Rattle.coco_words.specs.Options.{Text, NumberOption, GivesNumbers, Refused, Taken}
 use Rattle.coco_words.specs.declared.Command.{Command}
 use Rattle.coco_words.specs.declared.Command.TheVariants.{Init, Run, Dump, Verify, Migrate, Compact, Rebuild, Query}
@@ -47,9 +47,9 @@ optional name default least most = record { name = name; missing = Taken default
 abbrev pub wanted : Text → ℕ → ℕ → NumberOption
 wanted name least most = record { name = name; missing = Refused; least = least; most = most }
 
--- the options of a command. A store has one node and no copies until there can be several; as many readers may read as workers may run an epoch
+-- the options of a command. As many readers may read as workers may run an epoch
 abbrev pub options_for : Kind → List NumberOption
-options_for kind.Init = optional (codes "nodes") 1 1 1 ∷ optional (codes "partitions") 1 1 most_partitions ∷ optional (codes "copies") 0 0 0 ∷ []
+options_for kind.Init = optional (codes "nodes") 1 1 most_nodes ∷ optional (codes "partitions") 1 1 most_partitions ∷ optional (codes "copies") 0 0 most_copies ∷ []
 options_for kind.Run = optional (codes "epoch") 100 1 most_batch_lines ∷ optional (codes "workers") 1 1 most_workers ∷ optional (codes "attempts") 3 1 most_attempts ∷ []
 options_for kind.Dump = []
 options_for kind.Verify = []

@@ -13,8 +13,8 @@ ghost use Rattle.coco_words.specs.declared.Command.{Command as Asked};
 
 use clap::ArgMatches;
 use coco_types::limits::{
-    EPOCHS_END, MOST_ATTEMPTS, MOST_BATCH_LINES, MOST_KEEP, MOST_NODES, MOST_PARTITIONS,
-    MOST_WORKERS,
+    EPOCHS_END, MOST_ATTEMPTS, MOST_BATCH_LINES, MOST_COPIES, MOST_KEEP, MOST_NODES,
+    MOST_PARTITIONS, MOST_WORKERS,
 };
 use numbers::number_of;
 use reading::options_in;
@@ -205,16 +205,16 @@ fn epoch_to_ask(matches: &ArgMatches<'_>) -> Option<Command>
     })
 }
 
-// The command `init` whose options have these values. A store has one node and no copies until there can be several.
+// The command `init` whose options have these values.
 fn store_to_make(matches: &ArgMatches<'_>) -> Option<Command>
     ensures { MatchOption result
         ((numbers : List (Option ℕ)) → AreNumbersOf (first_value (found_of matches.now)) (options_for Kind.Init) numbers → Agree Kind.Init numbers → ⊥)
         (λ command. (kind_of command ≡ Kind.Init) × AreNumbersOf (first_value (found_of matches.now)) (options_for Kind.Init) (numbers_of command)
         × AreInRange (options_for Kind.Init) (numbers_of command) × Agree Kind.Init (numbers_of command)) }
 {
-    let nodes = number_of(matches, "nodes", Some(1), 1, 1)?;
+    let nodes = number_of(matches, "nodes", Some(1), 1, MOST_NODES as u64)?;
     let partitions = number_of(matches, "partitions", Some(1), 1, MOST_PARTITIONS as u64)?;
-    let copies = number_of(matches, "copies", Some(0), 0, 0)?;
+    let copies = number_of(matches, "copies", Some(0), 0, MOST_COPIES as u64)?;
     if copies >= nodes {
         return None;
     }

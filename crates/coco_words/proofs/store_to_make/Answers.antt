@@ -1,6 +1,6 @@
 use Rattle.std.proofs.Common.{◌≡◌, ℕ, List, [], ◌∷◌, Option, MatchOption, codes, sym, subst}
 use Rattle.clap.specs.Words.{first_value, found_of}
-use Rattle.coco_types.specs.Limits.{most_partitions}
+use Rattle.coco_types.specs.Limits.{most_copies, most_nodes, most_partitions}
 use Rattle.coco_words.specs.Commands.{Agree, kind_of, numbers_of, optional, options_for}
 use Rattle.coco_words.specs.Options.{AreInRange, AreNumbersOf}
 use Rattle.coco_words.specs.declared.Command.{Command}
@@ -14,5 +14,5 @@ returns-in_err-partitions c =
     subst (λ (r : Option Command). MatchOption r ((numbers : List (Option ℕ)) → AreNumbersOf values (options_for Init) numbers → Agree Init numbers → ⊥)
     (λ command. (kind_of command ≡ Init) × AreNumbersOf values (options_for Init) (numbers_of command) × AreInRange (options_for Init) (numbers_of command) × Agree Init (numbers_of command)))
     (sym c.from_residual-in_err-partitions.ensures)
-    (λ numbers are agree. no_numbers values (optional (codes "nodes") 1 1 1 ∷ []) (optional (codes "partitions") 1 1 most_partitions) (optional (codes "copies") 0 0 0 ∷ []) numbers
+    (λ numbers are agree. no_numbers values (optional (codes "nodes") 1 1 most_nodes ∷ []) (optional (codes "partitions") 1 1 most_partitions) (optional (codes "copies") 0 0 most_copies ∷ []) numbers
     c.in_err-partitions.ensures.number are)

@@ -2,7 +2,7 @@ use Rattle.coco.proofs.SuccessLemmas.{compact_succeeds, dump_succeeds, few_lines
 use Rattle.coco.proofs.laws.commands_succeed.Goals as goal
 
 pub returns-clause-run : goal.returns-clause-run
-returns-clause-run g c = run_succeeds g.H.Host.moment g.H.Host.observed g.H.Host.said g.H.Host.reads g.H.Host.may_leave c.a_refused_store_is_not_run.ensures.none
+returns-clause-run g c = run_succeeds g.H.Host.moment g.H.Host.observed g.H.Host.said g.H.Host.reads g.H.Host.may_leave c.a_refused_store_is_none.ensures.none
 
 pub returns-clause-init : goal.returns-clause-init
 returns-clause-init g c = init_succeeds g.H.Host.moment g.H.Host.observed g.H.Host.said g.H.Host.reads g.H.Host.may_leave c.one_answer.ensures

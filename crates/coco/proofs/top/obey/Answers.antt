@@ -7,6 +7,9 @@ use Rattle.coco.proofs.EndingLemmas.{needs}
 use Rattle.coco.proofs.top.obey.Goals as goal
 use Rattle.coco_commands.specs.Serving.{Outside, around}
 
+pub execute-requires-clause-agree : goal.execute-requires-clause-agree
+execute-requires-clause-agree g c _ _ = c.in-Ok.ensures.ok.is.3
+
 pub returns-in-Ok-clause-obeys : goal.returns-in-Ok-clause-obeys
 returns-in-Ok-clause-obeys g c =
     let before : Outside = record { source = record { given = g.I.Source.given c.args.input.now; left = g.I.Source.remaining c.args.input.now; at_end = g.I.Source.at_end c.args.input.now }; source_faults = g.I.Source.faults c.args.input.now; say_faults = g.H.Host.say_faults c.args.host.now; disk_faults = g.H.Host.disk_faults c.args.host.now; around = around g.N.Net.sent g.N.Net.given g.N.Net.faults g.N.Net.last_seed g.P.Power.stops_seen g.P.Power.early_stops g.P.Power.stopped g.P.Power.begun g.P.Power.asked c.args.net.now c.args.power.now } in

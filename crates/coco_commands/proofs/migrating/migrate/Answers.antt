@@ -1,9 +1,7 @@
-use Rattle.std.proofs.Common.{ℕ, List, ap, inr, subst, sym, ◌∙◌}
-use Rattle.coco_host.specs.Files.{Files}
+use Rattle.std.proofs.Common.{ℕ, ap, inr, subst, sym, ◌∙◌}
 use Rattle.coco_append.specs.Gaining.{HasLogsOf, HasStore}
 use Rattle.coco_append.proofs.PastLemmas.{gains_weaker, such_of_logs}
 use Rattle.coco_log.specs.Faults.{CountsFault}
-use Rattle.coco_store.specs.Contents.{Contents}
 use Rattle.coco_commands.specs.Keeping.{contents_keeping, entry_keeping}
 use Rattle.coco_commands.proofs.KeepLemmas.{keep_rests, keep_switches, store_still}
 use Rattle.coco_commands.proofs.migrating.migrate.Goals as goal

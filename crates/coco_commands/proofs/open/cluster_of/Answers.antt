@@ -1,49 +1,28 @@
-use Rattle.std.specs.Prelude.{replicate, slice_index}
-use Rattle.std.proofs.Common.{◌≡◌, ◌<◌, true, false, ap, sym, subst, ◌∙◌, arith}
-use Rattle.coco_log.specs.LogState.{LogState}
-use Rattle.coco_entry.specs.declared.layout.LayoutEntry.{LayoutEntry}
+use Rattle.std.proofs.Common.{[], sym, subst, ◌∙◌, ap}
+use Rattle.coco_members.specs.AtRest.{AreAtRest, NoneBehind, NoneLost}
+use Rattle.coco_members.specs.Opened.{AreMembersOf, AreOf}
+use Rattle.coco_members.specs.declared.members.Members.{Members}
+use Rattle.coco_standing.specs.Standing.{TablesStand, none_behind}
 use Rattle.coco_store.specs.Contents.{map_in}
-use Rattle.coco_cluster.specs.Standing.{IsSound, StandsAt}
-use Rattle.coco_recover.specs.Opening.{node_log}
-use Rattle.coco_commands.proofs.Holding.{all_held, behind_all, one_map}
+use Rattle.coco_commands.proofs.Holding.{is_sound, stands_at}
 use Rattle.coco_commands.proofs.open.cluster_of.Goals as goal
 
-pub of-requires : goal.of-requires
-of-requires c =
-    let sound = c.requires.sound in
-    let tables = sound.tables.tables in
-    let none : 0 < c.args.store.layout.nodes = omega (arith, c.requires.one) in
-    subst (λ (logs : LogState × LogState). IsSound c.args.store.kept c.args.store.shards.items logs.0 logs.1 c.args.store.next_epoch false) (sym c.logs_of-chief.ensures) (record {
-      some = omega (arith, tables.shard_count, tables.ring.some);
-      most = omega (arith, tables.shard_count, sound.limits.partitions.1);
-      keeps = record { before = sound.keeps.before; added = sound.keeps.added; holds = sound.keeps.holds; rising = sound.keeps.rising; below = sound.keeps.below; once = sound.keeps.once };
-      first = sound.first;
-      end = sound.end;
-      holds = λ _. (sound.map, one_map sound.map c.args.store.shards.items sound.primaries);
-      unspent = λ _. (sound.logs.chief.unspent, (sound.logs.nodes 0 none).unspent);
-      apart = sound.logs.apart 0 none;
-    })
+pub returns-clause-members : goal.returns-clause-members
+returns-clause-members c = subst (AreMembersOf c.args.store) (sym c.of.ensures.members) c.in_ok-reopened.ensures.members
+
+pub returns-clause-sound : goal.returns-clause-sound
+returns-clause-sound c =
+    let now = c.in_ok-reopened.ensures in
+    let put = sym c.of.ensures.members in
+    is_sound c.args.store c.requires.sound c.of.result (subst (AreMembersOf c.args.store) put now.members) (c.of.ensures.kept ∙ now.hands_on.kept) (c.of.ensures.next ∙ now.hands_on.next)
+    (subst (AreAtRest c.args.store.next_epoch []) put now.rest) (subst (λ (m : Members). NoneLost m.voters.items) put now.lost)
 
 pub returns-clause-stands : goal.returns-clause-stands
 returns-clause-stands c files d opening good =
+    let now = c.in_ok-reopened.ensures in
+    let put = sym c.of.ensures.members in
     let has = opening.has d good.holds in
-    let sound = c.requires.sound in
-    let tables = sound.tables.tables in
-    let one : d.setting.entry.layout.nodes ≡ 1 = ap (λ (e : LayoutEntry). e.layout.nodes) (sym has.layout) ∙ c.requires.one in
-    let parts : c.args.store.layout.partitions ≡ d.setting.entry.layout.partitions = ap (λ (e : LayoutEntry). e.layout.partitions) has.layout in
-    let none : 0 < c.args.store.layout.nodes = omega (arith, c.requires.one) in
-    let is_chief : c.logs_of-chief.result.0 ≡ c.args.store.logs.chief = ap (λ (l : LogState × LogState). l.0) c.logs_of-chief.ensures in
-    let is_node : c.logs_of-chief.result.1 ≡ node_log c.args.store.logs 0 = ap (λ (l : LogState × LogState). l.1) c.logs_of-chief.ensures in
-    subst (StandsAt d) (sym c.of.ensures) (record {
-      one = one;
-      procs = has.procs;
-      dones = has.dones;
-      floor = has.floor;
-      keep = c.requires.keep ∙ ap (λ (e : LayoutEntry). e.keep) has.layout;
-      map = one_map (map_in d) c.args.store.shards.items (has.primaries good.rows);
-      partitions = (has.map good.rows).tables.shard_count;
-      chief = record { file = ap (λ (l : LogState). l.file) is_chief ∙ sound.logs.chief.in_file ∙ ap (λ (e : LayoutEntry). e.layout.chief_file) has.layout; kind = ap (λ (l : LogState). l.kind) is_chief ∙ sound.logs.chief.of_kind };
-      node = record { file = ap (λ (l : LogState). l.file) is_node ∙ (sound.logs.nodes 0 none).in_file ∙ ap (λ (e : LayoutEntry). slice_index e.layout.node_files 0) has.layout; kind = ap (λ (l : LogState). l.kind) is_node ∙ (sound.logs.nodes 0 none).of_kind };
-      held = all_held d.setting.entry.layout c.in_ok-held.held.items one (c.in_ok-held.ensures ∙ ap (λ n. replicate n true) (c.len.ensures ∙ c.args.store.shards.ok.0 ∙ (has.map good.rows).tables.shard_count));
-      next = behind_all d c.args.store.next_epoch one has.next;
-    })
+    stands_at c.args.store c.requires.sound c.of.result (subst (AreMembersOf c.args.store) put now.members) (c.of.ensures.kept ∙ now.hands_on.kept) (c.of.ensures.next ∙ now.hands_on.next)
+    d has (c.of.ensures.procs ∙ now.hands_on.procs) (ap (λ b. b.items) c.of.ensures.base ∙ now.hands_on.base) c.requires.keep
+    (subst (AreOf d) put (now.of d.setting.entry.keep d has)) (subst (λ (m : Members). NoneBehind m.tables) put now.behind)
+    (subst (λ (m : Members). TablesStand m.tables.layout (map_in d) none_behind m.tables.shards.items m.tables.copies.items) put (now.tables d.setting.entry.keep d has good.rows))

@@ -1,8 +1,12 @@
-use Rattle.std.proofs.Common.{inr}
+use Rattle.std.proofs.Common.{inr, sym, subst}
 use Rattle.coco_cluster.specs.Around.{Around, around}
+use Rattle.coco_cluster.specs.Standing.{IsSound}
 use Rattle.coco_serve.specs.Serving.{Outside}
 use Rattle.coco_commands.proofs.RunLemmas.{cause_from}
 use Rattle.coco_commands.proofs.running.run.Goals as goal
+
+pub answer_lines-requires-clause-sound : goal.answer_lines-requires-clause-sound
+answer_lines-requires-clause-sound g c _ _ = subst (IsSound c.in-Ok.cluster) (sym c.requires.unsent) c.in-Ok.ensures.sound
 
 pub returns-in-Ok : goal.returns-in-Ok
 returns-in-Ok g c =
@@ -18,7 +22,7 @@ returns-in-Ok g c =
     inr (record {
       opened = c.open_cluster.new.host;
       opening = c.in-Ok.ensures.read;
-      sound = c.in-Ok.ensures.sound;
+      holds = c.in-Ok.ensures.holds;
       bytes = runs.bytes;
       gives = runs.gives;
       next = c.in-Ok.cluster.next_epoch;

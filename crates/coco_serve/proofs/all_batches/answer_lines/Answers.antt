@@ -8,7 +8,7 @@ use Rattle.coco_lines.specs.ReaderState.{ReaderState}
 use Rattle.coco_lines.specs.Reads.{SourceMoment}
 use Rattle.coco_serve.specs.Faults.{Counts}
 use Rattle.coco_serve.specs.Serving.{Outside, Runs}
-use Rattle.coco_serve.proofs.EndLemmas.{batch_broke, broken_failed, broken_memory, broken_much, cause_of, finished_empty, finished_last, read_at, reason_of, running_more, running_new}
+use Rattle.coco_serve.proofs.EndLemmas.{batch_broke, broken_failed, broken_memory, broken_much, cause_of, finished_empty, finished_last, reason_of, running_more, running_new}
 use Rattle.coco_lines.proofs.ClassLemmas.{classes_length}
 use Rattle.coco_serve.proofs.RunLemmas.{few_new}
 use Rattle.coco_serve.proofs.all_batches.answer_lines.Goals as goal
@@ -19,7 +19,7 @@ batches-init g c = record {
   later = later_same _;
   within = subst (λ (r : ReaderState). r.given ≤ most_input_bytes) (sym c.new-reader.ensures) (lit≤ tt);
   end = λ met. absurd (true≢false (sym met ∙ ap (λ r. r.ended) c.new-reader.ensures));
-  unspent = c.requires.unspent;
+  sound = c.requires.sound;
   room = c.requires.room;
   stand = c.requires.stand;
   reads = refl;
@@ -60,7 +60,7 @@ returns-then-count-eq0 g c =
     let m0 : SourceMoment = (record { given = g.S.Source.given c.args.input.now; left = g.S.Source.remaining c.args.input.now; at_end = g.S.Source.at_end c.args.input.now }) in
     let m1 : SourceMoment = (record { given = g.S.Source.given c.batches.input; left = g.S.Source.remaining c.batches.input; at_end = g.S.Source.at_end c.batches.input }) in
     let m2 : SourceMoment = (record { given = g.S.Source.given c.read_batch.new.source; left = g.S.Source.remaining c.read_batch.new.source; at_end = g.S.Source.at_end c.read_batch.new.source }) in
-    let r = read_at c.procs.result.now c.batches.cluster.procs c.kept.result.now c.batches.cluster.kept c.batches.reader c.read_batch.new.reader m1 m2 c.args.bounds.size c.in-Ok.batch c.procs.ensures c.kept.ensures c.in-Ok.ensures.batch in
+    let r = c.in-Ok.ensures.batch in
     let w = finished_empty g.H.Host.moment g.H.Host.observed g.H.Host.said g.H.Host.reads g.H.Host.may_leave c.args.cluster.now.next_epoch _ c.args.bounds c.batches.reader c.read_batch.new.reader m0 m1 m2 c.args.cluster.now c.batches.cluster c.args.host.now c.batches.host c.batches.invariant.running g.met.H.Host.seen_now
     c.in-Ok.batch r (omega (arith, c.len-count.ensures, c.if-count-eq0.true)) c.requires.some in
     let end = c.in-Ok.ensures.end c.batches.invariant.end (r.ends (omega (arith, c.len-count.ensures, c.if-count-eq0.true, c.requires.some))).0 in
@@ -71,7 +71,7 @@ turn_and_say-requires-clause-few g c =
     let m0 : SourceMoment = (record { given = g.S.Source.given c.args.input.now; left = g.S.Source.remaining c.args.input.now; at_end = g.S.Source.at_end c.args.input.now }) in
     let m1 : SourceMoment = (record { given = g.S.Source.given c.batches.input; left = g.S.Source.remaining c.batches.input; at_end = g.S.Source.at_end c.batches.input }) in
     let m2 : SourceMoment = (record { given = g.S.Source.given c.read_batch.new.source; left = g.S.Source.remaining c.read_batch.new.source; at_end = g.S.Source.at_end c.read_batch.new.source }) in
-    let r = read_at c.procs.result.now c.batches.cluster.procs c.kept.result.now c.batches.cluster.kept c.batches.reader c.read_batch.new.reader m1 m2 c.args.bounds.size c.in-Ok.batch c.procs.ensures c.kept.ensures c.in-Ok.ensures.batch in
+    let r = c.in-Ok.ensures.batch in
     let few = few_new r.taking.classes in
     let fresh = ap (length {A = Request}) r.taking.fresh in
     let counted = classes_length _ _ r.taking.lines r.taking.classes r.taking.are in
@@ -89,7 +89,7 @@ returns-in-Err g c =
     let adds = spare_then a0 a1 a2 c.batches.invariant.later later in
     let n1 : Counts = (record { say = g.H.Host.say_faults c.batches.host; disk = g.H.Host.disk_faults c.batches.host }) in
     let n2 : Counts = (record { say = g.H.Host.say_faults c.turn_and_say.new.host; disk = g.H.Host.disk_faults c.turn_and_say.new.host }) in
-    let r = read_at c.procs.result.now c.batches.cluster.procs c.kept.result.now c.batches.cluster.kept c.batches.reader c.read_batch.new.reader m1 m2 c.args.bounds.size c.in-Ok.batch c.procs.ensures c.kept.ensures c.in-Ok.ensures.batch in
+    let r = c.in-Ok.ensures.batch in
     let w = batch_broke g.H.Host.moment g.H.Host.observed g.H.Host.said g.H.Host.reads g.H.Host.may_leave c.args.cluster.now.next_epoch _ c.args.bounds c.batches.reader c.read_batch.new.reader m0 m1 m2 c.args.cluster.now c.batches.cluster c.args.host.now c.batches.host c.batches.invariant.running g.met.H.Host.seen_now
     c.in-Ok.batch r (spare a1 a2) (spare a0 a2) c.turn_and_say.result c.in-Err.fault c.turn_and_say.new.cluster c.turn_and_say.new.host adds c.in-Err.is c.turn_and_say.ensures.answers
     (reason_of c.in-Err.fault c.batches.cluster.next_epoch (length c.in-Ok.batch.fresh) a1 a2 n1 n2 c.in-Err.ensures.counts) (omega (arith, c.len-count.ensures, c.if-count-eq0.false)) in
@@ -109,7 +109,7 @@ returns-then-count-bounds g c =
     let m0 : SourceMoment = (record { given = g.S.Source.given c.args.input.now; left = g.S.Source.remaining c.args.input.now; at_end = g.S.Source.at_end c.args.input.now }) in
     let m1 : SourceMoment = (record { given = g.S.Source.given c.batches.input; left = g.S.Source.remaining c.batches.input; at_end = g.S.Source.at_end c.batches.input }) in
     let m2 : SourceMoment = (record { given = g.S.Source.given c.read_batch.new.source; left = g.S.Source.remaining c.read_batch.new.source; at_end = g.S.Source.at_end c.read_batch.new.source }) in
-    let r = read_at c.procs.result.now c.batches.cluster.procs c.kept.result.now c.batches.cluster.kept c.batches.reader c.read_batch.new.reader m1 m2 c.args.bounds.size c.in-Ok.batch c.procs.ensures c.kept.ensures c.in-Ok.ensures.batch in
+    let r = c.in-Ok.ensures.batch in
     let a0 : Around = around g.N.Net.sent g.N.Net.given g.N.Net.faults g.N.Net.last_seed g.P.Power.stops_seen g.P.Power.early_stops g.P.Power.stopped g.P.Power.begun g.P.Power.asked c.args.net.now c.args.power.now in
     let a1 : Around = around g.N.Net.sent g.N.Net.given g.N.Net.faults g.N.Net.last_seed g.P.Power.stops_seen g.P.Power.early_stops g.P.Power.stopped g.P.Power.begun g.P.Power.asked c.batches.net c.batches.power in
     let a2 : Around = around g.N.Net.sent g.N.Net.given g.N.Net.faults g.N.Net.last_seed g.P.Power.stops_seen g.P.Power.early_stops g.P.Power.stopped g.P.Power.begun g.P.Power.asked c.turn_and_say.new.net c.turn_and_say.new.power in
@@ -125,7 +125,7 @@ batches-preserved g c =
     let m0 : SourceMoment = (record { given = g.S.Source.given c.args.input.now; left = g.S.Source.remaining c.args.input.now; at_end = g.S.Source.at_end c.args.input.now }) in
     let m1 : SourceMoment = (record { given = g.S.Source.given c.batches.input; left = g.S.Source.remaining c.batches.input; at_end = g.S.Source.at_end c.batches.input }) in
     let m2 : SourceMoment = (record { given = g.S.Source.given c.read_batch.new.source; left = g.S.Source.remaining c.read_batch.new.source; at_end = g.S.Source.at_end c.read_batch.new.source }) in
-    let r = read_at c.procs.result.now c.batches.cluster.procs c.kept.result.now c.batches.cluster.kept c.batches.reader c.read_batch.new.reader m1 m2 c.args.bounds.size c.in-Ok.batch c.procs.ensures c.kept.ensures c.in-Ok.ensures.batch in
+    let r = c.in-Ok.ensures.batch in
     let a0 : Around = around g.N.Net.sent g.N.Net.given g.N.Net.faults g.N.Net.last_seed g.P.Power.stops_seen g.P.Power.early_stops g.P.Power.stopped g.P.Power.begun g.P.Power.asked c.args.net.now c.args.power.now in
     let a1 : Around = around g.N.Net.sent g.N.Net.given g.N.Net.faults g.N.Net.last_seed g.P.Power.stops_seen g.P.Power.early_stops g.P.Power.stopped g.P.Power.begun g.P.Power.asked c.batches.net c.batches.power in
     let a2 : Around = around g.N.Net.sent g.N.Net.given g.N.Net.faults g.N.Net.last_seed g.P.Power.stops_seen g.P.Power.early_stops g.P.Power.stopped g.P.Power.begun g.P.Power.asked c.turn_and_say.new.net c.turn_and_say.new.power in
@@ -140,7 +140,7 @@ batches-preserved g c =
       later = later_then a0 a1 a2 c.batches.invariant.later later;
       within = c.in-Ok.ensures.within;
       end = c.in-Ok.ensures.end c.batches.invariant.end;
-      unspent = c.in-Ok-turn_and_say.ensures.unspent;
+      sound = c.in-Ok-turn_and_say.ensures.sound;
       room = c.in-Ok-turn_and_say.ensures.few;
       stand = c.in-Ok-turn_and_say.ensures.stand;
       reads = c.in-Ok.ensures.counts ∙ c.batches.invariant.reads;

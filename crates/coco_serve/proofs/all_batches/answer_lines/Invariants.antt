@@ -1,6 +1,6 @@
-use Rattle.std.proofs.Common.{◌≡◌, ◌+◌, ◌-◌, ◌≤◌, true, false, length}
-use Rattle.coco_append.specs.Gaining.{Stands}
+use Rattle.std.proofs.Common.{◌≡◌, ◌+◌, ◌-◌, ◌≤◌, true, length}
 use Rattle.coco_cluster.specs.Around.{IsLater, around, spare}
+use Rattle.coco_cluster.specs.Standing.{AllStand, IsSound}
 use Rattle.coco_lines.specs.Reads.{IsSpent}
 use Rattle.coco_types.specs.Limits.{most_input_bytes, most_kept}
 use Rattle.coco_serve.proofs.EndLemmas.{IsRunning}
@@ -17,9 +17,9 @@ invariant-batches g l = record {
   end : l.reader.ended ≡ true → IsSpent (record { given = g.S.Source.given l.input; left = g.S.Source.remaining l.input; at_end = g.S.Source.at_end l.input });
   later : IsLater (around g.N.Net.sent g.N.Net.given g.N.Net.faults g.N.Net.last_seed g.P.Power.stops_seen g.P.Power.early_stops g.P.Power.stopped g.P.Power.begun g.P.Power.asked l.fn.net l.fn.power)
       (around g.N.Net.sent g.N.Net.given g.N.Net.faults g.N.Net.last_seed g.P.Power.stops_seen g.P.Power.early_stops g.P.Power.stopped g.P.Power.begun g.P.Power.asked l.net l.power);
-  unspent : l.cluster.spent ≡ false;
+  sound : IsSound l.cluster (g.N.Net.sent l.net);
   room : length l.cluster.kept.dones ≤ most_kept;
-  stand : Stands l.cluster.node (g.H.Host.reads l.host) (g.H.Host.may_leave l.host) × Stands l.cluster.chief (g.H.Host.reads l.host) (g.H.Host.may_leave l.host);
+  stand : AllStand l.cluster (g.H.Host.reads l.host) (g.H.Host.may_leave l.host);
   reads : g.S.Source.faults l.input ≡ g.S.Source.faults l.fn.input;
   says : g.H.Host.say_faults l.host ≡ g.H.Host.say_faults l.fn.host;
   disks : g.H.Host.disk_faults l.host ≡ g.H.Host.disk_faults l.fn.host;

@@ -1,11 +1,17 @@
-use Rattle.std.proofs.Common.{◌≡◌, ◌+◌, ◌≤◌, length, map, inl, inr, Err, sym, ap, subst, ◌∙◌, arith}
+use Rattle.std.proofs.Common.{◌≡◌, ◌+◌, ◌≤◌, length, map, inl, inr, Err, refl, sym, ap, subst, ◌∙◌, arith}
 use Rattle.std.proofs.lemmas.Result.{err_from_is_err_and}
 use Rattle.std.specs.Option.{option_map}
 use Rattle.coco_types.specs.declared.call.Request.{Request}
 use Rattle.coco_types.specs.Limits.{most_kept}
+use Rattle.coco_cluster.specs.Turning.{MayTurn}
 use Rattle.coco_serve.specs.Texts.{early_text}
-use Rattle.coco_serve.proofs.BatchLemmas.{all_said, committed, has_room, partly_said, refused_early, says_part, texts_are, turn_failed, unsaid}
+use Rattle.coco_serve.proofs.BatchLemmas.{all_said, all_stand_still, committed, has_room, partly_said, refused_early, says_part, texts_are, turn_failed, unsaid}
 use Rattle.coco_serve.proofs.one_batch.turn_and_say.Goals as goal
+
+pub turn-requires-clause-may : goal.turn-requires-clause-may
+turn-requires-clause-may g c κs within =
+    let may = c.requires.may in
+    subst (MayTurn c.args.cluster.now) (sym c.in_ok-requests.ensures) (record { fit = may.fit; distinct = may.distinct; unkept = may.absent; above = may.above; few = c.requires.few })
 
 pub returns-in_err-turn-clause-answers : goal.returns-in_err-turn-clause-answers
 returns-in_err-turn-clause-answers g c k rests stands =
@@ -14,7 +20,7 @@ returns-in_err-turn-clause-answers g c k rests stands =
     let turns = c.turn.ensures.turns k rests stands (has_room k c.args.cluster.now requests stands few) in
     let p = err_from_is_err_and c.from_residual-in_err-turn.result c.from_residual-in_err-turn.ensures.1 in
     turn_failed g.H.Host.moment g.H.Host.observed g.H.Host.said g.H.Host.reads g.H.Host.may_leave c.in_err-turn.field-0.0 c.turn.result c.from_residual-in_err-turn.result c.args.batch requests c.args.bounds _ k
-    c.args.cluster.now c.turn.new.self c.args.host.now c.turn.new.host c.in_err-turn.was (p.1 ∙ ap Err p.2) c.in_ok-requests.ensures c.turn.ensures.said turns
+    c.args.cluster.now c.turn.new.self c.args.host.now c.turn.new.host c.in_err-turn.was (λ file at. c.turn.ensures.never file at k rests stands (has_room k c.args.cluster.now requests stands few)) (p.1 ∙ ap Err p.2) c.in_ok-requests.ensures c.turn.ensures.said turns
 
 pub returns-in_err-texts-clause-answers : goal.returns-in_err-texts-clause-answers
 returns-in_err-texts-clause-answers g c k rests stands =
@@ -22,7 +28,7 @@ returns-in_err-texts-clause-answers g c k rests stands =
     let few : length c.args.cluster.now.kept.dones + length requests ≤ most_kept = omega (arith, c.requires.may.few, ap (length {A = Request}) c.in_ok-requests.ensures) in
     let turns = c.turn.ensures.turns k rests stands (has_room k c.args.cluster.now requests stands few) in
     let done = committed g.H.Host.moment g.H.Host.observed g.H.Host.said g.H.Host.reads g.H.Host.may_leave g.met.H.Host.only_now c.turn.result c.in_ok-turn.field-0 requests c.args.bounds _ k c.args.cluster.now c.turn.new.self
-    c.args.host.now c.turn.new.host c.in_ok-turn.was c.turn.ensures.nothing rests stands turns in
+    c.args.host.now c.turn.new.host c.in_ok-turn.was (λ none. let still = c.turn.ensures.nothing none in (still.1, still.3)) rests stands turns in
     let p = err_from_is_err_and c.from_residual-in_err-texts.result c.from_residual-in_err-texts.ensures.1 in
     inr (unsaid g.H.Host.moment g.H.Host.observed g.H.Host.said g.H.Host.reads g.H.Host.may_leave c.args.batch requests c.args.bounds k c.args.cluster.now.next_epoch _ c.turn.new.self c.args.host.now c.turn.new.host c.in_ok-requests.ensures c.turn.ensures.said done
     c.from_residual-in_err-texts.result (p.1 ∙ ap Err p.2))
@@ -33,11 +39,11 @@ returns-in_err-say_all-clause-answers g c k rests stands =
     let few : length c.args.cluster.now.kept.dones + length requests ≤ most_kept = omega (arith, c.requires.may.few, ap (length {A = Request}) c.in_ok-requests.ensures) in
     let turns = c.turn.ensures.turns k rests stands (has_room k c.args.cluster.now requests stands few) in
     let done = committed g.H.Host.moment g.H.Host.observed g.H.Host.said g.H.Host.reads g.H.Host.may_leave g.met.H.Host.only_now c.turn.result c.in_ok-turn.field-0 requests c.args.bounds _ k c.args.cluster.now c.turn.new.self
-    c.args.host.now c.turn.new.host c.in_ok-turn.was c.turn.ensures.nothing rests stands turns in
+    c.args.host.now c.turn.new.host c.in_ok-turn.was (λ none. let still = c.turn.ensures.nothing none in (still.1, still.3)) rests stands turns in
     let p = err_from_is_err_and c.from_residual-in_err-say_all.result c.from_residual-in_err-say_all.ensures.1 in
-    let early = subst (λ xs. map (option_map (λ t. t.items)) c.in_ok-early.early.items ≡ map (early_text c.kept.result.now.dones) xs) (c.as_slice.ensures.value ∙ sym c.as_slice-2.ensures.value) c.in_ok-early.ensures in
-    let are = texts_are k done.d c.args.cluster.now c.turn.new.self c.args.batch c.kept.result.now.dones c.kept-2.result.now.dones c.as_slice-2.result.now c.as_slice-3.result.now stands done.stands
-    (ap (λ n. n.dones) c.kept.ensures) (ap (λ n. n.dones) c.kept-2.ensures) c.as_slice-2.ensures.value (c.as_slice-3.ensures.value ∙ c.in_ok-texts.ensures c.kept.result.now.dones early) in
+    let early = subst (λ xs. map (option_map (λ t. t.items)) c.in_ok-early.early.items ≡ map (early_text c.args.cluster.now.kept.dones) xs) (c.as_slice.ensures.value ∙ sym c.as_slice-2.ensures.value) c.in_ok-early.ensures in
+    let are = texts_are k done.d c.args.cluster.now c.turn.new.self c.args.batch c.args.cluster.now.kept.dones c.turn.new.self.kept.dones c.as_slice-2.result.now c.as_slice-3.result.now stands done.stands
+    refl refl c.as_slice-2.ensures.value (c.as_slice-3.ensures.value ∙ c.in_ok-texts.ensures c.args.cluster.now.kept.dones early) in
     inr (partly_said g.H.Host.moment g.H.Host.observed g.H.Host.said g.H.Host.reads g.H.Host.may_leave c.args.batch requests c.args.bounds k c.args.cluster.now.next_epoch _ c.turn.new.self c.args.host.now c.turn.new.host c.in_ok-requests.ensures c.turn.ensures.said done
     c.say_all.new.host c.as_slice-3.result.now are c.say_all.ensures.same c.say_all.ensures.crash c.say_all.ensures.sees
     (says_part c.say_all.result c.as_slice-3.result.now _ _ c.say_all.ensures.ok c.say_all.ensures.err) c.in_err-say_all.field-0.0 c.from_residual-in_err-say_all.result (p.1 ∙ ap Err p.2))
@@ -48,10 +54,10 @@ returns-clause-answers g c k rests stands =
     let few : length c.args.cluster.now.kept.dones + length requests ≤ most_kept = omega (arith, c.requires.may.few, ap (length {A = Request}) c.in_ok-requests.ensures) in
     let turns = c.turn.ensures.turns k rests stands (has_room k c.args.cluster.now requests stands few) in
     let done = committed g.H.Host.moment g.H.Host.observed g.H.Host.said g.H.Host.reads g.H.Host.may_leave g.met.H.Host.only_now c.turn.result c.in_ok-turn.field-0 requests c.args.bounds _ k c.args.cluster.now c.turn.new.self
-    c.args.host.now c.turn.new.host c.in_ok-turn.was c.turn.ensures.nothing rests stands turns in
-    let early = subst (λ xs. map (option_map (λ t. t.items)) c.in_ok-early.early.items ≡ map (early_text c.kept.result.now.dones) xs) (c.as_slice.ensures.value ∙ sym c.as_slice-2.ensures.value) c.in_ok-early.ensures in
-    let are = texts_are k done.d c.args.cluster.now c.turn.new.self c.args.batch c.kept.result.now.dones c.kept-2.result.now.dones c.as_slice-2.result.now c.as_slice-3.result.now stands done.stands
-    (ap (λ n. n.dones) c.kept.ensures) (ap (λ n. n.dones) c.kept-2.ensures) c.as_slice-2.ensures.value (c.as_slice-3.ensures.value ∙ c.in_ok-texts.ensures c.kept.result.now.dones early) in
+    c.args.host.now c.turn.new.host c.in_ok-turn.was (λ none. let still = c.turn.ensures.nothing none in (still.1, still.3)) rests stands turns in
+    let early = subst (λ xs. map (option_map (λ t. t.items)) c.in_ok-early.early.items ≡ map (early_text c.args.cluster.now.kept.dones) xs) (c.as_slice.ensures.value ∙ sym c.as_slice-2.ensures.value) c.in_ok-early.ensures in
+    let are = texts_are k done.d c.args.cluster.now c.turn.new.self c.args.batch c.args.cluster.now.kept.dones c.turn.new.self.kept.dones c.as_slice-2.result.now c.as_slice-3.result.now stands done.stands
+    refl refl c.as_slice-2.ensures.value (c.as_slice-3.ensures.value ∙ c.in_ok-texts.ensures c.args.cluster.now.kept.dones early) in
     inr (all_said g.H.Host.moment g.H.Host.observed g.H.Host.said g.H.Host.reads g.H.Host.may_leave c.args.batch requests c.args.bounds k c.args.cluster.now.next_epoch _ c.turn.new.self c.args.host.now c.turn.new.host c.in_ok-requests.ensures c.turn.ensures.said done
     c.say_all.new.host c.as_slice-3.result.now are c.say_all.ensures.same c.say_all.ensures.crash c.say_all.ensures.sees
     (says_part c.say_all.result c.as_slice-3.result.now _ _ c.say_all.ensures.ok c.say_all.ensures.err) c.in_ok-say_all.ensures.ok)
@@ -65,3 +71,7 @@ pub returns-in_err-requests-clause-answers : goal.returns-in_err-requests-clause
 returns-in_err-requests-clause-answers g c k rests stands =
     let p = err_from_is_err_and c.from_residual-in_err-requests.result c.from_residual-in_err-requests.ensures.1 in
     inl (refused_early g.H.Host.moment g.H.Host.observed g.H.Host.said g.H.Host.reads g.H.Host.may_leave g.met.H.Host.only_now c.from_residual-in_err-requests.result k c.args.cluster.now _ c.args.host.now (p.1 ∙ ap Err p.2) rests stands)
+
+pub returns-clause-stand : goal.returns-clause-stand
+returns-clause-stand g c = all_stand_still c.turn.new.self (g.H.Host.reads c.turn.new.host) (g.H.Host.reads c.say_all.new.host) (g.H.Host.may_leave c.turn.new.host) (g.H.Host.may_leave c.say_all.new.host)
+    c.say_all.ensures.same c.say_all.ensures.crash c.in_ok-turn.ensures.stand

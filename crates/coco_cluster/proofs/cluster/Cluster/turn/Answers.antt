@@ -1,106 +1,315 @@
-use Rattle.std.proofs.Common.{◌≡◌, ◌≤◌, ◌+◌, List, [], length, Err, sym, ap, ◌∙◌, subst, inl, inr, refl}
-use Rattle.std.proofs.lemmas.List.{with_items_is}
+use Rattle.std.proofs.Common.{◌≡◌, ◌<◌, ◌≤◌, ℕ, [], Option, Some, None, Result, Ok, Err, length, inl, refl, sym, ap, ◌∙◌, subst, arith}
 use Rattle.std.proofs.lemmas.Result.{err_from_is_err_and}
-use Rattle.coco_cluster.proofs.StoreLemmas.{no_ok}
-use Rattle.coco_cluster.specs.Standing.{ClusterState}
-use Rattle.coco_cluster.specs.Storing.{AreEntries}
-use Rattle.coco_parallel.specs.Traces.{traced}
-use Rattle.coco_cluster.specs.contracts.cluster.Cluster.{the_view}
-use Rattle.coco_cluster.proofs.TurnLemmas.{entries, failed, few_then, follow, has_ended, has_run, may_work, none_of, reverts, sound_then, succeeded, turned_from, untouched}
+use Rattle.std.specs.Global.{Vec}
+use Rattle.std.specs.Prelude.{OnErr}
+use Rattle.coco_kept.specs.Keeping.{Keeping}
+use Rattle.coco_letters.specs.Around.{around}
+use Rattle.coco_letters.specs.GivingUp.{AreGivenUp}
+use Rattle.coco_types.specs.Limits.{epochs_end}
+use Rattle.coco_types.specs.declared.call.Request.{Request}
+use Rattle.coco_cluster.specs.Attempts.{Attempts, AttemptsOn, HasCause, HasCommittedOne, IsGivenBack, KeepsMap}
+use Rattle.coco_cluster.specs.Trying.{GivesUp}
+use Rattle.coco_cluster.specs.Turning.{HasRoom}
+use Rattle.coco_cluster.specs.declared.cluster.Cluster.{Cluster}
+use Rattle.coco_cluster.specs.declared.fault.TurnFault.{TurnFault}
+use Rattle.coco_cluster.specs.declared.fault.TurnFault.TheVariants.{EpochsUsedUp, NotAStore, Unreachable}
+use Rattle.coco_cluster.proofs.AroundLemmas.{all_later, later_same, later_then}
+use Rattle.coco_cluster.proofs.TurnLemmas.{counts_failed, ends_committed, ends_failed, ends_without, few_more, few_until, goes_first, goes_more, may_still, more_given, none_left, none_of, room_as, same_sound, skips_few, some_left, turned_first}
 use Rattle.coco_cluster.proofs.cluster.Cluster.turn.Goals as goal
 
-pub run_epoch-requires-clause-may : goal.run_epoch-requires-clause-may
-run_epoch-requires-clause-may g c _ _ =
-    may_work (the_view c.self.inside) c.args.self.now c.args.requests.items c.args.workers c.args.attempts c.on_one_node-config.result c.self.view_is c.requires.unspent c.self.invariant c.requires.may c.requires.workers c.requires.attempts
-    c.on_one_node-config.ensures
+pub loop-attempt-init : goal.loop-attempt-init
+loop-attempt-init g c =
+    let k : Cluster = c.args.self.now in
+    let now : Cluster = record k { trace = c.keep.new.trace; room = c.keep.new.self } in
+    record {
+      sound = same_sound (g.N.Net.sent c.args.net.now) k now (record { procs = refl; kept = refl; members = refl; base = refl; next = refl }) c.requires.sound;
+      stand = record { chief = c.requires.stand.chief; nodes = c.requires.stand.nodes };
+      same = refl;
+      given = later_same (around g.N.Net.sent g.N.Net.given g.N.Net.faults g.N.Net.last_seed g.P.Power.stops_seen g.P.Power.early_stops g.P.Power.stopped g.P.Power.begun g.P.Power.asked c.args.net.now c.args.power.now);
+      begun = λ some. absurd (omega (arith, some));
+      low = omega arith;
+      few = omega arith;
+      kept = refl;
+      procs = refl;
+      layout = refl;
+      seen = omega arith;
+      map = λ is m had. had;
+      untraced = c.keep.ensures;
+      unused = λ used. refl;
+      told = λ d on stands room. goes_first g.H.Host.moment g.H.Host.observed g.H.Host.said g.H.Host.reads g.H.Host.may_leave g.met.H.Host.only_now d k now c.args.host.now (record { procs = refl; kept = refl; members = refl; base = refl; next = refl }) on stands;
+      said = refl;
+      disk = refl;
+      stream = refl;
+    }
 
-pub store_epoch-requires-clause-entries : goal.store_epoch-requires-clause-entries
-store_epoch-requires-clause-entries g c =
-    let run = has_run (the_view c.self.inside) c.args.self.now c.args.requests.items c.args.requests.items c.args.workers c.args.attempts c.on_one_node-config.result c.run_epoch.new.shards.items c.as_slice.result.now c.run_epoch.new.kept
-    c.in_ok-dones.field-0.dones c.in_ok-dones.field-0.rows.items (traced c.in_ok-dones.field-0.trace) c.self.view_is c.requires.unspent c.self.invariant c.requires.may c.if-self-ge-EPOCHS_END.false c.args.requests.len (sym c.is_empty.ensures ∙ c.if-is_empty.false) c.args.requests.ok.0
-    c.on_one_node-config.ensures refl c.run_epoch.ensures.count c.as_slice.ensures.value c.in_ok-dones.ensures.ran c.in_ok-dones.ensures.few c.run_epoch.ensures.kept in
-    subst (λ ds. AreEntries c.self.inside.next_epoch c.as_slice-2.result.now ds) (sym c.as_slice-3.ensures)
-    (subst (λ rs. AreEntries c.self.inside.next_epoch rs c.in_ok-dones.field-0.dones) (sym c.as_slice-2.ensures.value) (entries _ _ _ _ _ _ _ _ _ run))
+pub attempt-requires-clause-may : goal.attempt-requires-clause-may
+attempt-requires-clause-may g c _ _ =
+    let before = c.loop-attempt.invariant in
+    may_still c.args.self.now c.loop-attempt.self c.args.requests.items c.loop-attempt.requests.items before.same before.procs before.kept c.requires.may
 
-pub returns-in-Err-clause-turns : goal.returns-in-Err-clause-turns
-returns-in-Err-clause-turns g c k rests stands room =
-    let run = has_run (the_view c.self.inside) c.args.self.now c.args.requests.items c.args.requests.items c.args.workers c.args.attempts c.on_one_node-config.result c.run_epoch.new.shards.items c.as_slice.result.now c.run_epoch.new.kept
-    c.in_ok-dones.field-0.dones c.in_ok-dones.field-0.rows.items (traced c.in_ok-dones.field-0.trace) c.self.view_is c.requires.unspent c.self.invariant c.requires.may c.if-self-ge-EPOCHS_END.false c.args.requests.len (sym c.is_empty.ensures ∙ c.if-is_empty.false) c.args.requests.ok.0
-    c.on_one_node-config.ensures refl c.run_epoch.ensures.count c.as_slice.ensures.value c.in_ok-dones.ensures.ran c.in_ok-dones.ensures.few c.run_epoch.ensures.kept in
-    inr (failed g.H.Host.moment g.H.Host.observed g.H.Host.said g.H.Host.reads g.H.Host.may_leave c.args.host.now c.a_run_is_the_next_commit.ensures
-    (record { may = c.a_run_may_be_prepared.ensures.may; ready = c.a_run_may_be_prepared.ensures.ready }) (the_view c.self.inside) c.args.requests.items c.args.workers c.args.attempts _ c.run_epoch.new.shards.items c.run_epoch.new.kept
-    c.in_ok-dones.field-0.dones c.in_ok-dones.field-0.rows.items (traced c.in_ok-dones.field-0.trace) run c.args.self.now c.self.view_is k rests stands room
-    c.store_epoch.result c.store_epoch.new.host c.as_slice-2.result.now c.as_slice-3.result.now c.as_slice-2.ensures.value c.as_slice-3.ensures (c.store_epoch.ensures.stores k)
-    (Err c.from.result) c.in-Err.fault _ (ap Err c.from.ensures))
+pub attempt-requires-clause-some : goal.attempt-requires-clause-some
+attempt-requires-clause-some g c _ _ =
+    let before = c.loop-attempt.invariant in
+    let some : 0 < length c.args.requests.items = some_left c.args.requests.items c.args.requests.len (sym c.is_empty.ensures ∙ c.if-is_empty.false) c.args.requests.ok.0 in
+    subst (λ rs. 0 < length rs) (sym before.same) some
 
-pub returns-in-Err-clause-given_back : goal.returns-in-Err-clause-given_back
-returns-in-Err-clause-given_back g c =
-    let run = has_run (the_view c.self.inside) c.args.self.now c.args.requests.items c.args.requests.items c.args.workers c.args.attempts c.on_one_node-config.result c.run_epoch.new.shards.items c.as_slice.result.now c.run_epoch.new.kept
-    c.in_ok-dones.field-0.dones c.in_ok-dones.field-0.rows.items (traced c.in_ok-dones.field-0.trace) c.self.view_is c.requires.unspent c.self.invariant c.requires.may c.if-self-ge-EPOCHS_END.false c.args.requests.len (sym c.is_empty.ensures ∙ c.if-is_empty.false) c.args.requests.ok.0
-    c.on_one_node-config.ensures refl c.run_epoch.ensures.count c.as_slice.ensures.value c.in_ok-dones.ensures.ran c.in_ok-dones.ensures.few c.run_epoch.ensures.kept in
-    let back = with_items_is c.run_epoch.new.shards c.revert_all.new.shards (c.revert_all.auto.shards ∙ c.deref_mut.ensures.len) in
-    back ∙ reverts _ _ _ _ _ _ _ _ _ run c.deref_mut.result.now c.revert_all.new.shards c.deref_mut.ensures.value c.revert_all.auto.shards c.revert_all.ensures.holds ∙ ap (λ (s : ClusterState). s.shards) c.self.view_is
+pub loop-attempt-preserved : goal.loop-attempt-preserved
+loop-attempt-preserved g c =
+    let before = c.loop-attempt.invariant in
+    let did = c.attempt.ensures in
+    let ok = c.in_ok-attempt.ensures in
+    let back : IsGivenBack c.loop-attempt.requests.items c.in-Some.again.items c.loop-attempt.self c.attempt.new.self = subst (λ (x : Option (Vec Request)). Attempts x c.loop-attempt.requests.items c.args.workers c.args.attempts c.loop-attempt.self c.attempt.new.self) c.in-Some.is ok.attempts in
+    let cause : GivesUp (around g.N.Net.sent g.N.Net.given g.N.Net.faults g.N.Net.last_seed g.P.Power.stops_seen g.P.Power.early_stops g.P.Power.stopped g.P.Power.begun g.P.Power.asked c.loop-attempt.net c.loop-attempt.power) (around g.N.Net.sent g.N.Net.given g.N.Net.faults g.N.Net.last_seed g.P.Power.stops_seen g.P.Power.early_stops g.P.Power.stopped g.P.Power.begun g.P.Power.asked c.attempt.new.net c.attempt.new.power) = subst (λ (x : Option (Vec Request)). HasCause x (around g.N.Net.sent g.N.Net.given g.N.Net.faults g.N.Net.last_seed g.P.Power.stops_seen g.P.Power.early_stops g.P.Power.stopped g.P.Power.begun g.P.Power.asked c.loop-attempt.net c.loop-attempt.power) (around g.N.Net.sent g.N.Net.given g.N.Net.faults g.N.Net.last_seed g.P.Power.stops_seen g.P.Power.early_stops g.P.Power.stopped g.P.Power.begun g.P.Power.asked c.attempt.new.net c.attempt.new.power)) c.in-Some.is ok.cause in
+    let low = before.low in let below : c.loop-attempt.self.next_epoch < epochs_end = c.if-self-ge-EPOCHS_END.false in
+    record {
+      sound = ok.sound;
+      stand = ok.stand;
+      same = back.same ∙ before.same;
+      given = more_given c.loop-attempt._attempt (around g.N.Net.sent g.N.Net.given g.N.Net.faults g.N.Net.last_seed g.P.Power.stops_seen g.P.Power.early_stops g.P.Power.stopped g.P.Power.begun g.P.Power.asked c.args.net.now c.args.power.now) (around g.N.Net.sent g.N.Net.given g.N.Net.faults g.N.Net.last_seed g.P.Power.stops_seen g.P.Power.early_stops g.P.Power.stopped g.P.Power.begun g.P.Power.asked c.loop-attempt.net c.loop-attempt.power) (around g.N.Net.sent g.N.Net.given g.N.Net.faults g.N.Net.last_seed g.P.Power.stops_seen g.P.Power.early_stops g.P.Power.stopped g.P.Power.begun g.P.Power.asked c.attempt.new.net c.attempt.new.power) before.given cause;
+      begun = λ some. omega (arith, low, below);
+      low = (let up = back.low in omega (arith, low, up));
+      few = few_more c.loop-attempt.self.next_epoch c.attempt.new.self.next_epoch c.args.self.now.next_epoch (around g.N.Net.sent g.N.Net.given g.N.Net.faults g.N.Net.last_seed g.P.Power.stops_seen g.P.Power.early_stops g.P.Power.stopped g.P.Power.begun g.P.Power.asked c.args.net.now c.args.power.now) (around g.N.Net.sent g.N.Net.given g.N.Net.faults g.N.Net.last_seed g.P.Power.stops_seen g.P.Power.early_stops g.P.Power.stopped g.P.Power.begun g.P.Power.asked c.loop-attempt.net c.loop-attempt.power) (around g.N.Net.sent g.N.Net.given g.N.Net.faults g.N.Net.last_seed g.P.Power.stops_seen g.P.Power.early_stops g.P.Power.stopped g.P.Power.begun g.P.Power.asked c.attempt.new.net c.attempt.new.power) before.few (all_later c.loop-attempt._attempt (around g.N.Net.sent g.N.Net.given g.N.Net.faults g.N.Net.last_seed g.P.Power.stops_seen g.P.Power.early_stops g.P.Power.stopped g.P.Power.begun g.P.Power.asked c.args.net.now c.args.power.now) (around g.N.Net.sent g.N.Net.given g.N.Net.faults g.N.Net.last_seed g.P.Power.stops_seen g.P.Power.early_stops g.P.Power.stopped g.P.Power.begun g.P.Power.asked c.loop-attempt.net c.loop-attempt.power) before.given) cause back.high;
+      kept = back.kept ∙ ap (λ (n : Keeping). record n { room = c.attempt.new.self.kept.room }) before.kept;
+      procs = back.procs ∙ before.procs;
+      layout = back.layout ∙ before.layout;
+      seen = (let first = before.seen in let more = ok.seen in omega (arith, first, more));
+      map = λ is m had.
+          let first = before.seen in
+          let more = ok.seen in
+          let keeps : KeepsMap (Some c.in-Some.again) c.loop-attempt.self c.attempt.new.self = subst (λ (x : Option (Vec Request)). KeepsMap x c.loop-attempt.self c.attempt.new.self) c.in-Some.is (ok.map (omega (arith, first, more, is))) in
+          keeps m (before.map (omega (arith, first, more, is)) m had);
+      untraced = back.trace ∙ before.untraced;
+      unused = λ used. absurd (omega (arith, used, low, below));
+      told = λ d on stands room.
+          let goes = before.told d on stands room in
+          goes_more g.H.Host.moment g.H.Host.observed g.H.Host.said g.H.Host.reads g.H.Host.may_leave d c.loop-attempt.self c.attempt.new.self c.args.host.now c.loop-attempt.host c.attempt.new.host goes c.loop-attempt.requests.items c.args.workers c.args.attempts (Ok c.in_ok-attempt.field-0) c.in-Some.again (ap Ok c.in-Some.is) back.low
+          (ok.files goes.on.d goes.on.rests goes.on.stands (room_as d goes.on.d c.args.requests.items c.loop-attempt.requests.items goes.on.only before.same room));
+      said = did.said ∙ before.said;
+      disk = ok.disk ∙ before.disk;
+      stream = did.stream ∙ before.stream;
+    }
 
-pub end_epoch-requires-clause-may : goal.end_epoch-requires-clause-may
-end_epoch-requires-clause-may g c =
-    let run = has_run (the_view c.self.inside) c.args.self.now c.args.requests.items c.args.requests.items c.args.workers c.args.attempts c.on_one_node-config.result c.run_epoch.new.shards.items c.as_slice.result.now c.run_epoch.new.kept
-    c.in_ok-dones.field-0.dones c.in_ok-dones.field-0.rows.items (traced c.in_ok-dones.field-0.trace) c.self.view_is c.requires.unspent c.self.invariant c.requires.may c.if-self-ge-EPOCHS_END.false c.args.requests.len (sym c.is_empty.ensures ∙ c.if-is_empty.false) c.args.requests.ok.0
-    c.on_one_node-config.ensures refl c.run_epoch.ensures.count c.as_slice.ensures.value c.in_ok-dones.ensures.ran c.in_ok-dones.ensures.few c.run_epoch.ensures.kept in
-    follow _ _ _ _ _ _ _ _ _ run
-
-pub invariant_of-self-2 : goal.invariant_of-self-2
-invariant_of-self-2 g c =
-    let run = has_run (the_view c.self.inside) c.args.self.now c.args.requests.items c.args.requests.items c.args.workers c.args.attempts c.on_one_node-config.result c.run_epoch.new.shards.items c.as_slice.result.now c.run_epoch.new.kept
-    c.in_ok-dones.field-0.dones c.in_ok-dones.field-0.rows.items (traced c.in_ok-dones.field-0.trace) c.self.view_is c.requires.unspent c.self.invariant c.requires.may c.if-self-ge-EPOCHS_END.false c.args.requests.len (sym c.is_empty.ensures ∙ c.if-is_empty.false) c.args.requests.ok.0
-    c.on_one_node-config.ensures refl c.run_epoch.ensures.count c.as_slice.ensures.value c.in_ok-dones.ensures.ran c.in_ok-dones.ensures.few c.run_epoch.ensures.kept in
-    let over = has_ended c.run_epoch.new.shards.items c.deref_mut-2.result.now c.run_epoch.new.kept c.in_ok-dones.field-0.dones c.end_epoch.new.shards c.end_epoch.new.kept
-    c.deref_mut-2.ensures.value c.end_epoch.auto.shards c.end_epoch.ensures.holds c.end_epoch.ensures.keep c.end_epoch.ensures.kept in
-    let tables = with_items_is c.run_epoch.new.shards c.end_epoch.new.shards (c.end_epoch.auto.shards ∙ c.deref_mut-2.ensures.len) in
-    sound_then _ _ _ _ _ _ _ _ _ run _ _ over _ tables c.store_epoch.new.chief c.store_epoch.new.node c.store_epoch.ensures.files.2 c.store_epoch.ensures.files.0 c.in_default.ensures.unspent
-
-pub returns-clause-kept : goal.returns-clause-kept
-returns-clause-kept g c =
-    let run = has_run (the_view c.self.inside) c.args.self.now c.args.requests.items c.args.requests.items c.args.workers c.args.attempts c.on_one_node-config.result c.run_epoch.new.shards.items c.as_slice.result.now c.run_epoch.new.kept
-    c.in_ok-dones.field-0.dones c.in_ok-dones.field-0.rows.items (traced c.in_ok-dones.field-0.trace) c.self.view_is c.requires.unspent c.self.invariant c.requires.may c.if-self-ge-EPOCHS_END.false c.args.requests.len (sym c.is_empty.ensures ∙ c.if-is_empty.false) c.args.requests.ok.0
-    c.on_one_node-config.ensures refl c.run_epoch.ensures.count c.as_slice.ensures.value c.in_ok-dones.ensures.ran c.in_ok-dones.ensures.few c.run_epoch.ensures.kept in
-    let over = has_ended c.run_epoch.new.shards.items c.deref_mut-2.result.now c.run_epoch.new.kept c.in_ok-dones.field-0.dones c.end_epoch.new.shards c.end_epoch.new.kept
-    c.deref_mut-2.ensures.value c.end_epoch.auto.shards c.end_epoch.ensures.holds c.end_epoch.ensures.keep c.end_epoch.ensures.kept in
-    subst (λ (s : ClusterState). length c.end_epoch.new.kept.dones ≤ length s.kept.dones + length c.args.requests.items) c.self.view_is (few_then _ _ _ _ _ _ _ _ _ run _ _ over)
-
-pub returns-clause-turns : goal.returns-clause-turns
-returns-clause-turns g c k rests stands room =
-    let run = has_run (the_view c.self.inside) c.args.self.now c.args.requests.items c.args.requests.items c.args.workers c.args.attempts c.on_one_node-config.result c.run_epoch.new.shards.items c.as_slice.result.now c.run_epoch.new.kept
-    c.in_ok-dones.field-0.dones c.in_ok-dones.field-0.rows.items (traced c.in_ok-dones.field-0.trace) c.self.view_is c.requires.unspent c.self.invariant c.requires.may c.if-self-ge-EPOCHS_END.false c.args.requests.len (sym c.is_empty.ensures ∙ c.if-is_empty.false) c.args.requests.ok.0
-    c.on_one_node-config.ensures refl c.run_epoch.ensures.count c.as_slice.ensures.value c.in_ok-dones.ensures.ran c.in_ok-dones.ensures.few c.run_epoch.ensures.kept in
-    let over = has_ended c.run_epoch.new.shards.items c.deref_mut-2.result.now c.run_epoch.new.kept c.in_ok-dones.field-0.dones c.end_epoch.new.shards c.end_epoch.new.kept
-    c.deref_mut-2.ensures.value c.end_epoch.auto.shards c.end_epoch.ensures.holds c.end_epoch.ensures.keep c.end_epoch.ensures.kept in
-    let tables = with_items_is c.run_epoch.new.shards c.end_epoch.new.shards (c.end_epoch.auto.shards ∙ c.deref_mut-2.ensures.len) in
-    inr (succeeded g.H.Host.moment g.H.Host.observed g.H.Host.said g.H.Host.reads g.H.Host.may_leave c.args.host.now c.a_run_is_the_next_commit.ensures
-    (record { may = c.a_run_may_be_prepared.ensures.may; ready = c.a_run_may_be_prepared.ensures.ready }) (the_view c.self.inside) c.args.requests.items c.args.workers c.args.attempts _ c.run_epoch.new.shards.items c.run_epoch.new.kept
-    c.in_ok-dones.field-0.dones c.in_ok-dones.field-0.rows.items (traced c.in_ok-dones.field-0.trace) run c.args.self.now c.self.view_is k rests stands room
-    c.store_epoch.result c.store_epoch.new.host c.as_slice-2.result.now c.as_slice-3.result.now c.as_slice-2.ensures.value c.as_slice-3.ensures (c.store_epoch.ensures.stores k)
-    c.end_epoch.new.shards c.end_epoch.new.kept over c.store_epoch.new.chief c.store_epoch.new.node (c.store_epoch.ensures.files.2, c.store_epoch.ensures.files.3) (c.store_epoch.ensures.files.0, c.store_epoch.ensures.files.1)
-    _ tables c.in_default.is)
-
-pub returns-clause-turned : goal.returns-clause-turned
-returns-clause-turned g c _ m holds =
-    let run = has_run (the_view c.self.inside) c.args.self.now c.args.requests.items c.args.requests.items c.args.workers c.args.attempts c.on_one_node-config.result c.run_epoch.new.shards.items c.as_slice.result.now c.run_epoch.new.kept
-    c.in_ok-dones.field-0.dones c.in_ok-dones.field-0.rows.items (traced c.in_ok-dones.field-0.trace) c.self.view_is c.requires.unspent c.self.invariant c.requires.may c.if-self-ge-EPOCHS_END.false c.args.requests.len (sym c.is_empty.ensures ∙ c.if-is_empty.false) c.args.requests.ok.0
-    c.on_one_node-config.ensures refl c.run_epoch.ensures.count c.as_slice.ensures.value c.in_ok-dones.ensures.ran c.in_ok-dones.ensures.few c.run_epoch.ensures.kept in
-    let over = has_ended c.run_epoch.new.shards.items c.deref_mut-2.result.now c.run_epoch.new.kept c.in_ok-dones.field-0.dones c.end_epoch.new.shards c.end_epoch.new.kept
-    c.deref_mut-2.ensures.value c.end_epoch.auto.shards c.end_epoch.ensures.holds c.end_epoch.ensures.keep c.end_epoch.ensures.kept in
-    let tables = with_items_is c.run_epoch.new.shards c.end_epoch.new.shards (c.end_epoch.auto.shards ∙ c.deref_mut-2.ensures.len) in
-    turned_from _ _ _ _ _ _ _ _ _ run _ _ over c.args.self.now _ c.self.view_is refl refl refl tables m holds
+-- ---- there is nothing to do
 
 pub returns-then-is_empty-clause-turns : goal.returns-then-is_empty-clause-turns
-returns-then-is_empty-clause-turns g c k rests stands room =
-    inl (untouched g.H.Host.moment g.H.Host.observed g.H.Host.said g.H.Host.reads g.H.Host.may_leave g.met.H.Host.only_now _ c.args.requests.items _ k c.args.self.now c.args.host.now rests stands (none_of c.args.requests.items c.args.requests.len (sym c.is_empty.ensures ∙ c.if-is_empty.true) c.args.requests.ok.0))
+returns-then-is_empty-clause-turns g c d on stands room =
+    let k : Cluster = c.args.self.now in
+    let now : Cluster = record k { trace = c.keep.new.trace; room = c.keep.new.self } in
+    let none : c.args.requests.items ≡ [] = none_of c.args.requests.items c.args.requests.len (sym c.is_empty.ensures ∙ c.if-is_empty.true) c.args.requests.ok.0 in
+    inl (ends_without g.H.Host.moment g.H.Host.observed g.H.Host.said g.H.Host.reads g.H.Host.may_leave d now k c.args.host.now c.args.host.now _ c.args.requests.items (goes_first g.H.Host.moment g.H.Host.observed g.H.Host.said g.H.Host.reads g.H.Host.may_leave g.met.H.Host.only_now d k now c.args.host.now (record { procs = refl; kept = refl; members = refl; base = refl; next = refl }) on stands) (omega arith) (omega arith) (Ok tt) none (λ rests. tt))
+
+pub returns-then-is_empty-clause-nothing : goal.returns-then-is_empty-clause-nothing
+returns-then-is_empty-clause-nothing g c empty =
+    (refl, refl, refl, record { procs = refl; kept = refl; members = refl; base = refl; next = refl; trace = c.keep.ensures })
+
+pub returns-then-is_empty-clause-sound : goal.returns-then-is_empty-clause-sound
+returns-then-is_empty-clause-sound g c =
+    let k : Cluster = c.args.self.now in
+    let now : Cluster = record k { trace = c.keep.new.trace; room = c.keep.new.self } in
+    same_sound (g.N.Net.sent c.args.net.now) k now (record { procs = refl; kept = refl; members = refl; base = refl; next = refl }) c.requires.sound
+
+pub returns-then-is_empty-clause-next : goal.returns-then-is_empty-clause-next
+returns-then-is_empty-clause-next g c some =
+    let none : c.args.requests.items ≡ [] = none_of c.args.requests.items c.args.requests.len (sym c.is_empty.ensures ∙ c.if-is_empty.true) c.args.requests.ok.0 in
+    absurd (none_left c.args.requests.items some none)
+
+pub returns-then-is_empty-clause-turned : goal.returns-then-is_empty-clause-turned
+returns-then-is_empty-clause-turned g c some =
+    let none : c.args.requests.items ≡ [] = none_of c.args.requests.items c.args.requests.len (sym c.is_empty.ensures ∙ c.if-is_empty.true) c.args.requests.ok.0 in
+    absurd (none_left c.args.requests.items some none)
+
+pub returns-then-is_empty-clause-from : goal.returns-then-is_empty-clause-from
+returns-then-is_empty-clause-from g c some =
+    let none : c.args.requests.items ≡ [] = none_of c.args.requests.items c.args.requests.len (sym c.is_empty.ensures ∙ c.if-is_empty.true) c.args.requests.ok.0 in
+    absurd (none_left c.args.requests.items some none)
+
+pub returns-then-is_empty-clause-used_up : goal.returns-then-is_empty-clause-used_up
+returns-then-is_empty-clause-used_up g c some =
+    let none : c.args.requests.items ≡ [] = none_of c.args.requests.items c.args.requests.len (sym c.is_empty.ensures ∙ c.if-is_empty.true) c.args.requests.ok.0 in
+    absurd (none_left c.args.requests.items some none)
+
+pub returns-then-is_empty-clause-few : goal.returns-then-is_empty-clause-few
+returns-then-is_empty-clause-few g c =
+    omega arith
+
+pub returns-then-is_empty-clause-later : goal.returns-then-is_empty-clause-later
+returns-then-is_empty-clause-later g c =
+    later_same (around g.N.Net.sent g.N.Net.given g.N.Net.faults g.N.Net.last_seed g.P.Power.stops_seen g.P.Power.early_stops g.P.Power.stopped g.P.Power.begun g.P.Power.asked c.args.net.now c.args.power.now)
+
+-- ---- no number is left
 
 pub returns-then-self-ge-EPOCHS_END-clause-turns : goal.returns-then-self-ge-EPOCHS_END-clause-turns
-returns-then-self-ge-EPOCHS_END-clause-turns g c k rests stands room = inl (untouched g.H.Host.moment g.H.Host.observed g.H.Host.said g.H.Host.reads g.H.Host.may_leave g.met.H.Host.only_now _ c.args.requests.items _ k c.args.self.now c.args.host.now rests stands tt)
+returns-then-self-ge-EPOCHS_END-clause-turns g c d on stands room =
+    let before = c.loop-attempt.invariant in
+    let goes = before.told d on stands room in
+    inl (ends_without g.H.Host.moment g.H.Host.observed g.H.Host.said g.H.Host.reads g.H.Host.may_leave d c.loop-attempt.self c.args.self.now c.args.host.now c.loop-attempt.host _ c.args.requests.items goes before.low before.few (Err EpochsUsedUp) tt (λ rests. rests))
 
-pub returns-in_err-dones-clause-turns : goal.returns-in_err-dones-clause-turns
-returns-in_err-dones-clause-turns g c k rests stands room =
+pub returns-then-self-ge-EPOCHS_END-clause-nothing : goal.returns-then-self-ge-EPOCHS_END-clause-nothing
+returns-then-self-ge-EPOCHS_END-clause-nothing g c empty =
+    let some : 0 < length c.args.requests.items = some_left c.args.requests.items c.args.requests.len (sym c.is_empty.ensures ∙ c.if-is_empty.false) c.args.requests.ok.0 in
+    absurd (none_left c.args.requests.items some empty)
+
+pub returns-then-self-ge-EPOCHS_END-clause-counts : goal.returns-then-self-ge-EPOCHS_END-clause-counts
+returns-then-self-ge-EPOCHS_END-clause-counts g c =
+    let before = c.loop-attempt.invariant in
+    (before.disk, (let few = before.few in let used : epochs_end ≤ c.loop-attempt.self.next_epoch = c.if-self-ge-EPOCHS_END.true in omega (arith, few, used)))
+
+pub returns-then-self-ge-EPOCHS_END-clause-later : goal.returns-then-self-ge-EPOCHS_END-clause-later
+returns-then-self-ge-EPOCHS_END-clause-later g c =
+    let before = c.loop-attempt.invariant in
+    all_later c.loop-attempt._attempt (around g.N.Net.sent g.N.Net.given g.N.Net.faults g.N.Net.last_seed g.P.Power.stops_seen g.P.Power.early_stops g.P.Power.stopped g.P.Power.begun g.P.Power.asked c.args.net.now c.args.power.now) (around g.N.Net.sent g.N.Net.given g.N.Net.faults g.N.Net.last_seed g.P.Power.stops_seen g.P.Power.early_stops g.P.Power.stopped g.P.Power.begun g.P.Power.asked c.loop-attempt.net c.loop-attempt.power) before.given
+
+pub returns-then-self-ge-EPOCHS_END-clause-unused : goal.returns-then-self-ge-EPOCHS_END-clause-unused
+returns-then-self-ge-EPOCHS_END-clause-unused g c is used =
+    let before = c.loop-attempt.invariant in
+    before.unused used
+
+-- ---- an attempt failed
+
+pub returns-in_err-attempt-clause-turns : goal.returns-in_err-attempt-clause-turns
+returns-in_err-attempt-clause-turns g c d on stands room =
+    let before = c.loop-attempt.invariant in
+    let goes = before.told d on stands room in
+    let there : HasRoom goes.on.d c.loop-attempt.requests.items = room_as d goes.on.d c.args.requests.items c.loop-attempt.requests.items goes.on.only before.same room in
     let p = err_from_is_err_and c.from_residual.result c.from_residual.ensures.1 in
-    inl (untouched g.H.Host.moment g.H.Host.observed g.H.Host.said g.H.Host.reads g.H.Host.may_leave g.met.H.Host.only_now c.from_residual.result c.args.requests.items _ k c.args.self.now c.args.host.now rests stands
-    (no_ok c.from_residual.result p.0 (c.args.requests.items ≡ []) p.1))
+    ends_failed g.H.Host.moment g.H.Host.observed g.H.Host.said g.H.Host.reads g.H.Host.may_leave d c.loop-attempt.self c.attempt.new.self c.args.host.now c.loop-attempt.host c.attempt.new.host goes c.args.requests.items c.args.workers c.args.attempts (Err c.in_err-attempt.field-0.0) c.args.self.now _ before.low (few_until c.loop-attempt.self.next_epoch c.args.self.now.next_epoch (around g.N.Net.sent g.N.Net.given g.N.Net.faults g.N.Net.last_seed g.P.Power.stops_seen g.P.Power.early_stops g.P.Power.stopped g.P.Power.begun g.P.Power.asked c.args.net.now c.args.power.now) (around g.N.Net.sent g.N.Net.given g.N.Net.faults g.N.Net.last_seed g.P.Power.stops_seen g.P.Power.early_stops g.P.Power.stopped g.P.Power.begun g.P.Power.asked c.loop-attempt.net c.loop-attempt.power) (around g.N.Net.sent g.N.Net.given g.N.Net.faults g.N.Net.last_seed g.P.Power.stops_seen g.P.Power.early_stops g.P.Power.stopped g.P.Power.begun g.P.Power.asked c.attempt.new.net c.attempt.new.power) before.few (all_later c.loop-attempt._attempt (around g.N.Net.sent g.N.Net.given g.N.Net.faults g.N.Net.last_seed g.P.Power.stops_seen g.P.Power.early_stops g.P.Power.stopped g.P.Power.begun g.P.Power.asked c.args.net.now c.args.power.now) (around g.N.Net.sent g.N.Net.given g.N.Net.faults g.N.Net.last_seed g.P.Power.stops_seen g.P.Power.early_stops g.P.Power.stopped g.P.Power.begun g.P.Power.asked c.loop-attempt.net c.loop-attempt.power) before.given) c.attempt.ensures.later) c.from_residual.result c.in_err-attempt.field-0.0 (g.H.Host.disk_faults c.loop-attempt.host) (g.H.Host.disk_faults c.attempt.new.host) (p.1 ∙ ap Err p.2) c.in_err-attempt.ensures.disk (subst (λ rs. AttemptsOn g.H.Host.moment g.H.Host.observed g.H.Host.said g.H.Host.reads g.H.Host.may_leave (Err c.in_err-attempt.field-0.0) rs c.args.workers c.args.attempts goes.on.d c.loop-attempt.self c.attempt.new.self c.loop-attempt.host c.attempt.new.host) before.same (c.in_err-attempt.ensures.files goes.on.d goes.on.rests goes.on.stands there))
+
+pub returns-in_err-attempt-clause-never : goal.returns-in_err-attempt-clause-never
+returns-in_err-attempt-clause-never g c file at d on stands room is =
+    let before = c.loop-attempt.invariant in
+    let goes = before.told d on stands room in
+    let there : HasRoom goes.on.d c.loop-attempt.requests.items = room_as d goes.on.d c.args.requests.items c.loop-attempt.requests.items goes.on.only before.same room in
+    let p = err_from_is_err_and c.from_residual.result c.from_residual.ensures.1 in
+    let named : c.in_err-attempt.field-0.0 ≡ NotAStore file at = cc (p.1, p.2, is) in c.in_err-attempt.ensures.never file at goes.on.d goes.on.rests goes.on.stands there (ap Err named)
+
+pub returns-in_err-attempt-clause-nothing : goal.returns-in_err-attempt-clause-nothing
+returns-in_err-attempt-clause-nothing g c empty =
+    let some : 0 < length c.args.requests.items = some_left c.args.requests.items c.args.requests.len (sym c.is_empty.ensures ∙ c.if-is_empty.false) c.args.requests.ok.0 in
+    absurd (none_left c.args.requests.items some empty)
+
+pub returns-in_err-attempt-clause-used_up : goal.returns-in_err-attempt-clause-used_up
+returns-in_err-attempt-clause-used_up g c some used =
+    let before = c.loop-attempt.invariant in
+    let low = before.low in let below : c.loop-attempt.self.next_epoch < epochs_end = c.if-self-ge-EPOCHS_END.false in
+    absurd (omega (arith, low, below, used))
+
+pub returns-in_err-attempt-clause-untraced : goal.returns-in_err-attempt-clause-untraced
+returns-in_err-attempt-clause-untraced g c =
+    let before = c.loop-attempt.invariant in
+    let p = err_from_is_err_and c.from_residual.result c.from_residual.ensures.1 in
+    subst (λ (r : Result (Unit {0}) TurnFault). OnErr r (c.attempt.new.self.trace ≡ None)) (sym p.1) (c.in_err-attempt.ensures.trace before.untraced)
+
+pub returns-in_err-attempt-clause-counts : goal.returns-in_err-attempt-clause-counts
+returns-in_err-attempt-clause-counts g c =
+    let before = c.loop-attempt.invariant in
+    let p = err_from_is_err_and c.from_residual.result c.from_residual.ensures.1 in
+    counts_failed c.from_residual.result c.in_err-attempt.field-0.0 c.args.self.now.next_epoch (around g.N.Net.sent g.N.Net.given g.N.Net.faults g.N.Net.last_seed g.P.Power.stops_seen g.P.Power.early_stops g.P.Power.stopped g.P.Power.begun g.P.Power.asked c.args.net.now c.args.power.now) (around g.N.Net.sent g.N.Net.given g.N.Net.faults g.N.Net.last_seed g.P.Power.stops_seen g.P.Power.early_stops g.P.Power.stopped g.P.Power.begun g.P.Power.asked c.attempt.new.net c.attempt.new.power) (g.H.Host.disk_faults c.args.host.now) (g.H.Host.disk_faults c.loop-attempt.host) (g.H.Host.disk_faults c.attempt.new.host) (p.1 ∙ ap Err p.2) before.disk c.in_err-attempt.ensures.disk
+
+pub returns-in_err-attempt-clause-later : goal.returns-in_err-attempt-clause-later
+returns-in_err-attempt-clause-later g c =
+    let before = c.loop-attempt.invariant in
+    later_then (around g.N.Net.sent g.N.Net.given g.N.Net.faults g.N.Net.last_seed g.P.Power.stops_seen g.P.Power.early_stops g.P.Power.stopped g.P.Power.begun g.P.Power.asked c.args.net.now c.args.power.now) (around g.N.Net.sent g.N.Net.given g.N.Net.faults g.N.Net.last_seed g.P.Power.stops_seen g.P.Power.early_stops g.P.Power.stopped g.P.Power.begun g.P.Power.asked c.loop-attempt.net c.loop-attempt.power) (around g.N.Net.sent g.N.Net.given g.N.Net.faults g.N.Net.last_seed g.P.Power.stops_seen g.P.Power.early_stops g.P.Power.stopped g.P.Power.begun g.P.Power.asked c.attempt.new.net c.attempt.new.power) (all_later c.loop-attempt._attempt (around g.N.Net.sent g.N.Net.given g.N.Net.faults g.N.Net.last_seed g.P.Power.stops_seen g.P.Power.early_stops g.P.Power.stopped g.P.Power.begun g.P.Power.asked c.args.net.now c.args.power.now) (around g.N.Net.sent g.N.Net.given g.N.Net.faults g.N.Net.last_seed g.P.Power.stops_seen g.P.Power.early_stops g.P.Power.stopped g.P.Power.begun g.P.Power.asked c.loop-attempt.net c.loop-attempt.power) before.given) c.attempt.ensures.later
+
+pub returns-in_err-attempt-clause-unused : goal.returns-in_err-attempt-clause-unused
+returns-in_err-attempt-clause-unused g c is used =
+    let before = c.loop-attempt.invariant in
+    let low = before.low in let below : c.loop-attempt.self.next_epoch < epochs_end = c.if-self-ge-EPOCHS_END.false in
+    absurd (omega (arith, low, below, used))
+
+-- ---- the epoch was committed
+
+pub returns-in-None-clause-turns : goal.returns-in-None-clause-turns
+returns-in-None-clause-turns g c d on stands room =
+    let before = c.loop-attempt.invariant in
+    let ok = c.in_ok-attempt.ensures in
+    let goes = before.told d on stands room in
+    let there : HasRoom goes.on.d c.loop-attempt.requests.items = room_as d goes.on.d c.args.requests.items c.loop-attempt.requests.items goes.on.only before.same room in
+    ends_committed g.H.Host.moment g.H.Host.observed g.H.Host.said g.H.Host.reads g.H.Host.may_leave d c.loop-attempt.self c.attempt.new.self c.args.host.now c.loop-attempt.host c.attempt.new.host goes c.args.requests.items c.args.workers c.args.attempts (Ok c.in_ok-attempt.field-0) c.args.self.now _ before.low (few_until c.loop-attempt.self.next_epoch c.args.self.now.next_epoch (around g.N.Net.sent g.N.Net.given g.N.Net.faults g.N.Net.last_seed g.P.Power.stops_seen g.P.Power.early_stops g.P.Power.stopped g.P.Power.begun g.P.Power.asked c.args.net.now c.args.power.now) (around g.N.Net.sent g.N.Net.given g.N.Net.faults g.N.Net.last_seed g.P.Power.stops_seen g.P.Power.early_stops g.P.Power.stopped g.P.Power.begun g.P.Power.asked c.loop-attempt.net c.loop-attempt.power) (around g.N.Net.sent g.N.Net.given g.N.Net.faults g.N.Net.last_seed g.P.Power.stops_seen g.P.Power.early_stops g.P.Power.stopped g.P.Power.begun g.P.Power.asked c.attempt.new.net c.attempt.new.power) before.few (all_later c.loop-attempt._attempt (around g.N.Net.sent g.N.Net.given g.N.Net.faults g.N.Net.last_seed g.P.Power.stops_seen g.P.Power.early_stops g.P.Power.stopped g.P.Power.begun g.P.Power.asked c.args.net.now c.args.power.now) (around g.N.Net.sent g.N.Net.given g.N.Net.faults g.N.Net.last_seed g.P.Power.stops_seen g.P.Power.early_stops g.P.Power.stopped g.P.Power.begun g.P.Power.asked c.loop-attempt.net c.loop-attempt.power) before.given) c.attempt.ensures.later) (ap Ok c.in-None.is) (subst (λ rs. AttemptsOn g.H.Host.moment g.H.Host.observed g.H.Host.said g.H.Host.reads g.H.Host.may_leave (Ok c.in_ok-attempt.field-0) rs c.args.workers c.args.attempts goes.on.d c.loop-attempt.self c.attempt.new.self c.loop-attempt.host c.attempt.new.host) before.same (ok.files goes.on.d goes.on.rests goes.on.stands there))
+
+pub returns-in-None-clause-nothing : goal.returns-in-None-clause-nothing
+returns-in-None-clause-nothing g c empty =
+    let some : 0 < length c.args.requests.items = some_left c.args.requests.items c.args.requests.len (sym c.is_empty.ensures ∙ c.if-is_empty.false) c.args.requests.ok.0 in
+    absurd (none_left c.args.requests.items some empty)
+
+pub returns-in-None-clause-next : goal.returns-in-None-clause-next
+returns-in-None-clause-next g c some =
+    let before = c.loop-attempt.invariant in
+    let ok = c.in_ok-attempt.ensures in
+    let done : HasCommittedOne c.loop-attempt.requests.items c.args.workers c.args.attempts c.loop-attempt.self c.attempt.new.self = subst (λ (x : Option (Vec Request)). Attempts x c.loop-attempt.requests.items c.args.workers c.args.attempts c.loop-attempt.self c.attempt.new.self) c.in-None.is ok.attempts in
+    let low = before.low in let up = done.next in omega (arith, low, up)
+
+pub returns-in-None-clause-few : goal.returns-in-None-clause-few
+returns-in-None-clause-few g c =
+    let before = c.loop-attempt.invariant in
+    let ok = c.in_ok-attempt.ensures in
+    let done : HasCommittedOne c.loop-attempt.requests.items c.args.workers c.args.attempts c.loop-attempt.self c.attempt.new.self = subst (λ (x : Option (Vec Request)). Attempts x c.loop-attempt.requests.items c.args.workers c.args.attempts c.loop-attempt.self c.attempt.new.self) c.in-None.is ok.attempts in
+    let some : 0 < length c.args.requests.items = some_left c.args.requests.items c.args.requests.len (sym c.is_empty.ensures ∙ c.if-is_empty.false) c.args.requests.ok.0 in
+    skips_few c.args.requests.items c.loop-attempt.self.next_epoch c.attempt.new.self.next_epoch c.args.self.now.next_epoch (around g.N.Net.sent g.N.Net.given g.N.Net.faults g.N.Net.last_seed g.P.Power.stops_seen g.P.Power.early_stops g.P.Power.stopped g.P.Power.begun g.P.Power.asked c.args.net.now c.args.power.now) (around g.N.Net.sent g.N.Net.given g.N.Net.faults g.N.Net.last_seed g.P.Power.stops_seen g.P.Power.early_stops g.P.Power.stopped g.P.Power.begun g.P.Power.asked c.attempt.new.net c.attempt.new.power) some (few_until c.loop-attempt.self.next_epoch c.args.self.now.next_epoch (around g.N.Net.sent g.N.Net.given g.N.Net.faults g.N.Net.last_seed g.P.Power.stops_seen g.P.Power.early_stops g.P.Power.stopped g.P.Power.begun g.P.Power.asked c.args.net.now c.args.power.now) (around g.N.Net.sent g.N.Net.given g.N.Net.faults g.N.Net.last_seed g.P.Power.stops_seen g.P.Power.early_stops g.P.Power.stopped g.P.Power.begun g.P.Power.asked c.loop-attempt.net c.loop-attempt.power) (around g.N.Net.sent g.N.Net.given g.N.Net.faults g.N.Net.last_seed g.P.Power.stops_seen g.P.Power.early_stops g.P.Power.stopped g.P.Power.begun g.P.Power.asked c.attempt.new.net c.attempt.new.power) before.few (all_later c.loop-attempt._attempt (around g.N.Net.sent g.N.Net.given g.N.Net.faults g.N.Net.last_seed g.P.Power.stops_seen g.P.Power.early_stops g.P.Power.stopped g.P.Power.begun g.P.Power.asked c.args.net.now c.args.power.now) (around g.N.Net.sent g.N.Net.given g.N.Net.faults g.N.Net.last_seed g.P.Power.stops_seen g.P.Power.early_stops g.P.Power.stopped g.P.Power.begun g.P.Power.asked c.loop-attempt.net c.loop-attempt.power) before.given) c.attempt.ensures.later) done.next
+
+pub returns-in-None-clause-turned : goal.returns-in-None-clause-turned
+returns-in-None-clause-turned g c some =
+    let before = c.loop-attempt.invariant in
+    let ok = c.in_ok-attempt.ensures in
+    let done : HasCommittedOne c.loop-attempt.requests.items c.args.workers c.args.attempts c.loop-attempt.self c.attempt.new.self = subst (λ (x : Option (Vec Request)). Attempts x c.loop-attempt.requests.items c.args.workers c.args.attempts c.loop-attempt.self c.attempt.new.self) c.in-None.is ok.attempts in
+    (done.m, turned_first c.args.self.now c.loop-attempt.self c.attempt.new.self c.args.requests.items c.loop-attempt.requests.items c.args.workers c.args.attempts done.m before.same before.procs before.layout before.kept (done.turned done.m done.had))
+
+pub returns-in-None-clause-from : goal.returns-in-None-clause-from
+returns-in-None-clause-from g c some is m had =
+    let before = c.loop-attempt.invariant in
+    let ok = c.in_ok-attempt.ensures in
+    let first = before.seen in
+    let more = ok.seen in
+    let done : HasCommittedOne c.loop-attempt.requests.items c.args.workers c.args.attempts c.loop-attempt.self c.attempt.new.self = subst (λ (x : Option (Vec Request)). Attempts x c.loop-attempt.requests.items c.args.workers c.args.attempts c.loop-attempt.self c.attempt.new.self) c.in-None.is ok.attempts in
+    turned_first c.args.self.now c.loop-attempt.self c.attempt.new.self c.args.requests.items c.loop-attempt.requests.items c.args.workers c.args.attempts m before.same before.procs before.layout before.kept (done.turned m (before.map (omega (arith, first, more, is)) m had))
+
+pub returns-in-None-clause-used_up : goal.returns-in-None-clause-used_up
+returns-in-None-clause-used_up g c some used =
+    let before = c.loop-attempt.invariant in
+    let low = before.low in let below : c.loop-attempt.self.next_epoch < epochs_end = c.if-self-ge-EPOCHS_END.false in
+    absurd (omega (arith, low, below, used))
+
+pub returns-in-None-clause-counts : goal.returns-in-None-clause-counts
+returns-in-None-clause-counts g c =
+    let before = c.loop-attempt.invariant in
+    let ok = c.in_ok-attempt.ensures in
+    ok.disk ∙ before.disk
+
+pub returns-in-None-clause-later : goal.returns-in-None-clause-later
+returns-in-None-clause-later g c =
+    let before = c.loop-attempt.invariant in
+    later_then (around g.N.Net.sent g.N.Net.given g.N.Net.faults g.N.Net.last_seed g.P.Power.stops_seen g.P.Power.early_stops g.P.Power.stopped g.P.Power.begun g.P.Power.asked c.args.net.now c.args.power.now) (around g.N.Net.sent g.N.Net.given g.N.Net.faults g.N.Net.last_seed g.P.Power.stops_seen g.P.Power.early_stops g.P.Power.stopped g.P.Power.begun g.P.Power.asked c.loop-attempt.net c.loop-attempt.power) (around g.N.Net.sent g.N.Net.given g.N.Net.faults g.N.Net.last_seed g.P.Power.stops_seen g.P.Power.early_stops g.P.Power.stopped g.P.Power.begun g.P.Power.asked c.attempt.new.net c.attempt.new.power) (all_later c.loop-attempt._attempt (around g.N.Net.sent g.N.Net.given g.N.Net.faults g.N.Net.last_seed g.P.Power.stops_seen g.P.Power.early_stops g.P.Power.stopped g.P.Power.begun g.P.Power.asked c.args.net.now c.args.power.now) (around g.N.Net.sent g.N.Net.given g.N.Net.faults g.N.Net.last_seed g.P.Power.stops_seen g.P.Power.early_stops g.P.Power.stopped g.P.Power.begun g.P.Power.asked c.loop-attempt.net c.loop-attempt.power) before.given) c.attempt.ensures.later
+
+pub returns-in-None-clause-kept : goal.returns-in-None-clause-kept
+returns-in-None-clause-kept g c =
+    let before = c.loop-attempt.invariant in
+    let ok = c.in_ok-attempt.ensures in
+    let done : HasCommittedOne c.loop-attempt.requests.items c.args.workers c.args.attempts c.loop-attempt.self c.attempt.new.self = subst (λ (x : Option (Vec Request)). Attempts x c.loop-attempt.requests.items c.args.workers c.args.attempts c.loop-attempt.self c.attempt.new.self) c.in-None.is ok.attempts in
+    let few = done.few in omega (arith, few, ap (λ (n : Keeping). length n.dones) before.kept, ap (length {A = Request}) before.same)
+
+-- ---- the nodes are unreachable
+
+pub returns-clause-turns : goal.returns-clause-turns
+returns-clause-turns g c d on stands room =
+    let before = c.loop-attempt.invariant in
+    let goes = before.told d on stands room in
+    inl (ends_without g.H.Host.moment g.H.Host.observed g.H.Host.said g.H.Host.reads g.H.Host.may_leave d c.loop-attempt.self c.args.self.now c.args.host.now c.loop-attempt.host _ c.args.requests.items goes before.low before.few (Err Unreachable) tt (λ rests. rests))
+
+pub returns-clause-nothing : goal.returns-clause-nothing
+returns-clause-nothing g c empty =
+    let some : 0 < length c.args.requests.items = some_left c.args.requests.items c.args.requests.len (sym c.is_empty.ensures ∙ c.if-is_empty.false) c.args.requests.ok.0 in
+    absurd (none_left c.args.requests.items some empty)
+
+pub returns-clause-used_up : goal.returns-clause-used_up
+returns-clause-used_up g c some used =
+    let before = c.loop-attempt.invariant in
+    let begun = before.begun (omega (arith, c.loop-attempt-test.false)) in absurd (omega (arith, begun, used))
+
+pub returns-clause-counts : goal.returns-clause-counts
+returns-clause-counts g c =
+    let before = c.loop-attempt.invariant in
+    (before.disk, subst (λ (n : ℕ). AreGivenUp n (around g.N.Net.sent g.N.Net.given g.N.Net.faults g.N.Net.last_seed g.P.Power.stops_seen g.P.Power.early_stops g.P.Power.stopped g.P.Power.begun g.P.Power.asked c.args.net.now c.args.power.now) (around g.N.Net.sent g.N.Net.given g.N.Net.faults g.N.Net.last_seed g.P.Power.stops_seen g.P.Power.early_stops g.P.Power.stopped g.P.Power.begun g.P.Power.asked c.loop-attempt.net c.loop-attempt.power)) (let all : c.loop-attempt._attempt ≡ 4 = omega arith in all) before.given)
+
+pub returns-clause-later : goal.returns-clause-later
+returns-clause-later g c =
+    let before = c.loop-attempt.invariant in
+    all_later c.loop-attempt._attempt (around g.N.Net.sent g.N.Net.given g.N.Net.faults g.N.Net.last_seed g.P.Power.stops_seen g.P.Power.early_stops g.P.Power.stopped g.P.Power.begun g.P.Power.asked c.args.net.now c.args.power.now) (around g.N.Net.sent g.N.Net.given g.N.Net.faults g.N.Net.last_seed g.P.Power.stops_seen g.P.Power.early_stops g.P.Power.stopped g.P.Power.begun g.P.Power.asked c.loop-attempt.net c.loop-attempt.power) before.given

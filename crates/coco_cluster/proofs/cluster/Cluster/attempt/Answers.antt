@@ -1,0 +1,520 @@
+use Rattle.std.proofs.Common.{◌≡◌, ◌+◌, ◌<◌, Option, Some, None, Result, Ok, Err, inl, inr, refl, sym, ap, ◌∙◌, subst, arith}
+use Rattle.std.proofs.lemmas.Result.{err_from_is_err_and}
+use Rattle.std.specs.Global.{Vec}
+use Rattle.std.specs.Option.{option_map}
+use Rattle.std.specs.Prelude.{OnErr}
+use Rattle.coco_chief.specs.Shown.{chief_of}
+use Rattle.coco_ast.specs.Keyed.{Rows}
+use Rattle.coco_append.specs.Gaining.{RestsOn, Stands}
+use Rattle.coco_ast.specs.History.{rows_after}
+use Rattle.coco_entry.specs.Commits.{IsCommit}
+use Rattle.coco_letters.specs.Around.{around}
+use Rattle.coco_log.specs.LogState.{LogState}
+use Rattle.coco_members.specs.AtRest.{AreAtRest, NoneBehind}
+use Rattle.coco_members.specs.Voted.{HaveVoted}
+use Rattle.coco_parallel.specs.Traces.{traced}
+use Rattle.coco_store.specs.Contents.{map_in}
+use Rattle.coco_store.specs.Laws.{MayCommit, with_commit}
+use Rattle.coco_types.specs.Limits.{epochs_end}
+use Rattle.coco_types.specs.declared.call.Request.{Request}
+use Rattle.coco_cluster.specs.Ending.{Commits, HasEnded, IsForgotten}
+use Rattle.coco_cluster.specs.Faults.{CountsAttempt, CountsPart}
+use Rattle.coco_cluster.specs.Standing.{IsSound, Rests}
+use Rattle.coco_cluster.specs.Trying.{ComesOf, ComesOn, HasGivenUp, HasVoted, IsGivenUpIf, MayCommitOn, MayGoOn, StaysInPlace, commit_of}
+use Rattle.coco_cluster.specs.declared.cluster.Cluster.{Cluster}
+use Rattle.coco_cluster.specs.declared.fault.TurnFault.{TurnFault}
+use Rattle.coco_cluster.specs.declared.fault.TurnFault.TheVariants.{NoMemory, NotAStore}
+use Rattle.coco_cluster.specs.declared.trying.Tried.{Tried}
+use Rattle.coco_cluster.proofs.AroundLemmas.{gives_from, later_then, later_used}
+use Rattle.coco_cluster.proofs.AttemptLemmas.{are_few, are_of_epoch, belongs_still, committed_one, given_back, kept_forgotten, layout_forgotten, may_be_kept, next_forgotten, procs_forgotten, rests_ended, rests_gone, stand_gone, shards_gone, stands_ended, stands_gone, trace_forgotten}
+use Rattle.coco_cluster.proofs.BehindLemmas.{behind_later}
+use Rattle.coco_cluster.proofs.RemindLemmas.{all_finished, chief_elsewhere, may_reminded, one_silent, reminded, sound_reminded, stand_reminded, stands_reminded}
+use Rattle.coco_cluster.proofs.SeeingLemmas.{adds_none, keeps_same, rests_read}
+use Rattle.coco_cluster.proofs.ToldLemmas.{commit_failed, committed_then, counts_later, counts_wider, failed_none, keeps_failed, keeps_given, keeps_reading}
+use Rattle.coco_cluster.proofs.cluster.Cluster.attempt.Goals as goal
+
+-- ---- out of memory while nodes were reminded
+
+pub returns-in_err-remind-clause-files : goal.returns-in_err-remind-clause-files
+returns-in_err-remind-clause-files g c d on stands room =
+    let p = err_from_is_err_and c.from_residual.result c.from_residual.ensures.1 in
+    inl (keeps_failed g.H.Host.moment g.H.Host.observed g.H.Host.said g.H.Host.reads g.H.Host.may_leave c.from_residual.result p.0 d c.args.self.now (reminded c.args.self.now c.remind.new.members) c.args.host.now c.args.host.now p.1 (keeps_same g.H.Host.moment g.H.Host.observed g.H.Host.said g.H.Host.reads g.H.Host.may_leave g.met.H.Host.only_now d (c.args.self.now.next_epoch + 1) c.args.host.now on (behind_later d c.args.self.now.next_epoch (c.args.self.now.next_epoch + 1) (omega arith) stands.next)))
+
+pub returns-in_err-remind-clause-never : goal.returns-in_err-remind-clause-never
+returns-in_err-remind-clause-never g c file at d on stands room is =
+    let p = err_from_is_err_and c.from_residual.result c.from_residual.ensures.1 in
+    let never_so : NoMemory ≡ NotAStore file at = cc (p.1, p.2, is) in absurd (cc)
+
+pub returns-in_err-remind-clause-disk : goal.returns-in_err-remind-clause-disk
+returns-in_err-remind-clause-disk g c =
+    let p = err_from_is_err_and c.from_residual.result c.from_residual.ensures.1 in
+    subst (λ (r : Result (Option (Vec Request)) TurnFault). CountsAttempt r (g.H.Host.disk_faults c.args.host.now) (g.H.Host.disk_faults c.args.host.now)) (sym (p.1 ∙ ap Err p.2)) refl
+
+pub returns-in_err-remind-clause-later : goal.returns-in_err-remind-clause-later
+returns-in_err-remind-clause-later g c =
+    later_used (around g.N.Net.sent g.N.Net.given g.N.Net.faults g.N.Net.last_seed g.P.Power.stops_seen g.P.Power.early_stops g.P.Power.stopped g.P.Power.begun g.P.Power.asked c.args.net.now c.args.power.now) (around g.N.Net.sent g.N.Net.given g.N.Net.faults g.N.Net.last_seed g.P.Power.stops_seen g.P.Power.early_stops g.P.Power.stopped g.P.Power.begun g.P.Power.asked c.remind.new.net c.args.power.now) c.remind.ensures.sent c.remind.ensures.net (omega arith)
+
+-- ---- one node was silent
+
+pub returns-then-not-branch-clause-sound : goal.returns-then-not-branch-clause-sound
+returns-then-not-branch-clause-sound g c =
+    let k : Cluster = c.args.self.now in
+    let told = c.in_ok-remind.ensures in
+    let rest : AreAtRest k.next_epoch (g.N.Net.sent c.remind.new.net) c.remind.new.members = told.rest k.next_epoch c.requires.sound.rests.rest in
+    sound_reminded k c.remind.new.members c.remind.ensures.stays told.finish.layout told.committed (g.N.Net.sent c.args.net.now) (g.N.Net.sent c.remind.new.net) rest c.requires.sound
+
+pub returns-then-not-branch-clause-attempts : goal.returns-then-not-branch-clause-attempts
+returns-then-not-branch-clause-attempts g c =
+    record { same = refl; low = omega arith; high = omega arith; kept = refl; procs = refl; layout = c.in_ok-remind.ensures.finish.layout; trace = refl }
+
+pub returns-then-not-branch-clause-cause : goal.returns-then-not-branch-clause-cause
+returns-then-not-branch-clause-cause g c =
+    let told = c.in_ok-remind.ensures in
+    one_silent c.in_ok-remind.field-0 _ _ (around g.N.Net.sent g.N.Net.given g.N.Net.faults g.N.Net.last_seed g.P.Power.stops_seen g.P.Power.early_stops g.P.Power.stopped g.P.Power.begun g.P.Power.asked c.args.net.now c.args.power.now) (around g.N.Net.sent g.N.Net.given g.N.Net.faults g.N.Net.last_seed g.P.Power.stops_seen g.P.Power.early_stops g.P.Power.stopped g.P.Power.begun g.P.Power.asked c.remind.new.net c.args.power.now) c.if-not-branch.true told.all told.awaits (later_used (around g.N.Net.sent g.N.Net.given g.N.Net.faults g.N.Net.last_seed g.P.Power.stops_seen g.P.Power.early_stops g.P.Power.stopped g.P.Power.begun g.P.Power.asked c.args.net.now c.args.power.now) (around g.N.Net.sent g.N.Net.given g.N.Net.faults g.N.Net.last_seed g.P.Power.stops_seen g.P.Power.early_stops g.P.Power.stopped g.P.Power.begun g.P.Power.asked c.remind.new.net c.args.power.now) c.remind.ensures.sent c.remind.ensures.net (omega arith))
+
+pub returns-then-not-branch-clause-files : goal.returns-then-not-branch-clause-files
+returns-then-not-branch-clause-files g c d on stands room =
+    let k : Cluster = c.args.self.now in
+    let now : Cluster = reminded k c.remind.new.members in
+    let told = c.in_ok-remind.ensures in
+    let at = stands_reminded k c.remind.new.members c.remind.ensures.stays told.finish.layout told.committed d (c.remind.ensures.map (map_in d)) stands in
+    inl (keeps_given g.H.Host.moment g.H.Host.observed g.H.Host.said g.H.Host.reads g.H.Host.may_leave (Ok (Some c.args.requests)) c.args.requests d k now c.args.host.now c.args.host.now refl (keeps_same g.H.Host.moment g.H.Host.observed g.H.Host.said g.H.Host.reads g.H.Host.may_leave g.met.H.Host.only_now d (c.args.self.now.next_epoch + 1) c.args.host.now on (behind_later d c.args.self.now.next_epoch (c.args.self.now.next_epoch + 1) (omega arith) stands.next)) (record { d = d; only = adds_none d; rests = on; stands = at }))
+
+pub returns-then-not-branch-clause-never : goal.returns-then-not-branch-clause-never
+returns-then-not-branch-clause-never g c file at d on stands room is =
+    absurd (cc (is))
+
+pub returns-then-not-branch-clause-stand : goal.returns-then-not-branch-clause-stand
+returns-then-not-branch-clause-stand g c =
+    let k : Cluster = c.args.self.now in
+    stand_reminded k c.remind.new.members c.remind.ensures.stays (g.H.Host.reads c.args.host.now) (g.H.Host.may_leave c.args.host.now) c.requires.stand
+
+pub returns-then-not-branch-clause-later : goal.returns-then-not-branch-clause-later
+returns-then-not-branch-clause-later g c =
+    later_used (around g.N.Net.sent g.N.Net.given g.N.Net.faults g.N.Net.last_seed g.P.Power.stops_seen g.P.Power.early_stops g.P.Power.stopped g.P.Power.begun g.P.Power.asked c.args.net.now c.args.power.now) (around g.N.Net.sent g.N.Net.given g.N.Net.faults g.N.Net.last_seed g.P.Power.stops_seen g.P.Power.early_stops g.P.Power.stopped g.P.Power.begun g.P.Power.asked c.remind.new.net c.args.power.now) c.remind.ensures.sent c.remind.ensures.net (omega arith)
+
+-- ---- the next epoch is tried
+
+pub try_epoch-requires-clause-sound : goal.try_epoch-requires-clause-sound
+try_epoch-requires-clause-sound g c _ _ =
+    let k : Cluster = c.args.self.now in
+    let told = c.in_ok-remind.ensures in
+    let rest : AreAtRest k.next_epoch (g.N.Net.sent c.remind.new.net) c.remind.new.members = told.rest k.next_epoch c.requires.sound.rests.rest in
+    sound_reminded k c.remind.new.members c.remind.ensures.stays told.finish.layout told.committed (g.N.Net.sent c.args.net.now) (g.N.Net.sent c.remind.new.net) rest c.requires.sound
+
+pub try_epoch-requires-clause-up : goal.try_epoch-requires-clause-up
+try_epoch-requires-clause-up g c _ _ =
+    let k : Cluster = c.args.self.now in
+    let told = c.in_ok-remind.ensures in
+    let rest : AreAtRest k.next_epoch (g.N.Net.sent c.remind.new.net) c.remind.new.members = told.rest k.next_epoch c.requires.sound.rests.rest in
+    c.finished_nodes_are_not_behind.ensures.none k.next_epoch (g.N.Net.sent c.remind.new.net) c.remind.new.members rest (all_finished c.in_ok-remind.field-0 (chief_of c.remind.new.members.chief) _ c.if-not-branch.false told.all)
+
+pub try_epoch-requires-clause-ready : goal.try_epoch-requires-clause-ready
+try_epoch-requires-clause-ready g c _ _ =
+    let k : Cluster = c.args.self.now in
+    (stand_reminded k c.remind.new.members c.remind.ensures.stays (g.H.Host.reads c.args.host.now) (g.H.Host.may_leave c.args.host.now) c.requires.stand).nodes
+
+pub returns-in_err-dones-clause-files : goal.returns-in_err-dones-clause-files
+returns-in_err-dones-clause-files g c d on stands room =
+    let k : Cluster = c.args.self.now in
+    let now : Cluster = reminded k c.remind.new.members in
+    let told = c.in_ok-remind.ensures in
+    let at = stands_reminded k c.remind.new.members c.remind.ensures.stays told.finish.layout told.committed d (c.remind.ensures.map (map_in d)) stands in
+    let p = err_from_is_err_and c.from_residual-in_err-dones.result c.from_residual-in_err-dones.ensures.1 in
+    inl (keeps_failed g.H.Host.moment g.H.Host.observed g.H.Host.said g.H.Host.reads g.H.Host.may_leave c.from_residual-in_err-dones.result p.0 d k c.try_epoch.new.self c.args.host.now c.try_epoch.new.host p.1 (c.in_err-dones.ensures.files d on at room).0)
+
+pub returns-in_err-dones-clause-never : goal.returns-in_err-dones-clause-never
+returns-in_err-dones-clause-never g c file at d on stands room is =
+    let p = err_from_is_err_and c.from_residual-in_err-dones.result c.from_residual-in_err-dones.ensures.1 in
+    let named : c.in_err-dones.field-0.0 ≡ NotAStore file at = cc (p.1, p.2, is) in subst (λ (f : TurnFault). CountsPart {T = Unit {0}} (Err f) (g.H.Host.disk_faults c.args.host.now) (g.H.Host.disk_faults c.try_epoch.new.host)) named c.in_err-dones.ensures.disk
+
+pub returns-in_err-dones-clause-disk : goal.returns-in_err-dones-clause-disk
+returns-in_err-dones-clause-disk g c =
+    let p = err_from_is_err_and c.from_residual-in_err-dones.result c.from_residual-in_err-dones.ensures.1 in
+    counts_wider c.from_residual-in_err-dones.result c.in_err-dones.field-0.0 (g.H.Host.disk_faults c.args.host.now) (g.H.Host.disk_faults c.args.host.now) (g.H.Host.disk_faults c.try_epoch.new.host) (p.1 ∙ ap Err p.2) refl c.in_err-dones.ensures.disk
+
+pub returns-in_err-dones-clause-later : goal.returns-in_err-dones-clause-later
+returns-in_err-dones-clause-later g c =
+    later_then (around g.N.Net.sent g.N.Net.given g.N.Net.faults g.N.Net.last_seed g.P.Power.stops_seen g.P.Power.early_stops g.P.Power.stopped g.P.Power.begun g.P.Power.asked c.args.net.now c.args.power.now) (around g.N.Net.sent g.N.Net.given g.N.Net.faults g.N.Net.last_seed g.P.Power.stops_seen g.P.Power.early_stops g.P.Power.stopped g.P.Power.begun g.P.Power.asked c.remind.new.net c.args.power.now) (around g.N.Net.sent g.N.Net.given g.N.Net.faults g.N.Net.last_seed g.P.Power.stops_seen g.P.Power.early_stops g.P.Power.stopped g.P.Power.begun g.P.Power.asked c.try_epoch.new.net c.try_epoch.new.power) (later_used (around g.N.Net.sent g.N.Net.given g.N.Net.faults g.N.Net.last_seed g.P.Power.stops_seen g.P.Power.early_stops g.P.Power.stopped g.P.Power.begun g.P.Power.asked c.args.net.now c.args.power.now) (around g.N.Net.sent g.N.Net.given g.N.Net.faults g.N.Net.last_seed g.P.Power.stops_seen g.P.Power.early_stops g.P.Power.stopped g.P.Power.begun g.P.Power.asked c.remind.new.net c.args.power.now) c.remind.ensures.sent c.remind.ensures.net (omega arith)) c.try_epoch.ensures.later
+
+-- ---- all voted: the epoch is committed
+
+pub commit_epoch-requires-clause-below : goal.commit_epoch-requires-clause-below
+commit_epoch-requires-clause-below g c =
+    subst (λ n. n < epochs_end) (sym c.in_ok-dones.ensures.stays.next) c.requires.below
+
+pub commit_epoch-requires-clause-voted : goal.commit_epoch-requires-clause-voted
+commit_epoch-requires-clause-voted g c =
+    let k : Cluster = c.args.self.now in
+    let now : Cluster = reminded k c.remind.new.members in
+    let told = c.in_ok-remind.ensures in
+    let rest : AreAtRest k.next_epoch (g.N.Net.sent c.remind.new.net) c.remind.new.members = told.rest k.next_epoch c.requires.sound.rests.rest in
+    let map = c.requires.sound.rests.rest.map in
+    let stays : StaysInPlace now c.try_epoch.new.self = c.in_ok-dones.ensures.stays in
+    let voted : HasVoted c.args.requests.items c.args.workers c.args.attempts map.0 c.in-Voted.dones (traced c.in-Voted.trace) (g.N.Net.sent c.try_epoch.new.net) now c.try_epoch.new.self = subst (λ (tried : Tried). ComesOf tried c.args.requests.items c.args.workers c.args.attempts map.0 (g.N.Net.sent c.try_epoch.new.net) now c.try_epoch.new.self) c.in-Voted.is (c.in_ok-dones.ensures.comes map.0 (told.shards map.0 map.1)) in
+    (rows_after now.procs map.0 c.in-Voted.dones, subst (λ n. HaveVoted n (rows_after now.procs map.0 c.in-Voted.dones) (g.N.Net.sent c.try_epoch.new.net) c.try_epoch.new.self.members) (sym stays.next) voted.voted)
+
+pub commit_epoch-requires-clause-unspent : goal.commit_epoch-requires-clause-unspent
+commit_epoch-requires-clause-unspent g c =
+    ap (λ (l : LogState). l.spent) (c.in_ok-dones.ensures.stays.members.log ∙ c.remind.ensures.stays.log) ∙ c.requires.sound.rests.unspent
+
+pub commit_epoch-requires-clause-stands : goal.commit_epoch-requires-clause-stands
+commit_epoch-requires-clause-stands g c =
+    let k : Cluster = c.args.self.now in
+    let told = c.in_ok-remind.ensures in
+    let rest : AreAtRest k.next_epoch (g.N.Net.sent c.remind.new.net) c.remind.new.members = told.rest k.next_epoch c.requires.sound.rests.rest in
+    let chief : Stands c.remind.new.members.log (g.H.Host.reads c.try_epoch.new.host) (g.H.Host.may_leave c.try_epoch.new.host) = c.try_epoch.ensures.others c.remind.new.members.log (chief_elsewhere c.remind.new.members rest.are) (stand_reminded k c.remind.new.members c.remind.ensures.stays (g.H.Host.reads c.args.host.now) (g.H.Host.may_leave c.args.host.now) c.requires.stand).chief in
+    subst (λ (l : LogState). Stands l (g.H.Host.reads c.try_epoch.new.host) (g.H.Host.may_leave c.try_epoch.new.host)) (sym c.in_ok-dones.ensures.stays.members.log) chief
+
+pub commit_epoch-requires-clause-follow : goal.commit_epoch-requires-clause-follow
+commit_epoch-requires-clause-follow g c =
+    let k : Cluster = c.args.self.now in
+    let now : Cluster = reminded k c.remind.new.members in
+    let told = c.in_ok-remind.ensures in
+    let rest : AreAtRest k.next_epoch (g.N.Net.sent c.remind.new.net) c.remind.new.members = told.rest k.next_epoch c.requires.sound.rests.rest in
+    let sound : IsSound now (g.N.Net.sent c.remind.new.net) = sound_reminded k c.remind.new.members c.remind.ensures.stays told.finish.layout told.committed (g.N.Net.sent c.args.net.now) (g.N.Net.sent c.remind.new.net) rest c.requires.sound in
+    let map = c.requires.sound.rests.rest.map in
+    let stays : StaysInPlace now c.try_epoch.new.self = c.in_ok-dones.ensures.stays in
+    let voted : HasVoted c.args.requests.items c.args.workers c.args.attempts map.0 c.in-Voted.dones (traced c.in-Voted.trace) (g.N.Net.sent c.try_epoch.new.net) now c.try_epoch.new.self = subst (λ (tried : Tried). ComesOf tried c.args.requests.items c.args.workers c.args.attempts map.0 (g.N.Net.sent c.try_epoch.new.net) now c.try_epoch.new.self) c.in-Voted.is (c.in_ok-dones.ensures.comes map.0 (told.shards map.0 map.1)) in
+    may_be_kept c.args.requests.items now c.try_epoch.new.self c.in-Voted.dones (g.N.Net.sent c.remind.new.net) sound.rests (may_reminded k c.remind.new.members c.args.requests.items c.requires.may) stays voted.each
+
+pub commit_epoch-requires-clause-room : goal.commit_epoch-requires-clause-room
+commit_epoch-requires-clause-room g c =
+    let k : Cluster = c.args.self.now in
+    let now : Cluster = reminded k c.remind.new.members in
+    let told = c.in_ok-remind.ensures in
+    let map = c.requires.sound.rests.rest.map in
+    let voted : HasVoted c.args.requests.items c.args.workers c.args.attempts map.0 c.in-Voted.dones (traced c.in-Voted.trace) (g.N.Net.sent c.try_epoch.new.net) now c.try_epoch.new.self = subst (λ (tried : Tried). ComesOf tried c.args.requests.items c.args.workers c.args.attempts map.0 (g.N.Net.sent c.try_epoch.new.net) now c.try_epoch.new.self) c.in-Voted.is (c.in_ok-dones.ensures.comes map.0 (told.shards map.0 map.1)) in
+    voted.room
+
+pub commit_epoch-requires-clause-count : goal.commit_epoch-requires-clause-count
+commit_epoch-requires-clause-count g c =
+    let k : Cluster = c.args.self.now in
+    let now : Cluster = reminded k c.remind.new.members in
+    let told = c.in_ok-remind.ensures in
+    let rest : AreAtRest k.next_epoch (g.N.Net.sent c.remind.new.net) c.remind.new.members = told.rest k.next_epoch c.requires.sound.rests.rest in
+    let sound : IsSound now (g.N.Net.sent c.remind.new.net) = sound_reminded k c.remind.new.members c.remind.ensures.stays told.finish.layout told.committed (g.N.Net.sent c.args.net.now) (g.N.Net.sent c.remind.new.net) rest c.requires.sound in
+    let map = c.requires.sound.rests.rest.map in
+    let stays : StaysInPlace now c.try_epoch.new.self = c.in_ok-dones.ensures.stays in
+    let voted : HasVoted c.args.requests.items c.args.workers c.args.attempts map.0 c.in-Voted.dones (traced c.in-Voted.trace) (g.N.Net.sent c.try_epoch.new.net) now c.try_epoch.new.self = subst (λ (tried : Tried). ComesOf tried c.args.requests.items c.args.workers c.args.attempts map.0 (g.N.Net.sent c.try_epoch.new.net) now c.try_epoch.new.self) c.in-Voted.is (c.in_ok-dones.ensures.comes map.0 (told.shards map.0 map.1)) in
+    are_few c.args.requests.items now c.try_epoch.new.self c.in-Voted.dones (g.N.Net.sent c.remind.new.net) sound.rests (may_reminded k c.remind.new.members c.args.requests.items c.requires.may) stays voted.each
+
+pub commit_epoch-requires-clause-epochs : goal.commit_epoch-requires-clause-epochs
+commit_epoch-requires-clause-epochs g c =
+    let k : Cluster = c.args.self.now in
+    let now : Cluster = reminded k c.remind.new.members in
+    let told = c.in_ok-remind.ensures in
+    let rest : AreAtRest k.next_epoch (g.N.Net.sent c.remind.new.net) c.remind.new.members = told.rest k.next_epoch c.requires.sound.rests.rest in
+    let sound : IsSound now (g.N.Net.sent c.remind.new.net) = sound_reminded k c.remind.new.members c.remind.ensures.stays told.finish.layout told.committed (g.N.Net.sent c.args.net.now) (g.N.Net.sent c.remind.new.net) rest c.requires.sound in
+    let map = c.requires.sound.rests.rest.map in
+    let stays : StaysInPlace now c.try_epoch.new.self = c.in_ok-dones.ensures.stays in
+    let voted : HasVoted c.args.requests.items c.args.workers c.args.attempts map.0 c.in-Voted.dones (traced c.in-Voted.trace) (g.N.Net.sent c.try_epoch.new.net) now c.try_epoch.new.self = subst (λ (tried : Tried). ComesOf tried c.args.requests.items c.args.workers c.args.attempts map.0 (g.N.Net.sent c.try_epoch.new.net) now c.try_epoch.new.self) c.in-Voted.is (c.in_ok-dones.ensures.comes map.0 (told.shards map.0 map.1)) in
+    are_of_epoch c.args.requests.items now c.try_epoch.new.self c.in-Voted.dones (g.N.Net.sent c.remind.new.net) sound.rests (may_reminded k c.remind.new.members c.args.requests.items c.requires.may) stays voted.each
+
+pub returns-in_err-commit_epoch-in-Voted-clause-files : goal.returns-in_err-commit_epoch-in-Voted-clause-files
+returns-in_err-commit_epoch-in-Voted-clause-files g c d on stands room =
+    let k : Cluster = c.args.self.now in
+    let now : Cluster = reminded k c.remind.new.members in
+    let told = c.in_ok-remind.ensures in
+    let at = stands_reminded k c.remind.new.members c.remind.ensures.stays told.finish.layout told.committed d (c.remind.ensures.map (map_in d)) stands in
+    let files = c.in_ok-dones.ensures.files d on at room in
+    let may : MayCommitOn d c.args.requests.items c.args.workers c.args.attempts k.next_epoch c.in-Voted.dones (traced c.in-Voted.trace) c.try_epoch.new.self.members.tables (g.H.Host.reads c.try_epoch.new.host) (g.H.Host.may_leave c.try_epoch.new.host) = subst (λ (tried : Tried). ComesOn tried d c.args.requests.items c.args.workers c.args.attempts k.next_epoch c.try_epoch.new.self.members.tables (g.H.Host.reads c.try_epoch.new.host) (g.H.Host.may_leave c.try_epoch.new.host)) c.in-Voted.is files.1 in
+    let stays : StaysInPlace now c.try_epoch.new.self = c.in_ok-dones.ensures.stays in
+    let p = err_from_is_err_and c.from_residual-in_err-commit_epoch-in-Voted.result c.from_residual-in_err-commit_epoch-in-Voted.ensures.1 in
+    inr (commit_failed g.H.Host.moment g.H.Host.observed g.H.Host.said g.H.Host.reads g.H.Host.may_leave d c.args.requests.items c.args.workers c.args.attempts k.next_epoch c.in-Voted.dones (traced c.in-Voted.trace) c.try_epoch.new.self.members.tables c.args.host.now c.try_epoch.new.host files.0 may (Err c.in_err-commit_epoch-in-Voted.field-0.0) c.commit_epoch.new.host (subst (λ n. Commits {T = Unit {0}} {E = TurnFault} g.H.Host.moment g.H.Host.observed g.H.Host.said g.H.Host.reads g.H.Host.may_leave (Err c.in_err-commit_epoch-in-Voted.field-0.0) may.d (commit_of n c.in-Voted.dones) c.try_epoch.new.host c.commit_epoch.new.host) stays.next (c.in_err-commit_epoch-in-Voted.ensures.files may.d may.rests (belongs_still d may.d now c.try_epoch.new.self may.only stays.procs stays.base stays.kept stays.members at.belongs) (subst (λ n. IsCommit (commit_of n c.in-Voted.dones) → MayCommit may.d (commit_of n c.in-Voted.dones)) (sym stays.next) may.commit))) c.from_residual-in_err-commit_epoch-in-Voted.result p.0 k c.commit_epoch.new.self p.1 refl)
+
+pub returns-in_err-commit_epoch-in-Voted-clause-never : goal.returns-in_err-commit_epoch-in-Voted-clause-never
+returns-in_err-commit_epoch-in-Voted-clause-never g c file at d on stands room is =
+    let p = err_from_is_err_and c.from_residual-in_err-commit_epoch-in-Voted.result c.from_residual-in_err-commit_epoch-in-Voted.ensures.1 in
+    let named : c.in_err-commit_epoch-in-Voted.field-0.0 ≡ NotAStore file at = cc (p.1, p.2, is) in subst (λ (f : TurnFault). CountsPart {T = Unit {0}} (Err f) (g.H.Host.disk_faults c.try_epoch.new.host) (g.H.Host.disk_faults c.commit_epoch.new.host)) named c.in_err-commit_epoch-in-Voted.ensures.disk
+
+pub returns-in_err-commit_epoch-in-Voted-clause-disk : goal.returns-in_err-commit_epoch-in-Voted-clause-disk
+returns-in_err-commit_epoch-in-Voted-clause-disk g c =
+    let p = err_from_is_err_and c.from_residual-in_err-commit_epoch-in-Voted.result c.from_residual-in_err-commit_epoch-in-Voted.ensures.1 in
+    counts_wider c.from_residual-in_err-commit_epoch-in-Voted.result c.in_err-commit_epoch-in-Voted.field-0.0 (g.H.Host.disk_faults c.args.host.now) (g.H.Host.disk_faults c.try_epoch.new.host) (g.H.Host.disk_faults c.commit_epoch.new.host) (p.1 ∙ ap Err p.2) c.in_ok-dones.ensures.disk c.in_err-commit_epoch-in-Voted.ensures.disk
+
+pub returns-in_err-commit_epoch-in-Voted-clause-later : goal.returns-in_err-commit_epoch-in-Voted-clause-later
+returns-in_err-commit_epoch-in-Voted-clause-later g c =
+    later_then (around g.N.Net.sent g.N.Net.given g.N.Net.faults g.N.Net.last_seed g.P.Power.stops_seen g.P.Power.early_stops g.P.Power.stopped g.P.Power.begun g.P.Power.asked c.args.net.now c.args.power.now) (around g.N.Net.sent g.N.Net.given g.N.Net.faults g.N.Net.last_seed g.P.Power.stops_seen g.P.Power.early_stops g.P.Power.stopped g.P.Power.begun g.P.Power.asked c.try_epoch.new.net c.try_epoch.new.power) (around g.N.Net.sent g.N.Net.given g.N.Net.faults g.N.Net.last_seed g.P.Power.stops_seen g.P.Power.early_stops g.P.Power.stopped g.P.Power.begun g.P.Power.asked c.commit_epoch.new.net c.commit_epoch.new.power) (later_then (around g.N.Net.sent g.N.Net.given g.N.Net.faults g.N.Net.last_seed g.P.Power.stops_seen g.P.Power.early_stops g.P.Power.stopped g.P.Power.begun g.P.Power.asked c.args.net.now c.args.power.now) (around g.N.Net.sent g.N.Net.given g.N.Net.faults g.N.Net.last_seed g.P.Power.stops_seen g.P.Power.early_stops g.P.Power.stopped g.P.Power.begun g.P.Power.asked c.remind.new.net c.args.power.now) (around g.N.Net.sent g.N.Net.given g.N.Net.faults g.N.Net.last_seed g.P.Power.stops_seen g.P.Power.early_stops g.P.Power.stopped g.P.Power.begun g.P.Power.asked c.try_epoch.new.net c.try_epoch.new.power) (later_used (around g.N.Net.sent g.N.Net.given g.N.Net.faults g.N.Net.last_seed g.P.Power.stops_seen g.P.Power.early_stops g.P.Power.stopped g.P.Power.begun g.P.Power.asked c.args.net.now c.args.power.now) (around g.N.Net.sent g.N.Net.given g.N.Net.faults g.N.Net.last_seed g.P.Power.stops_seen g.P.Power.early_stops g.P.Power.stopped g.P.Power.begun g.P.Power.asked c.remind.new.net c.args.power.now) c.remind.ensures.sent c.remind.ensures.net (omega arith)) c.try_epoch.ensures.later) c.commit_epoch.ensures.later
+
+pub read_stopped-requires-clause-are : goal.read_stopped-requires-clause-are
+read_stopped-requires-clause-are g c =
+    c.in_ok-commit_epoch-in-Voted.ensures.rest.are
+
+pub read_stopped-requires-clause-stops : goal.read_stopped-requires-clause-stops
+read_stopped-requires-clause-stops g c =
+    let k : Cluster = c.args.self.now in
+    let now : Cluster = reminded k c.remind.new.members in
+    let told = c.in_ok-remind.ensures in
+    let rest : AreAtRest k.next_epoch (g.N.Net.sent c.remind.new.net) c.remind.new.members = told.rest k.next_epoch c.requires.sound.rests.rest in
+    let sound : IsSound now (g.N.Net.sent c.remind.new.net) = sound_reminded k c.remind.new.members c.remind.ensures.stays told.finish.layout told.committed (g.N.Net.sent c.args.net.now) (g.N.Net.sent c.remind.new.net) rest c.requires.sound in
+    let map = c.requires.sound.rests.rest.map in
+    let stays : StaysInPlace now c.try_epoch.new.self = c.in_ok-dones.ensures.stays in
+    let voted : HasVoted c.args.requests.items c.args.workers c.args.attempts map.0 c.in-Voted.dones (traced c.in-Voted.trace) (g.N.Net.sent c.try_epoch.new.net) now c.try_epoch.new.self = subst (λ (tried : Tried). ComesOf tried c.args.requests.items c.args.workers c.args.attempts map.0 (g.N.Net.sent c.try_epoch.new.net) now c.try_epoch.new.self) c.in-Voted.is (c.in_ok-dones.ensures.comes map.0 (told.shards map.0 map.1)) in
+    let ended : HasEnded c.in-Voted.dones (traced c.in-Voted.trace) c.try_epoch.new.self c.commit_epoch.new.self = c.in_ok-commit_epoch-in-Voted.ensures.ended in
+    let rests : Rests c.commit_epoch.new.self (g.N.Net.sent c.commit_epoch.new.net) = rests_ended c.args.requests.items now c.try_epoch.new.self c.commit_epoch.new.self c.in-Voted.dones (traced c.in-Voted.trace) (g.N.Net.sent c.remind.new.net) (g.N.Net.sent c.commit_epoch.new.net) sound.rests (may_reminded k c.remind.new.members c.args.requests.items c.requires.may) c.requires.below stays voted.each ended c.in_ok-commit_epoch-in-Voted.ensures.kept c.in_ok-commit_epoch-in-Voted.ensures.rest in
+    rests.stops
+
+pub returns-in_err-read_stopped-in-Voted-clause-files : goal.returns-in_err-read_stopped-in-Voted-clause-files
+returns-in_err-read_stopped-in-Voted-clause-files g c d on stands room =
+    let k : Cluster = c.args.self.now in
+    let now : Cluster = reminded k c.remind.new.members in
+    let told = c.in_ok-remind.ensures in
+    let at = stands_reminded k c.remind.new.members c.remind.ensures.stays told.finish.layout told.committed d (c.remind.ensures.map (map_in d)) stands in
+    let files = c.in_ok-dones.ensures.files d on at room in
+    let may : MayCommitOn d c.args.requests.items c.args.workers c.args.attempts k.next_epoch c.in-Voted.dones (traced c.in-Voted.trace) c.try_epoch.new.self.members.tables (g.H.Host.reads c.try_epoch.new.host) (g.H.Host.may_leave c.try_epoch.new.host) = subst (λ (tried : Tried). ComesOn tried d c.args.requests.items c.args.workers c.args.attempts k.next_epoch c.try_epoch.new.self.members.tables (g.H.Host.reads c.try_epoch.new.host) (g.H.Host.may_leave c.try_epoch.new.host)) c.in-Voted.is files.1 in
+    let stays : StaysInPlace now c.try_epoch.new.self = c.in_ok-dones.ensures.stays in
+    let p = err_from_is_err_and c.from_residual-in_err-read_stopped-in-Voted.result c.from_residual-in_err-read_stopped-in-Voted.ensures.1 in
+    inr (committed_then g.H.Host.moment g.H.Host.observed g.H.Host.said g.H.Host.reads g.H.Host.may_leave d c.args.requests.items c.args.workers c.args.attempts k.next_epoch c.in-Voted.dones (traced c.in-Voted.trace) c.try_epoch.new.self.members.tables c.args.host.now c.try_epoch.new.host files.0 may (Ok tt) c.commit_epoch.new.host (subst (λ n. Commits {T = Unit {0}} {E = TurnFault} g.H.Host.moment g.H.Host.observed g.H.Host.said g.H.Host.reads g.H.Host.may_leave (Ok tt) may.d (commit_of n c.in-Voted.dones) c.try_epoch.new.host c.commit_epoch.new.host) stays.next (c.in_ok-commit_epoch-in-Voted.ensures.files may.d may.rests (belongs_still d may.d now c.try_epoch.new.self may.only stays.procs stays.base stays.kept stays.members at.belongs) (subst (λ n. IsCommit (commit_of n c.in-Voted.dones) → MayCommit may.d (commit_of n c.in-Voted.dones)) (sym stays.next) may.commit))) (subst (λ n. RestsOn (with_commit (commit_of n c.in-Voted.dones) may.d) (g.H.Host.reads c.commit_epoch.new.host) (g.H.Host.may_leave c.commit_epoch.new.host)) stays.next (c.in_ok-commit_epoch-in-Voted.ensures.files may.d may.rests (belongs_still d may.d now c.try_epoch.new.self may.only stays.procs stays.base stays.kept stays.members at.belongs) (subst (λ n. IsCommit (commit_of n c.in-Voted.dones) → MayCommit may.d (commit_of n c.in-Voted.dones)) (sym stays.next) may.commit)).ok) c.commit_epoch.ensures.said c.read_stopped.new.host c.read_stopped.ensures.read c.from_residual-in_err-read_stopped-in-Voted.result k c.read_stopped.new.self refl (λ x is. failed_none c.from_residual-in_err-read_stopped-in-Voted.result p.0 p.1 x is))
+
+pub returns-in_err-read_stopped-in-Voted-clause-never : goal.returns-in_err-read_stopped-in-Voted-clause-never
+returns-in_err-read_stopped-in-Voted-clause-never g c file place d on stands room is =
+    let k : Cluster = c.args.self.now in
+    let now : Cluster = reminded k c.remind.new.members in
+    let told = c.in_ok-remind.ensures in
+    let rest : AreAtRest k.next_epoch (g.N.Net.sent c.remind.new.net) c.remind.new.members = told.rest k.next_epoch c.requires.sound.rests.rest in
+    let sound : IsSound now (g.N.Net.sent c.remind.new.net) = sound_reminded k c.remind.new.members c.remind.ensures.stays told.finish.layout told.committed (g.N.Net.sent c.args.net.now) (g.N.Net.sent c.remind.new.net) rest c.requires.sound in
+    let map = c.requires.sound.rests.rest.map in
+    let stays : StaysInPlace now c.try_epoch.new.self = c.in_ok-dones.ensures.stays in
+    let voted : HasVoted c.args.requests.items c.args.workers c.args.attempts map.0 c.in-Voted.dones (traced c.in-Voted.trace) (g.N.Net.sent c.try_epoch.new.net) now c.try_epoch.new.self = subst (λ (tried : Tried). ComesOf tried c.args.requests.items c.args.workers c.args.attempts map.0 (g.N.Net.sent c.try_epoch.new.net) now c.try_epoch.new.self) c.in-Voted.is (c.in_ok-dones.ensures.comes map.0 (told.shards map.0 map.1)) in
+    let ended : HasEnded c.in-Voted.dones (traced c.in-Voted.trace) c.try_epoch.new.self c.commit_epoch.new.self = c.in_ok-commit_epoch-in-Voted.ensures.ended in
+    let at = stands_reminded k c.remind.new.members c.remind.ensures.stays told.finish.layout told.committed d (c.remind.ensures.map (map_in d)) stands in
+    let files = c.in_ok-dones.ensures.files d on at room in
+    let may : MayCommitOn d c.args.requests.items c.args.workers c.args.attempts k.next_epoch c.in-Voted.dones (traced c.in-Voted.trace) c.try_epoch.new.self.members.tables (g.H.Host.reads c.try_epoch.new.host) (g.H.Host.may_leave c.try_epoch.new.host) = subst (λ (tried : Tried). ComesOn tried d c.args.requests.items c.args.workers c.args.attempts k.next_epoch c.try_epoch.new.self.members.tables (g.H.Host.reads c.try_epoch.new.host) (g.H.Host.may_leave c.try_epoch.new.host)) c.in-Voted.is files.1 in
+    let p = err_from_is_err_and c.from_residual-in_err-read_stopped-in-Voted.result c.from_residual-in_err-read_stopped-in-Voted.ensures.1 in
+    let named : c.in_err-read_stopped-in-Voted.field-0.0 ≡ NotAStore file place = cc (p.1, p.2, is) in c.in_err-read_stopped-in-Voted.ensures.never file place _ (subst (λ n. RestsOn (with_commit (commit_of n c.in-Voted.dones) may.d) (g.H.Host.reads c.commit_epoch.new.host) (g.H.Host.may_leave c.commit_epoch.new.host)) stays.next (c.in_ok-commit_epoch-in-Voted.ensures.files may.d may.rests (belongs_still d may.d now c.try_epoch.new.self may.only stays.procs stays.base stays.kept stays.members at.belongs) (subst (λ n. IsCommit (commit_of n c.in-Voted.dones) → MayCommit may.d (commit_of n c.in-Voted.dones)) (sym stays.next) may.commit)).ok) (stands_ended c.args.requests.items now c.try_epoch.new.self c.commit_epoch.new.self c.in-Voted.dones (traced c.in-Voted.trace) (g.N.Net.sent c.remind.new.net) (g.N.Net.sent c.commit_epoch.new.net) sound.rests (may_reminded k c.remind.new.members c.args.requests.items c.requires.may) c.requires.below stays voted.each ended c.in_ok-commit_epoch-in-Voted.ensures.kept d may.d at may.only may.below (c.in_ok-commit_epoch-in-Voted.ensures.map _ may.gives)) (ap Err named)
+
+pub returns-in_err-read_stopped-in-Voted-clause-disk : goal.returns-in_err-read_stopped-in-Voted-clause-disk
+returns-in_err-read_stopped-in-Voted-clause-disk g c =
+    let p = err_from_is_err_and c.from_residual-in_err-read_stopped-in-Voted.result c.from_residual-in_err-read_stopped-in-Voted.ensures.1 in
+    counts_later c.from_residual-in_err-read_stopped-in-Voted.result c.in_err-read_stopped-in-Voted.field-0.0 (g.H.Host.disk_faults c.args.host.now) (g.H.Host.disk_faults c.commit_epoch.new.host) (g.H.Host.disk_faults c.read_stopped.new.host) (p.1 ∙ ap Err p.2) (c.in_ok-commit_epoch-in-Voted.ensures.disk ∙ c.in_ok-dones.ensures.disk) c.in_err-read_stopped-in-Voted.ensures.disk
+
+pub returns-in_err-read_stopped-in-Voted-clause-later : goal.returns-in_err-read_stopped-in-Voted-clause-later
+returns-in_err-read_stopped-in-Voted-clause-later g c =
+    later_then (around g.N.Net.sent g.N.Net.given g.N.Net.faults g.N.Net.last_seed g.P.Power.stops_seen g.P.Power.early_stops g.P.Power.stopped g.P.Power.begun g.P.Power.asked c.args.net.now c.args.power.now) (around g.N.Net.sent g.N.Net.given g.N.Net.faults g.N.Net.last_seed g.P.Power.stops_seen g.P.Power.early_stops g.P.Power.stopped g.P.Power.begun g.P.Power.asked c.try_epoch.new.net c.try_epoch.new.power) (around g.N.Net.sent g.N.Net.given g.N.Net.faults g.N.Net.last_seed g.P.Power.stops_seen g.P.Power.early_stops g.P.Power.stopped g.P.Power.begun g.P.Power.asked c.commit_epoch.new.net c.commit_epoch.new.power) (later_then (around g.N.Net.sent g.N.Net.given g.N.Net.faults g.N.Net.last_seed g.P.Power.stops_seen g.P.Power.early_stops g.P.Power.stopped g.P.Power.begun g.P.Power.asked c.args.net.now c.args.power.now) (around g.N.Net.sent g.N.Net.given g.N.Net.faults g.N.Net.last_seed g.P.Power.stops_seen g.P.Power.early_stops g.P.Power.stopped g.P.Power.begun g.P.Power.asked c.remind.new.net c.args.power.now) (around g.N.Net.sent g.N.Net.given g.N.Net.faults g.N.Net.last_seed g.P.Power.stops_seen g.P.Power.early_stops g.P.Power.stopped g.P.Power.begun g.P.Power.asked c.try_epoch.new.net c.try_epoch.new.power) (later_used (around g.N.Net.sent g.N.Net.given g.N.Net.faults g.N.Net.last_seed g.P.Power.stops_seen g.P.Power.early_stops g.P.Power.stopped g.P.Power.begun g.P.Power.asked c.args.net.now c.args.power.now) (around g.N.Net.sent g.N.Net.given g.N.Net.faults g.N.Net.last_seed g.P.Power.stops_seen g.P.Power.early_stops g.P.Power.stopped g.P.Power.begun g.P.Power.asked c.remind.new.net c.args.power.now) c.remind.ensures.sent c.remind.ensures.net (omega arith)) c.try_epoch.ensures.later) c.commit_epoch.ensures.later
+
+pub returns-in_ok-read_stopped-in-Voted-clause-sound : goal.returns-in_ok-read_stopped-in-Voted-clause-sound
+returns-in_ok-read_stopped-in-Voted-clause-sound g c =
+    let k : Cluster = c.args.self.now in
+    let now : Cluster = reminded k c.remind.new.members in
+    let told = c.in_ok-remind.ensures in
+    let rest : AreAtRest k.next_epoch (g.N.Net.sent c.remind.new.net) c.remind.new.members = told.rest k.next_epoch c.requires.sound.rests.rest in
+    let sound : IsSound now (g.N.Net.sent c.remind.new.net) = sound_reminded k c.remind.new.members c.remind.ensures.stays told.finish.layout told.committed (g.N.Net.sent c.args.net.now) (g.N.Net.sent c.remind.new.net) rest c.requires.sound in
+    let map = c.requires.sound.rests.rest.map in
+    let stays : StaysInPlace now c.try_epoch.new.self = c.in_ok-dones.ensures.stays in
+    let voted : HasVoted c.args.requests.items c.args.workers c.args.attempts map.0 c.in-Voted.dones (traced c.in-Voted.trace) (g.N.Net.sent c.try_epoch.new.net) now c.try_epoch.new.self = subst (λ (tried : Tried). ComesOf tried c.args.requests.items c.args.workers c.args.attempts map.0 (g.N.Net.sent c.try_epoch.new.net) now c.try_epoch.new.self) c.in-Voted.is (c.in_ok-dones.ensures.comes map.0 (told.shards map.0 map.1)) in
+    let ended : HasEnded c.in-Voted.dones (traced c.in-Voted.trace) c.try_epoch.new.self c.commit_epoch.new.self = c.in_ok-commit_epoch-in-Voted.ensures.ended in
+    let rests : Rests c.commit_epoch.new.self (g.N.Net.sent c.commit_epoch.new.net) = rests_ended c.args.requests.items now c.try_epoch.new.self c.commit_epoch.new.self c.in-Voted.dones (traced c.in-Voted.trace) (g.N.Net.sent c.remind.new.net) (g.N.Net.sent c.commit_epoch.new.net) sound.rests (may_reminded k c.remind.new.members c.args.requests.items c.requires.may) c.requires.below stays voted.each ended c.in_ok-commit_epoch-in-Voted.ensures.kept c.in_ok-commit_epoch-in-Voted.ensures.rest in
+    c.in_ok-read_stopped-in-Voted.ensures.rests (g.N.Net.sent c.commit_epoch.new.net) rests
+
+pub returns-in_ok-read_stopped-in-Voted-clause-attempts : goal.returns-in_ok-read_stopped-in-Voted-clause-attempts
+returns-in_ok-read_stopped-in-Voted-clause-attempts g c =
+    let k : Cluster = c.args.self.now in
+    let now : Cluster = reminded k c.remind.new.members in
+    let told = c.in_ok-remind.ensures in
+    let rest : AreAtRest k.next_epoch (g.N.Net.sent c.remind.new.net) c.remind.new.members = told.rest k.next_epoch c.requires.sound.rests.rest in
+    let sound : IsSound now (g.N.Net.sent c.remind.new.net) = sound_reminded k c.remind.new.members c.remind.ensures.stays told.finish.layout told.committed (g.N.Net.sent c.args.net.now) (g.N.Net.sent c.remind.new.net) rest c.requires.sound in
+    let map = c.requires.sound.rests.rest.map in
+    let stays : StaysInPlace now c.try_epoch.new.self = c.in_ok-dones.ensures.stays in
+    let voted : HasVoted c.args.requests.items c.args.workers c.args.attempts map.0 c.in-Voted.dones (traced c.in-Voted.trace) (g.N.Net.sent c.try_epoch.new.net) now c.try_epoch.new.self = subst (λ (tried : Tried). ComesOf tried c.args.requests.items c.args.workers c.args.attempts map.0 (g.N.Net.sent c.try_epoch.new.net) now c.try_epoch.new.self) c.in-Voted.is (c.in_ok-dones.ensures.comes map.0 (told.shards map.0 map.1)) in
+    let trace_so : (rows : Rows) → ComesOf c.in_ok-dones.field-0 c.args.requests.items c.args.workers c.args.attempts rows (g.N.Net.sent c.try_epoch.new.net) now c.try_epoch.new.self → HasVoted c.args.requests.items c.args.workers c.args.attempts rows c.in-Voted.dones (traced c.in-Voted.trace) (g.N.Net.sent c.try_epoch.new.net) now c.try_epoch.new.self
+    = λ rows. subst (λ (tried : Tried). ComesOf tried c.args.requests.items c.args.workers c.args.attempts rows (g.N.Net.sent c.try_epoch.new.net) now c.try_epoch.new.self) c.in-Voted.is in
+    let ended : HasEnded c.in-Voted.dones (traced c.in-Voted.trace) c.try_epoch.new.self c.commit_epoch.new.self = c.in_ok-commit_epoch-in-Voted.ensures.ended in
+    committed_one c.args.requests.items now c.try_epoch.new.self c.commit_epoch.new.self c.in-Voted.dones (traced c.in-Voted.trace) (g.N.Net.sent c.remind.new.net) (g.N.Net.sent c.commit_epoch.new.net) sound.rests (may_reminded k c.remind.new.members c.args.requests.items c.requires.may) c.requires.below stays voted.each ended c.in_ok-commit_epoch-in-Voted.ensures.kept k c.read_stopped.new.self c.args.workers c.args.attempts map.0 refl told.finish.layout map.1 c.in_ok-read_stopped-in-Voted.ensures.members
+    (λ rows has. (trace_so rows (c.in_ok-dones.ensures.comes rows (told.shards rows has))).traced)
+
+pub returns-in_ok-read_stopped-in-Voted-clause-files : goal.returns-in_ok-read_stopped-in-Voted-clause-files
+returns-in_ok-read_stopped-in-Voted-clause-files g c d on stands room =
+    let k : Cluster = c.args.self.now in
+    let now : Cluster = reminded k c.remind.new.members in
+    let told = c.in_ok-remind.ensures in
+    let rest : AreAtRest k.next_epoch (g.N.Net.sent c.remind.new.net) c.remind.new.members = told.rest k.next_epoch c.requires.sound.rests.rest in
+    let sound : IsSound now (g.N.Net.sent c.remind.new.net) = sound_reminded k c.remind.new.members c.remind.ensures.stays told.finish.layout told.committed (g.N.Net.sent c.args.net.now) (g.N.Net.sent c.remind.new.net) rest c.requires.sound in
+    let map = c.requires.sound.rests.rest.map in
+    let stays : StaysInPlace now c.try_epoch.new.self = c.in_ok-dones.ensures.stays in
+    let voted : HasVoted c.args.requests.items c.args.workers c.args.attempts map.0 c.in-Voted.dones (traced c.in-Voted.trace) (g.N.Net.sent c.try_epoch.new.net) now c.try_epoch.new.self = subst (λ (tried : Tried). ComesOf tried c.args.requests.items c.args.workers c.args.attempts map.0 (g.N.Net.sent c.try_epoch.new.net) now c.try_epoch.new.self) c.in-Voted.is (c.in_ok-dones.ensures.comes map.0 (told.shards map.0 map.1)) in
+    let ended : HasEnded c.in-Voted.dones (traced c.in-Voted.trace) c.try_epoch.new.self c.commit_epoch.new.self = c.in_ok-commit_epoch-in-Voted.ensures.ended in
+    let at = stands_reminded k c.remind.new.members c.remind.ensures.stays told.finish.layout told.committed d (c.remind.ensures.map (map_in d)) stands in
+    let files = c.in_ok-dones.ensures.files d on at room in
+    let may : MayCommitOn d c.args.requests.items c.args.workers c.args.attempts k.next_epoch c.in-Voted.dones (traced c.in-Voted.trace) c.try_epoch.new.self.members.tables (g.H.Host.reads c.try_epoch.new.host) (g.H.Host.may_leave c.try_epoch.new.host) = subst (λ (tried : Tried). ComesOn tried d c.args.requests.items c.args.workers c.args.attempts k.next_epoch c.try_epoch.new.self.members.tables (g.H.Host.reads c.try_epoch.new.host) (g.H.Host.may_leave c.try_epoch.new.host)) c.in-Voted.is files.1 in
+    inr (committed_then g.H.Host.moment g.H.Host.observed g.H.Host.said g.H.Host.reads g.H.Host.may_leave d c.args.requests.items c.args.workers c.args.attempts k.next_epoch c.in-Voted.dones (traced c.in-Voted.trace) c.try_epoch.new.self.members.tables c.args.host.now c.try_epoch.new.host files.0 may (Ok tt) c.commit_epoch.new.host (subst (λ n. Commits {T = Unit {0}} {E = TurnFault} g.H.Host.moment g.H.Host.observed g.H.Host.said g.H.Host.reads g.H.Host.may_leave (Ok tt) may.d (commit_of n c.in-Voted.dones) c.try_epoch.new.host c.commit_epoch.new.host) stays.next (c.in_ok-commit_epoch-in-Voted.ensures.files may.d may.rests (belongs_still d may.d now c.try_epoch.new.self may.only stays.procs stays.base stays.kept stays.members at.belongs) (subst (λ n. IsCommit (commit_of n c.in-Voted.dones) → MayCommit may.d (commit_of n c.in-Voted.dones)) (sym stays.next) may.commit))) (subst (λ n. RestsOn (with_commit (commit_of n c.in-Voted.dones) may.d) (g.H.Host.reads c.commit_epoch.new.host) (g.H.Host.may_leave c.commit_epoch.new.host)) stays.next (c.in_ok-commit_epoch-in-Voted.ensures.files may.d may.rests (belongs_still d may.d now c.try_epoch.new.self may.only stays.procs stays.base stays.kept stays.members at.belongs) (subst (λ n. IsCommit (commit_of n c.in-Voted.dones) → MayCommit may.d (commit_of n c.in-Voted.dones)) (sym stays.next) may.commit)).ok) c.commit_epoch.ensures.said c.read_stopped.new.host c.read_stopped.ensures.read (Ok None) k c.read_stopped.new.self refl (λ x is. ((let none : x ≡ None = cc in none), c.in_ok-read_stopped-in-Voted.ensures.files _ (subst (λ n. RestsOn (with_commit (commit_of n c.in-Voted.dones) may.d) (g.H.Host.reads c.commit_epoch.new.host) (g.H.Host.may_leave c.commit_epoch.new.host)) stays.next (c.in_ok-commit_epoch-in-Voted.ensures.files may.d may.rests (belongs_still d may.d now c.try_epoch.new.self may.only stays.procs stays.base stays.kept stays.members at.belongs) (subst (λ n. IsCommit (commit_of n c.in-Voted.dones) → MayCommit may.d (commit_of n c.in-Voted.dones)) (sym stays.next) may.commit)).ok) (stands_ended c.args.requests.items now c.try_epoch.new.self c.commit_epoch.new.self c.in-Voted.dones (traced c.in-Voted.trace) (g.N.Net.sent c.remind.new.net) (g.N.Net.sent c.commit_epoch.new.net) sound.rests (may_reminded k c.remind.new.members c.args.requests.items c.requires.may) c.requires.below stays voted.each ended c.in_ok-commit_epoch-in-Voted.ensures.kept d may.d at may.only may.below (c.in_ok-commit_epoch-in-Voted.ensures.map _ may.gives)), ap (λ (q : Cluster). option_map traced q.trace) c.in_ok-read_stopped-in-Voted.ensures.members ∙ ended.trace_is, ap (λ (q : Cluster). q.next_epoch) c.in_ok-read_stopped-in-Voted.ensures.members ∙ ended.next ∙ ap (λ n. n + 1) stays.next)))
+
+pub returns-in_ok-read_stopped-in-Voted-clause-stand : goal.returns-in_ok-read_stopped-in-Voted-clause-stand
+returns-in_ok-read_stopped-in-Voted-clause-stand g c =
+    c.in_ok-read_stopped-in-Voted.ensures.stand (c.in_ok-commit_epoch-in-Voted.ensures.stand c.in_ok-dones.ensures.ready)
+
+pub returns-in_ok-read_stopped-in-Voted-clause-later : goal.returns-in_ok-read_stopped-in-Voted-clause-later
+returns-in_ok-read_stopped-in-Voted-clause-later g c =
+    later_then (around g.N.Net.sent g.N.Net.given g.N.Net.faults g.N.Net.last_seed g.P.Power.stops_seen g.P.Power.early_stops g.P.Power.stopped g.P.Power.begun g.P.Power.asked c.args.net.now c.args.power.now) (around g.N.Net.sent g.N.Net.given g.N.Net.faults g.N.Net.last_seed g.P.Power.stops_seen g.P.Power.early_stops g.P.Power.stopped g.P.Power.begun g.P.Power.asked c.try_epoch.new.net c.try_epoch.new.power) (around g.N.Net.sent g.N.Net.given g.N.Net.faults g.N.Net.last_seed g.P.Power.stops_seen g.P.Power.early_stops g.P.Power.stopped g.P.Power.begun g.P.Power.asked c.commit_epoch.new.net c.commit_epoch.new.power) (later_then (around g.N.Net.sent g.N.Net.given g.N.Net.faults g.N.Net.last_seed g.P.Power.stops_seen g.P.Power.early_stops g.P.Power.stopped g.P.Power.begun g.P.Power.asked c.args.net.now c.args.power.now) (around g.N.Net.sent g.N.Net.given g.N.Net.faults g.N.Net.last_seed g.P.Power.stops_seen g.P.Power.early_stops g.P.Power.stopped g.P.Power.begun g.P.Power.asked c.remind.new.net c.args.power.now) (around g.N.Net.sent g.N.Net.given g.N.Net.faults g.N.Net.last_seed g.P.Power.stops_seen g.P.Power.early_stops g.P.Power.stopped g.P.Power.begun g.P.Power.asked c.try_epoch.new.net c.try_epoch.new.power) (later_used (around g.N.Net.sent g.N.Net.given g.N.Net.faults g.N.Net.last_seed g.P.Power.stops_seen g.P.Power.early_stops g.P.Power.stopped g.P.Power.begun g.P.Power.asked c.args.net.now c.args.power.now) (around g.N.Net.sent g.N.Net.given g.N.Net.faults g.N.Net.last_seed g.P.Power.stops_seen g.P.Power.early_stops g.P.Power.stopped g.P.Power.begun g.P.Power.asked c.remind.new.net c.args.power.now) c.remind.ensures.sent c.remind.ensures.net (omega arith)) c.try_epoch.ensures.later) c.commit_epoch.ensures.later
+
+-- ---- it was given up
+
+pub forget_epoch-requires : goal.forget_epoch-requires
+forget_epoch-requires g c =
+    record { below = subst (λ n. n < epochs_end) (sym c.in_ok-dones.ensures.stays.next) c.requires.below }
+
+pub read_stopped-requires-in-GivenUp-clause-are : goal.read_stopped-requires-in-GivenUp-clause-are
+read_stopped-requires-in-GivenUp-clause-are g c =
+    let k : Cluster = c.args.self.now in
+    let now : Cluster = reminded k c.remind.new.members in
+    let told = c.in_ok-remind.ensures in
+    let rest : AreAtRest k.next_epoch (g.N.Net.sent c.remind.new.net) c.remind.new.members = told.rest k.next_epoch c.requires.sound.rests.rest in
+    let sound : IsSound now (g.N.Net.sent c.remind.new.net) = sound_reminded k c.remind.new.members c.remind.ensures.stays told.finish.layout told.committed (g.N.Net.sent c.args.net.now) (g.N.Net.sent c.remind.new.net) rest c.requires.sound in
+    let up : NoneBehind c.remind.new.members.tables = c.finished_nodes_are_not_behind.ensures.none k.next_epoch (g.N.Net.sent c.remind.new.net) c.remind.new.members rest (all_finished c.in_ok-remind.field-0 (chief_of c.remind.new.members.chief) _ c.if-not-branch.false told.all) in
+    let map = c.requires.sound.rests.rest.map in
+    let stays : StaysInPlace now c.try_epoch.new.self = c.in_ok-dones.ensures.stays in
+    let given : HasGivenUp c.args.requests.items c.in-GivenUp.requests.items map.0 (g.N.Net.sent c.try_epoch.new.net) now c.try_epoch.new.self = subst (λ (tried : Tried). ComesOf tried c.args.requests.items c.args.workers c.args.attempts map.0 (g.N.Net.sent c.try_epoch.new.net) now c.try_epoch.new.self) c.in-GivenUp.is (c.in_ok-dones.ensures.comes map.0 (told.shards map.0 map.1)) in
+    let gone : IsForgotten c.try_epoch.new.self c.forget_epoch.new.self = c.forget_epoch.ensures.forgotten in
+    let rests : Rests c.forget_epoch.new.self (g.N.Net.sent c.try_epoch.new.net) = rests_gone now c.try_epoch.new.self c.forget_epoch.new.self stays gone up (g.N.Net.sent c.remind.new.net) (g.N.Net.sent c.try_epoch.new.net) c.args.requests.items c.in-GivenUp.requests.items map.0 sound c.requires.below given c.forget_epoch.ensures.rest in
+    rests.rest.are
+
+pub read_stopped-requires-in-GivenUp-clause-stops : goal.read_stopped-requires-in-GivenUp-clause-stops
+read_stopped-requires-in-GivenUp-clause-stops g c =
+    let k : Cluster = c.args.self.now in
+    let now : Cluster = reminded k c.remind.new.members in
+    let told = c.in_ok-remind.ensures in
+    let rest : AreAtRest k.next_epoch (g.N.Net.sent c.remind.new.net) c.remind.new.members = told.rest k.next_epoch c.requires.sound.rests.rest in
+    let sound : IsSound now (g.N.Net.sent c.remind.new.net) = sound_reminded k c.remind.new.members c.remind.ensures.stays told.finish.layout told.committed (g.N.Net.sent c.args.net.now) (g.N.Net.sent c.remind.new.net) rest c.requires.sound in
+    let up : NoneBehind c.remind.new.members.tables = c.finished_nodes_are_not_behind.ensures.none k.next_epoch (g.N.Net.sent c.remind.new.net) c.remind.new.members rest (all_finished c.in_ok-remind.field-0 (chief_of c.remind.new.members.chief) _ c.if-not-branch.false told.all) in
+    let map = c.requires.sound.rests.rest.map in
+    let stays : StaysInPlace now c.try_epoch.new.self = c.in_ok-dones.ensures.stays in
+    let given : HasGivenUp c.args.requests.items c.in-GivenUp.requests.items map.0 (g.N.Net.sent c.try_epoch.new.net) now c.try_epoch.new.self = subst (λ (tried : Tried). ComesOf tried c.args.requests.items c.args.workers c.args.attempts map.0 (g.N.Net.sent c.try_epoch.new.net) now c.try_epoch.new.self) c.in-GivenUp.is (c.in_ok-dones.ensures.comes map.0 (told.shards map.0 map.1)) in
+    let gone : IsForgotten c.try_epoch.new.self c.forget_epoch.new.self = c.forget_epoch.ensures.forgotten in
+    let rests : Rests c.forget_epoch.new.self (g.N.Net.sent c.try_epoch.new.net) = rests_gone now c.try_epoch.new.self c.forget_epoch.new.self stays gone up (g.N.Net.sent c.remind.new.net) (g.N.Net.sent c.try_epoch.new.net) c.args.requests.items c.in-GivenUp.requests.items map.0 sound c.requires.below given c.forget_epoch.ensures.rest in
+    rests.stops
+
+pub returns-in_err-read_stopped-in-GivenUp-clause-files : goal.returns-in_err-read_stopped-in-GivenUp-clause-files
+returns-in_err-read_stopped-in-GivenUp-clause-files g c d on stands room =
+    let k : Cluster = c.args.self.now in
+    let now : Cluster = reminded k c.remind.new.members in
+    let told = c.in_ok-remind.ensures in
+    let stays : StaysInPlace now c.try_epoch.new.self = c.in_ok-dones.ensures.stays in
+    let at = stands_reminded k c.remind.new.members c.remind.ensures.stays told.finish.layout told.committed d (c.remind.ensures.map (map_in d)) stands in
+    let files = c.in_ok-dones.ensures.files d on at room in
+    let may : MayGoOn d k.next_epoch c.try_epoch.new.self.members.tables (g.H.Host.reads c.try_epoch.new.host) (g.H.Host.may_leave c.try_epoch.new.host) = subst (λ (tried : Tried). ComesOn tried d c.args.requests.items c.args.workers c.args.attempts k.next_epoch c.try_epoch.new.self.members.tables (g.H.Host.reads c.try_epoch.new.host) (g.H.Host.may_leave c.try_epoch.new.host)) c.in-GivenUp.is files.1 in
+    let p = err_from_is_err_and c.from_residual-in_err-read_stopped-in-GivenUp.result c.from_residual-in_err-read_stopped-in-GivenUp.ensures.1 in
+    inl (keeps_failed g.H.Host.moment g.H.Host.observed g.H.Host.said g.H.Host.reads g.H.Host.may_leave c.from_residual-in_err-read_stopped-in-GivenUp.result p.0 d k c.read_stopped-in-GivenUp.new.self c.args.host.now c.read_stopped-in-GivenUp.new.host p.1 (keeps_reading g.H.Host.moment g.H.Host.observed g.H.Host.said g.H.Host.reads g.H.Host.may_leave d may.rests.0 (k.next_epoch + 1) c.args.host.now c.try_epoch.new.host c.read_stopped-in-GivenUp.new.host may.rests.1 may.rests.2 may.rests.3 files.0 c.read_stopped-in-GivenUp.ensures.read))
+
+pub returns-in_err-read_stopped-in-GivenUp-clause-never : goal.returns-in_err-read_stopped-in-GivenUp-clause-never
+returns-in_err-read_stopped-in-GivenUp-clause-never g c file place d on stands room is =
+    let k : Cluster = c.args.self.now in
+    let now : Cluster = reminded k c.remind.new.members in
+    let told = c.in_ok-remind.ensures in
+    let rest : AreAtRest k.next_epoch (g.N.Net.sent c.remind.new.net) c.remind.new.members = told.rest k.next_epoch c.requires.sound.rests.rest in
+    let up : NoneBehind c.remind.new.members.tables = c.finished_nodes_are_not_behind.ensures.none k.next_epoch (g.N.Net.sent c.remind.new.net) c.remind.new.members rest (all_finished c.in_ok-remind.field-0 (chief_of c.remind.new.members.chief) _ c.if-not-branch.false told.all) in
+    let stays : StaysInPlace now c.try_epoch.new.self = c.in_ok-dones.ensures.stays in
+    let gone : IsForgotten c.try_epoch.new.self c.forget_epoch.new.self = c.forget_epoch.ensures.forgotten in
+    let at = stands_reminded k c.remind.new.members c.remind.ensures.stays told.finish.layout told.committed d (c.remind.ensures.map (map_in d)) stands in
+    let files = c.in_ok-dones.ensures.files d on at room in
+    let may : MayGoOn d k.next_epoch c.try_epoch.new.self.members.tables (g.H.Host.reads c.try_epoch.new.host) (g.H.Host.may_leave c.try_epoch.new.host) = subst (λ (tried : Tried). ComesOn tried d c.args.requests.items c.args.workers c.args.attempts k.next_epoch c.try_epoch.new.self.members.tables (g.H.Host.reads c.try_epoch.new.host) (g.H.Host.may_leave c.try_epoch.new.host)) c.in-GivenUp.is files.1 in
+    let p = err_from_is_err_and c.from_residual-in_err-read_stopped-in-GivenUp.result c.from_residual-in_err-read_stopped-in-GivenUp.ensures.1 in
+    let named : c.in_err-read_stopped-in-GivenUp.field-0.0 ≡ NotAStore file place = cc (p.1, p.2, is) in c.in_err-read_stopped-in-GivenUp.ensures.never file place may.rests.0 may.rests.3 (stands_gone now c.try_epoch.new.self c.forget_epoch.new.self stays gone up d may.rests.0 may.rests.1 may.rests.2 may.keeps c.forget_epoch.ensures.map at) (ap Err named)
+
+pub returns-in_err-read_stopped-in-GivenUp-clause-disk : goal.returns-in_err-read_stopped-in-GivenUp-clause-disk
+returns-in_err-read_stopped-in-GivenUp-clause-disk g c =
+    let p = err_from_is_err_and c.from_residual-in_err-read_stopped-in-GivenUp.result c.from_residual-in_err-read_stopped-in-GivenUp.ensures.1 in
+    counts_later c.from_residual-in_err-read_stopped-in-GivenUp.result c.in_err-read_stopped-in-GivenUp.field-0.0 (g.H.Host.disk_faults c.args.host.now) (g.H.Host.disk_faults c.try_epoch.new.host) (g.H.Host.disk_faults c.read_stopped-in-GivenUp.new.host) (p.1 ∙ ap Err p.2) c.in_ok-dones.ensures.disk c.in_err-read_stopped-in-GivenUp.ensures.disk
+
+pub returns-in_err-read_stopped-in-GivenUp-clause-later : goal.returns-in_err-read_stopped-in-GivenUp-clause-later
+returns-in_err-read_stopped-in-GivenUp-clause-later g c =
+    later_then (around g.N.Net.sent g.N.Net.given g.N.Net.faults g.N.Net.last_seed g.P.Power.stops_seen g.P.Power.early_stops g.P.Power.stopped g.P.Power.begun g.P.Power.asked c.args.net.now c.args.power.now) (around g.N.Net.sent g.N.Net.given g.N.Net.faults g.N.Net.last_seed g.P.Power.stops_seen g.P.Power.early_stops g.P.Power.stopped g.P.Power.begun g.P.Power.asked c.remind.new.net c.args.power.now) (around g.N.Net.sent g.N.Net.given g.N.Net.faults g.N.Net.last_seed g.P.Power.stops_seen g.P.Power.early_stops g.P.Power.stopped g.P.Power.begun g.P.Power.asked c.try_epoch.new.net c.try_epoch.new.power) (later_used (around g.N.Net.sent g.N.Net.given g.N.Net.faults g.N.Net.last_seed g.P.Power.stops_seen g.P.Power.early_stops g.P.Power.stopped g.P.Power.begun g.P.Power.asked c.args.net.now c.args.power.now) (around g.N.Net.sent g.N.Net.given g.N.Net.faults g.N.Net.last_seed g.P.Power.stops_seen g.P.Power.early_stops g.P.Power.stopped g.P.Power.begun g.P.Power.asked c.remind.new.net c.args.power.now) c.remind.ensures.sent c.remind.ensures.net (omega arith)) c.try_epoch.ensures.later
+
+pub returns-in_ok-read_stopped-in-GivenUp-clause-sound : goal.returns-in_ok-read_stopped-in-GivenUp-clause-sound
+returns-in_ok-read_stopped-in-GivenUp-clause-sound g c =
+    let k : Cluster = c.args.self.now in
+    let now : Cluster = reminded k c.remind.new.members in
+    let told = c.in_ok-remind.ensures in
+    let rest : AreAtRest k.next_epoch (g.N.Net.sent c.remind.new.net) c.remind.new.members = told.rest k.next_epoch c.requires.sound.rests.rest in
+    let sound : IsSound now (g.N.Net.sent c.remind.new.net) = sound_reminded k c.remind.new.members c.remind.ensures.stays told.finish.layout told.committed (g.N.Net.sent c.args.net.now) (g.N.Net.sent c.remind.new.net) rest c.requires.sound in
+    let up : NoneBehind c.remind.new.members.tables = c.finished_nodes_are_not_behind.ensures.none k.next_epoch (g.N.Net.sent c.remind.new.net) c.remind.new.members rest (all_finished c.in_ok-remind.field-0 (chief_of c.remind.new.members.chief) _ c.if-not-branch.false told.all) in
+    let map = c.requires.sound.rests.rest.map in
+    let stays : StaysInPlace now c.try_epoch.new.self = c.in_ok-dones.ensures.stays in
+    let given : HasGivenUp c.args.requests.items c.in-GivenUp.requests.items map.0 (g.N.Net.sent c.try_epoch.new.net) now c.try_epoch.new.self = subst (λ (tried : Tried). ComesOf tried c.args.requests.items c.args.workers c.args.attempts map.0 (g.N.Net.sent c.try_epoch.new.net) now c.try_epoch.new.self) c.in-GivenUp.is (c.in_ok-dones.ensures.comes map.0 (told.shards map.0 map.1)) in
+    let gone : IsForgotten c.try_epoch.new.self c.forget_epoch.new.self = c.forget_epoch.ensures.forgotten in
+    let rests : Rests c.forget_epoch.new.self (g.N.Net.sent c.try_epoch.new.net) = rests_gone now c.try_epoch.new.self c.forget_epoch.new.self stays gone up (g.N.Net.sent c.remind.new.net) (g.N.Net.sent c.try_epoch.new.net) c.args.requests.items c.in-GivenUp.requests.items map.0 sound c.requires.below given c.forget_epoch.ensures.rest in
+    c.in_ok-read_stopped-in-GivenUp.ensures.rests (g.N.Net.sent c.try_epoch.new.net) rests
+
+pub returns-in_ok-read_stopped-in-GivenUp-clause-attempts : goal.returns-in_ok-read_stopped-in-GivenUp-clause-attempts
+returns-in_ok-read_stopped-in-GivenUp-clause-attempts g c =
+    let k : Cluster = c.args.self.now in
+    let now : Cluster = reminded k c.remind.new.members in
+    let told = c.in_ok-remind.ensures in
+    let rest : AreAtRest k.next_epoch (g.N.Net.sent c.remind.new.net) c.remind.new.members = told.rest k.next_epoch c.requires.sound.rests.rest in
+    let up : NoneBehind c.remind.new.members.tables = c.finished_nodes_are_not_behind.ensures.none k.next_epoch (g.N.Net.sent c.remind.new.net) c.remind.new.members rest (all_finished c.in_ok-remind.field-0 (chief_of c.remind.new.members.chief) _ c.if-not-branch.false told.all) in
+    let map = c.requires.sound.rests.rest.map in
+    let stays : StaysInPlace now c.try_epoch.new.self = c.in_ok-dones.ensures.stays in
+    let given : HasGivenUp c.args.requests.items c.in-GivenUp.requests.items map.0 (g.N.Net.sent c.try_epoch.new.net) now c.try_epoch.new.self = subst (λ (tried : Tried). ComesOf tried c.args.requests.items c.args.workers c.args.attempts map.0 (g.N.Net.sent c.try_epoch.new.net) now c.try_epoch.new.self) c.in-GivenUp.is (c.in_ok-dones.ensures.comes map.0 (told.shards map.0 map.1)) in
+    let gone : IsForgotten c.try_epoch.new.self c.forget_epoch.new.self = c.forget_epoch.ensures.forgotten in
+    given_back k now c.forget_epoch.new.self c.read_stopped-in-GivenUp.new.self c.args.requests.items c.in-GivenUp.requests.items refl told.finish.layout (next_forgotten now c.try_epoch.new.self c.forget_epoch.new.self stays gone up) (kept_forgotten now c.try_epoch.new.self c.forget_epoch.new.self stays gone up) (procs_forgotten now c.try_epoch.new.self c.forget_epoch.new.self stays gone up) (layout_forgotten now c.try_epoch.new.self c.forget_epoch.new.self stays gone up) (trace_forgotten now c.try_epoch.new.self c.forget_epoch.new.self stays gone up) c.in_ok-read_stopped-in-GivenUp.ensures.members c.read_stopped-in-GivenUp.ensures.layout given.same
+
+pub returns-in_ok-read_stopped-in-GivenUp-clause-cause : goal.returns-in_ok-read_stopped-in-GivenUp-clause-cause
+returns-in_ok-read_stopped-in-GivenUp-clause-cause g c =
+    gives_from (around g.N.Net.sent g.N.Net.given g.N.Net.faults g.N.Net.last_seed g.P.Power.stops_seen g.P.Power.early_stops g.P.Power.stopped g.P.Power.begun g.P.Power.asked c.args.net.now c.args.power.now) (around g.N.Net.sent g.N.Net.given g.N.Net.faults g.N.Net.last_seed g.P.Power.stops_seen g.P.Power.early_stops g.P.Power.stopped g.P.Power.begun g.P.Power.asked c.remind.new.net c.args.power.now) (around g.N.Net.sent g.N.Net.given g.N.Net.faults g.N.Net.last_seed g.P.Power.stops_seen g.P.Power.early_stops g.P.Power.stopped g.P.Power.begun g.P.Power.asked c.try_epoch.new.net c.try_epoch.new.power) (later_used (around g.N.Net.sent g.N.Net.given g.N.Net.faults g.N.Net.last_seed g.P.Power.stops_seen g.P.Power.early_stops g.P.Power.stopped g.P.Power.begun g.P.Power.asked c.args.net.now c.args.power.now) (around g.N.Net.sent g.N.Net.given g.N.Net.faults g.N.Net.last_seed g.P.Power.stops_seen g.P.Power.early_stops g.P.Power.stopped g.P.Power.begun g.P.Power.asked c.remind.new.net c.args.power.now) c.remind.ensures.sent c.remind.ensures.net (omega arith)) (subst (λ (tried : Tried). IsGivenUpIf tried (around g.N.Net.sent g.N.Net.given g.N.Net.faults g.N.Net.last_seed g.P.Power.stops_seen g.P.Power.early_stops g.P.Power.stopped g.P.Power.begun g.P.Power.asked c.remind.new.net c.args.power.now) (around g.N.Net.sent g.N.Net.given g.N.Net.faults g.N.Net.last_seed g.P.Power.stops_seen g.P.Power.early_stops g.P.Power.stopped g.P.Power.begun g.P.Power.asked c.try_epoch.new.net c.try_epoch.new.power)) c.in-GivenUp.is c.in_ok-dones.ensures.cause)
+
+pub returns-in_ok-read_stopped-in-GivenUp-clause-files : goal.returns-in_ok-read_stopped-in-GivenUp-clause-files
+returns-in_ok-read_stopped-in-GivenUp-clause-files g c d on stands room =
+    let k : Cluster = c.args.self.now in
+    let now : Cluster = reminded k c.remind.new.members in
+    let told = c.in_ok-remind.ensures in
+    let rest : AreAtRest k.next_epoch (g.N.Net.sent c.remind.new.net) c.remind.new.members = told.rest k.next_epoch c.requires.sound.rests.rest in
+    let up : NoneBehind c.remind.new.members.tables = c.finished_nodes_are_not_behind.ensures.none k.next_epoch (g.N.Net.sent c.remind.new.net) c.remind.new.members rest (all_finished c.in_ok-remind.field-0 (chief_of c.remind.new.members.chief) _ c.if-not-branch.false told.all) in
+    let stays : StaysInPlace now c.try_epoch.new.self = c.in_ok-dones.ensures.stays in
+    let gone : IsForgotten c.try_epoch.new.self c.forget_epoch.new.self = c.forget_epoch.ensures.forgotten in
+    let at = stands_reminded k c.remind.new.members c.remind.ensures.stays told.finish.layout told.committed d (c.remind.ensures.map (map_in d)) stands in
+    let files = c.in_ok-dones.ensures.files d on at room in
+    let may : MayGoOn d k.next_epoch c.try_epoch.new.self.members.tables (g.H.Host.reads c.try_epoch.new.host) (g.H.Host.may_leave c.try_epoch.new.host) = subst (λ (tried : Tried). ComesOn tried d c.args.requests.items c.args.workers c.args.attempts k.next_epoch c.try_epoch.new.self.members.tables (g.H.Host.reads c.try_epoch.new.host) (g.H.Host.may_leave c.try_epoch.new.host)) c.in-GivenUp.is files.1 in
+    inl (keeps_given g.H.Host.moment g.H.Host.observed g.H.Host.said g.H.Host.reads g.H.Host.may_leave (Ok (Some c.in-GivenUp.requests)) c.in-GivenUp.requests d k c.read_stopped-in-GivenUp.new.self c.args.host.now c.read_stopped-in-GivenUp.new.host refl (keeps_reading g.H.Host.moment g.H.Host.observed g.H.Host.said g.H.Host.reads g.H.Host.may_leave d may.rests.0 (k.next_epoch + 1) c.args.host.now c.try_epoch.new.host c.read_stopped-in-GivenUp.new.host may.rests.1 may.rests.2 may.rests.3 files.0 c.read_stopped-in-GivenUp.ensures.read) (record { d = may.rests.0; only = may.rests.1; rests = rests_read g.H.Host.moment g.H.Host.observed g.H.Host.said g.H.Host.reads g.H.Host.may_leave may.rests.0 c.try_epoch.new.host c.read_stopped-in-GivenUp.new.host c.read_stopped-in-GivenUp.ensures.read may.rests.3; stands = c.in_ok-read_stopped-in-GivenUp.ensures.files may.rests.0 may.rests.3 (stands_gone now c.try_epoch.new.self c.forget_epoch.new.self stays gone up d may.rests.0 may.rests.1 may.rests.2 may.keeps c.forget_epoch.ensures.map at) }))
+
+pub returns-in_ok-read_stopped-in-GivenUp-clause-stand : goal.returns-in_ok-read_stopped-in-GivenUp-clause-stand
+returns-in_ok-read_stopped-in-GivenUp-clause-stand g c =
+    let k : Cluster = c.args.self.now in
+    let now : Cluster = reminded k c.remind.new.members in
+    let told = c.in_ok-remind.ensures in
+    let rest : AreAtRest k.next_epoch (g.N.Net.sent c.remind.new.net) c.remind.new.members = told.rest k.next_epoch c.requires.sound.rests.rest in
+    let stays : StaysInPlace now c.try_epoch.new.self = c.in_ok-dones.ensures.stays in
+    let gone : IsForgotten c.try_epoch.new.self c.forget_epoch.new.self = c.forget_epoch.ensures.forgotten in
+    let chief : Stands c.remind.new.members.log (g.H.Host.reads c.try_epoch.new.host) (g.H.Host.may_leave c.try_epoch.new.host) = c.try_epoch.ensures.others c.remind.new.members.log (chief_elsewhere c.remind.new.members rest.are) (stand_reminded k c.remind.new.members c.remind.ensures.stays (g.H.Host.reads c.args.host.now) (g.H.Host.may_leave c.args.host.now) c.requires.stand).chief in
+    c.in_ok-read_stopped-in-GivenUp.ensures.stand (stand_gone (reminded k c.remind.new.members) c.try_epoch.new.self c.forget_epoch.new.self (g.H.Host.reads c.try_epoch.new.host) (g.H.Host.may_leave c.try_epoch.new.host) stays gone chief c.in_ok-dones.ensures.ready)
+
+pub returns-in_ok-read_stopped-in-GivenUp-clause-later : goal.returns-in_ok-read_stopped-in-GivenUp-clause-later
+returns-in_ok-read_stopped-in-GivenUp-clause-later g c =
+    later_then (around g.N.Net.sent g.N.Net.given g.N.Net.faults g.N.Net.last_seed g.P.Power.stops_seen g.P.Power.early_stops g.P.Power.stopped g.P.Power.begun g.P.Power.asked c.args.net.now c.args.power.now) (around g.N.Net.sent g.N.Net.given g.N.Net.faults g.N.Net.last_seed g.P.Power.stops_seen g.P.Power.early_stops g.P.Power.stopped g.P.Power.begun g.P.Power.asked c.remind.new.net c.args.power.now) (around g.N.Net.sent g.N.Net.given g.N.Net.faults g.N.Net.last_seed g.P.Power.stops_seen g.P.Power.early_stops g.P.Power.stopped g.P.Power.begun g.P.Power.asked c.try_epoch.new.net c.try_epoch.new.power) (later_used (around g.N.Net.sent g.N.Net.given g.N.Net.faults g.N.Net.last_seed g.P.Power.stops_seen g.P.Power.early_stops g.P.Power.stopped g.P.Power.begun g.P.Power.asked c.args.net.now c.args.power.now) (around g.N.Net.sent g.N.Net.given g.N.Net.faults g.N.Net.last_seed g.P.Power.stops_seen g.P.Power.early_stops g.P.Power.stopped g.P.Power.begun g.P.Power.asked c.remind.new.net c.args.power.now) c.remind.ensures.sent c.remind.ensures.net (omega arith)) c.try_epoch.ensures.later
+
+-- ---- the map of the shards stays where no stop was told
+
+pub returns-then-not-branch-clause-map : goal.returns-then-not-branch-clause-map
+returns-then-not-branch-clause-map g c is m had = c.in_ok-remind.ensures.shards m had
+
+pub returns-in_ok-read_stopped-in-GivenUp-clause-map : goal.returns-in_ok-read_stopped-in-GivenUp-clause-map
+returns-in_ok-read_stopped-in-GivenUp-clause-map g c is m had =
+    let k : Cluster = c.args.self.now in
+    let now : Cluster = reminded k c.remind.new.members in
+    let told = c.in_ok-remind.ensures in
+    let rest : AreAtRest k.next_epoch (g.N.Net.sent c.remind.new.net) c.remind.new.members = told.rest k.next_epoch c.requires.sound.rests.rest in
+    let sound : IsSound now (g.N.Net.sent c.remind.new.net) = sound_reminded k c.remind.new.members c.remind.ensures.stays told.finish.layout told.committed (g.N.Net.sent c.args.net.now) (g.N.Net.sent c.remind.new.net) rest c.requires.sound in
+    let up : NoneBehind c.remind.new.members.tables = c.finished_nodes_are_not_behind.ensures.none k.next_epoch (g.N.Net.sent c.remind.new.net) c.remind.new.members rest (all_finished c.in_ok-remind.field-0 (chief_of c.remind.new.members.chief) _ c.if-not-branch.false told.all) in
+    let stays : StaysInPlace now c.try_epoch.new.self = c.in_ok-dones.ensures.stays in
+    let given : HasGivenUp c.args.requests.items c.in-GivenUp.requests.items m (g.N.Net.sent c.try_epoch.new.net) now c.try_epoch.new.self = subst (λ (tried : Tried). ComesOf tried c.args.requests.items c.args.workers c.args.attempts m (g.N.Net.sent c.try_epoch.new.net) now c.try_epoch.new.self) c.in-GivenUp.is (c.in_ok-dones.ensures.comes m (told.shards m had)) in
+    let gone : IsForgotten c.try_epoch.new.self c.forget_epoch.new.self = c.forget_epoch.ensures.forgotten in
+    shards_gone now c.try_epoch.new.self c.forget_epoch.new.self stays gone up m given.keeps c.forget_epoch.ensures.shards (g.P.Power.stops_seen c.args.power.now) (g.P.Power.stops_seen c.try_epoch.new.power) c.in_ok-dones.ensures.whole is sound.whole c.read_stopped-in-GivenUp.new.self c.in_ok-read_stopped-in-GivenUp.ensures.untouched
+
+pub returns-in_ok-read_stopped-in-Voted-clause-seen : goal.returns-in_ok-read_stopped-in-Voted-clause-seen
+returns-in_ok-read_stopped-in-Voted-clause-seen g c = (let first = c.in_ok-dones.ensures.whole.rises in let then = c.commit_epoch.ensures.seen in omega (arith, first, then))
+
+pub returns-in_ok-read_stopped-in-GivenUp-clause-seen : goal.returns-in_ok-read_stopped-in-GivenUp-clause-seen
+returns-in_ok-read_stopped-in-GivenUp-clause-seen g c = c.in_ok-dones.ensures.whole.rises
+
+-- ---- what is left behind a fault
+
+pub returns-in_err-commit_epoch-in-Voted-clause-procs : goal.returns-in_err-commit_epoch-in-Voted-clause-procs
+returns-in_err-commit_epoch-in-Voted-clause-procs g c = c.commit_epoch.ensures.procs ∙ c.try_epoch.ensures.procs
+
+pub returns-in_err-commit_epoch-in-Voted-clause-trace : goal.returns-in_err-commit_epoch-in-Voted-clause-trace
+returns-in_err-commit_epoch-in-Voted-clause-trace g c =
+    let p = err_from_is_err_and c.from_residual-in_err-commit_epoch-in-Voted.result c.from_residual-in_err-commit_epoch-in-Voted.ensures.1 in
+    subst (λ (r : Result (Option (Vec Request)) TurnFault). OnErr r (c.args.self.now.trace ≡ None → c.commit_epoch.new.self.trace ≡ None)) (sym p.1) (λ was. c.in_err-commit_epoch-in-Voted.ensures.trace ∙ c.try_epoch.ensures.trace ∙ was)
+
+pub returns-in_err-read_stopped-in-Voted-clause-trace : goal.returns-in_err-read_stopped-in-Voted-clause-trace
+returns-in_err-read_stopped-in-Voted-clause-trace g c =
+    let p = err_from_is_err_and c.from_residual-in_err-read_stopped-in-Voted.result c.from_residual-in_err-read_stopped-in-Voted.ensures.1 in
+    subst (λ (r : Result (Option (Vec Request)) TurnFault). OnErr r (c.args.self.now.trace ≡ None → c.read_stopped.new.self.trace ≡ None)) (sym p.1) (λ was. c.in_err-read_stopped-in-Voted.ensures.untraced)

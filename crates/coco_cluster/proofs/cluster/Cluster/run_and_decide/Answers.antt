@@ -1,0 +1,205 @@
+use Rattle.std.proofs.Common.{◌≡◌, Bool, List, ℕ, Result, Ok, is_err, map, ap, refl, subst}
+use Rattle.std.proofs.lemmas.Result.{err_from_is_err_and, IfOk-from_err}
+use Rattle.coco_finish.specs.declared.tables.NodeTables.{NodeTables}
+use Rattle.coco_lost.specs.Requests.{AreRequestsOf}
+use Rattle.coco_letters.specs.Around.{Around, around}
+use Rattle.coco_parallel.specs.Traces.{traced}
+use Rattle.coco_types.specs.declared.call.Request.{Request}
+use Rattle.coco_cluster.specs.Trying.{ComesOn}
+use Rattle.coco_cluster.specs.declared.cluster.Cluster.{Cluster}
+use Rattle.coco_cluster.specs.declared.fault.TurnFault.{TurnFault}
+use Rattle.coco_cluster.proofs.AroundLemmas.{later_same}
+use Rattle.coco_cluster.proofs.TriedLemmas.{been_run, begun_run, decided_files, given_up_so, may_commit, may_go_on, quiet_mid, ring_run, shippable_run, stays_tried, tried_in_vain, voted_so, HaveBeenRun}
+use Rattle.coco_cluster.proofs.TryLemmas.{may_try}
+use Rattle.coco_cluster.proofs.cluster.Cluster.run_and_decide.Goals as goal
+
+pub run_epoch-requires-clause-may : goal.run_epoch-requires-clause-may
+run_epoch-requires-clause-may g c _ _ = may_try c.args.self.now (g.N.Net.sent c.args.net.now) c.args.requests.items c.args.workers c.args.attempts c.config_of-config.result c.requires.sound c.requires.up c.requires.may c.requires.workers c.requires.attempts c.config_of-config.ensures
+
+pub decide-requires-clause-quiet : goal.decide-requires-clause-quiet
+decide-requires-clause-quiet g c =
+    let k : Cluster = c.args.self.now in
+    let t : NodeTables = c.run_epoch.new.tables in
+    let sent = g.N.Net.sent c.args.net.now in
+    let carries = g.N.Net.carries c.args.net.now in
+    let run : HaveBeenRun k sent c.args.requests.items c.args.workers c.args.attempts carries t c.in_ok-dones.field-0.dones c.as_slice-2.result.now (traced c.in_ok-dones.field-0.trace) =
+    been_run k sent c.args.requests.items c.args.workers c.args.attempts c.config_of-config.result carries t c.in_ok-dones.field-0.dones c.in_ok-dones.field-0.pieces c.as_slice-2.result.now (traced c.in_ok-dones.field-0.trace) c.config_of-config.ensures c.as_slice-2.ensures c.requires.sound c.requires.up c.requires.may
+    c.in_ok-dones.ensures.ran c.run_epoch.ensures.keep c.in_ok-dones.ensures.shippable c.in_ok-dones.ensures.begun c.run_epoch.ensures.places in
+    quiet_mid run
+
+pub decide-requires-clause-ring : goal.decide-requires-clause-ring
+decide-requires-clause-ring g c =
+    let k : Cluster = c.args.self.now in
+    let t : NodeTables = c.run_epoch.new.tables in
+    let sent = g.N.Net.sent c.args.net.now in
+    let carries = g.N.Net.carries c.args.net.now in
+    let run : HaveBeenRun k sent c.args.requests.items c.args.workers c.args.attempts carries t c.in_ok-dones.field-0.dones c.as_slice-2.result.now (traced c.in_ok-dones.field-0.trace) =
+    been_run k sent c.args.requests.items c.args.workers c.args.attempts c.config_of-config.result carries t c.in_ok-dones.field-0.dones c.in_ok-dones.field-0.pieces c.as_slice-2.result.now (traced c.in_ok-dones.field-0.trace) c.config_of-config.ensures c.as_slice-2.ensures c.requires.sound c.requires.up c.requires.may
+    c.in_ok-dones.ensures.ran c.run_epoch.ensures.keep c.in_ok-dones.ensures.shippable c.in_ok-dones.ensures.begun c.run_epoch.ensures.places in
+    ring_run run
+
+pub decide-requires-clause-pieces : goal.decide-requires-clause-pieces
+decide-requires-clause-pieces g c =
+    let k : Cluster = c.args.self.now in
+    let t : NodeTables = c.run_epoch.new.tables in
+    let sent = g.N.Net.sent c.args.net.now in
+    let carries = g.N.Net.carries c.args.net.now in
+    let run : HaveBeenRun k sent c.args.requests.items c.args.workers c.args.attempts carries t c.in_ok-dones.field-0.dones c.as_slice-2.result.now (traced c.in_ok-dones.field-0.trace) =
+    been_run k sent c.args.requests.items c.args.workers c.args.attempts c.config_of-config.result carries t c.in_ok-dones.field-0.dones c.in_ok-dones.field-0.pieces c.as_slice-2.result.now (traced c.in_ok-dones.field-0.trace) c.config_of-config.ensures c.as_slice-2.ensures c.requires.sound c.requires.up c.requires.may
+    c.in_ok-dones.ensures.ran c.run_epoch.ensures.keep c.in_ok-dones.ensures.shippable c.in_ok-dones.ensures.begun c.run_epoch.ensures.places in
+    shippable_run run
+
+pub decide-requires-clause-begun : goal.decide-requires-clause-begun
+decide-requires-clause-begun g c =
+    let k : Cluster = c.args.self.now in
+    let t : NodeTables = c.run_epoch.new.tables in
+    let sent = g.N.Net.sent c.args.net.now in
+    let carries = g.N.Net.carries c.args.net.now in
+    let run : HaveBeenRun k sent c.args.requests.items c.args.workers c.args.attempts carries t c.in_ok-dones.field-0.dones c.as_slice-2.result.now (traced c.in_ok-dones.field-0.trace) =
+    been_run k sent c.args.requests.items c.args.workers c.args.attempts c.config_of-config.result carries t c.in_ok-dones.field-0.dones c.in_ok-dones.field-0.pieces c.as_slice-2.result.now (traced c.in_ok-dones.field-0.trace) c.config_of-config.ensures c.as_slice-2.ensures c.requires.sound c.requires.up c.requires.may
+    c.in_ok-dones.ensures.ran c.run_epoch.ensures.keep c.in_ok-dones.ensures.shippable c.in_ok-dones.ensures.begun c.run_epoch.ensures.places in
+    begun_run run
+
+-- ---- without memory for the run
+
+pub returns-in_err-ids-clause-files : goal.returns-in_err-ids-clause-files
+returns-in_err-ids-clause-files g c =
+    let k : Cluster = c.args.self.now in
+    let p = err_from_is_err_and c.from_residual.result c.from_residual.ensures.1 in
+    tried_in_vain g.H.Host.moment g.H.Host.observed g.H.Host.said g.H.Host.reads g.H.Host.may_leave g.met.H.Host.only_now c.from_residual.result c.args.requests.items c.args.workers c.args.attempts k (k) c.args.host.now (ap is_err p.1)
+
+pub returns-in_err-ids-clause-later : goal.returns-in_err-ids-clause-later
+returns-in_err-ids-clause-later g c =
+    let a : Around = around g.N.Net.sent g.N.Net.given g.N.Net.faults g.N.Net.last_seed g.P.Power.stops_seen g.P.Power.early_stops g.P.Power.stopped g.P.Power.begun g.P.Power.asked c.args.net.now c.args.power.now in
+    later_same a
+
+pub returns-in_err-dones-clause-files : goal.returns-in_err-dones-clause-files
+returns-in_err-dones-clause-files g c =
+    let k : Cluster = c.args.self.now in
+    let p = err_from_is_err_and c.from_residual-in_err-dones.result c.from_residual-in_err-dones.ensures.1 in
+    tried_in_vain g.H.Host.moment g.H.Host.observed g.H.Host.said g.H.Host.reads g.H.Host.may_leave g.met.H.Host.only_now c.from_residual-in_err-dones.result c.args.requests.items c.args.workers c.args.attempts k (record k { kept = c.run_epoch.new.kept; members = record k.members { tables = c.run_epoch.new.tables }; room = c.run_epoch.new.room }) c.args.host.now (ap is_err p.1)
+
+pub returns-in_err-dones-clause-later : goal.returns-in_err-dones-clause-later
+returns-in_err-dones-clause-later g c =
+    let a : Around = around g.N.Net.sent g.N.Net.given g.N.Net.faults g.N.Net.last_seed g.P.Power.stops_seen g.P.Power.early_stops g.P.Power.stopped g.P.Power.begun g.P.Power.asked c.args.net.now c.args.power.now in
+    later_same a
+
+-- ---- or with a fault of the disk
+
+pub returns-in_err-all-clause-files : goal.returns-in_err-all-clause-files
+returns-in_err-all-clause-files g c d rests stands room =
+    let k : Cluster = c.args.self.now in
+    let t : NodeTables = c.run_epoch.new.tables in
+    let sent = g.N.Net.sent c.args.net.now in
+    let carries = g.N.Net.carries c.args.net.now in
+    let run : HaveBeenRun k sent c.args.requests.items c.args.workers c.args.attempts carries t c.in_ok-dones.field-0.dones c.as_slice-2.result.now (traced c.in_ok-dones.field-0.trace) =
+    been_run k sent c.args.requests.items c.args.workers c.args.attempts c.config_of-config.result carries t c.in_ok-dones.field-0.dones c.in_ok-dones.field-0.pieces c.as_slice-2.result.now (traced c.in_ok-dones.field-0.trace) c.config_of-config.ensures c.as_slice-2.ensures c.requires.sound c.requires.up c.requires.may
+    c.in_ok-dones.ensures.ran c.run_epoch.ensures.keep c.in_ok-dones.ensures.shippable c.in_ok-dones.ensures.begun c.run_epoch.ensures.places in
+    let new : Cluster = record k { kept = c.run_epoch.new.kept; members = c.decide.new.members; body = c.decide.new.body; room = c.run_epoch.new.room } in
+    let p = err_from_is_err_and c.from_residual-in_err-all.result c.from_residual-in_err-all.ensures.1 in (
+      (decided_files run g.H.Host.moment g.H.Host.observed g.H.Host.said g.H.Host.reads g.H.Host.may_leave c.decide.result c.args.host.now c.decide.new.host c.decide.ensures.files c.a_run_is_the_next_commit.ensures (record { may = c.a_run_may_be_prepared.ensures.may; ready = c.a_run_may_be_prepared.ensures.ready }) c.requires.some c.requires.below d rests stands room).0,
+      IfOk-from_err c.from_residual-in_err-all.result (λ tried. ComesOn tried d c.args.requests.items c.args.workers c.args.attempts k.next_epoch new.members.tables (g.H.Host.reads c.decide.new.host) (g.H.Host.may_leave c.decide.new.host)) (ap is_err p.1),
+    )
+
+-- ---- all have voted
+
+pub returns-then-all-clause-comes : goal.returns-then-all-clause-comes
+returns-then-all-clause-comes g c m has =
+    let k : Cluster = c.args.self.now in
+    let t : NodeTables = c.run_epoch.new.tables in
+    let sent = g.N.Net.sent c.args.net.now in
+    let carries = g.N.Net.carries c.args.net.now in
+    let run : HaveBeenRun k sent c.args.requests.items c.args.workers c.args.attempts carries t c.in_ok-dones.field-0.dones c.as_slice-2.result.now (traced c.in_ok-dones.field-0.trace) =
+    been_run k sent c.args.requests.items c.args.workers c.args.attempts c.config_of-config.result carries t c.in_ok-dones.field-0.dones c.in_ok-dones.field-0.pieces c.as_slice-2.result.now (traced c.in_ok-dones.field-0.trace) c.config_of-config.ensures c.as_slice-2.ensures c.requires.sound c.requires.up c.requires.may
+    c.in_ok-dones.ensures.ran c.run_epoch.ensures.keep c.in_ok-dones.ensures.shippable c.in_ok-dones.ensures.begun c.run_epoch.ensures.places in
+    let new : Cluster = record k { kept = c.run_epoch.new.kept; members = c.decide.new.members; body = c.decide.new.body; room = c.run_epoch.new.room } in
+    voted_so run new refl c.run_epoch.ensures.kept refl refl refl c.in_ok-all.ensures.places (g.N.Net.sent c.decide.new.net) m has c.in_ok-dones.ensures.room (rw c.if-all.true at c.in_ok-all.ensures.decides)
+
+pub returns-then-all-clause-stays : goal.returns-then-all-clause-stays
+returns-then-all-clause-stays g c =
+    let k : Cluster = c.args.self.now in
+    let t : NodeTables = c.run_epoch.new.tables in
+    let sent = g.N.Net.sent c.args.net.now in
+    let carries = g.N.Net.carries c.args.net.now in
+    let run : HaveBeenRun k sent c.args.requests.items c.args.workers c.args.attempts carries t c.in_ok-dones.field-0.dones c.as_slice-2.result.now (traced c.in_ok-dones.field-0.trace) =
+    been_run k sent c.args.requests.items c.args.workers c.args.attempts c.config_of-config.result carries t c.in_ok-dones.field-0.dones c.in_ok-dones.field-0.pieces c.as_slice-2.result.now (traced c.in_ok-dones.field-0.trace) c.config_of-config.ensures c.as_slice-2.ensures c.requires.sound c.requires.up c.requires.may
+    c.in_ok-dones.ensures.ran c.run_epoch.ensures.keep c.in_ok-dones.ensures.shippable c.in_ok-dones.ensures.begun c.run_epoch.ensures.places in
+    let new : Cluster = record k { kept = c.run_epoch.new.kept; members = c.decide.new.members; body = c.decide.new.body; room = c.run_epoch.new.room } in
+    stays_tried run new refl c.run_epoch.ensures.kept refl refl refl c.in_ok-all.ensures.places
+
+pub returns-then-all-clause-files : goal.returns-then-all-clause-files
+returns-then-all-clause-files g c d rests stands room =
+    let k : Cluster = c.args.self.now in
+    let t : NodeTables = c.run_epoch.new.tables in
+    let sent = g.N.Net.sent c.args.net.now in
+    let carries = g.N.Net.carries c.args.net.now in
+    let run : HaveBeenRun k sent c.args.requests.items c.args.workers c.args.attempts carries t c.in_ok-dones.field-0.dones c.as_slice-2.result.now (traced c.in_ok-dones.field-0.trace) =
+    been_run k sent c.args.requests.items c.args.workers c.args.attempts c.config_of-config.result carries t c.in_ok-dones.field-0.dones c.in_ok-dones.field-0.pieces c.as_slice-2.result.now (traced c.in_ok-dones.field-0.trace) c.config_of-config.ensures c.as_slice-2.ensures c.requires.sound c.requires.up c.requires.may
+    c.in_ok-dones.ensures.ran c.run_epoch.ensures.keep c.in_ok-dones.ensures.shippable c.in_ok-dones.ensures.begun c.run_epoch.ensures.places in
+    let r : Result Bool TurnFault = Ok c.in_ok-all.all in
+    let decided = decided_files run g.H.Host.moment g.H.Host.observed g.H.Host.said g.H.Host.reads g.H.Host.may_leave r c.args.host.now c.decide.new.host c.in_ok-all.ensures.files c.a_run_is_the_next_commit.ensures (record { may = c.a_run_may_be_prepared.ensures.may; ready = c.a_run_may_be_prepared.ensures.ready }) c.requires.some c.requires.below d rests stands room in (
+      decided.0,
+      may_commit run g.H.Host.moment g.H.Host.observed g.H.Host.said g.H.Host.reads g.H.Host.may_leave r c.args.host.now c.decide.new.host c.in_ok-all.ensures.files c.a_run_is_the_next_commit.ensures (record { may = c.a_run_may_be_prepared.ensures.may; ready = c.a_run_may_be_prepared.ensures.ready }) c.requires.some c.requires.below d rests stands room
+          c.decide.new.members.tables (rw c.if-all.true at decided.1) (rw c.if-all.true at c.in_ok-all.ensures.give),
+    )
+
+-- ---- it is given up
+
+pub returns-in_err-requests-clause-files : goal.returns-in_err-requests-clause-files
+returns-in_err-requests-clause-files g c d rests stands room =
+    let k : Cluster = c.args.self.now in
+    let t : NodeTables = c.run_epoch.new.tables in
+    let sent = g.N.Net.sent c.args.net.now in
+    let carries = g.N.Net.carries c.args.net.now in
+    let run : HaveBeenRun k sent c.args.requests.items c.args.workers c.args.attempts carries t c.in_ok-dones.field-0.dones c.as_slice-2.result.now (traced c.in_ok-dones.field-0.trace) =
+    been_run k sent c.args.requests.items c.args.workers c.args.attempts c.config_of-config.result carries t c.in_ok-dones.field-0.dones c.in_ok-dones.field-0.pieces c.as_slice-2.result.now (traced c.in_ok-dones.field-0.trace) c.config_of-config.ensures c.as_slice-2.ensures c.requires.sound c.requires.up c.requires.may
+    c.in_ok-dones.ensures.ran c.run_epoch.ensures.keep c.in_ok-dones.ensures.shippable c.in_ok-dones.ensures.begun c.run_epoch.ensures.places in
+    let new : Cluster = record k { kept = c.run_epoch.new.kept; members = c.decide.new.members; body = c.decide.new.body; room = c.run_epoch.new.room } in
+    let p = err_from_is_err_and c.from_residual-in_err-requests.result c.from_residual-in_err-requests.ensures.1 in (
+      (decided_files run g.H.Host.moment g.H.Host.observed g.H.Host.said g.H.Host.reads g.H.Host.may_leave c.decide.result c.args.host.now c.decide.new.host c.decide.ensures.files c.a_run_is_the_next_commit.ensures (record { may = c.a_run_may_be_prepared.ensures.may; ready = c.a_run_may_be_prepared.ensures.ready }) c.requires.some c.requires.below d rests stands room).0,
+      IfOk-from_err c.from_residual-in_err-requests.result (λ tried. ComesOn tried d c.args.requests.items c.args.workers c.args.attempts k.next_epoch new.members.tables (g.H.Host.reads c.decide.new.host) (g.H.Host.may_leave c.decide.new.host)) (ap is_err p.1),
+    )
+
+pub returns-clause-comes : goal.returns-clause-comes
+returns-clause-comes g c m has =
+    let k : Cluster = c.args.self.now in
+    let t : NodeTables = c.run_epoch.new.tables in
+    let sent = g.N.Net.sent c.args.net.now in
+    let carries = g.N.Net.carries c.args.net.now in
+    let run : HaveBeenRun k sent c.args.requests.items c.args.workers c.args.attempts carries t c.in_ok-dones.field-0.dones c.as_slice-2.result.now (traced c.in_ok-dones.field-0.trace) =
+    been_run k sent c.args.requests.items c.args.workers c.args.attempts c.config_of-config.result carries t c.in_ok-dones.field-0.dones c.in_ok-dones.field-0.pieces c.as_slice-2.result.now (traced c.in_ok-dones.field-0.trace) c.config_of-config.ensures c.as_slice-2.ensures c.requires.sound c.requires.up c.requires.may
+    c.in_ok-dones.ensures.ran c.run_epoch.ensures.keep c.in_ok-dones.ensures.shippable c.in_ok-dones.ensures.begun c.run_epoch.ensures.places in
+    let new : Cluster = record k { kept = c.run_epoch.new.kept; members = c.decide.new.members; body = c.decide.new.body; room = c.run_epoch.new.room } in
+    given_up_so run new refl c.run_epoch.ensures.kept refl refl refl c.in_ok-all.ensures.places (g.N.Net.sent c.decide.new.net) m c.in_ok-ids.ids.items c.in_ok-requests.requests.items has c.decide.ensures.shards (rw c.if-all.false at c.in_ok-all.ensures.decides)
+    (subst (λ (rs : List Request). c.in_ok-ids.ids.items ≡ map (λ (r : Request). r.id) rs) c.as_slice.ensures.value c.in_ok-ids.ensures) (subst (λ (ids : List ℕ). (rs : List Request) → AreRequestsOf ids c.in_ok-dones.field-0.dones rs → c.in_ok-requests.requests.items ≡ rs) c.as_slice-3.ensures.value c.in_ok-requests.ensures)
+
+pub returns-clause-cause : goal.returns-clause-cause
+returns-clause-cause g c = rw c.if-all.false at c.in_ok-all.ensures.cause
+
+pub returns-clause-stays : goal.returns-clause-stays
+returns-clause-stays g c =
+    let k : Cluster = c.args.self.now in
+    let t : NodeTables = c.run_epoch.new.tables in
+    let sent = g.N.Net.sent c.args.net.now in
+    let carries = g.N.Net.carries c.args.net.now in
+    let run : HaveBeenRun k sent c.args.requests.items c.args.workers c.args.attempts carries t c.in_ok-dones.field-0.dones c.as_slice-2.result.now (traced c.in_ok-dones.field-0.trace) =
+    been_run k sent c.args.requests.items c.args.workers c.args.attempts c.config_of-config.result carries t c.in_ok-dones.field-0.dones c.in_ok-dones.field-0.pieces c.as_slice-2.result.now (traced c.in_ok-dones.field-0.trace) c.config_of-config.ensures c.as_slice-2.ensures c.requires.sound c.requires.up c.requires.may
+    c.in_ok-dones.ensures.ran c.run_epoch.ensures.keep c.in_ok-dones.ensures.shippable c.in_ok-dones.ensures.begun c.run_epoch.ensures.places in
+    let new : Cluster = record k { kept = c.run_epoch.new.kept; members = c.decide.new.members; body = c.decide.new.body; room = c.run_epoch.new.room } in
+    stays_tried run new refl c.run_epoch.ensures.kept refl refl refl c.in_ok-all.ensures.places
+
+pub returns-clause-files : goal.returns-clause-files
+returns-clause-files g c d rests stands room =
+    let k : Cluster = c.args.self.now in
+    let t : NodeTables = c.run_epoch.new.tables in
+    let sent = g.N.Net.sent c.args.net.now in
+    let carries = g.N.Net.carries c.args.net.now in
+    let run : HaveBeenRun k sent c.args.requests.items c.args.workers c.args.attempts carries t c.in_ok-dones.field-0.dones c.as_slice-2.result.now (traced c.in_ok-dones.field-0.trace) =
+    been_run k sent c.args.requests.items c.args.workers c.args.attempts c.config_of-config.result carries t c.in_ok-dones.field-0.dones c.in_ok-dones.field-0.pieces c.as_slice-2.result.now (traced c.in_ok-dones.field-0.trace) c.config_of-config.ensures c.as_slice-2.ensures c.requires.sound c.requires.up c.requires.may
+    c.in_ok-dones.ensures.ran c.run_epoch.ensures.keep c.in_ok-dones.ensures.shippable c.in_ok-dones.ensures.begun c.run_epoch.ensures.places in
+    let r : Result Bool TurnFault = Ok c.in_ok-all.all in
+    let decided = decided_files run g.H.Host.moment g.H.Host.observed g.H.Host.said g.H.Host.reads g.H.Host.may_leave r c.args.host.now c.decide.new.host c.in_ok-all.ensures.files c.a_run_is_the_next_commit.ensures (record { may = c.a_run_may_be_prepared.ensures.may; ready = c.a_run_may_be_prepared.ensures.ready }) c.requires.some c.requires.below d rests stands room in (
+      decided.0,
+      may_go_on run g.H.Host.moment g.H.Host.observed g.H.Host.said g.H.Host.reads g.H.Host.may_leave r c.args.host.now c.decide.new.host c.in_ok-all.ensures.files c.a_run_is_the_next_commit.ensures (record { may = c.a_run_may_be_prepared.ensures.may; ready = c.a_run_may_be_prepared.ensures.ready }) c.requires.some c.requires.below d rests stands room
+          c.decide.new.members.tables (rw c.if-all.false at decided.1) c.decide.ensures.keep,
+    )

@@ -1,0 +1,120 @@
+use Rattle.std.proofs.Common.{is_err, IfOk, OnOk, ap, refl, sym, subst}
+use Rattle.std.proofs.lemmas.Result.{err_from_is_err_and}
+use Rattle.coco_append.specs.Gaining.{Stands}
+use Rattle.coco_ast.specs.Keyed.{Rows}
+use Rattle.coco_letters.specs.Around.{Around, around}
+use Rattle.coco_log.specs.LogState.{LogState}
+use Rattle.coco_members.specs.AtRest.{NoneBehind, ShardsHaveMap}
+use Rattle.coco_members.specs.declared.members.Members.{Members}
+use Rattle.coco_vote.specs.Taking.{AreReady, IsElsewhere}
+use Rattle.coco_cluster.specs.Standing.{IsSound}
+use Rattle.coco_cluster.specs.Trying.{ComesOf, StaysInPlace, TriesFiles}
+use Rattle.coco_cluster.specs.Turning.{MayTurn}
+use Rattle.coco_cluster.specs.declared.cluster.Cluster.{Cluster}
+use Rattle.coco_cluster.proofs.AroundLemmas.{gives_stopped, later_still, later_then, tried_from}
+use Rattle.coco_cluster.proofs.DecideLemmas.{idle_keeps, stay_stopped}
+use Rattle.coco_cluster.proofs.RestLemmas.{rest_is_quiet}
+use Rattle.coco_cluster.proofs.StopLemmas.{logs_ready, lose_on}
+use Rattle.coco_cluster.proofs.TriedLemmas.{stopped_keeps, stopped_on, tried_in_vain}
+use Rattle.coco_cluster.proofs.cluster.Cluster.try_epoch.Goals as goal
+
+pub one_stops-requires-clause-quiet : goal.one_stops-requires-clause-quiet
+one_stops-requires-clause-quiet g c = (g.N.Net.sent c.args.net.now, rest_is_quiet c.args.self.now.next_epoch (g.N.Net.sent c.args.net.now) c.args.self.now.members c.requires.sound.rests.rest)
+
+-- ---- a node that stops, or no memory for that
+
+pub returns-in_err-one_stops-clause-files : goal.returns-in_err-one_stops-clause-files
+returns-in_err-one_stops-clause-files g c =
+    let k : Cluster = c.args.self.now in
+    let p = err_from_is_err_and c.from_residual.result c.from_residual.ensures.1 in
+    tried_in_vain g.H.Host.moment g.H.Host.observed g.H.Host.said g.H.Host.reads g.H.Host.may_leave g.met.H.Host.only_now c.from_residual.result c.args.requests.items c.args.workers c.args.attempts k (record k { members = c.one_stops.new.members }) c.args.host.now (ap is_err p.1)
+
+pub returns-in_err-one_stops-clause-later : goal.returns-in_err-one_stops-clause-later
+returns-in_err-one_stops-clause-later g c =
+    let a : Around = around g.N.Net.sent g.N.Net.given g.N.Net.faults g.N.Net.last_seed g.P.Power.stops_seen g.P.Power.early_stops g.P.Power.stopped g.P.Power.begun g.P.Power.asked c.args.net.now c.args.power.now in
+    let m : Around = around g.N.Net.sent g.N.Net.given g.N.Net.faults g.N.Net.last_seed g.P.Power.stops_seen g.P.Power.early_stops g.P.Power.stopped g.P.Power.begun g.P.Power.asked c.args.net.now c.one_stops.new.power in
+    later_still a m refl refl refl refl c.one_stops.ensures.counts.early_rises
+
+pub returns-then-branch-clause-comes : goal.returns-then-branch-clause-comes
+returns-then-branch-clause-comes g c m has =
+    let k : Cluster = c.args.self.now in
+    record {
+      same = refl;
+      quiet = (rw c.if-branch.true at c.in_ok-one_stops.ensures.quiet) (g.N.Net.sent c.args.net.now) (rest_is_quiet k.next_epoch (g.N.Net.sent c.args.net.now) k.members c.requires.sound.rests.rest);
+      keeps = stopped_keeps k.members c.one_stops.new.members m c.one_stops.ensures.stays c.requires.up has;
+    }
+
+pub returns-then-branch-clause-cause : goal.returns-then-branch-clause-cause
+returns-then-branch-clause-cause g c =
+    let a : Around = around g.N.Net.sent g.N.Net.given g.N.Net.faults g.N.Net.last_seed g.P.Power.stops_seen g.P.Power.early_stops g.P.Power.stopped g.P.Power.begun g.P.Power.asked c.args.net.now c.args.power.now in
+    let m : Around = around g.N.Net.sent g.N.Net.given g.N.Net.faults g.N.Net.last_seed g.P.Power.stops_seen g.P.Power.early_stops g.P.Power.stopped g.P.Power.begun g.P.Power.asked c.args.net.now c.one_stops.new.power in
+    gives_stopped a m (later_still a m refl refl refl refl c.one_stops.ensures.counts.early_rises) (rw c.if-branch.true at c.in_ok-one_stops.ensures.told)
+
+pub returns-then-branch-clause-stays : goal.returns-then-branch-clause-stays
+returns-then-branch-clause-stays g c = record {
+  procs = refl;
+  kept = refl;
+  base = refl;
+  next = refl;
+  trace = refl;
+  members = stay_stopped c.args.self.now.members c.one_stops.new.members c.one_stops.ensures.stays c.in_ok-one_stops.ensures.logs;
+}
+
+pub returns-then-branch-clause-files : goal.returns-then-branch-clause-files
+returns-then-branch-clause-files g c d rests stands room = (
+  idle_keeps g.H.Host.moment g.H.Host.observed g.H.Host.said g.H.Host.reads g.H.Host.may_leave g.met.H.Host.only_now d c.args.self.now.next_epoch c.args.host.now rests stands.next,
+  stopped_on c.args.self.now c.one_stops.new.members d (g.H.Host.reads c.args.host.now) (g.H.Host.may_leave c.args.host.now) c.one_stops.ensures.stays c.requires.up rests stands,
+)
+
+pub returns-then-branch-clause-ready : goal.returns-then-branch-clause-ready
+returns-then-branch-clause-ready g c = logs_ready c.args.self.now.members.voters.items c.one_stops.new.members.voters.items (g.H.Host.reads c.args.host.now) (g.H.Host.may_leave c.args.host.now) c.in_ok-one_stops.ensures.logs c.requires.ready
+
+pub returns-then-branch-clause-later : goal.returns-then-branch-clause-later
+returns-then-branch-clause-later g c =
+    let a : Around = around g.N.Net.sent g.N.Net.given g.N.Net.faults g.N.Net.last_seed g.P.Power.stops_seen g.P.Power.early_stops g.P.Power.stopped g.P.Power.begun g.P.Power.asked c.args.net.now c.args.power.now in
+    let m : Around = around g.N.Net.sent g.N.Net.given g.N.Net.faults g.N.Net.last_seed g.P.Power.stops_seen g.P.Power.early_stops g.P.Power.stopped g.P.Power.begun g.P.Power.asked c.args.net.now c.one_stops.new.power in
+    later_still a m refl refl refl refl c.one_stops.ensures.counts.early_rises
+
+-- ---- none stops
+
+pub run_and_decide-requires-clause-sound : goal.run_and_decide-requires-clause-sound
+run_and_decide-requires-clause-sound g c _ _ = subst (λ (k : Cluster). IsSound k (g.N.Net.sent c.args.net.now)) (sym (ap (λ (k : Members). record c.args.self.now { members = k }) (c.in_ok-one_stops.ensures.none c.if-branch.false))) c.requires.sound
+
+pub run_and_decide-requires-clause-up : goal.run_and_decide-requires-clause-up
+run_and_decide-requires-clause-up g c _ _ = subst (λ (k : Cluster). NoneBehind k.members.tables) (sym (ap (λ (k : Members). record c.args.self.now { members = k }) (c.in_ok-one_stops.ensures.none c.if-branch.false))) c.requires.up
+
+pub run_and_decide-requires-clause-may : goal.run_and_decide-requires-clause-may
+run_and_decide-requires-clause-may g c _ _ = subst (λ (k : Cluster). MayTurn k c.args.requests.items) (sym (ap (λ (k : Members). record c.args.self.now { members = k }) (c.in_ok-one_stops.ensures.none c.if-branch.false))) c.requires.may
+
+pub run_and_decide-requires-clause-ready : goal.run_and_decide-requires-clause-ready
+run_and_decide-requires-clause-ready g c _ _ = subst (λ (k : Cluster). AreReady k.members.voters.items (g.H.Host.reads c.args.host.now) (g.H.Host.may_leave c.args.host.now)) (sym (ap (λ (k : Members). record c.args.self.now { members = k }) (c.in_ok-one_stops.ensures.none c.if-branch.false))) c.requires.ready
+
+pub returns-clause-comes : goal.returns-clause-comes
+returns-clause-comes g c = subst (λ (k : Cluster). IfOk c.run_and_decide.result (λ tried. (m : Rows) → ShardsHaveMap m k.members.tables → ComesOf tried c.args.requests.items c.args.workers c.args.attempts m (g.N.Net.sent c.run_and_decide.new.net) k c.run_and_decide.new.self)) (ap (λ (k : Members). record c.args.self.now { members = k }) (c.in_ok-one_stops.ensures.none c.if-branch.false)) c.run_and_decide.ensures.comes
+
+pub returns-clause-cause : goal.returns-clause-cause
+returns-clause-cause g c =
+    let a : Around = around g.N.Net.sent g.N.Net.given g.N.Net.faults g.N.Net.last_seed g.P.Power.stops_seen g.P.Power.early_stops g.P.Power.stopped g.P.Power.begun g.P.Power.asked c.args.net.now c.args.power.now in
+    let m : Around = around g.N.Net.sent g.N.Net.given g.N.Net.faults g.N.Net.last_seed g.P.Power.stops_seen g.P.Power.early_stops g.P.Power.stopped g.P.Power.begun g.P.Power.asked c.args.net.now c.one_stops.new.power in
+    let b : Around = around g.N.Net.sent g.N.Net.given g.N.Net.faults g.N.Net.last_seed g.P.Power.stops_seen g.P.Power.early_stops g.P.Power.stopped g.P.Power.begun g.P.Power.asked c.run_and_decide.new.net c.run_and_decide.new.power in
+    tried_from c.run_and_decide.result a m b (later_still a m refl refl refl refl c.one_stops.ensures.counts.early_rises) c.run_and_decide.ensures.cause
+
+pub returns-clause-stays : goal.returns-clause-stays
+returns-clause-stays g c = subst (λ (k : Cluster). OnOk c.run_and_decide.result (StaysInPlace k c.run_and_decide.new.self)) (ap (λ (k : Members). record c.args.self.now { members = k }) (c.in_ok-one_stops.ensures.none c.if-branch.false)) c.run_and_decide.ensures.stays
+
+pub returns-clause-files : goal.returns-clause-files
+returns-clause-files g c = subst (λ (k : Cluster). TriesFiles g.H.Host.moment g.H.Host.observed g.H.Host.said g.H.Host.reads g.H.Host.may_leave c.run_and_decide.result c.args.requests.items c.args.workers c.args.attempts k c.run_and_decide.new.self c.args.host.now c.run_and_decide.new.host) (ap (λ (k : Members). record c.args.self.now { members = k }) (c.in_ok-one_stops.ensures.none c.if-branch.false)) c.run_and_decide.ensures.files
+
+pub returns-clause-others : goal.returns-clause-others
+returns-clause-others g c = subst (λ (k : Cluster). (other : LogState) → IsElsewhere other k.members.voters.items → Stands other (g.H.Host.reads c.args.host.now) (g.H.Host.may_leave c.args.host.now) → Stands other (g.H.Host.reads c.run_and_decide.new.host) (g.H.Host.may_leave c.run_and_decide.new.host)) (ap (λ (k : Members). record c.args.self.now { members = k }) (c.in_ok-one_stops.ensures.none c.if-branch.false)) c.run_and_decide.ensures.others
+
+pub returns-clause-later : goal.returns-clause-later
+returns-clause-later g c =
+    let a : Around = around g.N.Net.sent g.N.Net.given g.N.Net.faults g.N.Net.last_seed g.P.Power.stops_seen g.P.Power.early_stops g.P.Power.stopped g.P.Power.begun g.P.Power.asked c.args.net.now c.args.power.now in
+    let m : Around = around g.N.Net.sent g.N.Net.given g.N.Net.faults g.N.Net.last_seed g.P.Power.stops_seen g.P.Power.early_stops g.P.Power.stopped g.P.Power.begun g.P.Power.asked c.args.net.now c.one_stops.new.power in
+    let b : Around = around g.N.Net.sent g.N.Net.given g.N.Net.faults g.N.Net.last_seed g.P.Power.stops_seen g.P.Power.early_stops g.P.Power.stopped g.P.Power.begun g.P.Power.asked c.run_and_decide.new.net c.run_and_decide.new.power in
+    later_then a m b (later_still a m refl refl refl refl c.one_stops.ensures.counts.early_rises) c.run_and_decide.ensures.later
+
+pub returns-clause-whole : goal.returns-clause-whole
+returns-clause-whole g c = lose_on c.run_and_decide.result (g.P.Power.stops_seen c.args.power.now) (g.P.Power.stops_seen c.one_stops.new.power) (g.P.Power.stops_seen c.run_and_decide.new.power) c.args.self.now.members.voters.items c.one_stops.new.members.voters.items c.run_and_decide.new.self.members.voters.items
+    c.in_ok-one_stops.ensures.whole c.run_and_decide.ensures.whole

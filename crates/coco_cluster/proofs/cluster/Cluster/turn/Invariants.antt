@@ -1,0 +1,40 @@
+use Rattle.std.proofs.Common.{◌≡◌, ◌+◌, ◌*◌, ◌<◌, ◌≤◌, None}
+use Rattle.coco_append.specs.Gaining.{RestsOn}
+use Rattle.coco_letters.specs.Around.{around, spare}
+use Rattle.coco_letters.specs.GivingUp.{AreGivenUp}
+use Rattle.coco_store.specs.Contents.{Contents}
+use Rattle.coco_types.specs.Limits.{epochs_end}
+use Rattle.coco_cluster.specs.Standing.{AllStand, IsSound, StandsAt}
+use Rattle.coco_cluster.specs.Turning.{HasRoom}
+use Rattle.coco_cluster.proofs.TurnLemmas.{GoesOn}
+use Rattle.coco_members.specs.AtRest.{ShardsHaveMap}
+use Rattle.coco_ast.specs.Keyed.{Rows}
+use Rattle.coco_cluster.proofs.cluster.Cluster.turn.Given as goal
+
+-- so far all attempts were given up, and what belongs to the store is as it was
+abbrev pub invariant-loop-attempt : goal.invariant-loop-attempt
+invariant-loop-attempt g l = record {
+  sound : IsSound l.self (g.N.Net.sent l.net);
+  stand : AllStand l.self (g.H.Host.reads l.host) (g.H.Host.may_leave l.host);
+  same : l.requests.items ≡ l.fn.requests.items;
+  given : AreGivenUp l._attempt
+      (around g.N.Net.sent g.N.Net.given g.N.Net.faults g.N.Net.last_seed g.P.Power.stops_seen g.P.Power.early_stops g.P.Power.stopped g.P.Power.begun g.P.Power.asked l.fn.net l.fn.power)
+      (around g.N.Net.sent g.N.Net.given g.N.Net.faults g.N.Net.last_seed g.P.Power.stops_seen g.P.Power.early_stops g.P.Power.stopped g.P.Power.begun g.P.Power.asked l.net l.power);
+  begun : 0 < l._attempt → l.fn.self.next_epoch < epochs_end;
+  low : l.fn.self.next_epoch ≤ l.self.next_epoch;
+  few : 16 * l.self.next_epoch ≤ 16 * l.fn.self.next_epoch + spare
+      (around g.N.Net.sent g.N.Net.given g.N.Net.faults g.N.Net.last_seed g.P.Power.stops_seen g.P.Power.early_stops g.P.Power.stopped g.P.Power.begun g.P.Power.asked l.fn.net l.fn.power)
+      (around g.N.Net.sent g.N.Net.given g.N.Net.faults g.N.Net.last_seed g.P.Power.stops_seen g.P.Power.early_stops g.P.Power.stopped g.P.Power.begun g.P.Power.asked l.net l.power);
+  kept : l.self.kept ≡ record l.fn.self.kept { room = l.self.kept.room };
+  procs : l.self.procs ≡ l.fn.self.procs;
+  layout : l.self.members.tables.layout ≡ l.fn.self.members.tables.layout;
+  seen : g.P.Power.stops_seen l.fn.power ≤ g.P.Power.stops_seen l.power;
+  map : g.P.Power.stops_seen l.power ≡ g.P.Power.stops_seen l.fn.power → (m : Rows) → ShardsHaveMap m l.fn.self.members.tables → ShardsHaveMap m l.self.members.tables;
+  untraced : l.self.trace ≡ None;
+  unused : epochs_end ≤ l.fn.self.next_epoch → l.host ≡ l.fn.host;
+  told : (c : Contents) → RestsOn c (g.H.Host.reads l.fn.host) (g.H.Host.may_leave l.fn.host) → StandsAt c l.fn.self → HasRoom c l.fn.requests.items
+      → GoesOn g.H.Host.moment g.H.Host.observed g.H.Host.said g.H.Host.reads g.H.Host.may_leave c l.self l.fn.host l.host;
+  said : g.H.Host.said l.host ≡ g.H.Host.said l.fn.host;
+  disk : g.H.Host.disk_faults l.host ≡ g.H.Host.disk_faults l.fn.host;
+  stream : g.H.Host.say_faults l.host ≡ g.H.Host.say_faults l.fn.host;
+}
