@@ -5,6 +5,8 @@
 #[cfg(test)]
 mod alone;
 #[cfg(test)]
+mod attempts;
+#[cfg(test)]
 mod gate;
 #[cfg(test)]
 mod made;

@@ -3,7 +3,7 @@
 ghost use Rattle.coco_shard.specs.RowState.{IsSettled};
 
 use coco_shard::*;
-use coco_types::{AttemptId, Key, Machine, NoMemory, Value};
+use coco_types::{AttemptId, Key, Machine, NoMemory, Text, Value};
 use std::alloc::Global;
 use std::test::Fail;
 
@@ -82,5 +82,76 @@ fn a_revert_leaves_the_stable_value_and_a_promote_the_newest(rt: HostRuntime) ->
     let is_reverted = reads_behind(rt.alloc(), false, 1)?;
     let is_promoted = reads_behind(rt.alloc(), true, 2)?;
     assert!(rt; is_reverted && is_promoted);
+    Ok(())
+}
+
+// Whether nobody's install and nobody's release of row 5 are answered with who has locked it.
+fn refuses(shard: &mut Shard, worker: u32, mark: Option<AttemptId>) -> bool {
+    let install = Op::Install {
+        key: FIVE,
+        time: 1,
+        value: int(2),
+    };
+    answers(shard, worker, install, Answer::NotMine { mark })
+        && answers(shard, worker, Op::Release(FIVE), Answer::NotMine { mark })
+}
+
+#[test]
+fn a_row_is_written_by_who_has_locked_it_alone(rt: HostRuntime) -> Result<(), Fail> {
+    let mut shard = Shard::new(rt.alloc());
+    shard.load(FIVE, int(1))?;
+    assert!(rt; refuses(&mut shard, 0, None));
+    let is_locked = answers(
+        &mut shard,
+        0,
+        Op::Lock(FIVE),
+        Answer::Locked { wts: 0, rts: 0 },
+    );
+    let holder = AttemptId {
+        worker: 0,
+        number: 1,
+    };
+    assert!(rt; is_locked && refuses(&mut shard, 1, Some(holder)) && shard.stable(FIVE) == int(1));
+    Ok(())
+}
+
+// Whether row 5 takes this value under a lock, and has it behind a promote.
+fn takes(shard: &mut Shard, value: Option<Value>) -> bool {
+    let op = Op::Install {
+        key: FIVE,
+        time: 1,
+        value,
+    };
+    let got = Answer::Got {
+        wts: 1,
+        rts: 1,
+        value,
+    };
+    let is_installed = answers(shard, 0, Op::Lock(FIVE), Answer::Locked { wts: 0, rts: 0 })
+        && answers(shard, 0, op, Answer::Installed)
+        && answers(shard, 1, Op::Read(FIVE), got);
+    shard.promote();
+    is_installed && shard.stable(FIVE) == value
+}
+
+fn text(of: &str) -> Option<Value> {
+    Text::of(of).map(Value::Text)
+}
+
+#[test]
+fn texts_and_numbers_follow_each_other(rt: HostRuntime) -> Result<(), Fail> {
+    let mut shard = Shard::new(rt.alloc());
+    let values = [
+        text("twelve"),
+        text("thirteen"),
+        int(1),
+        text("one"),
+        None,
+        text("two"),
+    ];
+    for value in values {
+        let is_taken = takes(&mut shard, value);
+        assert!(rt; is_taken);
+    }
     Ok(())
 }

@@ -1,50 +1,112 @@
 //! A row with two versions: the newest one, and the stable one of the last committed epoch.
 #![tactic(auto)]
 
-ghost use Rattle.std.specs.Prelude.{◌≡◌, is_some};
-ghost use Rattle.coco_rows.specs.Versions.{newest_of, at_rest};
+ghost use Rattle.std.specs.Prelude.{◌≡◌, Option, None, IsSome, is_some};
+ghost use Rattle.std.specs.Option.{option_map};
+ghost use Rattle.coco_types.specs.Packing.{lent_value, IsText};
+ghost use Rattle.coco_types.specs.declared.value.Value.{Value as Datum};
+ghost use Rattle.coco_rows.specs.Versions.{newest_beside, newest_of, at_rest, is_touched};
 
-use coco_types::{AttemptId, Value};
+mod mark;
+mod rooms;
+mod stored;
 
-/// The newest version of a row: the stable one, or what was installed in this epoch.
-#[derive(Clone, Copy, Debug, PartialEq, Eq)]
+use coco_types::{Lent, Value};
+pub use mark::Mark;
+pub use rooms::{Room, Rooms, Slip};
+use std::mem;
+pub use stored::Stored;
+use stored::written;
+
+/// The newest version of a row: the stable one, or what was installed in this epoch. It says too whether anything else
+/// than the stable value was touched since the row came to rest.
+#[derive(Debug, Drop)]
 pub enum Newest {
+    Untouched,
     AsStable,
-    Set(Option<Value>),
+    Absent,
+    Int(i64),
+    Text(Room),
 }
 
-/// A row's two versions, its write time and read time in this epoch, and the attempt that has it locked.
-#[derive(Debug, PartialEq, Eq, Drop)]
+/// A row's two versions, its write time and read time in this epoch, and the mark of the attempt that has it locked.
+#[derive(Debug, Drop)]
 pub struct Row {
     pub newest: Newest,
     pub wts: u64,
     pub rts: u64,
-    pub mark: Option<AttemptId>,
-    pub stable: Option<Value>,
+    pub mark: Mark,
+    pub stable: Stored,
+}
+
+impl Newest {
+    /// Sets the newest value, its text in the room. Gives the room back where it has no text for it.
+    pub fn set(&mut self, value: &Option<Value>, room: Option<Room>) -> Option<Room>
+        requires { IsText value.now → IsSome room }
+        ensures { (stable : Option Datum) → newest_beside stable self.new ≡ value.now }
+    {
+        match value {
+            None => {
+                *self = Newest::Absent;
+                room
+            }
+            Some(Value::Int(number)) => {
+                *self = Newest::Int(*number);
+                room
+            }
+            Some(Value::Text(text)) => {
+                match room {
+                    Some(room) => *self = Newest::Text(written(room, text)),
+                    None => unreachable!(),
+                }
+                None
+            }
+        }
+    }
 }
 
 impl Row {
     /// A row with one version, both times 0 and no mark.
-    pub fn at_rest(value: Option<Value>) -> Row
-        ensures { result ≡ at_rest value }
+    pub fn at_rest(stable: Stored) -> Row
+        ensures { result ≡ at_rest stable }
     {
         Row {
-            newest: Newest::AsStable,
+            newest: Newest::Untouched,
             wts: 0,
             rts: 0,
-            mark: None,
-            stable: value,
+            mark: Mark::none(),
+            stable,
+        }
+    }
+
+    /// A row at rest that has no value.
+    pub fn without_value() -> Row
+        ensures { result ≡ at_rest None }
+    {
+        Row::at_rest(Stored::none())
+    }
+
+    /// Whether it is noted as touched.
+    #[inline(always)]
+    pub fn is_touched(&self) -> bool
+        ensures { result ≡ is_touched self.now }
+    {
+        match self.newest {
+            Newest::Untouched => false,
+            Newest::AsStable | Newest::Absent | Newest::Int(_) | Newest::Text(_) => true,
         }
     }
 
     /// The newest value, in its place.
     #[inline(always)]
-    pub fn newest(&self) -> &Option<Value>
-        ensures { result.now ≡ newest_of self.now }
+    pub fn newest(&self) -> Option<Lent<'_>>
+        ensures { option_map lent_value result ≡ newest_of self.now }
     {
         match &self.newest {
-            Newest::AsStable => &self.stable,
-            Newest::Set(value) => value,
+            Newest::Untouched | Newest::AsStable => self.stable.lend(),
+            Newest::Absent => None,
+            Newest::Int(number) => Some(Lent::Int(*number)),
+            Newest::Text(room) => Some(Lent::Text(&room.text)),
         }
     }
 
@@ -52,7 +114,11 @@ impl Row {
     pub fn newest_value(&self) -> Option<Value>
         ensures { result ≡ newest_of self.now }
     {
-        *self.newest()
+        match self.newest() {
+            Some(Lent::Int(number)) => Some(Value::Int(number)),
+            Some(Lent::Text(text)) => Some(Value::Text(*text)),
+            None => None,
+        }
     }
 
     /// Makes the newest value the stable one, sets the times to 0 and clears the mark. Says whether a value stands.
@@ -60,8 +126,11 @@ impl Row {
         ensures row { self.new ≡ at_rest (newest_of self.old) }
         ensures stands { result ≡ is_some (newest_of self.old) }
     {
-        if let Newest::Set(value) = self.newest {
-            self.stable = value;
+        match mem::replace(&mut self.newest, Newest::Untouched) {
+            Newest::Untouched | Newest::AsStable => {}
+            Newest::Absent => self.stable = Stored::none(),
+            Newest::Int(number) => self.stable = Stored::of_int(number),
+            Newest::Text(room) => self.stable = Stored::of_text(room),
         }
         self.revert()
     }
@@ -71,10 +140,10 @@ impl Row {
         ensures row { self.new ≡ at_rest self.old.stable }
         ensures stands { result ≡ is_some self.old.stable }
     {
-        self.newest = Newest::AsStable;
+        self.newest = Newest::Untouched;
         self.wts = 0;
         self.rts = 0;
-        self.mark = None;
+        self.mark = Mark::none();
         self.stable.is_some()
     }
 }

@@ -10,8 +10,8 @@ use Rattle.std.proofs.lemmas.Map.Entries.{sum_by-set_value, sum_by-remove_entry}
 use Rattle.std.proofs.lemmas.List.Sums.{sum_by-cons}
 use Rattle.coco_types.specs.RowKey.{RowKey, key_cmp}
 use Rattle.coco_types.specs.declared.value.Value.{Value}
-use Rattle.coco_rows.specs.Versions.{at_rest}
-use Rattle.coco_shard.specs.declared.kept.Kept.{Kept}
+use Rattle.coco_rows.specs.Versions.{at_rest, is_touched}
+use Rattle.coco_rows.specs.declared.Row.{Row}
 use Rattle.coco_shard.specs.Kept.{kept_at, version_of, rested, settled, waits, IsWhole}
 use Rattle.coco_types.proofs.Keys.{is_key, one_key, key_itself, key_swap}
 use Rattle.coco_shard.proofs.Entries.{set_at}
@@ -24,20 +24,20 @@ some_none h = cc
 
 -- ---- one row
 
-pub record Settles (es fs : List (RowKey × Kept)) (k : RowKey) (promotes : Bool) : Type 0 where
+pub record Settles (es fs : List (RowKey × Row)) (k : RowKey) (promotes : Bool) : Type 0 where
   pub at : (q : RowKey) → kept_at fs q ≡ cond (is_key k q) (settled promotes (kept_at es k)) (kept_at es q)
   pub count : sum_by waits (values_of fs) + length es ≤ sum_by waits (values_of es) + length fs + 1
   pub fewer : length fs ≤ length es
 
-abbrev rest_value : Value → Kept
-rest_value value = record { row = at_rest (Some value); touched = false }
+abbrev rest_value : Value → Row
+rest_value value = at_rest (Some value)
 
-value_left : (o : Option Value) (v : Value) → o ≡ Some v → option_map rest_value o ≡ Some (record { row = at_rest o; touched = false })
+value_left : (o : Option Value) (v : Value) → o ≡ Some v → option_map rest_value o ≡ Some (at_rest o)
 value_left (Some w) v h = refl
 value_left None v h = absurd (some_none (sym h))
 
 -- the look-up of a missing row says nothing else
-settles_missing : (es : List (RowKey × Kept)) (k : RowKey) (promotes : Bool) → kept_at es k ≡ None → Settles es es k promotes
+settles_missing : (es : List (RowKey × Row)) (k : RowKey) (promotes : Bool) → kept_at es k ≡ None → Settles es es k promotes
 settles_missing es k promotes none = record {
   at = λ q. elim (is_key k q) as (λ b. is_key k q ≡ b → kept_at es q ≡ cond b (settled promotes (kept_at es k)) (kept_at es q)) [
     | true ↦ λ t. ap (kept_at es) (sym (one_key k q t)) ∙ none ∙ sym (ap (settled promotes) none)
@@ -47,10 +47,10 @@ settles_missing es k promotes none = record {
   fewer = omega arith;
 }
 
-settles_kept : (es : List (RowKey × Kept)) (k : RowKey) (promotes : Bool) (before : Kept) (v : Value) → kept_at es k ≡ Some before → version_of promotes before.row ≡ Some v
+settles_kept : (es : List (RowKey × Row)) (k : RowKey) (promotes : Bool) (before : Row) (v : Value) → kept_at es k ≡ Some before → version_of promotes before ≡ Some v
     → Settles es (set_value (is_at (key_cmp k)) es (rested promotes before)) k promotes
 settles_kept es k promotes before v was is = record {
-  at = λ q. set_at es k before (rested promotes before) q was ∙ ap (λ o. cond (is_key k q) o (kept_at es q)) (sym (ap (settled promotes) was ∙ value_left (version_of promotes before.row) v is));
+  at = λ q. set_at es k before (rested promotes before) q was ∙ ap (λ o. cond (is_key k q) o (kept_at es q)) (sym (ap (settled promotes) was ∙ value_left (version_of promotes before) v is));
   count = omega (arith, sum_by-set_value waits (is_at (key_cmp k)) es before (rested promotes before) was, length-set_value (is_at (key_cmp k)) es (rested promotes before));
   fewer = omega (arith, length-set_value (is_at (key_cmp k)) es (rested promotes before));
 }
@@ -59,13 +59,13 @@ twice_put : {X : Type 0} (b : Bool) (x : X) (o : Option X) → cond b None (cond
 twice_put true x o = refl
 twice_put false x o = refl
 
-settles_dropped : (es fs : List (RowKey × Kept)) (k : RowKey) (promotes : Bool) (before : Kept) → kept_at es k ≡ Some before → version_of promotes before.row ≡ None
+settles_dropped : (es fs : List (RowKey × Row)) (k : RowKey) (promotes : Bool) (before : Row) → kept_at es k ≡ Some before → version_of promotes before ≡ None
     → let mid = set_value (is_at (key_cmp k)) es (rested promotes before) in
     fs ≡ remove_entry (is_at (key_cmp k)) mid → ((q : RowKey) → kept_at fs q ≡ cond (is_key k q) None (kept_at mid q)) → length fs + cond (is_some (kept_at mid k)) 1 0 ≡ length mid
     → Settles es fs k promotes
 settles_dropped es fs k promotes before was without gone at len =
-    let after : Kept = rested promotes before in
-    let mid : List (RowKey × Kept) = set_value (is_at (key_cmp k)) es after in
+    let after : Row = rested promotes before in
+    let mid : List (RowKey × Row) = set_value (is_at (key_cmp k)) es after in
     let there : kept_at mid k ≡ Some after = set_at es k before after k was ∙ ap (λ b. cond b (Some after) (kept_at es k)) (key_itself k) in
     let sum_mid : sum_by waits (values_of mid) + waits before ≡ sum_by waits (values_of es) + 1 = sum_by-set_value waits (is_at (key_cmp k)) es before after was in
     let sum_gone : sum_by waits (values_of (remove_entry (is_at (key_cmp k)) mid)) + unwrap_or (option_map waits (kept_at mid k)) 0 ≡ sum_by waits (values_of mid) = sum_by-remove_entry waits (is_at (key_cmp k)) mid in
@@ -87,32 +87,32 @@ settles_dropped es fs k promotes before was without gone at len =
     shorter fs d ms es a b = omega arith
 
 -- where the row of the key stands, or there was none
-pub settles_standing : (es mid : List (RowKey × Kept)) (k : RowKey) (promotes stands : Bool)
+pub settles_standing : (es mid : List (RowKey × Row)) (k : RowKey) (promotes stands : Bool)
     → (kept_at es k ≡ None → (mid ≡ es) × (stands ≡ true))
-    → ((kept : Kept) → kept_at es k ≡ Some kept → (mid ≡ set_value (is_at (key_cmp k)) es (rested promotes kept)) × (stands ≡ is_some (version_of promotes kept.row)))
+    → ((kept : Row) → kept_at es k ≡ Some kept → (mid ≡ set_value (is_at (key_cmp k)) es (rested promotes kept)) × (stands ≡ is_some (version_of promotes kept)))
     → stands ≡ true → Settles es mid k promotes
 settles_standing es mid k promotes stands missing found up =
     elim (kept_at es k) as (λ o. kept_at es k ≡ o → Settles es mid k promotes) [
       | None ↦ λ e. subst (λ z. Settles es z k promotes) (sym (missing e).0) (settles_missing es k promotes e)
-      | Some before ↦ λ e. elim (version_of promotes before.row) as (λ v. version_of promotes before.row ≡ v → Settles es mid k promotes) [
+      | Some before ↦ λ e. elim (version_of promotes before) as (λ v. version_of promotes before ≡ v → Settles es mid k promotes) [
         | None ↦ λ v. absurd (two_sides (sym up ∙ (found before e).1 ∙ ap is_some v))
         | Some w ↦ λ v. subst (λ z. Settles es z k promotes) (sym (found before e).0) (settles_kept es k promotes before w e v)
       ] refl
     ] refl
 
 -- where it has no value and is dropped
-pub settles_fallen : (es mid fs : List (RowKey × Kept)) (k : RowKey) (promotes stands : Bool)
+pub settles_fallen : (es mid fs : List (RowKey × Row)) (k : RowKey) (promotes stands : Bool)
     → (kept_at es k ≡ None → (mid ≡ es) × (stands ≡ true))
-    → ((kept : Kept) → kept_at es k ≡ Some kept → (mid ≡ set_value (is_at (key_cmp k)) es (rested promotes kept)) × (stands ≡ is_some (version_of promotes kept.row)))
+    → ((kept : Row) → kept_at es k ≡ Some kept → (mid ≡ set_value (is_at (key_cmp k)) es (rested promotes kept)) × (stands ≡ is_some (version_of promotes kept)))
     → stands ≡ false
     → fs ≡ remove_entry (is_at (key_cmp k)) mid → ((q : RowKey) → kept_at fs q ≡ cond (is_key k q) None (kept_at mid q)) → length fs + cond (is_some (kept_at mid k)) 1 0 ≡ length mid
     → Settles es fs k promotes
 settles_fallen es mid fs k promotes stands missing found down gone at len =
     elim (kept_at es k) as (λ o. kept_at es k ≡ o → Settles es fs k promotes) [
       | None ↦ λ e. absurd (two_sides (sym (missing e).1 ∙ down))
-      | Some before ↦ λ e. elim (version_of promotes before.row) as (λ v. version_of promotes before.row ≡ v → Settles es fs k promotes) [
+      | Some before ↦ λ e. elim (version_of promotes before) as (λ v. version_of promotes before ≡ v → Settles es fs k promotes) [
         | None ↦ λ v.
-            let Dropped : List (RowKey × Kept) → Type 0 = λ m. fs ≡ remove_entry (is_at (key_cmp k)) m → ((q : RowKey) → kept_at fs q ≡ cond (is_key k q) None (kept_at m q)) → length fs + cond (is_some (kept_at m k)) 1 0 ≡ length m → Settles es fs k promotes in
+            let Dropped : List (RowKey × Row) → Type 0 = λ m. fs ≡ remove_entry (is_at (key_cmp k)) m → ((q : RowKey) → kept_at fs q ≡ cond (is_key k q) None (kept_at m q)) → length fs + cond (is_some (kept_at m k)) 1 0 ≡ length m → Settles es fs k promotes in
             subst Dropped (sym (found before e).0) (settles_dropped es fs k promotes before e v) gone at len
         | Some w ↦ λ v. absurd (two_sides (sym (ap is_some v) ∙ sym (found before e).1 ∙ down))
       ] refl
@@ -121,7 +121,7 @@ settles_fallen es mid fs k promotes stands missing found down gone at len =
 -- ---- all of them
 
 -- from the entries `first` on, with the keys ks still to come
-pub record IsSettling (first es : List (RowKey × Kept)) (ks : List RowKey) (promotes : Bool) (room : ℕ) : Type 0 where
+pub record IsSettling (first es : List (RowKey × Row)) (ks : List RowKey) (promotes : Bool) (room : ℕ) : Type 0 where
   pub each : (q : RowKey) → (kept_at es q ≡ settled promotes (kept_at first q)) ⊎ ((list_any (is_at (key_cmp q)) ks ≡ true) × (kept_at es q ≡ kept_at first q))
   pub once : length ks + sum_by waits (values_of es) ≤ length es
   pub enough : length es ≤ room
@@ -130,33 +130,33 @@ rest_stays : (promotes : Bool) (v : Value) → settled promotes (Some (rest_valu
 rest_stays true v = refl
 rest_stays false v = refl
 
-settled_twice : (promotes : Bool) (o : Option Kept) → settled promotes (settled promotes o) ≡ settled promotes o
+settled_twice : (promotes : Bool) (o : Option Row) → settled promotes (settled promotes o) ≡ settled promotes o
 settled_twice promotes None = refl
 settled_twice promotes (Some kept) =
-    elim (version_of promotes kept.row) as (λ v. settled promotes (option_map rest_value v) ≡ option_map rest_value v) [
+    elim (version_of promotes kept) as (λ v. settled promotes (option_map rest_value v) ≡ option_map rest_value v) [
       | None ↦ refl
       | Some v ↦ rest_stays promotes v
     ]
 
 -- a row that isn't touched is settled
-untouched_settled : (promotes : Bool) (kept : Kept) → kept.touched ≡ false → kept.row ≡ at_rest kept.row.stable → IsSome kept.row.stable → settled promotes (Some kept) ≡ Some kept
-untouched_settled promotes kept untouched rest stands =
-    elim kept.row.stable as (λ o. kept.row.stable ≡ o → is_some o ≡ true → settled promotes (Some kept) ≡ Some kept) [
+untouched_settled : (promotes : Bool) (kept : Row) → kept ≡ at_rest kept.stable → IsSome kept.stable → settled promotes (Some kept) ≡ Some kept
+untouched_settled promotes kept rest stands =
+    elim kept.stable as (λ o. kept.stable ≡ o → is_some o ≡ true → settled promotes (Some kept) ≡ Some kept) [
       | None ↦ λ e h. absurd (two_sides (sym h))
       | Some v ↦ λ e h.
-          let row : kept.row ≡ at_rest (Some v) = rest ∙ ap at_rest e in
-          let back : ◌≡◌ {A = Option Kept} (Some (rest_value v)) (Some kept) = λ i. Some (record { row = sym row i; touched = sym untouched i }) in
+          let row : kept ≡ at_rest (Some v) = rest ∙ ap at_rest e in
+          let back : ◌≡◌ {A = Option Row} (Some (rest_value v)) (Some kept) = ap Some (sym row) in
           ap (λ r. option_map rest_value (version_of promotes r)) row ∙ rest_stays promotes v ∙ back
     ] refl stands
 
-pub settling_start : (es : List (RowKey × Kept)) (ks : List RowKey) (promotes : Bool) (room : ℕ) → IsWhole es ks room → IsSettling es es ks promotes room
+pub settling_start : (es : List (RowKey × Row)) (ks : List RowKey) (promotes : Bool) (room : ℕ) → IsWhole es ks room → IsSettling es es ks promotes room
 settling_start es ks promotes room whole = record {
   each = λ q.
       elim (kept_at es q) as (λ o. kept_at es q ≡ o → (o ≡ settled promotes o) ⊎ ((list_any (is_at (key_cmp q)) ks ≡ true) × (o ≡ o))) [
         | None ↦ λ e. inl refl
-        | Some kept ↦ λ e. elim kept.touched as (λ t. kept.touched ≡ t → (Some kept ≡ settled promotes (Some kept)) ⊎ ((list_any (is_at (key_cmp q)) ks ≡ true) × (Some kept ≡ Some kept))) [
+        | Some kept ↦ λ e. elim (is_touched kept) as (λ t. is_touched kept ≡ t → (Some kept ≡ settled promotes (Some kept)) ⊎ ((list_any (is_at (key_cmp q)) ks ≡ true) × (Some kept ≡ Some kept))) [
           | true ↦ λ t. inr (whole.listed q kept e t, refl)
-          | false ↦ λ t. inl (sym (untouched_settled promotes kept t (whole.sound q kept e t).0 (whole.sound q kept e t).1))
+          | false ↦ λ t. inl (sym (untouched_settled promotes kept (whole.sound q kept e t).0 (whole.sound q kept e t).1))
         ] refl
       ] refl;
   once = whole.once;
@@ -171,7 +171,7 @@ not_last : (ks : List RowKey) (k q : RowKey) → is_key q k ≡ false → list_a
 not_last ks k q apart h =
     or_none (list_any (is_at (key_cmp q)) ks) ∙ ap (λ b. list_any (is_at (key_cmp q)) ks || (b || false)) (sym apart) ∙ sym (list_any-append (is_at (key_cmp q)) ks (k ∷ [])) ∙ h
 
-pub settling_step : (first es fs : List (RowKey × Kept)) (ks : List RowKey) (k : RowKey) (promotes : Bool) (room : ℕ)
+pub settling_step : (first es fs : List (RowKey × Row)) (ks : List RowKey) (k : RowKey) (promotes : Bool) (room : ℕ)
     → IsSettling first es (ks ++ k ∷ []) promotes room → Settles es fs k promotes → IsSettling first fs ks promotes room
 settling_step first es fs ks k promotes room was did = record {
   each = λ q.
@@ -193,26 +193,26 @@ settling_step first es fs ks k promotes room was did = record {
   enough = omega (arith, was.enough, did.fewer);
 }
 
-pub settled_at_end : (first es : List (RowKey × Kept)) (promotes : Bool) (room : ℕ) → IsSettling first es [] promotes room → (q : RowKey) → kept_at es q ≡ settled promotes (kept_at first q)
+pub settled_at_end : (first es : List (RowKey × Row)) (promotes : Bool) (room : ℕ) → IsSettling first es [] promotes room → (q : RowKey) → kept_at es q ≡ settled promotes (kept_at first q)
 settled_at_end first es promotes room was q = elim (was.each q) [ inl done ↦ done | inr still ↦ absurd (two_sides (sym still.0)) ]
 
-abbrev IsRested : Kept → Type 0
-IsRested kept = (kept.touched ≡ false) × (kept.row ≡ at_rest kept.row.stable) × IsSome kept.row.stable
+abbrev IsRested : Row → Type 0
+IsRested kept = (is_touched kept ≡ false) × (kept ≡ at_rest kept.stable) × IsSome kept.stable
 
 some_same : {X : Type 0} (x y : X) → Some x ≡ Some y → x ≡ y
 some_same x y h = cc
 
-settled_rests : (promotes : Bool) (o : Option Kept) (kept : Kept) → settled promotes o ≡ Some kept → IsRested kept
+settled_rests : (promotes : Bool) (o : Option Row) (kept : Row) → settled promotes o ≡ Some kept → IsRested kept
 settled_rests promotes None kept h = absurd (some_none (sym h))
 settled_rests promotes (Some before) kept h =
-    elim (version_of promotes before.row) as (λ v. option_map rest_value v ≡ Some kept → IsRested kept) [
+    elim (version_of promotes before) as (λ v. option_map rest_value v ≡ Some kept → IsRested kept) [
       | None ↦ λ h. absurd (some_none (sym h))
       | Some v ↦ λ h. subst IsRested (some_same (rest_value v) kept h) (refl, refl, refl)
     ] h
 
-pub whole_at_end : (first es : List (RowKey × Kept)) (promotes : Bool) (room : ℕ) → IsSettling first es [] promotes room → IsWhole es [] room
+pub whole_at_end : (first es : List (RowKey × Row)) (promotes : Bool) (room : ℕ) → IsSettling first es [] promotes room → IsWhole es [] room
 whole_at_end first es promotes room was =
-    let rests : (q : RowKey) (kept : Kept) → kept_at es q ≡ Some kept → IsRested kept = λ q kept is. settled_rests promotes (kept_at first q) kept (sym (settled_at_end first es promotes room was q) ∙ is) in
+    let rests : (q : RowKey) (kept : Row) → kept_at es q ≡ Some kept → IsRested kept = λ q kept is. settled_rests promotes (kept_at first q) kept (sym (settled_at_end first es promotes room was q) ∙ is) in
     record {
       sound = λ q kept is _. ((rests q kept is).1, (rests q kept is).2);
       listed = λ q kept is t. absurd (two_sides (sym t ∙ (rests q kept is).0));
@@ -226,22 +226,22 @@ no_items (x ∷ xs) h = absurd (omega arith)
 
 -- ---- a row that goes while none is listed
 
-waits_few : (es : List (RowKey × Kept)) → 0 + sum_by waits (values_of es) ≤ length es
+waits_few : (es : List (RowKey × Row)) → 0 + sum_by waits (values_of es) ≤ length es
 waits_few [] = omega arith
 waits_few (e ∷ es) =
     let rest : 0 + sum_by waits (values_of es) ≤ length es = waits_few es in
     let one : sum_by waits (values_of (e ∷ es)) ≡ waits e.1 + sum_by waits (values_of es) = sum_by-cons waits e.1 (values_of es) in
-    let few : waits e.1 ≤ 1 = at_most_one e.1.touched in
+    let few : waits e.1 ≤ 1 = at_most_one (is_touched e.1) in
     omega arith
   where
     at_most_one : (t : Bool) → cond t 0 1 ≤ 1
     at_most_one true = omega arith
     at_most_one false = omega arith
 
-pub whole_without : (es fs : List (RowKey × Kept)) (k : RowKey) (room : ℕ) → IsWhole es [] room
+pub whole_without : (es fs : List (RowKey × Row)) (k : RowKey) (room : ℕ) → IsWhole es [] room
     → ((q : RowKey) → kept_at fs q ≡ cond (is_key k q) None (kept_at es q)) → length fs + cond (is_some (kept_at es k)) 1 0 ≡ length es → IsWhole fs [] room
 whole_without es fs k room whole at len =
-    let before : (q : RowKey) (kept : Kept) → kept_at fs q ≡ Some kept → kept_at es q ≡ Some kept = λ q kept is. found (is_key k q) (kept_at es q) kept (sym (at q) ∙ is) in
+    let before : (q : RowKey) (kept : Row) → kept_at fs q ≡ Some kept → kept_at es q ≡ Some kept = λ q kept is. found (is_key k q) (kept_at es q) kept (sym (at q) ∙ is) in
     record {
       sound = λ q kept is. whole.sound q kept (before q kept is);
       listed = λ q kept is. whole.listed q kept (before q kept is);
@@ -249,6 +249,6 @@ whole_without es fs k room whole at len =
       room = omega (arith, whole.room, len);
     }
   where
-    found : (b : Bool) (o : Option Kept) (kept : Kept) → cond b None o ≡ Some kept → o ≡ Some kept
+    found : (b : Bool) (o : Option Row) (kept : Row) → cond b None o ≡ Some kept → o ≡ Some kept
     found true o kept h = absurd (some_none (sym h))
     found false o kept h = h

@@ -4,7 +4,7 @@ use Rattle.std.specs.Option.{option_map, unwrap_or}
 use Rattle.std.specs.FinMap.{get, insert, empty, get-empty}
 use Rattle.coco_types.specs.RowKey.{RowKey, key_cmp}
 use Rattle.coco_types.specs.declared.value.Value.{Value}
-use Rattle.coco_shard.specs.declared.kept.Kept.{Kept}
+use Rattle.coco_rows.specs.declared.Row.{Row}
 use Rattle.coco_shard.specs.RowState.{RowState, ShardState, resting, row_at, Holds, IsSettled, loaded}
 use Rattle.coco_shard.specs.Kept.{view_of}
 use Rattle.coco_types.proofs.Keys.{is_key}
@@ -36,7 +36,7 @@ loads_settle s k None settled = λ q.
     let P : Option RowState → Type 0 = λ o. o ≡ option_map (λ value. resting (Some value)) (unwrap_or o (resting None)).stable in
     subst P (sym (get_taken s k q)) (take_settles (is_key k q) (get s q) (settled q))
 
-pub loaded_settled : {T E : Type 0} (r : Result T E) (es fs : List (RowKey × Kept)) (k : RowKey) (value : Option Value) → IsSettled (view_of es)
+pub loaded_settled : {T E : Type 0} (r : Result T E) (es fs : List (RowKey × Row)) (k : RowKey) (value : Option Value) → IsSettled (view_of es)
     → OnOk r (view_of fs ≡ loaded (view_of es) k value) → OnErr r (fs ≡ es) → IsSettled (view_of fs)
 loaded_settled (Ok x) es fs k value settled ok err = subst IsSettled (sym ok) (loads_settle (view_of es) k value settled)
 loaded_settled (Err e) es fs k value settled ok err = subst IsSettled (sym (ap view_of err)) settled

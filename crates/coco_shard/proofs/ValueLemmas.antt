@@ -13,54 +13,54 @@ use Rattle.std.proofs.lemmas.Map.Entries.{none_past_head}
 use Rattle.std.proofs.lemmas.Map.Keys.{IsDistinct-from_sorted, sorted_head, sorted_tail}
 use Rattle.coco_types.specs.RowKey.{RowKey, key_cmp}
 use Rattle.coco_types.specs.declared.value.Value.{Value}
-use Rattle.coco_rows.specs.Versions.{at_rest}
-use Rattle.coco_shard.specs.declared.kept.Kept.{Kept}
+use Rattle.coco_rows.specs.Versions.{at_rest, is_touched}
+use Rattle.coco_rows.specs.declared.Row.{Row}
 use Rattle.coco_shard.specs.RowState.{resting, row_at, value_at, Holds, IsSettled, ListsRows, IsGreatestTime}
 use Rattle.coco_shard.specs.Kept.{IsWhole, kept_at, version_of, entry_of, values_in, most_rts, rts_of, settled, view_of, state_of}
 use Rattle.coco_types.proofs.Keys.{is_key, keys_total, one_key}
 use Rattle.coco_types.proofs.KeyMaps.{same_keyed}
 use Rattle.coco_shard.proofs.Entries.{get_view, state_in, row_in, no_row_in}
 
-abbrev IsRising : List (RowKey × Kept) → Type 0
+abbrev IsRising : List (RowKey × Row) → Type 0
 IsRising es = IsStrictlySortedBy key_cmp (keys_of es)
 
-tail_rises : (e : RowKey × Kept) (es : List (RowKey × Kept)) → IsRising (e ∷ es) → IsRising es
+tail_rises : (e : RowKey × Row) (es : List (RowKey × Row)) → IsRising (e ∷ es) → IsRising es
 tail_rises e es rising = sorted_tail key_cmp e.0 (keys_of es) rising
 
 -- the first key stands once
-once_first : (e : RowKey × Kept) (es : List (RowKey × Kept)) (k : RowKey) → IsRising (e ∷ es) → is_key k e.0 ≡ true → kept_at es k ≡ None
+once_first : (e : RowKey × Row) (es : List (RowKey × Row)) (k : RowKey) → IsRising (e ∷ es) → is_key k e.0 ≡ true → kept_at es k ≡ None
 once_first e es k rising t = lookup-none (is_at (key_cmp k)) es (none_past_head (eq_by_cmp_equiv keys_total) k e es (IsDistinct-from_sorted key_cmp (keys_of (e ∷ es)) rising) t)
 
 -- ---- the values of one version
 
-all_kept : (P : RowKey → Type 0) (newest : Bool) (es : List (RowKey × Kept)) → AllByRecursion P (keys_of es) → AllByRecursion P (keys_of (values_in newest es))
+all_kept : (P : RowKey → Type 0) (newest : Bool) (es : List (RowKey × Row)) → AllByRecursion P (keys_of es) → AllByRecursion P (keys_of (values_in newest es))
 all_kept P newest [] all = all
 all_kept P newest (e ∷ es) all =
-    elim (version_of newest e.1.row) as (λ v. AllByRecursion P (keys_of (entry_of e.0 v ++ values_in newest es))) [
+    elim (version_of newest e.1) as (λ v. AllByRecursion P (keys_of (entry_of e.0 v ++ values_in newest es))) [
       | None ↦ all_kept P newest es all.1
       | Some v ↦ (all.0, all_kept P newest es all.1)
     ]
 
-values_rise : (newest : Bool) (es : List (RowKey × Kept)) → IsRising es → IsStrictlySortedBy key_cmp (keys_of (values_in newest es))
+values_rise : (newest : Bool) (es : List (RowKey × Row)) → IsRising es → IsStrictlySortedBy key_cmp (keys_of (values_in newest es))
 unfolding IsStrictlySortedBy
 values_rise newest [] rising = rising
 values_rise newest (e ∷ es) rising =
     let rest : IsStrictlySortedBy key_cmp (keys_of (values_in newest es)) = values_rise newest es (tail_rises e es rising) in
     let above : AllByRecursion (λ y. key_cmp e.0 y ≡ Less) (keys_of (values_in newest es)) = all_kept (λ y. key_cmp e.0 y ≡ Less) newest es (sorted_head key_cmp e.0 (keys_of es) rising) in
-    elim (version_of newest e.1.row) as (λ v. IsStrictlySortedBy key_cmp (keys_of (entry_of e.0 v ++ values_in newest es))) [
+    elim (version_of newest e.1) as (λ v. IsStrictlySortedBy key_cmp (keys_of (entry_of e.0 v ++ values_in newest es))) [
       | None ↦ rest
       | Some v ↦ (above, rest)
     ]
 
-abbrev value_in : Bool → Option Kept → Option Value
+abbrev value_in : Bool → Option Row → Option Value
 value_in newest None = None
-value_in newest (Some kept) = version_of newest kept.row
+value_in newest (Some kept) = version_of newest kept
 
-lookup_values : (newest : Bool) (es : List (RowKey × Kept)) (k : RowKey) → IsRising es → lookup (is_at (key_cmp k)) (values_in newest es) ≡ value_in newest (kept_at es k)
+lookup_values : (newest : Bool) (es : List (RowKey × Row)) (k : RowKey) → IsRising es → lookup (is_at (key_cmp k)) (values_in newest es) ≡ value_in newest (kept_at es k)
 lookup_values newest [] k rising = refl
 lookup_values newest (e ∷ es) k rising =
     let rest : lookup (is_at (key_cmp k)) (values_in newest es) ≡ value_in newest (kept_at es k) = lookup_values newest es k (tail_rises e es rising) in
-    elim (version_of newest e.1.row) as (λ v. version_of newest e.1.row ≡ v → lookup (is_at (key_cmp k)) (entry_of e.0 v ++ values_in newest es) ≡ value_in newest (cond (is_key k e.0) (Some e.1) (kept_at es k))) [
+    elim (version_of newest e.1) as (λ v. version_of newest e.1 ≡ v → lookup (is_at (key_cmp k)) (entry_of e.0 v ++ values_in newest es) ≡ value_in newest (cond (is_key k e.0) (Some e.1) (kept_at es k))) [
       | None ↦ λ is. rest ∙ elim (is_key k e.0) as (λ b. is_key k e.0 ≡ b → value_in newest (kept_at es k) ≡ value_in newest (cond b (Some e.1) (kept_at es k))) [
         | true ↦ λ t. ap (value_in newest) (once_first e es k rising t) ∙ sym is
         | false ↦ λ _. refl
@@ -71,7 +71,7 @@ lookup_values newest (e ∷ es) k rising =
       ]
     ] refl
 
-value_of_kept : (stable : Bool) (es : List (RowKey × Kept)) (k : RowKey) → value_in (not stable) (kept_at es k) ≡ value_at stable (view_of es) k
+value_of_kept : (stable : Bool) (es : List (RowKey × Row)) (k : RowKey) → value_in (not stable) (kept_at es k) ≡ value_at stable (view_of es) k
 value_of_kept stable es k = elim (kept_at es k) as (λ o. kept_at es k ≡ o → value_in (not stable) o ≡ value_at stable (view_of es) k) [
   | None ↦ λ e. none_of stable ∙ sym (ap (λ row. cond stable row.stable row.newest) (no_row_in es k e))
   | Some kept ↦ λ e. some_of stable kept ∙ sym (ap (λ row. cond stable row.stable row.newest) (row_in es k kept e))
@@ -81,11 +81,11 @@ value_of_kept stable es k = elim (kept_at es k) as (λ o. kept_at es k ≡ o →
     none_of true = refl
     none_of false = refl
 
-    some_of : (stable : Bool) (kept : Kept) → version_of (not stable) kept.row ≡ cond stable (state_of kept.row).stable (state_of kept.row).newest
+    some_of : (stable : Bool) (kept : Row) → version_of (not stable) kept ≡ cond stable (state_of kept).stable (state_of kept).newest
     some_of true kept = refl
     some_of false kept = refl
 
-pub lists_rows : (stable : Bool) (es : List (RowKey × Kept)) → IsRising es → ListsRows (value_at stable (view_of es)) (values_in (not stable) es)
+pub lists_rows : (stable : Bool) (es : List (RowKey × Row)) → IsRising es → ListsRows (value_at stable (view_of es)) (values_in (not stable) es)
 lists_rows stable es rising = record {
   rising = values_rise (not stable) es rising;
   each = λ k. lookup_values (not stable) es k rising ∙ value_of_kept stable es k;
@@ -96,13 +96,13 @@ lists_rows stable es rising = record {
 two_sides : true ≡ false → ⊥
 two_sides h = cc
 
-rts_in : (es : List (RowKey × Kept)) (k : RowKey) → (row_at (view_of es) k).rts ≡ rts_of (kept_at es k)
+rts_in : (es : List (RowKey × Row)) (k : RowKey) → (row_at (view_of es) k).rts ≡ rts_of (kept_at es k)
 rts_in es k = elim (kept_at es k) as (λ o. kept_at es k ≡ o → (row_at (view_of es) k).rts ≡ rts_of o) [
   | None ↦ λ e. ap (λ row. row.rts) (no_row_in es k e)
   | Some kept ↦ λ e. ap (λ row. row.rts) (row_in es k kept e)
 ] refl
 
-listed_bounds : (es : List (RowKey × Kept)) (ks : List RowKey) (k : RowKey) → list_any (is_at (key_cmp k)) ks ≡ true → rts_of (kept_at es k) ≤ most_rts es ks
+listed_bounds : (es : List (RowKey × Row)) (ks : List RowKey) (k : RowKey) → list_any (is_at (key_cmp k)) ks ≡ true → rts_of (kept_at es k) ≤ most_rts es ks
 listed_bounds es [] k h = absurd (two_sides (sym h))
 listed_bounds es (x ∷ ks) k h =
     elim (is_key k x) as (λ b. is_key k x ≡ b → rts_of (kept_at es k) ≤ max (rts_of (kept_at es x)) (most_rts es ks)) [
@@ -113,19 +113,19 @@ listed_bounds es (x ∷ ks) k h =
     ] refl
 
 -- a row that isn't listed is at rest, so it has no read time
-kept_bounds : (es : List (RowKey × Kept)) (ks : List RowKey) (room : ℕ) → IsWhole es ks room → (k : RowKey) → rts_of (kept_at es k) ≤ most_rts es ks
+kept_bounds : (es : List (RowKey × Row)) (ks : List RowKey) (room : ℕ) → IsWhole es ks room → (k : RowKey) → rts_of (kept_at es k) ≤ most_rts es ks
 kept_bounds es ks room whole k = elim (kept_at es k) as (λ o. kept_at es k ≡ o → rts_of o ≤ most_rts es ks) [
   | None ↦ λ _. omega arith
-  | Some kept ↦ λ e. elim kept.touched as (λ t. kept.touched ≡ t → kept.row.rts ≤ most_rts es ks) [
+  | Some kept ↦ λ e. elim (is_touched kept) as (λ t. is_touched kept ≡ t → kept.rts ≤ most_rts es ks) [
     | true ↦ λ t.
         let below : rts_of (kept_at es k) ≤ most_rts es ks = listed_bounds es ks k (whole.listed k kept e t) in
-        let same : rts_of (kept_at es k) ≡ kept.row.rts = ap rts_of e in
+        let same : rts_of (kept_at es k) ≡ kept.rts = ap rts_of e in
         omega arith
-    | false ↦ λ t. let none : kept.row.rts ≡ 0 = ap (λ row. row.rts) (whole.sound k kept e t).0 in omega arith
+    | false ↦ λ t. let none : kept.rts ≡ 0 = ap (λ row. row.rts) (whole.sound k kept e t).0 in omega arith
   ] refl
 ] refl
 
-has_most : (es : List (RowKey × Kept)) (ks : List RowKey) → (most_rts es ks ≡ 0) ⊎ ((k : RowKey) × (rts_of (kept_at es k) ≡ most_rts es ks))
+has_most : (es : List (RowKey × Row)) (ks : List RowKey) → (most_rts es ks ≡ 0) ⊎ ((k : RowKey) × (rts_of (kept_at es k) ≡ most_rts es ks))
 has_most es [] = inl refl
 has_most es (x ∷ ks) =
     elim (cases_lt (rts_of (kept_at es x)) (most_rts es ks)) [
@@ -136,7 +136,7 @@ has_most es (x ∷ ks) =
       | inr more ↦ inr (x, omega arith)
     ]
 
-pub most_is_greatest : (es : List (RowKey × Kept)) (ks : List RowKey) (room : ℕ) → IsWhole es ks room → IsGreatestTime (view_of es) (most_rts es ks)
+pub most_is_greatest : (es : List (RowKey × Row)) (ks : List RowKey) (room : ℕ) → IsWhole es ks room → IsGreatestTime (view_of es) (most_rts es ks)
 most_is_greatest es ks room whole =
     let bounds : (k : RowKey) → (row_at (view_of es) k).rts ≤ most_rts es ks =
     λ k. let same : (row_at (view_of es) k).rts ≡ rts_of (kept_at es k) = rts_in es k in
@@ -152,19 +152,19 @@ most_is_greatest es ks room whole =
 
 -- ---- an epoch's end
 
-abbrev rest_kept : Value → Kept
-rest_kept value = record { row = at_rest (Some value); touched = false }
+abbrev rest_kept : Value → Row
+rest_kept value = at_rest (Some value)
 
-settled_state : (stable : Bool) (es : List (RowKey × Kept)) (k : RowKey) → state_in (settled (not stable) (kept_at es k)) ≡ option_map (λ value. resting (Some value)) (value_at stable (view_of es) k)
+settled_state : (stable : Bool) (es : List (RowKey × Row)) (k : RowKey) → state_in (settled (not stable) (kept_at es k)) ≡ option_map (λ value. resting (Some value)) (value_at stable (view_of es) k)
 settled_state stable es k =
     elim (kept_at es k) as (λ o. state_in (settled (not stable) o) ≡ option_map (λ value. resting (Some value)) (value_in (not stable) o)) [
       | None ↦ refl
-      | Some kept ↦ elim (version_of (not stable) kept.row) as (λ v. state_in (option_map rest_kept v) ≡ option_map (λ value. resting (Some value)) v) [ None ↦ refl | Some v ↦ refl ]
+      | Some kept ↦ elim (version_of (not stable) kept) as (λ v. state_in (option_map rest_kept v) ≡ option_map (λ value. resting (Some value)) v) [ None ↦ refl | Some v ↦ refl ]
     ] ∙ ap (option_map (λ value. resting (Some value))) (value_of_kept stable es k)
 
-pub settled_holds : (stable : Bool) (es fs : List (RowKey × Kept)) → ((q : RowKey) → kept_at fs q ≡ settled (not stable) (kept_at es q)) → Holds (value_at stable (view_of es)) (view_of fs)
+pub settled_holds : (stable : Bool) (es fs : List (RowKey × Row)) → ((q : RowKey) → kept_at fs q ≡ settled (not stable) (kept_at es q)) → Holds (value_at stable (view_of es)) (view_of fs)
 settled_holds stable es fs rows = λ k. get_view fs k ∙ ap state_in (rows k) ∙ settled_state stable es k
 
 -- where all rows are at rest, a settling changes nothing that is seen
-pub settle_stays : (es fs : List (RowKey × Kept)) → IsSettled (view_of es) → ((q : RowKey) → kept_at fs q ≡ settled false (kept_at es q)) → view_of fs ≡ view_of es
+pub settle_stays : (es fs : List (RowKey × Row)) → IsSettled (view_of es) → ((q : RowKey) → kept_at fs q ≡ settled false (kept_at es q)) → view_of fs ≡ view_of es
 settle_stays es fs still rows = same_keyed _ _ (λ k. settled_holds true es fs rows k ∙ sym (still k))

@@ -10,7 +10,9 @@ use Rattle.std.proofs.lemmas.Map.{length-set_value}
 use Rattle.std.proofs.lemmas.Map.Entries.{sum_by-set_value, sum_by-insert_entry}
 use Rattle.std.proofs.lemmas.List.Folds.{list_any-append}
 use Rattle.coco_types.specs.RowKey.{RowKey, key_cmp}
-use Rattle.coco_shard.specs.declared.kept.Kept.{Kept}
+use Rattle.coco_rows.specs.declared.Row.{Row}
+use Rattle.coco_rows.specs.Versions.{is_touched}
+use Rattle.coco_rows.specs.declared.Newest.TheVariants.{AsStable}
 use Rattle.coco_shard.specs.Kept.{kept_at, waits, IsWhole, IsSound}
 use Rattle.coco_types.proofs.Keys.{is_key, one_key, key_itself, keys_total}
 use Rattle.coco_shard.proofs.Entries.{set_at}
@@ -31,15 +33,15 @@ any_last : (ks : List RowKey) (k q : RowKey) → is_key q k ≡ true → list_an
 any_last ks k q h = list_any-append (is_at (key_cmp q)) ks (k ∷ []) ∙ ap (λ b. list_any (is_at (key_cmp q)) ks || (b || false)) h ∙ or_true (list_any (is_at (key_cmp q)) ks)
 
 -- what a look-up found after a write: the row that was written, or one from before
-put_cases : (b : Bool) (after : Kept) (old : Option Kept) (kept : Kept) → cond b (Some after) old ≡ Some kept → ((b ≡ true) × (after ≡ kept)) ⊎ ((b ≡ false) × (old ≡ Some kept))
+put_cases : (b : Bool) (after : Row) (old : Option Row) (kept : Row) → cond b (Some after) old ≡ Some kept → ((b ≡ true) × (after ≡ kept)) ⊎ ((b ≡ false) × (old ≡ Some kept))
 put_cases true after old kept h = inl (refl, cc)
 put_cases false after old kept h = inr (refl, h)
 
-pub whole_after : (es fs : List (RowKey × Kept)) (ks : List RowKey) (room more : ℕ) (k : RowKey) (after : Kept) (touches : Bool)
+pub whole_after : (es fs : List (RowKey × Row)) (ks : List RowKey) (room more : ℕ) (k : RowKey) (after : Row) (touches : Bool)
     → IsWhole es ks room
     → ((q : RowKey) → kept_at fs q ≡ cond (is_key k q) (Some after) (kept_at es q))
     → IsSound after
-    → (after.touched ≡ true → (touches ≡ true) ⊎ (list_any (is_at (key_cmp k)) ks ≡ true))
+    → (is_touched after ≡ true → (touches ≡ true) ⊎ (list_any (is_at (key_cmp k)) ks ≡ true))
     → length (with_key touches ks k) + sum_by waits (values_of fs) ≤ length fs
     → length fs ≤ more
     → IsWhole fs (with_key touches ks k) more
@@ -52,7 +54,7 @@ whole_after es fs ks room more k after touches whole at sound stands once enough
   listed = λ q kept is t.
       elim (put_cases (is_key k q) after (kept_at es q) kept (sym (at q) ∙ is)) [
         | inl h ↦ subst (λ z. list_any (is_at (key_cmp z)) (with_key touches ks k) ≡ true) (one_key k q h.0)
-            (elim (stands (ap (λ x. x.touched) h.1 ∙ t)) [
+            (elim (stands (ap is_touched h.1 ∙ t)) [
               | inl now ↦ ap (λ b. list_any (is_at (key_cmp k)) (with_key b ks k)) now ∙ any_last ks k k (key_itself k)
               | inr before ↦ any_more touches ks k k before
             ])
@@ -87,39 +89,39 @@ length-with_key : (touches : Bool) (ks : List RowKey) (k : RowKey) → length (w
 length-with_key true ks k = length-append ks (k ∷ [])
 length-with_key false ks k = refl
 
-pub put_back_whole : (es : List (RowKey × Kept)) (ks : List RowKey) (room more : ℕ) (k : RowKey) (before after : Kept) (touches : Bool)
-    → IsWhole es ks room → kept_at es k ≡ Some before → IsSound after → after.touched ≡ before.touched || touches → (touches ≡ true → before.touched ≡ false) → room ≤ more
+pub put_back_whole : (es : List (RowKey × Row)) (ks : List RowKey) (room more : ℕ) (k : RowKey) (before after : Row) (touches : Bool)
+    → IsWhole es ks room → kept_at es k ≡ Some before → IsSound after → is_touched after ≡ is_touched before || touches → (touches ≡ true → is_touched before ≡ false) → room ≤ more
     → IsWhole (set_value (is_at (key_cmp k)) es after) (with_key touches ks k) more
 put_back_whole es ks room more k before after touches whole was sound is once le =
     let same : length (set_value (is_at (key_cmp k)) es after) ≡ length es = length-set_value (is_at (key_cmp k)) es after in
     let sums : sum_by waits (values_of (set_value (is_at (key_cmp k)) es after)) + waits before ≡ sum_by waits (values_of es) + waits after = sum_by-set_value waits (is_at (key_cmp k)) es before after was in
-    let few : cond touches (length ks + 1) (length ks) + sum_by waits (values_of (set_value (is_at (key_cmp k)) es after)) ≤ length es = counts before.touched after.touched touches (length ks) _ _ (length es) is once whole.once sums in
+    let few : cond touches (length ks + 1) (length ks) + sum_by waits (values_of (set_value (is_at (key_cmp k)) es after)) ≤ length es = counts (is_touched before) (is_touched after) touches (length ks) _ _ (length es) is once whole.once sums in
     whole_after es (set_value (is_at (key_cmp k)) es after) ks room more k after touches whole (λ q. set_at es k before after q was) sound
-    (λ t. elim (or_cases before.touched touches (sym is ∙ t)) [ inl now ↦ inl now | inr old ↦ inr (whole.listed k before was old) ])
+    (λ t. elim (or_cases (is_touched before) touches (sym is ∙ t)) [ inl now ↦ inl now | inr old ↦ inr (whole.listed k before was old) ])
     (rw (length-with_key touches ks k, same) few)
     (omega (arith, same, whole.room))
 
 -- the list has room for one more key
-pub room_left : (es : List (RowKey × Kept)) (ks : List RowKey) (room : ℕ) (k : RowKey) (before : Kept) → IsWhole es ks room → kept_at es k ≡ Some before → before.touched ≡ false → length ks < room
+pub room_left : (es : List (RowKey × Row)) (ks : List RowKey) (room : ℕ) (k : RowKey) (before : Row) → IsWhole es ks room → kept_at es k ≡ Some before → is_touched before ≡ false → length ks < room
 room_left es ks room k before whole was not =
-    let taken : Kept = record before { touched = true } in
+    let taken : Row = record before { newest = AsStable } in
     let waiting : waits before ≡ 1 = ap (λ b. cond b 0 1) not in
     omega (arith, waiting, sum_by-set_value waits (is_at (key_cmp k)) es before taken was, whole.once, whole.room)
 
-pub added_whole : (es : List (RowKey × Kept)) (ks : List RowKey) (room more : ℕ) (k : RowKey) (kept : Kept) (fs : List (RowKey × Kept))
+pub added_whole : (es : List (RowKey × Row)) (ks : List RowKey) (room more : ℕ) (k : RowKey) (kept : Row) (fs : List (RowKey × Row))
     → IsWhole es ks room → kept_at es k ≡ None → IsSound kept → IsStrictlySortedBy key_cmp (keys_of es) → fs ≡ insert_entry key_cmp es k kept
     → ((q : RowKey) → kept_at fs q ≡ cond (is_key k q) (Some kept) (kept_at es q)) → length fs ≡ length es + 1 → length es + 1 ≤ more
-    → IsWhole fs (with_key kept.touched ks k) more
+    → IsWhole fs (with_key (is_touched kept) ks k) more
 added_whole es ks room more k kept fs whole none sound sorted put at len enough =
     let sums : sum_by waits (values_of (insert_entry key_cmp es k kept)) + unwrap_or (option_map waits (kept_at es k)) 0 ≡ sum_by waits (values_of es) + waits kept = sum_by-insert_entry waits keys_total es k kept sorted in
     let zero : unwrap_or (option_map waits (kept_at es k)) 0 ≡ 0 = ap (λ o. unwrap_or (option_map waits o) 0) none in
     let here : sum_by waits (values_of fs) ≡ sum_by waits (values_of (insert_entry key_cmp es k kept)) = ap (λ z. sum_by waits (values_of z)) put in
-    whole_after es fs ks room more k kept kept.touched whole at sound (λ t. inl t)
-    (rw (length-with_key kept.touched ks k) (added_counts kept.touched (length ks) _ _ (length es) _ (omega (arith, sums, zero, here)) whole.once len))
+    whole_after es fs ks room more k kept (is_touched kept) whole at sound (λ t. inl t)
+    (rw (length-with_key (is_touched kept) ks k) (added_counts (is_touched kept) (length ks) _ _ (length es) _ (omega (arith, sums, zero, here)) whole.once len))
     (omega (arith, len, enough))
 
 -- the same rows and keys, with as much room or more
-pub whole_kept : (es fs : List (RowKey × Kept)) (ks ls : List RowKey) (room more : ℕ) → IsWhole es ks room → fs ≡ es → ls ≡ ks → room ≤ more → IsWhole fs ls more
+pub whole_kept : (es fs : List (RowKey × Row)) (ks ls : List RowKey) (room more : ℕ) → IsWhole es ks room → fs ≡ es → ls ≡ ks → room ≤ more → IsWhole fs ls more
 whole_kept es fs ks ls room more whole rows keys enough =
     subst (λ z. IsWhole z ls more) (sym rows) (subst (λ z. IsWhole es z more) (sym keys) (record {
       sound = whole.sound;
@@ -129,8 +131,8 @@ whole_kept es fs ks ls room more whole rows keys enough =
     }))
 
 -- the rows after one is changed in its place, with the list that has its key where it is touched for the first time
-pub changed_whole : (es fs : List (RowKey × Kept)) (ks ls : List RowKey) (room more : ℕ) (k : RowKey) (before after : Kept) (touches : Bool)
-    → IsWhole es ks room → kept_at es k ≡ Some before → IsSound after → after.touched ≡ before.touched || touches → (touches ≡ true → before.touched ≡ false) → room ≤ more
+pub changed_whole : (es fs : List (RowKey × Row)) (ks ls : List RowKey) (room more : ℕ) (k : RowKey) (before after : Row) (touches : Bool)
+    → IsWhole es ks room → kept_at es k ≡ Some before → IsSound after → is_touched after ≡ is_touched before || touches → (touches ≡ true → is_touched before ≡ false) → room ≤ more
     → fs ≡ set_value (is_at (key_cmp k)) es after → ls ≡ with_key touches ks k → IsWhole fs ls more
 changed_whole es fs ks ls room more k before after touches whole was sound is once le put items =
     whole_kept _ fs _ ls more more (put_back_whole es ks room more k before after touches whole was sound is once le) put items (omega arith)

@@ -1,37 +1,32 @@
-//! A row as a shard keeps it, with the note whether its key is listed as touched, and what an ask makes of it.
+//! What an ask makes of a row, and the note whether its key is listed as touched.
 
 ghost use Rattle.std.specs.Prelude.{◌≡◌, ◌||◌, true, false, Some, IsSome};
 ghost use Rattle.coco_types.specs.RowKey.{RowKey};
+ghost use Rattle.coco_types.specs.Packing.{IsText};
 ghost use Rattle.coco_types.specs.declared.value.Value.TheVariants.{Int};
-ghost use Rattle.coco_rows.specs.Versions.{at_rest, newest_of};
-ghost use Rattle.coco_rows.specs.declared.Newest.TheVariants.{Set};
+ghost use Rattle.coco_rows.specs.Versions.{at_rest, is_touched, newest_of};
 ghost use Rattle.coco_shard.specs.declared.ops.Answer.TheVariants.{Got};
 ghost use Rattle.coco_shard.specs.Kept.{Follows, IsSound, state_of};
+ghost use Rattle.coco_shard.specs.Memory.{is_lock};
 ghost use Rattle.coco_shard.specs.Table.{is_mark_of, extended, installed};
 
 use crate::ops::{Answer, Ask, Op};
-use coco_rows::{Newest, Row};
-use coco_types::{AttemptId, Value};
+use coco_rows::{Mark, Newest, Room, Row};
+use coco_types::{AttemptId, Lent, Value};
 
-// A row, and whether its key stands in the list of touched keys.
-#[derive(Debug, Drop)]
-pub struct Kept {
-    pub row: Row,
-    pub touched: bool,
-}
-
-impl Kept {
-    // Says whether the row is touched for the first time since the last promote or revert, and keeps that it is.
-    pub fn touch(&mut self) -> bool
-        ensures row { self.new.row ≡ self.old.row }
-        ensures touched { self.new.touched ≡ self.old.touched || result }
-        ensures once { result ≡ true → self.old.touched ≡ false }
-        ensures sound { IsSound self.new }
-    {
-        let touches = !self.touched && !is_at_rest(&self.row);
-        self.touched = self.touched || touches;
-        touches
+// Notes a row as touched where it was before, or isn't at rest. Says whether it is touched for the first time since the
+// last promote or revert.
+pub fn touch(row: &mut Row, was: bool) -> bool
+    ensures state { state_of row.new ≡ state_of row.old }
+    ensures touched { is_touched row.new ≡ was || result }
+    ensures once { result ≡ true → was ≡ false }
+    ensures sound { IsSound row.new }
+{
+    let touched = was || !is_at_rest(row);
+    if touched && !row.is_touched() {
+        row.newest = Newest::AsStable;
     }
+    touched && !was
 }
 
 // Whether the row is as a promote or a revert leaves it.
@@ -39,26 +34,29 @@ fn is_at_rest(row: &Row) -> bool
     ensures rest { result ≡ true → row.now ≡ at_rest row.now.stable }
     ensures stands { result ≡ true → IsSome row.now.stable }
 {
-    matches!(row.newest, Newest::AsStable)
+    matches!(row.newest, Newest::Untouched)
         && row.wts == 0
         && row.rts == 0
-        && row.mark.is_none()
+        && row.mark.holder().is_none()
         && row.stable.is_some()
 }
 
-// Answers an operation at a row, and changes it as the answer says. An answer is large, so it is made in its place.
+// Answers an operation at a row, and changes it as the answer says. A lock needs a room, which it keeps; what room is
+// left comes back. An answer is large, so it is made in its place.
 #[inline(always)]
-pub fn act(row: &mut Row, ask: &Ask, answer: &mut Answer)
+pub fn act(row: &mut Row, ask: &Ask, room: Option<Room>, answer: &mut Answer) -> Option<Room>
+    requires { is_lock ask.now.op ≡ true → IsSome room }
     ensures { Follows row.old row.new ask.now.by ask.now.op answer.new }
 {
     match &ask.op {
         Op::Read(_) => read_to(row, answer),
-        Op::Lock(_) => lock(row, ask.by, answer),
+        Op::Lock(_) => return lock(row, ask.by, room, answer),
         Op::Extend { wts, time, .. } => extend(row, ask.by, *wts, *time, answer),
-        Op::Install { time, value, .. } => install(row, ask.by, *time, value, answer),
-        Op::Release(_) => release(row, ask.by, answer),
-        Op::Past(_) => *answer = Answer::Stood(row.stable),
+        Op::Install { time, value, .. } => return install(row, ask.by, *time, value, answer),
+        Op::Release(_) => return release(row, ask.by, answer),
+        Op::Past(_) => *answer = Answer::Stood(row.stable.get()),
     }
+    room
 }
 
 // The newest value and its times.
@@ -67,15 +65,20 @@ pub fn read(row: &Row) -> Answer
 {
     let (wts, rts) = (row.wts, row.rts);
     match row.newest() {
-        Some(Value::Int(number)) => Answer::Got {
+        Some(Lent::Int(number)) => Answer::Got {
             wts,
             rts,
-            value: Some(Value::Int(*number)),
+            value: Some(Value::Int(number)),
         },
-        value => Answer::Got {
+        Some(Lent::Text(text)) => Answer::Got {
             wts,
             rts,
-            value: *value,
+            value: Some(Value::Text(*text)),
+        },
+        None => Answer::Got {
+            wts,
+            rts,
+            value: None,
         },
     }
 }
@@ -88,19 +91,20 @@ fn read_to(row: &Row, answer: &mut Answer)
         Answer::Got { wts, rts, value } => {
             *wts = row.wts;
             *rts = row.rts;
-            copy_value(row.newest(), value);
+            copy_newest(row, value);
         }
         _ => *answer = read(row),
     }
 }
 
 // A number is written by itself, and no text's room is copied.
-fn copy_value(from: &Option<Value>, to: &mut Option<Value>)
-    ensures { to.new ≡ from.now }
+fn copy_newest(row: &Row, to: &mut Option<Value>)
+    ensures { to.new ≡ newest_of row.now }
 {
-    match from {
-        Some(Value::Int(number)) => copy_number(*number, to),
-        _ => *to = *from,
+    match row.newest() {
+        Some(Lent::Int(number)) => copy_number(number, to),
+        Some(Lent::Text(text)) => *to = Some(Value::Text(*text)),
+        None => *to = None,
     }
 }
 
@@ -123,20 +127,29 @@ fn is_mark_of(mark: Option<AttemptId>, by: AttemptId) -> bool
     }
 }
 
-fn lock(row: &mut Row, by: AttemptId, answer: &mut Answer)
+fn lock(row: &mut Row, by: AttemptId, room: Option<Room>, answer: &mut Answer) -> Option<Room>
+    requires { IsSome room }
     ensures { (key : RowKey) → Follows row.old row.new by (Op.Lock key) answer.new }
 {
-    if let Some(holder) = row.mark
+    let found = row.mark.holder();
+    if let Some(holder) = found
         && holder != by
     {
         *answer = Answer::Marked { holder };
-        return;
+        return room;
     }
-    row.mark = Some(by);
     *answer = Answer::Locked {
         wts: row.wts,
         rts: row.rts,
     };
+    if found.is_some() {
+        return room;
+    }
+    match room {
+        Some(room) => row.mark = Mark::of(by, room),
+        None => unreachable!(),
+    }
+    None
 }
 
 fn extend(row: &mut Row, by: AttemptId, wts: u64, time: u64, answer: &mut Answer)
@@ -146,7 +159,7 @@ fn extend(row: &mut Row, by: AttemptId, wts: u64, time: u64, answer: &mut Answer
         *answer = Answer::Changed { wts: row.wts };
         return;
     }
-    if let Some(holder) = row.mark
+    if let Some(holder) = row.mark.holder()
         && holder != by
     {
         *answer = Answer::Marked { holder };
@@ -156,55 +169,46 @@ fn extend(row: &mut Row, by: AttemptId, wts: u64, time: u64, answer: &mut Answer
     *answer = Answer::Extended;
 }
 
-fn install(row: &mut Row, by: AttemptId, time: u64, value: &Option<Value>, answer: &mut Answer)
+fn install(
+    row: &mut Row,
+    by: AttemptId,
+    time: u64,
+    value: &Option<Value>,
+    answer: &mut Answer,
+) -> Option<Room>
     ensures { (key : RowKey) → Follows row.old row.new by (Op.Install key time value.now) answer.new }
 {
-    if !is_mark_of(row.mark, by) {
-        *answer = Answer::NotMine { mark: row.mark };
-        return;
+    let mark = row.mark.holder();
+    if !is_mark_of(mark, by) {
+        *answer = Answer::NotMine { mark };
+        return None;
     }
-    put(row, time, value);
     *answer = Answer::Installed;
+    let room = row.mark.take();
+    put(row, time, value, room)
 }
 
-fn release(row: &mut Row, by: AttemptId, answer: &mut Answer)
+fn release(row: &mut Row, by: AttemptId, answer: &mut Answer) -> Option<Room>
     ensures { (key : RowKey) → Follows row.old row.new by (Op.Release key) answer.new }
 {
-    if !is_mark_of(row.mark, by) {
-        *answer = Answer::NotMine { mark: row.mark };
-        return;
+    let mark = row.mark.holder();
+    if !is_mark_of(mark, by) {
+        *answer = Answer::NotMine { mark };
+        return None;
     }
-    row.mark = None;
     *answer = Answer::Released;
+    row.mark.take()
 }
 
-// Writes the value at the time, and takes the mark away.
-pub fn put(row: &mut Row, time: u64, value: &Option<Value>)
+// Writes the value at the time, its text in the room, and takes the mark away. What room is left comes back.
+pub fn put(row: &mut Row, time: u64, value: &Option<Value>, room: Option<Room>) -> Option<Room>
+    requires { IsText value.now → IsSome room }
     ensures row { state_of row.new ≡ installed time value.now (state_of row.old) }
 {
-    set_newest(&mut row.newest, value);
     row.wts = time;
     row.rts = time;
-    row.mark = None;
-}
-
-// A number is written by itself, and no text's room is copied.
-fn set_newest(newest: &mut Newest, value: &Option<Value>)
-    ensures { newest.new ≡ Set value.now }
-{
-    match value {
-        Some(Value::Int(number)) => set_number(newest, *number),
-        _ => *newest = Newest::Set(*value),
-    }
-}
-
-fn set_number(newest: &mut Newest, number: i64)
-    ensures { newest.new ≡ Set (Some (Int number)) }
-{
-    match newest {
-        Newest::Set(Some(Value::Int(place))) => *place = number,
-        _ => *newest = Newest::Set(Some(Value::Int(number))),
-    }
+    row.mark = Mark::none();
+    row.newest.set(value, room)
 }
 
 // Makes the newest version valid until the time.

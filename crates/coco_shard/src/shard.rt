@@ -2,16 +2,18 @@
 
 ghost use Rattle.std.specs.Prelude.{◌≡◌, ◌≤◌, None, true, IfOk, IsSome, OnOk, OnErr};
 ghost use Rattle.std.specs.FinMap.{get, insert, empty};
+ghost use Rattle.coco_shard.specs.Memory.{TakesRoom, TakesMemory};
 ghost use Rattle.coco_shard.specs.RowState.{loaded, row_at, newest_at, stable_at, value_at, Holds, IsSettled, IsGreatestTime, ListsRows};
 ghost use Rattle.coco_shard.specs.Table.{after_ask, answer_in, installed, extended, key_of, may_make_row};
 
-use crate::kept::{Kept, read};
+use crate::kept::read;
 use crate::ops::{Answer, Ask, Op};
 use crate::settle::settle;
 use crate::table::{act_on_missing, act_on_rows, drop_loaded, load_row, stable_of};
 use crate::tail::{put_row, read_row};
 use crate::values::{greatest, values};
 use coco_packs::AnswersInPlace;
+use coco_rows::{Rooms, Row};
 use coco_types::{Key, Machine, MapRows, NoMemory, Value};
 use std::alloc::Global;
 use std::collections::BTreeMap;
@@ -21,8 +23,9 @@ use std::marker::Model;
 /// without a row is as one without a value, with times 0 and no mark.
 #[derive(Drop)]
 pub struct Shard {
-    rows: BTreeMap<Key, Kept>,
+    rows: BTreeMap<Key, Row>,
     touched: Vec<Key>,
+    spare: Rooms,
 }
 
 impl Model for Shard {
@@ -53,6 +56,7 @@ impl Shard {
         Shard {
             rows: BTreeMap::new(alloc),
             touched: Vec::new(alloc),
+            spare: Rooms::new(alloc),
         }
     }
 
@@ -69,11 +73,17 @@ impl Shard {
         ensures ok { OnOk result (self.new ≡ loaded self.old key value) }
         ensures settled { IsSettled self.new }
         ensures err { OnErr result (self.new ≡ self.old) }
-        ensures missing { OnErr result (get self.old key ≡ None) }
+        ensures missing { OnErr result (TakesMemory self.old key value) }
         ensures makes { OnErr result (IsSome value) }
     {
         match value {
-            Some(value) => load_row(&mut self.rows, &mut self.touched, key, value),
+            Some(value) => load_row(
+                &mut self.rows,
+                &mut self.touched,
+                &mut self.spare,
+                key,
+                value,
+            ),
             None => {
                 drop_loaded(&mut self.rows, &mut self.touched, key);
                 Ok(())
@@ -119,9 +129,16 @@ impl Shard {
         requires later { (row_at self.old key).rts ≤ time }
         ensures ok { OnOk result (self.new ≡ insert self.old key (installed time value (row_at self.old key))) }
         ensures err { OnErr result (self.new ≡ self.old) }
-        ensures missing { OnErr result (get self.old key ≡ None) }
+        ensures missing { OnErr result (TakesMemory self.old key value) }
     {
-        put_row(&mut self.rows, &mut self.touched, key, time, &value)
+        put_row(
+            &mut self.rows,
+            &mut self.touched,
+            &mut self.spare,
+            key,
+            time,
+            &value,
+        )
     }
 
     /// The newest value, which is valid until the time from then on. Out of memory, nothing has changed.
@@ -146,22 +163,22 @@ impl Machine for Shard {
 
     ghost state_after = { after_ask };
 
-    /// Answers an ask. Out of memory, the key has no row, and nothing has changed.
+    /// Answers an ask. Out of memory, the key has no row or is to be locked, and nothing has changed.
     #[inline(always)]
     fn apply(&mut self, ask: Ask) -> Result<Answer, NoMemory>
         ensures answer { IfOk result (λ answer. answer ≡ answer_in self.old ask) }
         ensures state { IfOk result (λ _. self.new ≡ after_ask self.old ask) }
         ensures err { OnErr result (self.new ≡ self.old) }
-        ensures missing { OnErr result (get self.old (key_of ask.op) ≡ None) }
+        ensures missing { OnErr result (TakesRoom self.old ask.op) }
         ensures makes { OnErr result (may_make_row ask.op ≡ true) }
     {
         // A read of a row that is there changes nothing, and stands apart so that its answer is copied less often.
         if let Op::Read(_) = ask.op {
-            if let Some(kept) = self.rows.get(&ask.op.key()) {
-                return Ok(read(&kept.row));
+            if let Some(row) = self.rows.get(&ask.op.key()) {
+                return Ok(read(row));
             }
             let mut answer = Answer::Released;
-            act_on_missing(&mut self.rows, &mut self.touched, &ask, &mut answer)?;
+            act_on_missing(&mut self.rows, &mut self.touched, None, &ask, &mut answer)?;
             return Ok(answer);
         }
         let mut answer = Answer::Released;
@@ -176,9 +193,15 @@ impl AnswersInPlace for Shard {
         ensures answer { OnOk result (answer.new ≡ answer_in self.old ask.now) }
         ensures state { OnOk result (self.new ≡ after_ask self.old ask.now) }
         ensures err { OnErr result (self.new ≡ self.old) }
-        ensures missing { OnErr result (get self.old (key_of ask.now.op) ≡ None) }
+        ensures missing { OnErr result (TakesRoom self.old ask.now.op) }
         ensures makes { OnErr result (may_make_row ask.now.op ≡ true) }
     {
-        act_on_rows(&mut self.rows, &mut self.touched, ask, answer)
+        act_on_rows(
+            &mut self.rows,
+            &mut self.touched,
+            &mut self.spare,
+            ask,
+            answer,
+        )
     }
 }

@@ -1,27 +1,29 @@
 //! The operations on the map of rows, with the list of touched keys that always has room for every row.
 
-ghost use Rattle.std.specs.Prelude.{◌≡◌, ◌+◌, ◌^◌, ◌<◌, ◌≤◌, ◌++◌, ◌∷◌, [], if◌then◌else◌, cond, true, false, None, Some, IfNone, IfSome, OnOk, OnErr, length, vec_len, vec_capacity};
+ghost use Rattle.std.specs.Prelude.{◌≡◌, ◌⊎◌, ◌+◌, ◌^◌, ◌<◌, ◌≤◌, ◌++◌, ◌∷◌, [], if◌then◌else◌, cond, true, false, None, Some, IsSome, IfNone, IfSome, IfOk, OnOk, OnErr, length, vec_len, vec_capacity};
 ghost use Rattle.std.specs.BTreeMap.{is_at};
 ghost use Rattle.coco_types.specs.RowKey.{RowKey, key_cmp};
 ghost use Rattle.coco_shard.specs.Kept.{Acts, IsSound, IsWhole, SetsRow, kept_at, view_of};
+ghost use Rattle.coco_shard.specs.Memory.{is_lock};
 ghost use Rattle.coco_shard.specs.RowState.{IsSettled, resting, stable_at};
+ghost use Rattle.coco_types.specs.Packing.{IsText};
 ghost use Rattle.coco_rows.specs.Versions.{at_rest};
 ghost use Rattle.std.specs.FinMap.{insert, remove};
-ghost use Rattle.coco_shard.specs.declared.kept.Kept.{Kept as Entry};
 ghost use Rattle.coco_shard.specs.Table.{key_of, leaves_row};
 
-use crate::kept::{Kept, act};
-use crate::ops::{Answer, Ask};
+use crate::kept::{act, touch};
+use crate::ops::{Answer, Ask, Op};
 use crate::settle::{drop_row, settle};
-use coco_rows::Row;
+use coco_rows::{Newest, Room, Rooms, Row, Stored};
 use coco_types::{Key, NoMemory, Value};
 use std::collections::BTreeMap;
 
 // Answers an ask on the rows, and makes the row where it is missing and the answer wants one.
 #[inline(never)]
 pub fn act_on_rows(
-    rows: &mut BTreeMap<Key, Kept>,
+    rows: &mut BTreeMap<Key, Row>,
     touched: &mut Vec<Key>,
+    spare: &mut Rooms,
     ask: &Ask,
     answer: &mut Answer,
 ) -> Result<(), NoMemory>
@@ -29,37 +31,53 @@ pub fn act_on_rows(
     ensures whole { IsWhole rows.new.entries touched.new.items (vec_capacity touched.new) }
     ensures acts { Acts rows.old.entries rows.new.entries ask.now answer.new result }
 {
+    let room = room_for(spare, &ask.op)?;
     let key = ask.op.key();
-    let Some(kept) = rows.get_mut(&key) else {
-        return act_on_missing(rows, touched, ask, answer);
+    let Some(row) = rows.get_mut(&key) else {
+        return act_on_missing(rows, touched, room, ask, answer);
     };
-    act(&mut kept.row, ask, answer);
-    list_key(touched, key, kept.touch());
+    let was = row.is_touched();
+    let left = act(row, ask, room, answer);
+    list_key(touched, key, touch(row, was));
+    spare.give(left);
     Ok(())
+}
+
+// The room that the mark of a lock is to stand on.
+fn room_for(spare: &mut Rooms, op: &Op) -> Result<Option<Room>, NoMemory>
+    ensures room { IfOk result (λ room. is_lock op.now ≡ true → IsSome room) }
+    ensures lock { OnErr result (is_lock op.now ≡ true) }
+{
+    match op {
+        Op::Lock(_) => Ok(Some(spare.take()?)),
+        Op::Read(_) | Op::Release(_) | Op::Past(_) => Ok(None),
+        Op::Extend { .. } | Op::Install { .. } => Ok(None),
+    }
 }
 
 // The same where the key has no row.
 #[inline(never)]
 pub fn act_on_missing(
-    rows: &mut BTreeMap<Key, Kept>,
+    rows: &mut BTreeMap<Key, Row>,
     touched: &mut Vec<Key>,
+    room: Option<Room>,
     ask: &Ask,
     answer: &mut Answer,
 ) -> Result<(), NoMemory>
     requires whole { IsWhole rows.old.entries touched.old.items (vec_capacity touched.old) }
     requires missing { kept_at rows.old.entries (key_of ask.now.op) ≡ None }
+    requires room { is_lock ask.now.op ≡ true → IsSome room }
     ensures whole { IsWhole rows.new.entries touched.new.items (vec_capacity touched.new) }
     ensures acts { Acts rows.old.entries rows.new.entries ask.now answer.new result }
 {
-    let mut kept = Kept {
-        row: Row::at_rest(None),
-        touched: true,
-    };
-    act(&mut kept.row, ask, answer);
+    let mut row = Row::without_value();
+    // A row without a mark takes the room of a lock, so none is left.
+    let _ = act(&mut row, ask, room, answer);
     if !leaves_row(answer) {
         return Ok(());
     }
-    add_row(rows, touched, ask.op.key(), kept)?;
+    let _ = touch(&mut row, true);
+    add_row(rows, touched, ask.op.key(), row)?;
     Ok(())
 }
 
@@ -77,24 +95,21 @@ fn leaves_row(answer: &Answer) -> bool
 
 // Makes both rooms for a new row, and then puts it there.
 pub fn add_row(
-    rows: &mut BTreeMap<Key, Kept>,
+    rows: &mut BTreeMap<Key, Row>,
     touched: &mut Vec<Key>,
     key: Key,
-    kept: Kept,
+    row: Row,
 ) -> Result<(), NoMemory>
     requires whole { IsWhole rows.old.entries touched.old.items (vec_capacity touched.old) }
     requires missing { kept_at rows.old.entries key ≡ None }
-    requires sound { IsSound kept }
+    requires sound { IsSound row }
     ensures whole { IsWhole rows.new.entries touched.new.items (vec_capacity touched.new) }
-    ensures ok { OnOk result ((q : RowKey) → kept_at rows.new.entries q ≡ cond (is_at (key_cmp key) q) (Some kept) (kept_at rows.old.entries q)) }
+    ensures ok { OnOk result ((q : RowKey) → kept_at rows.new.entries q ≡ cond (is_at (key_cmp key) q) (Some row) (kept_at rows.old.entries q)) }
     ensures err { OnErr result (rows.new.entries ≡ rows.old.entries) }
 {
-    let touches = kept.touched;
-    // The proof of the insert wants the types of these two fields in view.
-    let _newest = &kept.row.newest;
-    let _stable = &kept.row.stable;
+    let touches = row.is_touched();
     make_room(touched, rows.len())?;
-    rows.insert(key, kept)?;
+    rows.insert(key, row)?;
     list_key(touched, key, touches);
     Ok(())
 }
@@ -123,19 +138,20 @@ pub fn list_key(touched: &mut Vec<Key>, key: Key, touches: bool)
 }
 
 // The stable value under a key.
-pub fn stable_of(rows: &BTreeMap<Key, Kept>, key: Key) -> Option<Value>
+pub fn stable_of(rows: &BTreeMap<Key, Row>, key: Key) -> Option<Value>
     ensures { result ≡ stable_at (view_of rows.now.entries) key }
 {
     match rows.get(&key) {
-        Some(kept) => kept.row.stable,
+        Some(row) => row.stable.get(),
         None => None,
     }
 }
 
 // Sets the row of a key to one with this stable value.
 pub fn load_row(
-    rows: &mut BTreeMap<Key, Kept>,
+    rows: &mut BTreeMap<Key, Row>,
     touched: &mut Vec<Key>,
+    spare: &mut Rooms,
     key: Key,
     value: Value,
 ) -> Result<(), NoMemory>
@@ -143,25 +159,19 @@ pub fn load_row(
     ensures whole { IsWhole rows.new.entries touched.new.items (vec_capacity touched.new) }
     ensures state { OnOk result (view_of rows.new.entries ≡ insert (view_of rows.old.entries) key (resting (Some value))) }
     ensures err { OnErr result (rows.new.entries ≡ rows.old.entries) }
-    ensures missing { OnErr result (kept_at rows.old.entries key ≡ None) }
+    ensures missing { OnErr result ((kept_at rows.old.entries key ≡ None) ⊎ IsText (Some value)) }
 {
-    if load_at(rows, key, &value) {
-        return Ok(());
+    let value = Some(value);
+    let room = spare.take_for(&value)?;
+    let row = Row::at_rest(Stored::of(&value, room));
+    match load_at(rows, key, row) {
+        Some(row) => add_row(rows, touched, key, row),
+        None => Ok(()),
     }
-    let row = Row::at_rest(Some(value));
-    add_row(
-        rows,
-        touched,
-        key,
-        Kept {
-            row,
-            touched: false,
-        },
-    )
 }
 
 // Takes the row of a key away, while no row is touched.
-pub fn drop_loaded(rows: &mut BTreeMap<Key, Kept>, touched: &mut Vec<Key>, key: Key)
+pub fn drop_loaded(rows: &mut BTreeMap<Key, Row>, touched: &mut Vec<Key>, key: Key)
     requires whole { IsWhole rows.old.entries touched.old.items (vec_capacity touched.old) }
     requires settled { IsSettled (view_of rows.old.entries) }
     ensures whole { IsWhole rows.new.entries touched.new.items (vec_capacity touched.new) }
@@ -172,16 +182,20 @@ pub fn drop_loaded(rows: &mut BTreeMap<Key, Kept>, touched: &mut Vec<Key>, key: 
     drop_row(rows, key);
 }
 
-// Sets the row of a key that has one, and says whether it has.
-fn load_at(rows: &mut BTreeMap<Key, Kept>, key: Key, value: &Value) -> bool
-    ensures missing { result ≡ false → (kept_at rows.old.entries key ≡ None) × (rows.new.entries ≡ rows.old.entries) }
-    ensures set { result ≡ true → SetsRow rows.old.entries rows.new.entries key (at_rest (Some value.now)) }
+// Sets the row of a key that has one. Where it has none, the row comes back.
+fn load_at(rows: &mut BTreeMap<Key, Row>, key: Key, row: Row) -> Option<Row>
+    ensures missing { IfSome result (λ back. (back ≡ row) × (kept_at rows.old.entries key ≡ None) × (rows.new.entries ≡ rows.old.entries)) }
+    ensures set { IfNone result (SetsRow rows.old.entries rows.new.entries key row) }
 {
     match rows.get_mut(&key) {
         Some(kept) => {
-            kept.row = Row::at_rest(Some(*value));
-            true
+            let touched = kept.is_touched();
+            *kept = row;
+            if touched {
+                kept.newest = Newest::AsStable;
+            }
+            None
         }
-        None => false,
+        None => Some(row),
     }
 }

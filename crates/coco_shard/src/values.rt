@@ -6,7 +6,6 @@ ghost use Rattle.std.specs.List.Sorted.{IsStrictlySortedBy};
 ghost use Rattle.coco_types.specs.RowKey.{key_cmp};
 ghost use Rattle.coco_shard.specs.Kept.{version_of, entry_of, kept_at, values_in, most_rts, rts_of};
 
-use crate::kept::Kept;
 use coco_rows::Row;
 use coco_types::{Key, NoMemory, Value};
 use std::alloc::Global;
@@ -15,15 +14,15 @@ use std::collections::BTreeMap;
 // The keys that have a value in one of the two versions, each with it.
 pub fn values(
     alloc: Global,
-    rows: &BTreeMap<Key, Kept>,
+    rows: &BTreeMap<Key, Row>,
     newest: bool,
 ) -> Result<Vec<(Key, Value)>, NoMemory>
     ensures values { IfOk result (λ values. values.items ≡ values_in newest rows.now.entries) }
     ensures rising { OnOk result (IsStrictlySortedBy key_cmp (keys_of rows.now.entries)) }
 {
     let mut values = Vec::new(alloc);
-    for (key, kept) in rows {
-        push_value(&mut values, *key, version(&kept.row, newest))?;
+    for (key, row) in rows {
+        push_value(&mut values, *key, version(row, newest))?;
     }
     Ok(values)
 }
@@ -47,12 +46,12 @@ fn version(row: &Row, newest: bool) -> Option<Value>
     if newest {
         row.newest_value()
     } else {
-        row.stable
+        row.stable.get()
     }
 }
 
 // The greatest read time of these keys.
-pub fn greatest(rows: &BTreeMap<Key, Kept>, touched: &[Key]) -> u64
+pub fn greatest(rows: &BTreeMap<Key, Row>, touched: &[Key]) -> u64
     ensures { result ≡ most_rts rows.now.entries touched.now }
 {
     let mut most = 0;
@@ -62,11 +61,11 @@ pub fn greatest(rows: &BTreeMap<Key, Kept>, touched: &[Key]) -> u64
     most
 }
 
-fn read_time(rows: &BTreeMap<Key, Kept>, key: Key) -> u64
+fn read_time(rows: &BTreeMap<Key, Row>, key: Key) -> u64
     ensures { result ≡ rts_of (kept_at rows.now.entries key) }
 {
     match rows.get(&key) {
-        Some(kept) => kept.row.rts,
+        Some(row) => row.rts,
         None => 0,
     }
 }

@@ -1,5 +1,6 @@
 use Rattle.std.proofs.Common.{◌≡◌, ◌+◌, ◌≤◌, cond, ap, ◌∙◌, refl, vec_capacity, length, arith}
 use Rattle.std.specs.Option.{is_some}
+use Rattle.coco_rows.specs.Versions.{is_touched}
 use Rattle.coco_shard.proofs.Whole.{added_whole, whole_kept, with_key}
 use Rattle.coco_shard.proofs.table.add_row.Goals as goal
 
@@ -13,8 +14,8 @@ returns-clause-whole c =
     let more : length c.insert.new.self.entries ≡ length c.args.rows.now.entries + 1 =
     c.in_ok-insert.ensures.len ∙ ap (λ o. length c.args.rows.now.entries + cond (is_some o) 0 1) (c.in_ok-insert.ensures.old ∙ c.requires.missing) in
     let enough : length c.args.rows.now.entries + 1 ≤ vec_capacity c.make_room.new.touched = rw (← c.len.ensures.len) c.in_ok-make_room.ensures.ok in
-    whole_kept c.insert.new.self.entries c.insert.new.self.entries (with_key c.args.kept.touched c.make_room.new.touched.items c.args.key) c.list_key.new.touched.items (vec_capacity c.make_room.new.touched) (vec_capacity c.list_key.new.touched)
-    (added_whole c.args.rows.now.entries c.make_room.new.touched.items (vec_capacity c.args.touched.now) (vec_capacity c.make_room.new.touched) c.args.key c.args.kept c.insert.new.self.entries
+    whole_kept c.insert.new.self.entries c.insert.new.self.entries (with_key (is_touched c.args.row) c.make_room.new.touched.items c.args.key) c.list_key.new.touched.items (vec_capacity c.make_room.new.touched) (vec_capacity c.list_key.new.touched)
+    (added_whole c.args.rows.now.entries c.make_room.new.touched.items (vec_capacity c.args.touched.now) (vec_capacity c.make_room.new.touched) c.args.key c.args.row c.insert.new.self.entries
     (whole_kept c.args.rows.now.entries c.args.rows.now.entries c.args.touched.now.items c.make_room.new.touched.items (vec_capacity c.args.touched.now) (vec_capacity c.args.touched.now) c.requires.whole refl c.make_room.ensures.items (omega arith))
     c.requires.missing c.requires.sound c.insert.ensures.was_ordered c.in_ok-insert.ensures.entries c.in_ok-insert.ensures.updates.0 more enough)
-    refl c.list_key.ensures.items c.list_key.ensures.capacity
+    refl (c.list_key.ensures.items ∙ ap (λ b. with_key b c.make_room.new.touched.items c.args.key) c.is_touched-touches.ensures) c.list_key.ensures.capacity

@@ -1,9 +1,8 @@
-use Rattle.std.proofs.Common.{◌≡◌, ◌∙◌, ap, sym, vec_capacity, rules}
+use Rattle.std.proofs.Common.{◌≡◌, ◌∙◌, ◌||◌, ap, sym, vec_capacity, rules}
 use Rattle.std.specs.BTreeMap.{is_at}
 use Rattle.std.specs.Map.{set_value}
 use Rattle.coco_types.specs.RowKey.{key_cmp}
-use Rattle.coco_shard.specs.Kept.{state_of, view_of}
-use Rattle.coco_rows.specs.Versions.{newest_of}
+use Rattle.coco_shard.specs.Kept.{view_of}
 use Rattle.coco_shard.specs.Table.{extended}
 use Rattle.coco_shard.proofs.Entries.{changed_view, no_row_in, row_in}
 use Rattle.coco_shard.proofs.Whole.{changed_whole}
@@ -11,24 +10,23 @@ use Rattle.coco_shard.proofs.tail.read_row.Goals as goal
 
 pub returns-clause-whole : goal.returns-clause-whole
 returns-clause-whole c =
-    let put : (c.get_mut.follows.lender c.touch.new.self).entries ≡ set_value (is_at (key_cmp c.args.key)) c.args.rows.now.entries c.touch.new.self = search rules in
-    changed_whole c.args.rows.now.entries (c.get_mut.follows.lender c.touch.new.self).entries c.args.touched.now.items c.list_key.new.touched.items (vec_capacity c.args.touched.now) (vec_capacity c.list_key.new.touched)
-    c.args.key c.in-Some.kept.now c.touch.new.self c.touch.result
-    c.requires (sym c.in-Some.ensures.value) c.touch.ensures.sound c.touch.ensures.touched c.touch.ensures.once c.list_key.ensures.capacity put c.list_key.ensures.items
+    let put : (c.get_mut.follows.lender c.touch.new.row).entries ≡ set_value (is_at (key_cmp c.args.key)) c.args.rows.now.entries c.touch.new.row = search rules in
+    changed_whole c.args.rows.now.entries (c.get_mut.follows.lender c.touch.new.row).entries c.args.touched.now.items c.list_key.new.touched.items (vec_capacity c.args.touched.now) (vec_capacity c.list_key.new.touched)
+    c.args.key c.in-Some.row.now c.touch.new.row c.touch.result
+    c.requires (sym c.in-Some.ensures.value) c.touch.ensures.sound (c.touch.ensures.touched ∙ ap (λ b. b || c.touch.result) c.is_touched-was.ensures) (λ h. sym c.is_touched-was.ensures ∙ c.touch.ensures.once h) c.list_key.ensures.capacity put c.list_key.ensures.items
 
 pub returns-clause-changes : goal.returns-clause-changes
 returns-clause-changes c =
-    let put : (c.get_mut.follows.lender c.touch.new.self).entries ≡ set_value (is_at (key_cmp c.args.key)) c.args.rows.now.entries c.touch.new.self = search rules in
+    let put : (c.get_mut.follows.lender c.touch.new.row).entries ≡ set_value (is_at (key_cmp c.args.key)) c.args.rows.now.entries c.touch.new.row = search rules in
     record {
-      ok = ap view_of put ∙ changed_view c.args.rows.now.entries c.args.key c.in-Some.kept.now c.touch.new.self (extended c.args.time) (sym c.in-Some.ensures.value) (ap state_of c.touch.ensures.row ∙ c.raise_read_time.ensures.row);
+      ok = ap view_of put ∙ changed_view c.args.rows.now.entries c.args.key c.in-Some.row.now c.touch.new.row (extended c.args.time) (sym c.in-Some.ensures.value) (c.touch.ensures.state ∙ c.raise_read_time.ensures.row);
       err = tt;
-      missing = tt;
     }
 
 pub returns-clause-value : goal.returns-clause-value
 returns-clause-value c =
-    c.newest.ensures ∙ ap newest_of c.touch.ensures.row ∙ ap (λ row. row.newest) c.raise_read_time.ensures.row
-    ∙ ap (λ row. row.newest) (sym (row_in c.args.rows.now.entries c.args.key c.in-Some.kept.now (sym c.in-Some.ensures.value)))
+    c.newest_value.ensures ∙ ap (λ row. row.newest) (c.touch.ensures.state ∙ c.raise_read_time.ensures.row)
+    ∙ ap (λ row. row.newest) (sym (row_in c.args.rows.now.entries c.args.key c.in-Some.row.now (sym c.in-Some.ensures.value)))
 
 pub returns-in_default-clause-value : goal.returns-in_default-clause-value
 returns-in_default-clause-value c = sym (ap (λ row. row.newest) (no_row_in c.args.rows.now.entries c.args.key (sym c.in_default.ensures.value)))

@@ -6,4 +6,4 @@ use Rattle.coco_shard.proofs.shard.Shard.read_at.Goals as goal
 
 pub returns-clause-missing : goal.returns-clause-missing
 returns-clause-missing c =
-    subst (λ (s : ShardState). OnErr c.read_row.result (get s c.args.key ≡ None)) c.self.view_is (missing_on_err c.read_row.result c.self.inside.rows.entries c.args.key c.read_row.ensures.changes.missing)
+    subst (λ (s : ShardState). OnErr c.read_row.result (get s c.args.key ≡ None)) c.self.view_is (missing_on_err c.read_row.result c.self.inside.rows.entries c.args.key c.read_row.ensures.missing)
