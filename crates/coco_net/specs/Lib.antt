@@ -2,3 +2,4 @@ pub mod Mail
 pub mod Giving
 pub mod Rounds
 pub mod Passing
+pub mod Room

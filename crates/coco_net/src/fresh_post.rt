@@ -1,10 +1,11 @@
 //! What a net keeps that gives a letter in the next round or never: the letters sent since the last round, and those
 //! that wait.
 
-ghost use Rattle.std.specs.Prelude.{◌≡◌, ◌≢◌, ◌^◌, ◌-◌, ◌<◌, ℕ, All, Some, [], ◌∷◌, ◌++◌, length, true, MatchOption, OnOk, OnErr};
+ghost use Rattle.std.specs.Prelude.{◌≡◌, ◌≢◌, ◌^◌, ◌-◌, ◌<◌, ◌==◌, ℕ, All, Some, [], ◌∷◌, ◌++◌, length, false, true, MatchOption, OnOk, OnErr};
 ghost use Rattle.coco_net.specs.Mail.{fresh, given_more, no_mail, picked, waiting_at};
 
-use crate::post::{boxes_of, count, note_given, take_first};
+use crate::moving::{make_room, move_in};
+use crate::post::{PLACES, boxes_of, count, note_given, take_first};
 use crate::{Letter, Posted};
 use coco_io::told::Told;
 use coco_types::{Bytes, NoMemory};
@@ -120,6 +121,26 @@ impl FreshPost {
         ensures faults { self.new.faults ≡ self.old.faults }
     {
         take_first(&mut self.boxes, to)
+    }
+
+    /// Whether there are boxes: not before the first round.
+    pub fn has_boxes(&self) -> bool
+        ensures { result ≡ (length self.now.waiting == 9) }
+    {
+        self.boxes.len() == PLACES
+    }
+
+    /// Gives all letters sent since the last round, in order, in the boxes that there are.
+    pub fn give_all(&mut self) -> Result<(), NoMemory>
+        requires { length self.old.waiting ≡ 9 }
+        ensures ok { OnOk result (self.new ≡ given_more self.old (fresh self.old) [] false) }
+        ensures err { OnErr result (self.new ≡ self.old) }
+    {
+        make_room(&mut self.boxes, self.fresh.as_slice())?;
+        self.given.add(self.fresh.as_slice());
+        self.before.add(self.fresh.as_slice());
+        move_in(&mut self.boxes, &mut self.fresh);
+        Ok(())
     }
 
     /// Gives those of the letters sent since the last round that have these numbers, in this order; at a place whose

@@ -4,6 +4,7 @@
 pub mod flood;
 mod fresh_post;
 pub mod letter;
+mod moving;
 pub mod net;
 mod post;
 pub mod quiet;

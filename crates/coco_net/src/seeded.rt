@@ -96,6 +96,9 @@ fn quiet_round(alloc: Global, post: &mut FreshPost) -> Result<(), NoMemory>
     ensures ok { OnOk result (post.new ≡ after_quiet post.old) }
     ensures err { OnErr result (post.new ≡ post.old) }
 {
+    if post.has_boxes() {
+        return post.give_all();
+    }
     let numbers = numbers_from(alloc, post.fresh(), 0)?;
     post.give(numbers.as_slice(), &[], false)
 }
