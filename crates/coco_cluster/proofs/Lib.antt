@@ -1,4 +1,5 @@
 pub mod AroundLemmas
+pub mod AskLemmas
 pub mod AttemptLemmas
 pub mod BehindLemmas
 pub mod DecideLemmas
@@ -7,10 +8,12 @@ pub mod KeepLemmas
 pub mod ReadLemmas
 pub mod RemindLemmas
 pub mod RestLemmas
+pub mod RowLemmas
 pub mod RunLemmas
 pub mod SeeingLemmas
 pub mod ShipLemmas
 pub mod SilentLemmas
+pub mod StepLemmas
 pub mod StopLemmas
 pub mod ToldLemmas
 pub mod TriedLemmas

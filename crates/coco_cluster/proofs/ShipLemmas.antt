@@ -1,14 +1,16 @@
 -- What is told as sent behind the ship phase of an epoch.
-use Rattle.std.proofs.Common.{◌≡◌, ◌==◌, ◌⊎◌, inl, inr, ⊎_elim, ℕ, ◌+◌, ◌<◌, ◌≤◌, Bool, true, false, List, ◌++◌, length, if◌then◌else◌, refl, sym, ap, ◌∙◌, subst, arith}
+use Rattle.std.proofs.Common.{◌≡◌, ◌==◌, ◌⊎◌, inl, inr, ⊎_elim, ℕ, ◌+◌, ◌<◌, ◌≤◌, Bool, true, false, List, [], ◌++◌, length, if◌then◌else◌, refl, sym, ap, ◌∙◌, subst, arith}
 use Rattle.std.specs.List.{Contains}
-use Rattle.std.proofs.lemmas.List.Elements.{All-contains, Contains-append_cases}
+use Rattle.std.proofs.lemmas.List.Elements.{All-contains, Contains-append_cases, Contains-append_left}
 use Rattle.coco_copy.specs.CopyState.{CopyState}
 use Rattle.coco_entry.specs.declared.layout.Layout.{Layout}
 use Rattle.coco_finish.specs.Finishing.{AreWhole}
 use Rattle.coco_finish.specs.declared.tables.NodeTables.{NodeTables}
 use Rattle.coco_letters.proofs.SayingLemmas.{same_message}
+use Rattle.coco_letters.specs.Saying.{is_of_commit, posted}
 use Rattle.coco_letters.specs.Telling.{FinishedBelow, VotesBelow}
-use Rattle.coco_members.specs.AtRest.{ShipsBelow}
+use Rattle.coco_letters.specs.Worlds.{GoesOn, IsSaid}
+use Rattle.coco_members.specs.AtRest.{ShipsBelow, scene_of}
 use Rattle.coco_members.specs.declared.members.Members.{Members}
 use Rattle.coco_msg.specs.Bytes.{bytes_of, IsMessage}
 use Rattle.coco_msg.specs.declared.message.Message.{Message}
@@ -23,6 +25,7 @@ use Rattle.coco_standing.specs.Standing.{AreCounted}
 use Rattle.coco_trial.specs.Running.{SamePlaces}
 use Rattle.coco_trial.specs.Voting.{MayVote}
 use Rattle.coco_types.specs.declared.call.Piece.{Piece}
+use Rattle.coco_world.specs.World.{Letter}
 use Rattle.coco_cluster.specs.Trying.{AreQuiet}
 use Rattle.coco_cluster.proofs.TryLemmas.{quiet_run}
 
@@ -97,6 +100,20 @@ whole_still : (old new : NodeTables) → new.layout ≡ old.layout → length ne
 whole_still old new layout shards copies whole = subst (λ (l : Layout). AreCounted l new.shards.items new.copies.items) (sym layout)
     (record { ring = whole.ring; shard_count = shards ∙ whole.shard_count; copy_count = copies ∙ whole.copy_count })
 
+-- a message of a commit is none of the ship phase
+commit_tag : (m : Message) → is_of_commit m ≡ true → 5 ≤ tag_of m
+commit_tag (Ship of partition place time writes) is = absurd cc
+commit_tag (Total of partition places) is = absurd cc
+commit_tag (Missing of partition places) is = absurd cc
+commit_tag (All of partition) is = absurd cc
+commit_tag (Prepare of) is = omega arith
+commit_tag (Vote of vote) is = omega arith
+commit_tag (Commit of) is = omega arith
+commit_tag (Finished of) is = omega arith
+commit_tag (Abort of) is = omega arith
+commit_tag (Query of) is = omega arith
+commit_tag (Tell of committed) is = omega arith
+
 module _ (ring : Ring) (epoch : ℕ) (pieces : List Piece) (starts : List CopyState) (given sent posts sent_new : List Posted) (adds : sent_new ≡ sent ++ posts)
     (right : AreRight ring epoch pieces starts given posts) where
   split : (s : Posted) → Contains sent_new s → Contains sent s ⊎ IsShipping epoch s
@@ -127,3 +144,18 @@ module _ (ring : Ring) (epoch : ℕ) (pieces : List Piece) (starts : List CopySt
         votes = votes_shipped quiet.letters.votes;
         finished = finished_shipped quiet.letters.finished;
       }
+
+  said_before : (l : Letter) → IsSaid sent_new l → IsSaid sent l
+  said_before l said = ⊎_elim (λ was. record { among = was; say = said.say })
+      (λ ships. absurd (no_commit epoch _ l.message ships said.say.is refl (commit_tag l.message said.say.commit))) (split _ said.among)
+
+  -- the world of nodes and coordinator has no part in it
+  pub shipped_goes : (old new : Members) → new ≡ record old { tables = new.tables } → GoesOn (scene_of old sent) (scene_of new sent_new)
+  shipped_goes old new same = subst (λ (k : Members). GoesOn (scene_of old sent) (scene_of k sent_new)) (sym same)
+      (λ counts w is. record {
+        after = w;
+        goes = record { events = []; can = tt; to = refl; told = tt; rises = λ k lt. omega arith };
+        is = record { count = is.count; nodes = is.nodes; chief_is = is.chief_is; told = λ l said. is.told l (said_before l said); durable = is.durable };
+        only = λ only l among. (let said = only l among in record { among = subst (λ (ps : List Posted). Contains ps (posted l.from l.to l.message)) (sym adds) (Contains-append_left sent posts (posted l.from l.to l.message) said.among); say = said.say });
+        made = record { prepared = refl; commits = refl; begun = refl };
+      })

@@ -1,13 +1,16 @@
 -- Nodes and coordinator where a node may have stopped before its entry.
-use Rattle.std.proofs.Common.{◌≡◌, ℕ, ◌+◌, ◌≤◌, Bool, true, false, List, length, length-set, Option, Some, Result, Ok, Err, refl, sym, ap, ◌∙◌, subst, arith, true≢false}
+use Rattle.std.proofs.Common.{◌≡◌, ⊎_elim, ℕ, ◌+◌, ◌<◌, ◌≤◌, Bool, true, false, List, length, length-set, Option, Some, Result, Ok, Err, refl, sym, ap, ◌∙◌, subst, arith, true≢false}
 use Rattle.std.specs.Prelude.{IfOk, OnOk}
 use Rattle.std.specs.List.{slice_get}
 use Rattle.std.specs.Vec.{with_items}
+use Rattle.std.proofs.lemmas.Bool.{cases_lt}
 use Rattle.std.proofs.lemmas.Option.{slice_get_within}
 use Rattle.coco_append.specs.Gaining.{Stands}
+use Rattle.coco_chief.specs.Chief.{Chief}
 use Rattle.coco_chief.specs.Shown.{chief_of}
 use Rattle.coco_finish.specs.Finishing.{AllCanFinish, AreWhole}
 use Rattle.coco_host.specs.Files.{Files}
+use Rattle.coco_letters.specs.Worlds.{GoesBetween, SameEntries}
 use Rattle.coco_letters.specs.declared.voter.Voter.{Voter}
 use Rattle.coco_log.specs.LogState.{LogState}
 use Rattle.coco_lost.specs.Stopping.{Stops, StopsOne}
@@ -23,7 +26,7 @@ use Rattle.coco_cluster.specs.Trying.{next_if, AreQuiet, SameLog, SameLogs, Lose
 use Rattle.coco_cluster.proofs.RestLemmas.{letters_later}
 use Rattle.coco_vote.specs.Asking.{RisesIf}
 use Rattle.coco_vote.proofs.WholeLemmas.{all_whole_then}
-use Rattle.coco_members.specs.AtRest.{NoneLost}
+use Rattle.coco_members.specs.AtRest.{NoneLost, scene_of}
 use Rattle.coco_cluster.proofs.VecLemmas.{with_same_items}
 
 -- what may change of members where a node stops: a core and the marks of a node
@@ -134,6 +137,20 @@ module _ (r : Result Bool NoMemory) (epoch : ℕ) (old new : Members) (stopped s
         | Err e ↦ λ s t. tt
       ] stops told
 
+  -- the world goes on by a stop alone
+  pub stop_goes : OnOk r ((chief : Chief) (sent : List Posted) → GoesBetween stopped stopped_new SameEntries (record { cores = cs; chief = chief; sent = sent }) (record { cores = cs_new; chief = chief; sent = sent }))
+      → OnOk r ((sent : List Posted) → GoesBetween stopped stopped_new SameEntries (scene_of old sent) (scene_of new sent))
+  stop_goes goes = elim r as (λ q. OnOk q ((chief : Chief) (sent : List Posted) → GoesBetween stopped stopped_new SameEntries (record { cores = cs; chief = chief; sent = sent }) (record { cores = cs_new; chief = chief; sent = sent }))
+      → OnOk q ((sent : List Posted) → GoesBetween stopped stopped_new SameEntries (scene_of old sent) (scene_of new sent))) [
+        | Ok x ↦ λ g sent. subst (λ (c : Chief). GoesBetween stopped stopped_new SameEntries (scene_of old sent) (record { cores = new.cores.items; chief = c; sent = sent })) (sym (ap (λ (k : Members). chief_of k.chief) same))
+            (subst (λ a. GoesBetween stopped stopped_new SameEntries (record { cores = a; chief = chief_of old.chief; sent = sent }) (record { cores = new.cores.items; chief = chief_of old.chief; sent = sent })) cs_are
+            (subst (λ a. GoesBetween stopped stopped_new SameEntries (record { cores = cs; chief = chief_of old.chief; sent = sent }) (record { cores = a; chief = chief_of old.chief; sent = sent })) (sym cs_now) (g (chief_of old.chief) sent)))
+        | Err e ↦ λ g. tt
+      ] goes
+
+  pub stop_nodes : length cs_new ≡ length cs → length new.cores.items ≡ length old.cores.items
+  stop_nodes len = ap (length {A = Node}) cs_now ∙ len ∙ ap (length {A = Node}) cs_are
+
 -- ---- nodes that lost their tables, from call to call
 
 pub lose_none : (seen : ℕ) (a b : List Voter) → b ≡ a → LoseIfTold seen seen a b
@@ -152,6 +169,11 @@ lose_on (Err e) s t u a b c one two = tt
 -- where no stop was told none has lost its tables
 pub none_lost : (seen seen_new : ℕ) (a b : List Voter) → LoseIfTold seen seen_new a b → seen_new ≡ seen → NoneLost a → NoneLost b
 none_lost seen seen_new a b lose is none n voter there = let was = lose.whole is n voter there in was.2 ∙ none n was.0 was.1
+
+-- so where one has lost them, against what none of them would be, a stop was told
+pub lost_if_told : (seen seen_new : ℕ) (a b : List Voter) → LoseIfTold seen seen_new a b → NoneLost a → (NoneLost b → ⊥) → seen < seen_new
+lost_if_told seen seen_new a b lose none some = ⊎_elim (λ rose. rose)
+    (λ le. (let up = lose.rises in absurd (some (none_lost seen seen_new a b lose (omega (arith, up, le)) none)))) (cases_lt seen seen_new)
 
 -- ---- logs that are what they were
 

@@ -5,6 +5,7 @@ pub mod Ending
 pub mod Faults
 pub mod Messages
 pub mod Standing
+pub mod Stepping
 pub mod Trying
 pub mod Turning
 pub mod Writing

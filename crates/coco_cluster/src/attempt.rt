@@ -1,13 +1,14 @@
 //! An attempt at an epoch, which is committed or given up.
-ghost use Rattle.std.specs.Prelude.{◌≡◌, ◌<◌, ◌≤◌, ◌≢◌, ℕ, None, Err, length, IfOk, OnOk, OnErr};
+ghost use Rattle.std.specs.Prelude.{◌≡◌, ◌+◌, ◌<◌, ◌≤◌, ◌≢◌, ℕ, List, None, Err, length, IfOk, OnOk, OnErr};
 ghost use Rattle.coco_append.specs.Gaining.{RestsOn};
 ghost use Rattle.coco_ast.specs.Keyed.{Rows};
 ghost use Rattle.coco_letters.specs.Around.{IsLater, around};
-ghost use Rattle.coco_members.specs.AtRest.{ShardsHaveMap};
+ghost use Rattle.coco_members.specs.AtRest.{ShardsHaveMap, scene_of};
 ghost use Rattle.coco_store.specs.Contents.{Contents};
 ghost use Rattle.coco_cluster.specs.Attempts.{Attempts, AttemptsOn, HasCause, KeepsMap};
 ghost use Rattle.coco_cluster.specs.Faults.{CountsAttempt};
 ghost use Rattle.coco_cluster.specs.Standing.{AllStand, IsSound, StandsAt};
+ghost use Rattle.coco_cluster.specs.Stepping.{AsksBy, HaveCommitted, OnEnd, StepsTo};
 ghost use Rattle.coco_cluster.specs.Turning.{HasRoom, MayTurn};
 ghost use Rattle.coco_cluster.specs.declared.fault.TurnFault.TheVariants as fault;
 
@@ -58,6 +59,11 @@ impl Cluster {
         ensures cause { IfOk result (λ again. HasCause again
             (around N.sent N.given N.faults N.last_seed P.stops_seen P.early_stops P.stopped P.begun P.asked net.old power.old)
             (around N.sent N.given N.faults N.last_seed P.stops_seen P.early_stops P.stopped P.begun P.asked net.new power.new)) }
+        ensures asks { IfOk result (λ again. AsksBy again self.old.members.tables.layout self.old.next_epoch self.new.next_epoch
+            (around N.sent N.given N.faults N.last_seed P.stops_seen P.early_stops P.stopped P.begun P.asked net.old power.old)
+            (around N.sent N.given N.faults N.last_seed P.stops_seen P.early_stops P.stopped P.begun P.asked net.new power.new)) }
+        ensures world { OnEnd result ((commits : List ℕ) × HaveCommitted result self.new.next_epoch commits
+            × StepsTo (P.stopped power.old) (P.stopped power.new) self.old.next_epoch self.new.next_epoch commits (scene_of self.old.members (N.sent net.old)) (scene_of self.new.members (N.sent net.new))) }
         ensures map { IfOk result (λ again. P.stops_seen power.new ≡ P.stops_seen power.old → KeepsMap again self.old self.new) }
         ensures procs { self.new.procs ≡ self.old.procs }
         ensures trace { OnErr result (self.old.trace ≡ None → self.new.trace ≡ None) }
@@ -69,6 +75,8 @@ impl Cluster {
         ensures said { H.said host.new ≡ H.said host.old }
         ensures disk { CountsAttempt result (H.disk_faults host.old) (H.disk_faults host.new) }
         ensures stream { H.say_faults host.new ≡ H.say_faults host.old }
+        ensures refused { (file at : ℕ) → result ≡ Err (fault.NotAStore file at) → P.stops_seen power.old < P.stops_seen power.new }
+        ensures begins { P.begun power.new ≤ P.begun power.old + 1 }
         ensures seen { OnOk result (P.stops_seen power.old ≤ P.stops_seen power.new) }
         // The counts, whatever the answer.
         ensures later { IsLater

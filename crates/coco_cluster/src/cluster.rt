@@ -1,13 +1,15 @@
 //! The store in hand, and its turns.
-ghost use Rattle.std.specs.Prelude.{◌≡◌, ◌≢◌, ◌⊎◌, ◌+◌, ◌<◌, ◌≤◌, [], ℕ, None, Err, length, IsOk, OnOk, OnErr};
+ghost use Rattle.std.specs.Prelude.{◌≡◌, ◌≢◌, ◌⊎◌, ◌+◌, ◌<◌, ◌≤◌, [], ℕ, List, None, Err, length, IsOk, OnOk, OnErr};
 ghost use Rattle.std.specs.Option.{option_map};
 ghost use Rattle.coco_append.specs.Gaining.{RestsOn};
 ghost use Rattle.coco_ast.specs.Keyed.{Rows};
 ghost use Rattle.coco_letters.specs.Around.{IsLater, SkipsFew, around, spare};
-ghost use Rattle.coco_members.specs.AtRest.{ShardsHaveMap};
+ghost use Rattle.coco_letters.specs.GivingUp.{AreGivenUp};
+ghost use Rattle.coco_members.specs.AtRest.{ShardsHaveMap, scene_of};
 ghost use Rattle.coco_store.specs.Contents.{Contents};
 ghost use Rattle.coco_cluster.specs.Faults.{CountsTurn};
 ghost use Rattle.coco_cluster.specs.Standing.{AllStand, IsSound, StandsAt};
+ghost use Rattle.coco_cluster.specs.Stepping.{HasAsked, HasCommittedBy, OnEnd, StepsTo};
 ghost use Rattle.coco_cluster.specs.Turning.{HasRoom, HasTurned, IsUntraced, KeepsHistory, MayTurn, Turns, epochs_of};
 ghost use Rattle.coco_cluster.specs.declared.fault.TurnFault.TheVariants as fault;
 
@@ -95,13 +97,22 @@ impl Cluster {
             → KeepsHistory H.moment H.observed H.said H.reads H.may_leave result requests.items self.old.next_epoch (spare (around N.sent N.given N.faults N.last_seed P.stops_seen P.early_stops P.stopped P.begun P.asked net.old power.old) (around N.sent N.given N.faults N.last_seed P.stops_seen P.early_stops P.stopped P.begun P.asked net.new power.new)) c host.old host.new
             ⊎ Turns H.moment H.observed H.said H.reads H.may_leave result requests.items workers attempts (spare (around N.sent N.given N.faults N.last_seed P.stops_seen P.early_stops P.stopped P.begun P.asked net.old power.old) (around N.sent N.given N.faults N.last_seed P.stops_seen P.early_stops P.stopped P.begun P.asked net.new power.new)) c self.old self.new host.old host.new }
         ensures never { (file at : ℕ) (c : Contents) → RestsOn c (H.reads host.old) (H.may_leave host.old) → StandsAt c self.old → HasRoom c requests.items → result ≢ Err (fault.NotAStore file at) }
-        ensures nothing { requests.items ≡ [] → IsOk result × (host.new ≡ host.old) × (net.new ≡ net.old) × IsUntraced self.old self.new }
+        ensures nothing { requests.items ≡ [] → IsOk result × (host.new ≡ host.old) × (net.new ≡ net.old) × IsUntraced self.old self.new × (power.new ≡ power.old) }
         ensures sound { OnOk result (IsSound self.new (N.sent net.new)) }
         ensures stand { OnOk result (AllStand self.new (H.reads host.new) (H.may_leave host.new)) }
         ensures next { OnOk result (0 < length requests.items → self.old.next_epoch < self.new.next_epoch) }
         ensures few { OnOk result (SkipsFew self.old.next_epoch self.new.next_epoch (epochs_of requests.items) (spare (around N.sent N.given N.faults N.last_seed P.stops_seen P.early_stops P.stopped P.begun P.asked net.old power.old) (around N.sent N.given N.faults N.last_seed P.stops_seen P.early_stops P.stopped P.begun P.asked net.new power.new))) }
         ensures turned { OnOk result (0 < length requests.items → (m : Rows) × HasTurned requests.items workers attempts m self.old self.new) }
         ensures from { OnOk result (0 < length requests.items → P.stops_seen power.new ≡ P.stops_seen power.old → (m : Rows) → ShardsHaveMap m self.old.members.tables → HasTurned requests.items workers attempts m self.old self.new) }
+        ensures world { OnEnd result ((commits : List ℕ) × HasCommittedBy result requests.items self.new.next_epoch commits
+            × StepsTo (P.stopped power.old) (P.stopped power.new) self.old.next_epoch self.new.next_epoch commits (scene_of self.old.members (N.sent net.old)) (scene_of self.new.members (N.sent net.new))) }
+        ensures asks { OnOk result (0 < length requests.items → HasAsked self.old.members.tables.layout self.old.next_epoch self.new.next_epoch
+            (around N.sent N.given N.faults N.last_seed P.stops_seen P.early_stops P.stopped P.begun P.asked net.old power.old)
+            (around N.sent N.given N.faults N.last_seed P.stops_seen P.early_stops P.stopped P.begun P.asked net.new power.new)) }
+        ensures begins { P.begun power.new ≤ P.begun power.old + 4 }
+        ensures given_up { OnOk result ((n : ℕ) × (n < 4) × AreGivenUp n (around N.sent N.given N.faults N.last_seed P.stops_seen P.early_stops P.stopped P.begun P.asked net.old power.old) (around N.sent N.given N.faults N.last_seed P.stops_seen P.early_stops P.stopped P.begun P.asked net.new power.new)) }
+        ensures refused { (file at : ℕ) → result ≡ Err (fault.NotAStore file at) → P.stops_seen power.old < P.stops_seen power.new }
+        ensures ended { result ≡ Err fault.EpochsUsedUp → (EPOCHS_END ≤ self.new.next_epoch) × ((n : ℕ) × (n < 4) × AreGivenUp n (around N.sent N.given N.faults N.last_seed P.stops_seen P.early_stops P.stopped P.begun P.asked net.old power.old) (around N.sent N.given N.faults N.last_seed P.stops_seen P.early_stops P.stopped P.begun P.asked net.new power.new)) }
         ensures untraced { OnErr result (self.new.trace ≡ None) }
         ensures used_up { 0 < length requests.items → EPOCHS_END ≤ self.old.next_epoch → result ≡ Err fault.EpochsUsedUp }
         ensures procs { self.new.procs ≡ self.old.procs }

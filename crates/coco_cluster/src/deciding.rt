@@ -1,20 +1,25 @@
 //! The decision on an epoch that was run: it is shipped and voted on, or given up.
-ghost use Rattle.std.specs.Prelude.{◌≡◌, ◌≤◌, false, List, ◌++◌, IfOk, OnOk};
+ghost use Rattle.std.specs.Prelude.{◌≡◌, ◌+◌, ◌<◌, ◌≤◌, true, false, List, [], ◌++◌, length, IfOk, OnOk};
 ghost use Rattle.coco_append.specs.Gaining.{Stands};
 ghost use Rattle.coco_ast.specs.Keyed.{Rows};
 ghost use Rattle.coco_letters.specs.Around.{IsLater, around};
+ghost use Rattle.coco_letters.specs.GivingUp.{since};
+ghost use Rattle.coco_letters.specs.Worlds.{GoesBetween, GoesOn, SameEntries};
 ghost use Rattle.coco_log.specs.LogState.{LogState};
-ghost use Rattle.coco_lost.specs.Stopping.{CountsRise};
+ghost use Rattle.coco_lost.specs.Stopping.{AsksFirst, CountsRise};
+ghost use Rattle.coco_members.specs.AtRest.{scene_of};
 ghost use Rattle.coco_net.specs.declared.letter.Posted.{Posted as Sent};
+ghost use Rattle.coco_power.specs.Counting.{begun_after};
 ghost use Rattle.coco_ship.specs.Pieces.{AreShippable};
 ghost use Rattle.coco_ship.specs.Placing.{IsRing};
-ghost use Rattle.coco_ship.specs.Shipping.{AreBegun};
+ghost use Rattle.coco_ship.specs.Shipping.{AreBegun, HaveAnswered};
 ghost use Rattle.coco_trial.specs.Running.{KeepAll, SamePlaces, ring_of};
 ghost use Rattle.coco_trial.specs.Voting.{MayVote};
-ghost use Rattle.coco_vote.specs.Asking.{RisesIf};
+ghost use Rattle.coco_vote.specs.Asking.{RisesIf, IsLater as StaysAsked};
 ghost use Rattle.coco_vote.specs.Counting.{GivesOn};
 ghost use Rattle.coco_vote.specs.Taking.{AreReady, IsElsewhere};
 ghost use Rattle.coco_cluster.specs.Faults.{CountsPart};
+ghost use Rattle.coco_cluster.specs.Stepping.{StepsTo, VotedForIf};
 ghost use Rattle.coco_cluster.specs.Trying.{next_if, AreQuiet, DecidesFiles, DecidesOn, GiveIf, GivenUpIfNot, IsSilentSince, LoseIfTold, SameLogs, StayInPlace};
 
 use crate::TurnFault;
@@ -45,9 +50,14 @@ pub(crate) fn one_stops<P: Power>(
     ensures stays { members.new ≡ record members.old { cores = members.new.cores; voters = members.new.voters } }
     ensures logs { OnOk result (SameLogs members.old.voters.items members.new.voters.items) }
     ensures whole { OnOk result (LoseIfTold (P.stops_seen power.old) (P.stops_seen power.new) members.old.voters.items members.new.voters.items) }
+    ensures world { OnOk result ((sent : List Sent) → GoesBetween (P.stopped power.old) (P.stopped power.new) SameEntries (scene_of members.old sent) (scene_of members.new sent)) }
+    ensures nodes { length members.new.cores.items ≡ length members.old.cores.items }
     // The counts, whatever the answer.
     ensures counts { CountsRise P.stops_seen P.early_stops P.stopped power.old power.new }
     ensures told { IfOk result (λ stops. RisesIf stops (P.early_stops power.old) (P.early_stops power.new)) }
+    ensures asked { IfOk result (λ stops. AsksFirst stops point (length members.old.cores.items) (P.stopped power.old) (P.stopped power.new) (P.asked power.old) (P.asked power.new)) }
+    ensures begun { P.begun power.new ≡ begun_after (P.begun power.old) 0 point }
+    ensures power { 1 < point → StaysAsked P.stops_seen P.early_stops P.stopped P.begun P.asked power.old power.new }
 {
     stop_early(
         alloc,
@@ -78,6 +88,8 @@ fn are_shipped<N: Net>(
     ensures keep { (m : Rows) → KeepAll m members.old.tables → KeepAll m members.new.tables }
     ensures give { IfOk result (λ all. GiveIf all epoch pieces.now members.old.tables members.new.tables) }
     ensures may { OnOk result (MayVote epoch (N.sent net.new) members.new) }
+    ensures answered { IfOk result (λ all. all ≡ true → HaveAnswered (ring_of members.old.tables.layout) epoch (since (N.given net.old) (N.given net.new))) }
+    ensures world { OnOk result (GoesOn (scene_of members.old (N.sent net.old)) (scene_of members.new (N.sent net.new))) }
     ensures silent { IfOk result (λ all. all ≡ false → IsSilentSince (N.sent net.old) (N.given net.old) (N.faults net.old) (N.sent net.new) (N.given net.new) (N.faults net.new)) }
     // The letters, whatever the answer.
     ensures sent { (more : List Sent) × (N.sent net.new ≡ N.sent net.old ++ more) }
@@ -110,6 +122,10 @@ pub(crate) fn decide<H: Host, N: Net, P: Power>(
     ensures cause { IfOk result (λ all. GivenUpIfNot all
         (around N.sent N.given N.faults N.last_seed P.stops_seen P.early_stops P.stopped P.begun P.asked net.old power.old)
         (around N.sent N.given N.faults N.last_seed P.stops_seen P.early_stops P.stopped P.begun P.asked net.new power.new)) }
+    ensures voted { IfOk result (λ all. VotedForIf all members.old.tables.layout epoch 2
+        (around N.sent N.given N.faults N.last_seed P.stops_seen P.early_stops P.stopped P.begun P.asked net.old power.old)
+        (around N.sent N.given N.faults N.last_seed P.stops_seen P.early_stops P.stopped P.begun P.asked net.new power.new)) }
+    ensures steps { OnOk result (StepsTo (P.stopped power.old) (P.stopped power.new) epoch (epoch + 1) [] (scene_of members.old (N.sent net.old)) (scene_of members.new (N.sent net.new))) }
     ensures places { OnOk result (StayInPlace members.old members.new) }
     ensures whole { OnOk result (LoseIfTold (P.stops_seen power.old) (P.stops_seen power.new) members.old.voters.items members.new.voters.items) }
     // The tables.
@@ -127,6 +143,7 @@ pub(crate) fn decide<H: Host, N: Net, P: Power>(
     ensures later { IsLater
         (around N.sent N.given N.faults N.last_seed P.stops_seen P.early_stops P.stopped P.begun P.asked net.old power.old)
         (around N.sent N.given N.faults N.last_seed P.stops_seen P.early_stops P.stopped P.begun P.asked net.new power.new) }
+    ensures power { StaysAsked P.stops_seen P.early_stops P.stopped P.begun P.asked power.old power.new }
 {
     let alloc = *body.allocator();
     if one_stops(alloc, power, members, 2, epoch)? {
@@ -155,6 +172,10 @@ fn ship_and_vote<H: Host, N: Net, P: Power>(
     ensures cause { IfOk result (λ all. GivenUpIfNot all
         (around N.sent N.given N.faults N.last_seed P.stops_seen P.early_stops P.stopped P.begun P.asked net.old power.old)
         (around N.sent N.given N.faults N.last_seed P.stops_seen P.early_stops P.stopped P.begun P.asked net.new power.new)) }
+    ensures voted { IfOk result (λ all. VotedForIf all members.old.tables.layout epoch 3
+        (around N.sent N.given N.faults N.last_seed P.stops_seen P.early_stops P.stopped P.begun P.asked net.old power.old)
+        (around N.sent N.given N.faults N.last_seed P.stops_seen P.early_stops P.stopped P.begun P.asked net.new power.new)) }
+    ensures steps { OnOk result (StepsTo (P.stopped power.old) (P.stopped power.new) epoch (epoch + 1) [] (scene_of members.old (N.sent net.old)) (scene_of members.new (N.sent net.new))) }
     ensures places { OnOk result (StayInPlace members.old members.new) }
     ensures whole { OnOk result (LoseIfTold (P.stops_seen power.old) (P.stops_seen power.new) members.old.voters.items members.new.voters.items) }
     // The tables.
@@ -172,6 +193,7 @@ fn ship_and_vote<H: Host, N: Net, P: Power>(
     ensures later { IsLater
         (around N.sent N.given N.faults N.last_seed P.stops_seen P.early_stops P.stopped P.begun P.asked net.old power.old)
         (around N.sent N.given N.faults N.last_seed P.stops_seen P.early_stops P.stopped P.begun P.asked net.new power.new) }
+    ensures power { StaysAsked P.stops_seen P.early_stops P.stopped P.begun P.asked power.old power.new }
 {
     let alloc = *body.allocator();
     if !are_shipped(alloc, net, members, epoch, pieces)? {

@@ -1,5 +1,5 @@
 //! The end of an epoch: it is committed, or it was given up; and the nodes that stopped are read anew.
-ghost use Rattle.std.specs.Prelude.{◌≡◌, ◌≢◌, ◌<◌, ◌≤◌, ◌+◌, ◌^◌, ◌++◌, false, ℕ, List, None, Err, IfOk, OnOk, OnErr, length, Option};
+ghost use Rattle.std.specs.Prelude.{◌≡◌, ◌≢◌, ◌<◌, ◌≤◌, ◌+◌, ◌^◌, ◌++◌, true, false, ℕ, List, None, Err, IfOk, IsOk, OnOk, OnErr, length, Option};
 ghost use Rattle.coco_append.specs.Gaining.{RestsOn, Stands};
 ghost use Rattle.coco_ast.specs.Keyed.{Rows};
 ghost use Rattle.coco_entry.specs.Commits.{AreOf, IsCommit};
@@ -7,9 +7,10 @@ ghost use Rattle.coco_finish.specs.Finishing.{HaveMap};
 ghost use Rattle.coco_kept.specs.Holding.{NeverFall};
 ghost use Rattle.coco_kept.specs.Keeping.{HoldsKept};
 ghost use Rattle.coco_letters.specs.Around.{IsLater, around};
+ghost use Rattle.coco_letters.specs.Worlds.{GoesBetween, Commits as CommitsOne};
 ghost use Rattle.coco_load.specs.Keeping.{MayFollow};
 ghost use Rattle.coco_log.specs.LogState.{IsOnlyRead, LogState};
-ghost use Rattle.coco_members.specs.AtRest.{AreAtRest, AreMembers, NoneBehind, NoneLost, ShardsHaveMap};
+ghost use Rattle.coco_members.specs.AtRest.{AreAtRest, AreMembers, NoneBehind, NoneLost, ShardsHaveMap, scene_of};
 ghost use Rattle.coco_members.specs.Voted.{HaveVoted};
 ghost use Rattle.coco_net.specs.declared.letter.Posted.{Posted as Sent};
 ghost use Rattle.coco_parallel.specs.Traces.{traced};
@@ -17,11 +18,12 @@ ghost use Rattle.coco_store.specs.Contents.{Contents, map_in};
 ghost use Rattle.coco_store.specs.Laws.{MayCommit};
 ghost use Rattle.coco_trial.specs.Running.{GiveAll, KeepAll};
 ghost use Rattle.coco_types.specs.declared.call.Done.{Done as DoneState};
+ghost use Rattle.coco_vote.specs.Asking.{IsLater as StaysAsked};
 ghost use Rattle.coco_vote.specs.Taking.{AreReady};
 ghost use Rattle.coco_cluster.specs.Ending.{Commits, HasEnded, IsForgotten};
 ghost use Rattle.coco_cluster.specs.Faults.{CountsAttempt, CountsPart};
 ghost use Rattle.coco_cluster.specs.Standing.{AllStand, BelongsTo, IsSound, MayStop, Rests, StandsAt};
-ghost use Rattle.coco_cluster.specs.Trying.{commit_of, AreQuiet, KeepShards};
+ghost use Rattle.coco_cluster.specs.Trying.{commit_of, AreQuiet, KeepShards, LoseIfTold};
 ghost use Rattle.coco_cluster.specs.declared.fault.TurnFault.TheVariants as fault;
 
 use crate::{Cluster, TurnFault};
@@ -76,6 +78,8 @@ impl Cluster {
         ensures kept { OnOk result ((before : Option ℕ) (added : List DoneState) → HoldsKept self.old.kept before added → NeverFall (added ++ dones) → HoldsKept self.new.kept before (added ++ dones)) }
         ensures rest { OnOk result (AreAtRest self.new.next_epoch (N.sent net.new) self.new.members) }
         ensures map { OnOk result ((after : Rows) → GiveAll after self.old.members.tables → HaveMap after self.new.members.tables) }
+        ensures asked { OnOk result ((n : ℕ) → n < length self.old.members.cores.items → P.asked power.new n 6 ≡ true) }
+        ensures world { OnOk result (GoesBetween (P.stopped power.old) (P.stopped power.new) (CommitsOne self.old.next_epoch) (scene_of self.old.members (N.sent net.old)) (scene_of self.new.members (N.sent net.new))) }
         // The files.
         ensures files { (c : Contents) → RestsOn c (H.reads host.old) (H.may_leave host.old) → BelongsTo c self.old → (IsCommit (commit_of self.old.next_epoch dones) → MayCommit c (commit_of self.old.next_epoch dones))
             → Commits H.moment H.observed H.said H.reads H.may_leave result c (commit_of self.old.next_epoch dones) host.old host.new }
@@ -85,6 +89,9 @@ impl Cluster {
         ensures stream { H.say_faults host.new ≡ H.say_faults host.old }
         // The counts, whatever the answer.
         ensures seen { P.stops_seen power.old ≤ P.stops_seen power.new }
+        ensures whole { OnOk result (LoseIfTold (P.stops_seen power.old) (P.stops_seen power.new) self.old.members.voters.items self.new.members.voters.items) }
+        ensures early { P.early_stops power.new ≡ P.early_stops power.old }
+        ensures power { StaysAsked P.stops_seen P.early_stops P.stopped P.begun P.asked power.old power.new }
         ensures later { IsLater
             (around N.sent N.given N.faults N.last_seed P.stops_seen P.early_stops P.stopped P.begun P.asked net.old power.old)
             (around N.sent N.given N.faults N.last_seed P.stops_seen P.early_stops P.stopped P.begun P.asked net.new power.new) }
@@ -116,6 +123,10 @@ impl Cluster {
         ensures procs { self.new.procs ≡ self.old.procs }
         ensures untraced { OnErr result (self.new.trace ≡ None) }
         ensures layout { self.new.members.tables.layout ≡ self.old.members.tables.layout }
+        ensures next { self.new.next_epoch ≡ self.old.next_epoch }
+        ensures cores { self.new.members.cores ≡ self.old.members.cores }
+        ensures chief { self.new.members.chief ≡ self.old.members.chief }
+        ensures none { NoneLost self.old.members.voters.items → IsOk result }
         ensures untouched { OnOk result (NoneLost self.old.members.voters.items → self.new ≡ self.old) }
         ensures whole { OnOk result (NoneLost self.new.members.voters.items) }
         ensures rests { OnOk result ((sent : List Sent) → Rests self.old sent → IsSound self.new sent) }

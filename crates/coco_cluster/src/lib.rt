@@ -6,8 +6,11 @@ mod cluster;
 mod deciding;
 mod ending;
 mod fault;
+mod laws;
+mod rows;
 mod running;
 mod trying;
 
 pub use cluster::Cluster;
 pub use fault::TurnFault;
+pub use laws::turns_are_steps_of_the_agreement;

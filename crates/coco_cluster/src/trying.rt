@@ -1,13 +1,16 @@
 //! The next epoch is tried: it is run, and then shipped and voted on.
-ghost use Rattle.std.specs.Prelude.{◌≡◌, ◌<◌, length, IfOk, OnOk};
+ghost use Rattle.std.specs.Prelude.{◌≡◌, ◌+◌, ◌<◌, [], length, IfOk, OnOk};
 ghost use Rattle.coco_append.specs.Gaining.{Stands};
 ghost use Rattle.coco_ast.specs.Keyed.{Rows};
 ghost use Rattle.coco_letters.specs.Around.{IsLater, around};
 ghost use Rattle.coco_log.specs.LogState.{LogState};
-ghost use Rattle.coco_members.specs.AtRest.{NoneBehind, ShardsHaveMap};
+ghost use Rattle.coco_members.specs.AtRest.{NoneBehind, ShardsHaveMap, scene_of};
+ghost use Rattle.coco_power.specs.Counting.{begun_after};
+ghost use Rattle.coco_vote.specs.Asking.{IsLater as StaysAsked};
 ghost use Rattle.coco_vote.specs.Taking.{AreReady, IsElsewhere};
 ghost use Rattle.coco_cluster.specs.Faults.{CountsPart};
 ghost use Rattle.coco_cluster.specs.Standing.{IsSound};
+ghost use Rattle.coco_cluster.specs.Stepping.{StepsTo, VotedForBy};
 ghost use Rattle.coco_cluster.specs.Trying.{ComesOf, IsGivenUpIf, LoseIfTold, StaysInPlace, TriesFiles};
 ghost use Rattle.coco_cluster.specs.Turning.{MayTurn};
 
@@ -71,6 +74,10 @@ impl Cluster {
         ensures cause { IfOk result (λ tried. IsGivenUpIf tried
             (around N.sent N.given N.faults N.last_seed P.stops_seen P.early_stops P.stopped P.begun P.asked net.old power.old)
             (around N.sent N.given N.faults N.last_seed P.stops_seen P.early_stops P.stopped P.begun P.asked net.new power.new)) }
+        ensures voted { IfOk result (λ tried. VotedForBy tried self.old.members.tables.layout self.old.next_epoch 1
+            (around N.sent N.given N.faults N.last_seed P.stops_seen P.early_stops P.stopped P.begun P.asked net.old power.old)
+            (around N.sent N.given N.faults N.last_seed P.stops_seen P.early_stops P.stopped P.begun P.asked net.new power.new)) }
+        ensures steps { OnOk result (StepsTo (P.stopped power.old) (P.stopped power.new) self.old.next_epoch (self.old.next_epoch + 1) [] (scene_of self.old.members (N.sent net.old)) (scene_of self.new.members (N.sent net.new))) }
         ensures stays { OnOk result (StaysInPlace self.old self.new) }
         ensures whole { OnOk result (LoseIfTold (P.stops_seen power.old) (P.stops_seen power.new) self.old.members.voters.items self.new.members.voters.items) }
         ensures procs { self.new.procs ≡ self.old.procs }
@@ -86,6 +93,7 @@ impl Cluster {
         ensures later { IsLater
             (around N.sent N.given N.faults N.last_seed P.stops_seen P.early_stops P.stopped P.begun P.asked net.old power.old)
             (around N.sent N.given N.faults N.last_seed P.stops_seen P.early_stops P.stopped P.begun P.asked net.new power.new) }
+        ensures begun { P.begun power.new ≡ begun_after (P.begun power.old) 0 1 }
     {
         let epoch = self.next_epoch;
         if one_stops(alloc, power, &mut self.members, 1, epoch)? {
@@ -127,6 +135,10 @@ impl Cluster {
         ensures cause { IfOk result (λ tried. IsGivenUpIf tried
             (around N.sent N.given N.faults N.last_seed P.stops_seen P.early_stops P.stopped P.begun P.asked net.old power.old)
             (around N.sent N.given N.faults N.last_seed P.stops_seen P.early_stops P.stopped P.begun P.asked net.new power.new)) }
+        ensures voted { IfOk result (λ tried. VotedForBy tried self.old.members.tables.layout self.old.next_epoch 2
+            (around N.sent N.given N.faults N.last_seed P.stops_seen P.early_stops P.stopped P.begun P.asked net.old power.old)
+            (around N.sent N.given N.faults N.last_seed P.stops_seen P.early_stops P.stopped P.begun P.asked net.new power.new)) }
+        ensures steps { OnOk result (StepsTo (P.stopped power.old) (P.stopped power.new) self.old.next_epoch (self.old.next_epoch + 1) [] (scene_of self.old.members (N.sent net.old)) (scene_of self.new.members (N.sent net.new))) }
         ensures stays { OnOk result (StaysInPlace self.old self.new) }
         ensures whole { OnOk result (LoseIfTold (P.stops_seen power.old) (P.stops_seen power.new) self.old.members.voters.items self.new.members.voters.items) }
         ensures procs { self.new.procs ≡ self.old.procs }
@@ -142,6 +154,7 @@ impl Cluster {
         ensures later { IsLater
             (around N.sent N.given N.faults N.last_seed P.stops_seen P.early_stops P.stopped P.begun P.asked net.old power.old)
             (around N.sent N.given N.faults N.last_seed P.stops_seen P.early_stops P.stopped P.begun P.asked net.new power.new) }
+        ensures power { StaysAsked P.stops_seen P.early_stops P.stopped P.begun P.asked power.old power.new }
     {
         let epoch = self.next_epoch;
         let ids = ids_of(alloc, requests.as_slice())?;

@@ -1,12 +1,10 @@
 -- What an opened store has in memory, as a cluster sees it.
-use Rattle.std.proofs.Common.{◌≡◌, ℕ, zero, suc, ◌+◌, ◌<◌, ◌≤◌, Bool, true, false, eqb, List, [], ◌∷◌, length, Option, refl, sym, ap, ◌∙◌, subst, arith}
-use Rattle.std.specs.Prelude.{◌||◌, slice_index}
-use Rattle.std.proofs.lemmas.Bool.{eqb-true}
+use Rattle.std.proofs.Common.{◌≡◌, ℕ, zero, suc, ◌+◌, ◌<◌, ◌≤◌, List, [], length, Option, refl, sym, ap, ◌∙◌, subst, arith}
+use Rattle.std.specs.Prelude.{slice_index}
 use Rattle.std.specs.List.{AllByRecursion, flat_map, range_with_len}
 use Rattle.coco_types.specs.Limits.{epochs_end, most_partitions}
 use Rattle.coco_ast.proofs.Lists.{all_from_map, all_left, all_right}
-use Rattle.coco_ast.specs.History.{RisesAbove}
-use Rattle.coco_chief.specs.Chief.{has, Chief}
+use Rattle.coco_chief.specs.Chief.{Chief}
 use Rattle.coco_chief.specs.Shown.{chief_of}
 use Rattle.coco_entry.specs.declared.commit.Commit.{Commit}
 use Rattle.coco_entry.specs.declared.layout.Layout.{Layout}
@@ -16,6 +14,7 @@ use Rattle.coco_finish.specs.Finishing.{is_behind}
 use Rattle.coco_host.specs.Files.{Files}
 use Rattle.coco_kept.specs.Keeping.{Keeping}
 use Rattle.coco_load.specs.Epochs.{IsNextOf}
+use Rattle.coco_lost.proofs.EpochLemmas.{all_above}
 use Rattle.coco_load.specs.RowMaps.{joined}
 use Rattle.coco_members.specs.AtRest.{AreAtRest, NoneBehind, NoneLost}
 use Rattle.coco_members.specs.Opened.{AreMembersOf, AreOf}
@@ -50,17 +49,6 @@ behind_all c epoch next = record {
   where
     prepared : List ℕ
     prepared = flat_map (λ n. prepared_epochs (c.prepared n)) (range_with_len 0 c.setting.entry.layout.nodes)
-
--- of numbers that rise above one, each is above it
-all_above : (b : ℕ) (xs : List ℕ) → RisesAbove b xs → (e : ℕ) → has xs e ≡ true → b < e
-all_above b [] rises e is = absurd cc
-all_above b (x ∷ xs) rises e is = by (all_above x xs rises.1 e) (eqb x e) refl
-  where
-    by : (has xs e ≡ true → x < e) → (here : Bool) → eqb x e ≡ here → b < e
-    by later true at = subst (λ (k : ℕ). b < k) (eqb-true x e at) rises.0
-    by later false at = (let first : b < x = rises.0 in
-        let more : x < e = later (sym (ap (λ (here : Bool). here || has xs e) at) ∙ is) in
-        omega (arith, first, more))
 
 -- ---- nodes and coordinator
 

@@ -7,7 +7,9 @@ ghost use Rattle.coco_append.specs.Gaining.{RestsOn};
 ghost use Rattle.coco_cluster.specs.Standing.{AllStand, IsSound, StandsAt};
 ghost use Rattle.coco_load.specs.Epochs.{IsNextOf};
 ghost use Rattle.coco_log.specs.LogState.{IsOnlyRead};
+ghost use Rattle.coco_members.specs.Opened.{BeginsWorld, HasEntries};
 ghost use Rattle.coco_store.specs.Contents.{Contents, Holds, IsGoodStore};
+ghost use Rattle.coco_world.specs.World.{World};
 ghost use Rattle.coco_commands.specs.Opening.{FailsToOpen, ending_of_opening};
 
 use crate::open::cluster_of;
@@ -30,7 +32,7 @@ pub fn ending_of_opening(fault: OpenFault) -> Ending
     }
 }
 
-/// The host's store, opened to be run.
+/// The host's store, opened to be run. Its nodes' and its coordinator's cores are the restarted ones.
 pub fn open_cluster<H: Host>(alloc: Global, host: &mut H) -> Result<Cluster, Ending>
     ensures read { IsOnlyRead H.moment H.observed H.said H.reads H.may_leave host.old host.new }
     ensures stream { H.say_faults host.new ≡ H.say_faults host.old }
@@ -39,6 +41,8 @@ pub fn open_cluster<H: Host>(alloc: Global, host: &mut H) -> Result<Cluster, End
     ensures stands { IfOk result (λ cluster. (files : Files) (c : Contents) → H.reads host.old ≡ Some files → IsGoodStore files c
         → RestsOn c (H.reads host.new) (H.may_leave host.new) × StandsAt c cluster) }
     ensures next { IfOk result (λ cluster. (files : Files) (c : Contents) → H.reads host.old ≡ Some files → Holds files c → IsNextOf c cluster.next_epoch) }
+    ensures world { IfOk result (λ cluster. (w : World) × BeginsWorld cluster.next_epoch cluster.members w) }
+    ensures entries { IfOk result (λ cluster. (files : Files) (c : Contents) → H.reads host.old ≡ Some files → Holds files c → (w : World) × BeginsWorld cluster.next_epoch cluster.members w × HasEntries c w) }
     ensures logs { IfOk result (λ cluster. AllStand cluster (H.reads host.new) (H.may_leave host.new)) }
     ensures room { IfOk result (λ cluster. length cluster.kept.dones ≤ most_kept) }
     ensures disk { OnOk result (H.disk_faults host.new ≡ H.disk_faults host.old) }

@@ -6,6 +6,7 @@ ghost use Rattle.coco_letters.specs.Telling.{Adds, IsOfSettling};
 ghost use Rattle.coco_letters.specs.Turns.{AreFresh, Counts};
 ghost use Rattle.coco_letters.specs.Worlds.{GoesBetween, SameEntries};
 ghost use Rattle.coco_vote.specs.Asking.{IsLater};
+ghost use Rattle.coco_vote.specs.Taking.{StaysWhole, StayWhole};
 ghost use Rattle.coco_finish.specs.Exchanges.{AreInStep};
 ghost use Rattle.coco_finish.specs.Finishing.{AllCanFinish};
 ghost use Rattle.coco_finish.specs.Stopping.{AllHaveNewest, StopSome, StopsHere};
@@ -33,6 +34,7 @@ fn stop_here<N: Net, P: Power>(
     requires some { 0 < epoch }
     requires newest { AllHaveNewest epoch cores.old }
     ensures stops { OnOk result (StopsHere epoch node (P.stopped power.old) (P.stopped power.new) cores.old voter.old (N.sent net.old) cores.new voter.new (N.sent net.new)) }
+    ensures whole { OnOk result (StaysWhole (P.stops_seen power.old) (P.stops_seen power.new) voter.old voter.new) }
     ensures elsewhere { (n : ℕ) → n < 8 → n ≢ node → P.stopped power.new n ≡ P.stopped power.old n }
     ensures log { voter.new.log ≡ voter.old.log }
     ensures held { voter.new.held ≡ voter.old.held }
@@ -65,6 +67,7 @@ pub fn stop_last<N: Net, P: Power>(
     requires some { 0 < epoch }
     requires newest { AllHaveNewest epoch cores.old }
     ensures stops { OnOk result (StopSome epoch (length cores.old) (P.stopped power.old) (P.stopped power.new) cores.old voters.old (N.sent net.old) cores.new voters.new (N.sent net.new)) }
+    ensures whole { OnOk result (StayWhole (P.stops_seen power.old) (P.stops_seen power.new) voters.old voters.new) }
     ensures said { OnOk result (Adds (IsOfSettling epoch) (N.sent net.old) (N.sent net.new)) }
     ensures newest { OnOk result (AllHaveNewest epoch cores.new) }
     ensures can { OnOk result (AllCanFinish epoch cores.old → AllCanFinish epoch cores.new) }

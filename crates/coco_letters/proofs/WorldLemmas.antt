@@ -17,14 +17,14 @@ use Rattle.coco_node.specs.Table as nodes
 use Rattle.coco_chief.specs.Chief.{Chief}
 use Rattle.coco_chief.specs.Table as chiefs
 use Rattle.coco_chief.specs.declared.machine.Phase.TheVariants.{Rest, Forcing}
-use Rattle.coco_world.specs.World.{World, Letter, Among, put, sent}
+use Rattle.coco_world.specs.World.{World, Letter, Among, began_anew, put, sent}
 use Rattle.coco_world.specs.Steps.{Event, NodeTakes, ChiefTakes, NodeForces, ChiefForces, Begins, Aborts, Stops, Asks, Reminds, Crashes, CanRun, after_chief, happens, run, IsAbove, after_node}
 use Rattle.coco_world.proofs.NodeTurns.{handled_holds}
 use Rattle.coco_world.proofs.Tools.{put_both, put_one, Among-append, Among-right}
 use Rattle.coco_msg.specs.Bytes.{bytes_of}
 use Rattle.coco_letters.specs.Saying.{posted, posts_of, AreToSay, IsToSay}
 use Rattle.coco_letters.specs.Turns.{ChiefTurns, IsForcing, NodeAsks, NodeTurns, Takes}
-use Rattle.coco_letters.specs.Worlds.{Arrives, Commits, Goes, GoesBetween, GoesOn, GoesOnAbove, GoesOnStopped, GoesOnWith, IsOnlySaid, IsSaid, IsWorld, Prepares, SameEntries, Scene, StopIsTold, Starts}
+use Rattle.coco_letters.specs.Worlds.{Arrives, Commits, Goes, GoesBetween, GoesOn, GoesOnAbove, GoesOnStopped, GoesOnWith, IsOnlySaid, IsReached, IsSaid, IsWorld, Prepares, SameEntries, Scene, StopIsTold, Starts}
 use Rattle.coco_letters.proofs.SayingLemmas.{asks_says, chief_says, each_says, node_says, reminds_says, same_message, vote_says}
 
 -- ---- elements
@@ -441,6 +441,20 @@ goes_then a b c w v u first next = record {
       (all_told (StopIsTold b c) (StopIsTold a c) (λ event. told_wider a b c c event first.rises (none_told c)) next.events next.told);
   rises = λ n lt. let low : a n ≤ b n = first.rises n lt in let high : b n ≤ c n = next.rises n lt in omega (arith, low, high);
 }
+
+-- and a world that good entries lead to stays one
+pub reached_on : (i j : ℕ → ℕ) (w v : World) → IsReached w → Goes i j w v → IsReached v
+reached_on i j w v reached goes =
+    let start : World = began_anew reached.count reached.prepared reached.commits in
+    record {
+      count = reached.count;
+      prepared = reached.prepared;
+      commits = reached.commits;
+      events = reached.events ++ goes.events;
+      good = reached.good;
+      can = can_both start reached.events goes.events reached.can (subst (λ (x : World). CanRun x goes.events) reached.is goes.can);
+      is = sym goes.to ∙ ap (λ (x : World). run x goes.events) reached.is ∙ sym (run_both start reached.events goes.events);
+    }
 
 pub goes_on_then : (a b c : Scene) → GoesOn a b → GoesOn b c → GoesOn a c
 goes_on_then a b c first next counts w is =

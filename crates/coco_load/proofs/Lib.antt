@@ -1,5 +1,6 @@
 pub mod Adding
 pub mod Following
+pub mod JoinedMaps
 pub mod LentMaps
 pub mod Loading
 pub mod Ring

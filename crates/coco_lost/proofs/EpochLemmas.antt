@@ -31,7 +31,7 @@ cases_has x xs e is = by (eqb x e) refl
     by false at = inr (sym (ap (λ (b : Bool). b || has xs e) at) ∙ is)
 
 -- each of them is above it
-all_above : (b : ℕ) (xs : List ℕ) → RisesAbove b xs → (e : ℕ) → has xs e ≡ true → b < e
+pub all_above : (b : ℕ) (xs : List ℕ) → RisesAbove b xs → (e : ℕ) → has xs e ≡ true → b < e
 all_above b [] rises e is = absurd cc
 all_above b (x ∷ xs) rises e is = elim (cases_has x xs e is) [
   | inl here ↦ subst (λ (k : ℕ). b < k) here rises.0

@@ -20,7 +20,7 @@ ghost use Rattle.coco_store.specs.Contents.{Contents};
 ghost use Rattle.coco_store.specs.Laws.{MayCommit, with_commit};
 ghost use Rattle.coco_vote.specs.Asking.{IsLater};
 ghost use Rattle.coco_vote.specs.Counting.{GivesOn};
-ghost use Rattle.coco_vote.specs.Taking.{AreReady};
+ghost use Rattle.coco_vote.specs.Taking.{AreReady, StayWhole};
 ghost use Rattle.coco_letters.specs.Turns.{SendsMore};
 ghost use Rattle.coco_settle.specs.Settling.{AreToFinish, HasCommitted, KeepsChief, MarkStops};
 
@@ -57,6 +57,7 @@ fn finish_committed<N: Net, P: Power>(
     ensures layout { OnOk result (members.new.tables.layout ≡ members.old.tables.layout) }
     ensures chief { OnOk result (KeepsChief (chief_of members.old.chief) (chief_of members.new.chief)) }
     ensures stops { OnOk result (MarkStops (P.stopped power.old) (P.stopped power.new) members.old.voters.items members.new.voters.items) }
+    ensures whole { OnOk result (StayWhole (P.stops_seen power.old) (P.stops_seen power.new) members.old.voters.items members.new.voters.items) }
     ensures log { members.new.log ≡ members.old.log }
     ensures asked { OnOk result ((n : ℕ) → n < length members.old.cores.items → P.asked power.new n 6 ≡ true) }
     ensures world { OnOk result (GoesBetween (P.stopped power.old) (P.stopped power.new) SameEntries (scene_of members.old (N.sent net.old)) (scene_of members.new (N.sent net.new))) }
@@ -111,6 +112,7 @@ pub fn settle<H: Host, N: Net, P: Power>(
     ensures layout { OnOk result (members.new.tables.layout ≡ members.old.tables.layout) }
     ensures committed { OnOk result (HasCommitted epoch (chief_of members.old.chief) (chief_of members.new.chief)) }
     ensures stops { OnOk result (MarkStops (P.stopped power.old) (P.stopped power.new) members.old.voters.items members.new.voters.items) }
+    ensures whole { OnOk result (StayWhole (P.stops_seen power.old) (P.stops_seen power.new) members.old.voters.items members.new.voters.items) }
     // Where the entry isn't durable, nothing was done.
     ensures behind { (members.new.log ≡ with_entry members.old.log (commit_bytes (record { epoch = epoch; dones = dones.now })))
         ⊎ ((members.new ≡ record members.old { log = members.new.log }) × (net.new ≡ net.old) × (power.new ≡ power.old)) }

@@ -4,7 +4,7 @@ use Rattle.coco_shard.specs.RowState.{ShardState}
 use Rattle.coco_ship.specs.Shipping.{news}
 use Rattle.coco_trial.specs.Running.{ring_of}
 use Rattle.coco_members.specs.declared.members.Members.{Members}
-use Rattle.coco_cluster.proofs.ShipLemmas.{may_vote}
+use Rattle.coco_cluster.proofs.ShipLemmas.{may_vote, shipped_goes}
 use Rattle.coco_cluster.proofs.SilentLemmas.{silent_awaits}
 use Rattle.coco_cluster.proofs.deciding.are_shipped.Goals as goal
 
@@ -35,6 +35,15 @@ returns-in-Ok-clause-sent g c = (news (g.N.Net.sent c.args.net.now) (g.N.Net.sen
 pub returns-in-Ok-clause-net : goal.returns-in-Ok-clause-net
 returns-in-Ok-clause-net g c = record { more = news (g.N.Net.given c.args.net.now) (g.N.Net.given c.ship.new.net); gives = c.ship.ensures.given; faults_rise = c.ship.ensures.faults; seed_stays = c.ship.ensures.seed }
 
+pub returns-in-Ok-clause-world : goal.returns-in-Ok-clause-world
+returns-in-Ok-clause-world g c =
+    let k : Members = c.args.members.now in
+    shipped_goes (ring_of k.tables.layout) c.args.epoch c.args.pieces.now k.tables.copies.items (news (g.N.Net.given c.args.net.now) (g.N.Net.given c.ship.new.net)) (g.N.Net.sent c.args.net.now)
+    (news (g.N.Net.sent c.args.net.now) (g.N.Net.sent c.ship.new.net)) (g.N.Net.sent c.ship.new.net) c.ship.ensures.sent c.ship.ensures.right k (record k { tables = c.ship.new.tables }) refl
+
+pub returns-in-Ok-clause-answered : goal.returns-in-Ok-clause-answered
+returns-in-Ok-clause-answered g c is = c.in-Ok.ensures.answered
+
 -- ---- a copy doesn't answer
 
 pub returns-in-Err-Silent-clause-give : goal.returns-in-Err-Silent-clause-give
@@ -57,6 +66,15 @@ returns-in-Err-Silent-clause-sent g c = (news (g.N.Net.sent c.args.net.now) (g.N
 
 pub returns-in-Err-Silent-clause-net : goal.returns-in-Err-Silent-clause-net
 returns-in-Err-Silent-clause-net g c = record { more = news (g.N.Net.given c.args.net.now) (g.N.Net.given c.ship.new.net); gives = c.ship.ensures.given; faults_rise = c.ship.ensures.faults; seed_stays = c.ship.ensures.seed }
+
+pub returns-in-Err-Silent-clause-world : goal.returns-in-Err-Silent-clause-world
+returns-in-Err-Silent-clause-world g c =
+    let k : Members = c.args.members.now in
+    shipped_goes (ring_of k.tables.layout) c.args.epoch c.args.pieces.now k.tables.copies.items (news (g.N.Net.given c.args.net.now) (g.N.Net.given c.ship.new.net)) (g.N.Net.sent c.args.net.now)
+    (news (g.N.Net.sent c.args.net.now) (g.N.Net.sent c.ship.new.net)) (g.N.Net.sent c.ship.new.net) c.ship.ensures.sent c.ship.ensures.right k (record k { tables = c.ship.new.tables }) refl
+
+pub returns-in-Err-Silent-clause-answered : goal.returns-in-Err-Silent-clause-answered
+returns-in-Err-Silent-clause-answered g c is = absurd (true≢false (sym is))
 
 -- ---- without memory
 

@@ -1,18 +1,23 @@
-use Rattle.std.proofs.Common.{◌≡◌, true≢false, is_err, IfOk, OnOk, ap, refl, sym, subst}
-use Rattle.std.proofs.lemmas.Result.{err_from_is_err_and}
+use Rattle.std.proofs.Common.{◌≡◌, ◌+◌, ◌≤◌, [], arith, length, true≢false, is_err, IfOk, OnOk, ap, refl, sym, subst}
+use Rattle.std.proofs.lemmas.Result.{err_from_is_err_and, IfOk-weaker}
 use Rattle.coco_append.specs.Gaining.{Stands}
 use Rattle.coco_ast.specs.Keyed.{Rows}
 use Rattle.coco_letters.specs.Around.{Around, around}
 use Rattle.coco_log.specs.LogState.{LogState}
+use Rattle.coco_members.specs.AtRest.{scene_of}
 use Rattle.coco_members.specs.declared.members.Members.{Members}
 use Rattle.coco_ship.specs.Pieces.{AreShippable}
 use Rattle.coco_ship.specs.Placing.{IsRing}
 use Rattle.coco_ship.specs.Shipping.{AreBegun}
 use Rattle.coco_trial.specs.Running.{ring_of, KeepAll}
+use Rattle.coco_vote.proofs.PowerLemmas.{later_then as asked_then}
 use Rattle.coco_vote.specs.Taking.{AreReady, IsElsewhere}
+use Rattle.coco_cluster.specs.Stepping.{VotedForIf}
 use Rattle.coco_cluster.specs.Trying.{AreQuiet, DecidesFiles, DecidesOn, GiveIf, StayInPlace}
+use Rattle.coco_cluster.proofs.AskLemmas.{asked_none, voted_before}
 use Rattle.coco_cluster.proofs.AroundLemmas.{causes_from, gives_stopped, later_still, later_then}
 use Rattle.coco_cluster.proofs.DecideLemmas.{failed_files, idle_keeps, rests_now, stay_stopped}
+use Rattle.coco_cluster.proofs.StepLemmas.{steps_ended, steps_later, steps_same}
 use Rattle.coco_cluster.proofs.StopLemmas.{logs_ready, lose_on}
 use Rattle.coco_cluster.proofs.deciding.decide.Goals as goal
 
@@ -129,3 +134,42 @@ returns-clause-later g c =
 pub returns-clause-whole : goal.returns-clause-whole
 returns-clause-whole g c = lose_on c.ship_and_vote.result (g.P.Power.stops_seen c.args.power.now) (g.P.Power.stops_seen c.one_stops.new.power) (g.P.Power.stops_seen c.ship_and_vote.new.power) c.args.members.now.voters.items c.one_stops.new.members.voters.items c.ship_and_vote.new.members.voters.items
     c.in_ok-one_stops.ensures.whole c.ship_and_vote.ensures.whole
+
+-- ---- the steps of nodes and coordinator, and what was asked
+
+pub returns-then-branch-clause-steps : goal.returns-then-branch-clause-steps
+returns-then-branch-clause-steps g c =
+    let k : Members = c.args.members.now in
+    let sent = g.N.Net.sent c.args.net.now in
+    steps_later (g.P.Power.stopped c.args.power.now) (g.P.Power.stopped c.one_stops.new.power) c.args.epoch c.args.epoch (c.args.epoch + 1) [] (scene_of k sent) (scene_of c.one_stops.new.members sent) (omega arith)
+    (steps_same (g.P.Power.stopped c.args.power.now) (g.P.Power.stopped c.one_stops.new.power) c.args.epoch (scene_of k sent) (scene_of c.one_stops.new.members sent) c.one_stops.ensures.nodes (c.in_ok-one_stops.ensures.world sent))
+
+pub returns-then-branch-clause-power : goal.returns-then-branch-clause-power
+returns-then-branch-clause-power g c = c.one_stops.ensures.power (omega arith)
+
+pub returns-in_err-one_stops-clause-power : goal.returns-in_err-one_stops-clause-power
+returns-in_err-one_stops-clause-power g c = c.one_stops.ensures.power (omega arith)
+
+pub returns-clause-power : goal.returns-clause-power
+returns-clause-power g c = asked_then g.P.Power.stops_seen g.P.Power.early_stops g.P.Power.stopped g.P.Power.begun g.P.Power.asked c.args.power.now c.one_stops.new.power c.ship_and_vote.new.power (c.one_stops.ensures.power (omega arith)) c.ship_and_vote.ensures.power
+
+pub returns-clause-steps : goal.returns-clause-steps
+returns-clause-steps g c =
+    let k : Members = c.args.members.now in
+    let sent = g.N.Net.sent c.args.net.now in
+    let i = g.P.Power.stopped c.args.power.now in
+    let j = g.P.Power.stopped c.one_stops.new.power in
+    steps_ended c.ship_and_vote.result i j (g.P.Power.stopped c.ship_and_vote.new.power) c.args.epoch c.args.epoch (c.args.epoch + 1) (scene_of k sent) (scene_of c.one_stops.new.members sent) (scene_of c.ship_and_vote.new.members (g.N.Net.sent c.ship_and_vote.new.net))
+    (steps_same i j c.args.epoch (scene_of k sent) (scene_of c.one_stops.new.members sent) c.one_stops.ensures.nodes (c.in_ok-one_stops.ensures.world sent)) c.ship_and_vote.ensures.steps
+
+pub returns-clause-voted : goal.returns-clause-voted
+returns-clause-voted g c =
+    let a : Around = around g.N.Net.sent g.N.Net.given g.N.Net.faults g.N.Net.last_seed g.P.Power.stops_seen g.P.Power.early_stops g.P.Power.stopped g.P.Power.begun g.P.Power.asked c.args.net.now c.args.power.now in
+    let m : Around = around g.N.Net.sent g.N.Net.given g.N.Net.faults g.N.Net.last_seed g.P.Power.stops_seen g.P.Power.early_stops g.P.Power.stopped g.P.Power.begun g.P.Power.asked c.args.net.now c.one_stops.new.power in
+    let b : Around = around g.N.Net.sent g.N.Net.given g.N.Net.faults g.N.Net.last_seed g.P.Power.stops_seen g.P.Power.early_stops g.P.Power.stopped g.P.Power.begun g.P.Power.asked c.ship_and_vote.new.net c.ship_and_vote.new.power in
+    let k : Members = c.args.members.now in
+    let few : k.tables.layout.nodes ≤ 8 = (let most = c.requires.quiet.are.few in omega (arith, most, c.requires.quiet.are.layout)) in
+    IfOk-weaker c.ship_and_vote.result (λ all. VotedForIf all k.tables.layout c.args.epoch 3 m b) (λ all. VotedForIf all k.tables.layout c.args.epoch 2 a b)
+    (λ all. voted_before all k.tables.layout c.args.epoch 2 a m b few (omega arith) (later_still a m refl refl refl refl c.one_stops.ensures.counts.early_rises) c.ship_and_vote.ensures.later (rw c.if-branch.false at c.in_ok-one_stops.ensures.told) c.ship_and_vote.ensures.power.asked_stays
+    (λ n lt. asked_none c.in_ok-one_stops.field-0 (length k.cores.items) 2 (g.P.Power.stopped c.args.power.now) (g.P.Power.stopped c.one_stops.new.power) (g.P.Power.asked c.args.power.now) (g.P.Power.asked c.one_stops.new.power) c.if-branch.false c.requires.quiet.are.few (omega arith) c.in_ok-one_stops.ensures.asked n (omega (arith, lt, c.requires.quiet.are.layout))))
+    (subst (λ (x : Members). IfOk c.ship_and_vote.result (λ all. VotedForIf all x.tables.layout c.args.epoch 3 m b)) (c.in_ok-one_stops.ensures.none c.if-branch.false) c.ship_and_vote.ensures.voted)

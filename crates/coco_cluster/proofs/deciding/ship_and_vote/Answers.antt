@@ -1,17 +1,21 @@
-use Rattle.std.proofs.Common.{◌≡◌, true≢false, is_err, length, ap, sym, subst, ◌∙◌, arith}
+use Rattle.std.proofs.Common.{◌≡◌, ◌+◌, [], refl, true≢false, is_err, length, ap, sym, subst, ◌∙◌, arith}
 use Rattle.std.proofs.lemmas.Result.{err_from_is_err_and, IfOk-from_err}
 use Rattle.coco_ast.specs.History.{rows_after}
 use Rattle.coco_chief.specs.Shown.{chief_of}
 use Rattle.coco_finish.specs.declared.tables.NodeTables.{NodeTables}
 use Rattle.coco_letters.specs.Around.{Around, around}
+use Rattle.coco_members.specs.AtRest.{scene_of}
 use Rattle.coco_members.specs.declared.members.Members.{Members}
 use Rattle.coco_trial.specs.Running.{GiveAll, KeepAll}
+use Rattle.coco_vote.proofs.PowerLemmas.{later_same as asked_same}
 use Rattle.coco_vote.specs.Preparing.{Ballot}
 use Rattle.coco_vote.specs.Taking.{AreHeld, AreReady, HaveLogs, IsElsewhere}
 use Rattle.coco_cluster.specs.Trying.{ballot_on, RestsDecided}
+use Rattle.coco_cluster.proofs.AskLemmas.{voted_shipped}
 use Rattle.coco_cluster.proofs.AroundLemmas.{gives_silent, later_then, later_used}
 use Rattle.coco_cluster.proofs.DecideLemmas.{cause_so, decides_so, failed_files, idle_keeps, rests_decided, rests_now, silent_quiet, stay_shipped, stay_voted, writes_voted}
 use Rattle.coco_cluster.proofs.SeeingLemmas.{keeps_voted}
+use Rattle.coco_cluster.proofs.StepLemmas.{steps_after, steps_later, steps_on, steps_voted}
 use Rattle.coco_cluster.proofs.StopLemmas.{lose_none, lose_then}
 use Rattle.coco_cluster.proofs.deciding.ship_and_vote.Goals as goal
 
@@ -158,3 +162,41 @@ pub returns-clause-whole : goal.returns-clause-whole
 returns-clause-whole g c = lose_then (g.P.Power.stops_seen c.args.power.now) (g.P.Power.stops_seen c.args.power.now) (g.P.Power.stops_seen c.vote.new.power) c.args.members.now.voters.items c.are_shipped.new.members.voters.items c.vote.new.members.voters.items
     (lose_none (g.P.Power.stops_seen c.args.power.now) c.args.members.now.voters.items c.are_shipped.new.members.voters.items (ap (λ (k : Members). k.voters.items) c.are_shipped.ensures.stays))
     (record { rises = c.vote.ensures.later.seen_rises; whole = c.in_ok-all.ensures.whole })
+
+-- ---- the steps of nodes and coordinator, and what was asked
+
+pub returns-then-not-branch-clause-steps : goal.returns-then-not-branch-clause-steps
+returns-then-not-branch-clause-steps g c =
+    let k : Members = c.args.members.now in
+    let n : Members = c.are_shipped.new.members in
+    steps_later (g.P.Power.stopped c.args.power.now) (g.P.Power.stopped c.args.power.now) c.args.epoch c.args.epoch (c.args.epoch + 1) [] (scene_of k (g.N.Net.sent c.args.net.now)) (scene_of n (g.N.Net.sent c.are_shipped.new.net)) (omega arith)
+    (steps_on (g.P.Power.stopped c.args.power.now) c.args.epoch (scene_of k (g.N.Net.sent c.args.net.now)) (scene_of n (g.N.Net.sent c.are_shipped.new.net)) (ap (λ (x : Members). length x.cores.items) c.are_shipped.ensures.stays) c.in_ok-are_shipped.ensures.world)
+
+pub returns-then-not-branch-clause-voted : goal.returns-then-not-branch-clause-voted
+returns-then-not-branch-clause-voted g c = tt
+
+pub returns-then-not-branch-clause-power : goal.returns-then-not-branch-clause-power
+returns-then-not-branch-clause-power g c = asked_same g.P.Power.stops_seen g.P.Power.early_stops g.P.Power.stopped g.P.Power.begun g.P.Power.asked c.args.power.now
+
+pub returns-in_err-are_shipped-clause-power : goal.returns-in_err-are_shipped-clause-power
+returns-in_err-are_shipped-clause-power g c = asked_same g.P.Power.stops_seen g.P.Power.early_stops g.P.Power.stopped g.P.Power.begun g.P.Power.asked c.args.power.now
+
+pub returns-clause-steps : goal.returns-clause-steps
+returns-clause-steps g c =
+    let k : Members = c.args.members.now in
+    let n : Members = c.are_shipped.new.members in
+    let i = g.P.Power.stopped c.args.power.now in
+    let same : length n.cores.items ≡ length k.cores.items = ap (λ (x : Members). length x.cores.items) c.are_shipped.ensures.stays in
+    steps_after i i (g.P.Power.stopped c.vote.new.power) c.args.epoch c.args.epoch (c.args.epoch + 1) [] (scene_of k (g.N.Net.sent c.args.net.now)) (scene_of n (g.N.Net.sent c.are_shipped.new.net)) (scene_of c.vote.new.members (g.N.Net.sent c.vote.new.net))
+    (steps_on i c.args.epoch (scene_of k (g.N.Net.sent c.args.net.now)) (scene_of n (g.N.Net.sent c.are_shipped.new.net)) same c.in_ok-are_shipped.ensures.world)
+    (steps_voted i (g.P.Power.stopped c.vote.new.power) c.args.epoch (scene_of n (g.N.Net.sent c.are_shipped.new.net)) (scene_of c.vote.new.members (g.N.Net.sent c.vote.new.net)) c.vote.ensures.keeps.count c.in_ok-all.ensures.world)
+
+pub returns-clause-voted : goal.returns-clause-voted
+returns-clause-voted g c =
+    let a : Around = around g.N.Net.sent g.N.Net.given g.N.Net.faults g.N.Net.last_seed g.P.Power.stops_seen g.P.Power.early_stops g.P.Power.stopped g.P.Power.begun g.P.Power.asked c.args.net.now c.args.power.now in
+    let m : Around = around g.N.Net.sent g.N.Net.given g.N.Net.faults g.N.Net.last_seed g.P.Power.stops_seen g.P.Power.early_stops g.P.Power.stopped g.P.Power.begun g.P.Power.asked c.are_shipped.new.net c.args.power.now in
+    let b : Around = around g.N.Net.sent g.N.Net.given g.N.Net.faults g.N.Net.last_seed g.P.Power.stops_seen g.P.Power.early_stops g.P.Power.stopped g.P.Power.begun g.P.Power.asked c.vote.new.net c.vote.new.power in
+    let k : Members = c.args.members.now in
+    let nodes : k.tables.layout.nodes ≡ length c.vote.new.members.cores.items = c.requires.quiet.are.layout ∙ sym (ap (λ (x : Members). length x.cores.items) c.are_shipped.ensures.stays) ∙ sym c.vote.ensures.keeps.count in
+    voted_shipped c.in_ok-all.all k.tables.layout c.args.epoch c.vote.new.members.cores.items (chief_of c.vote.new.members.chief) a m b nodes (later_used a m c.are_shipped.ensures.sent c.are_shipped.ensures.net (omega arith))
+    (later_used m b c.vote.ensures.sent c.vote.ensures.net c.vote.ensures.later.early_rises) refl (c.in_ok-are_shipped.ensures.answered c.if-not-branch.false) c.in_ok-all.ensures.comes

@@ -14,3 +14,6 @@ returns-in-Ok-cluster_of-clause-next g c = λ files d are holds. subst (IsNextOf
 
 pub returns-in-Ok-cluster_of-clause-logs : goal.returns-in-Ok-cluster_of-clause-logs
 returns-in-Ok-cluster_of-clause-logs g c = all_stand c.in-Ok.store c.in-Ok.ensures.sound c.in-Ok-cluster_of.cluster c.in-Ok-cluster_of.ensures.members (g.H.Host.reads c.recover.new.host) (g.H.Host.may_leave c.recover.new.host) c.in-Ok.ensures.stand
+
+pub returns-in-Ok-cluster_of-clause-entries : goal.returns-in-Ok-cluster_of-clause-entries
+returns-in-Ok-cluster_of-clause-entries g c = λ files d are holds. c.in-Ok-cluster_of.ensures.entries files d (c.in-Ok.ensures.ok files are) holds

@@ -47,3 +47,9 @@ returns-in_ok-begin_anew-clause-early g c = rises_if false (g.P.Power.early_stop
 
 pub returns-else-stops-clause-early : goal.returns-else-stops-clause-early
 returns-else-stops-clause-early g c = rises_if false (g.P.Power.early_stops c.args.power.now) (g.P.Power.early_stops c.stops.new.self) c.if-stops.ensures.early
+
+pub returns-in_ok-begin_anew-clause-whole : goal.returns-in_ok-begin_anew-clause-whole
+returns-in_ok-begin_anew-clause-whole g c = λ same. (let rose : g.P.Power.stops_seen c.args.power.now < g.P.Power.stops_seen c.stops.new.self = c.if-stops.ensures.seen.1.1 refl in absurd (omega (arith, rose, same)))
+
+pub returns-else-stops-clause-whole : goal.returns-else-stops-clause-whole
+returns-else-stops-clause-whole g c = λ same. refl

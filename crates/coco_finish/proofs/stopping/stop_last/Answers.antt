@@ -1,5 +1,6 @@
 use Rattle.std.proofs.Common.{◌≡◌, ◌<◌, ◌≤◌, ◌^◌, ℕ, List, Some, length, get_or, refl, ◌∙◌, arith, lit≤}
 use Rattle.std.specs.List.{slice_get}
+use Rattle.std.proofs.Math.ListN.{set}
 use Rattle.std.proofs.lemmas.Option.{slice_get-get_or}
 use Rattle.coco_chief.specs.Chief.{Chief}
 use Rattle.coco_letters.specs.declared.voter.Voter.{Voter}
@@ -11,6 +12,7 @@ use Rattle.coco_letters.proofs.WorldLemmas.{between_then}
 use Rattle.coco_net.specs.declared.letter.Posted.{Posted}
 use Rattle.coco_node.specs.Node.{Node}
 use Rattle.coco_vote.proofs.PowerLemmas.{later_same, later_then}
+use Rattle.coco_vote.proofs.WholeLemmas.{all_whole_same, all_whole_then, whole_set}
 use Rattle.coco_vote.proofs.StepLemmas.{between_none, same_then}
 use Rattle.coco_finish.proofs.StoppingLemmas.{asked_more, can_step, in_step_step, newest_step, says_step, some_none, some_step, waits_step}
 use Rattle.coco_finish.proofs.stopping.stop_last.Goals as goal
@@ -18,6 +20,7 @@ use Rattle.coco_finish.proofs.stopping.stop_last.Goals as goal
 pub loop-node-init : goal.loop-node-init
 loop-node-init g c = record {
   stops = some_none c.args.epoch (g.P.Power.stopped c.args.power.now) c.args.cores.now c.args.voters.now (g.N.Net.sent c.args.net.now);
+  whole = all_whole_same (g.P.Power.stops_seen c.args.power.now) c.args.voters.now;
   waits = λ n le. (refl, refl);
   counted = λ n le lt. refl;
   said = adds_same (g.N.Net.sent c.args.net.now);
@@ -54,6 +57,8 @@ loop-node-preserved g c =
       stops = some_step e k (g.P.Power.stopped now.power) (g.P.Power.stopped after.power) now.cores voter (g.N.Net.sent now.net) after.cores after.voter (g.N.Net.sent after.net) here did.stops
           (g.P.Power.stopped start.power.now) start.cores.now start.voters.now (g.N.Net.sent start.net.now) now.voters there
           (λ n other le. c.stop_here.ensures.elsewhere n (omega (arith, le, eight)) other) before.stops (before.waits k same).0 (before.waits k same).1 (before.counted k same eight) inside;
+      whole = all_whole_then (g.P.Power.stops_seen start.power.now) (g.P.Power.stops_seen now.power) (g.P.Power.stops_seen after.power) start.voters.now now.voters (set now.voters k after.voter) before.later.seen_rises c.stop_here.ensures.later.seen_rises before.whole
+          (whole_set (g.P.Power.stops_seen now.power) (g.P.Power.stops_seen after.power) now.voters k voter after.voter there did.whole);
       waits = λ n le.
           let moved = waits_step e k (g.P.Power.stopped now.power) (g.P.Power.stopped after.power) now.cores voter (g.N.Net.sent now.net) after.cores after.voter (g.N.Net.sent after.net) here did.stops now.voters n le in
           let later : c.loop-node.node ≤ n = omega (arith, le) in

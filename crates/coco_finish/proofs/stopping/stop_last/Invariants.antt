@@ -5,6 +5,7 @@ use Rattle.coco_letters.specs.Telling.{Adds, IsOfSettling}
 use Rattle.coco_letters.specs.Turns.{AreFresh, Counts}
 use Rattle.coco_letters.specs.Worlds.{GoesBetween, SameEntries}
 use Rattle.coco_vote.specs.Asking.{IsLater}
+use Rattle.coco_vote.specs.Taking.{StayWhole}
 use Rattle.coco_finish.specs.Exchanges.{AreInStep}
 use Rattle.coco_finish.specs.Finishing.{AllCanFinish}
 use Rattle.coco_finish.specs.Stopping.{AllHaveNewest, StopSome}
@@ -14,6 +15,7 @@ use Rattle.coco_finish.proofs.stopping.stop_last.Given as goal
 abbrev pub invariant-loop-node : goal.invariant-loop-node
 invariant-loop-node g l = record {
   stops : StopSome l.epoch l.node (g.P.Power.stopped l.initial.power) (g.P.Power.stopped l.power) l.initial.cores l.initial.voters (g.N.Net.sent l.initial.net) l.cores l.voters (g.N.Net.sent l.net);
+  whole : StayWhole (g.P.Power.stops_seen l.initial.power) (g.P.Power.stops_seen l.power) l.initial.voters l.voters;
   waits : (n : ℕ) → l.node ≤ n → (slice_get l.cores n ≡ slice_get l.initial.cores n) × (slice_get l.voters n ≡ slice_get l.initial.voters n);
   counted : (n : ℕ) → l.node ≤ n → n < 8 → g.P.Power.stopped l.power n ≡ g.P.Power.stopped l.initial.power n;
   said : Adds (IsOfSettling l.epoch) (g.N.Net.sent l.initial.net) (g.N.Net.sent l.net);

@@ -16,6 +16,7 @@ use Rattle.coco_members.specs.AtRest.{primaries_of, AreAtRest}
 use Rattle.coco_members.specs.declared.members.Members.{Members}
 use Rattle.coco_net.specs.declared.letter.Posted.{Posted}
 use Rattle.coco_node.specs.Node.{Node}
+use Rattle.coco_vote.specs.Taking.{StayWhole}
 use Rattle.coco_vote.proofs.StepLemmas.{same_then}
 use Rattle.coco_settle.specs.Settling.{MarkStop}
 use Rattle.coco_letters.proofs.TellingLemmas.{adds_same, adds_then, adds_settling}
@@ -146,3 +147,10 @@ returns-clause-net g c =
 
 pub returns-clause-layout : goal.returns-clause-layout
 returns-clause-layout g c = c.in_ok-_all.ensures.finish.layout
+
+pub returns-clause-whole : goal.returns-clause-whole
+returns-clause-whole g c =
+    let k : Members = c.args.members.now in
+    subst (λ (vs : List Voter). StayWhole (g.P.Power.stops_seen c.args.power.now) (g.P.Power.stops_seen c.stop_last.new.power) k.voters.items vs)
+    (sym (with_items_is k.voters c.stop_last.new.voters (c.stop_last.auto.voters ∙ c.as_mut_slice-3.ensures.len)))
+    (subst (λ (vs : List Voter). StayWhole (g.P.Power.stops_seen c.args.power.now) (g.P.Power.stops_seen c.stop_last.new.power) vs c.stop_last.new.voters) c.as_mut_slice-3.ensures.value c.in_ok-stop_last.ensures.whole)

@@ -1,16 +1,17 @@
-use Rattle.std.proofs.Common.{◌≡◌, ◌+◌, ◌<◌, Option, Some, None, Result, Ok, Err, inl, inr, refl, sym, ap, ◌∙◌, subst, arith}
+use Rattle.std.proofs.Common.{◌≡◌, true≢false, ◌+◌, ◌<◌, ◌≤◌, ℕ, List, [], ◌∷◌, length, Option, Some, None, Result, Ok, Err, inl, inr, refl, sym, ap, ◌∙◌, subst, arith}
 use Rattle.std.proofs.lemmas.Result.{err_from_is_err_and}
 use Rattle.std.specs.Global.{Vec}
 use Rattle.std.specs.Option.{option_map}
-use Rattle.std.specs.Prelude.{OnErr}
+use Rattle.std.specs.Prelude.{IsOk, OnErr}
 use Rattle.coco_chief.specs.Shown.{chief_of}
 use Rattle.coco_ast.specs.Keyed.{Rows}
 use Rattle.coco_append.specs.Gaining.{RestsOn, Stands}
 use Rattle.coco_ast.specs.History.{rows_after}
 use Rattle.coco_entry.specs.Commits.{IsCommit}
-use Rattle.coco_letters.specs.Around.{around}
+use Rattle.coco_entry.specs.declared.layout.Layout.{Layout}
+use Rattle.coco_letters.specs.Around.{Around, around}
 use Rattle.coco_log.specs.LogState.{LogState}
-use Rattle.coco_members.specs.AtRest.{AreAtRest, NoneBehind}
+use Rattle.coco_members.specs.AtRest.{AreAtRest, NoneBehind, scene_of}
 use Rattle.coco_members.specs.Voted.{HaveVoted}
 use Rattle.coco_parallel.specs.Traces.{traced}
 use Rattle.coco_store.specs.Contents.{map_in}
@@ -20,16 +21,20 @@ use Rattle.coco_types.specs.declared.call.Request.{Request}
 use Rattle.coco_cluster.specs.Ending.{Commits, HasEnded, IsForgotten}
 use Rattle.coco_cluster.specs.Faults.{CountsAttempt, CountsPart}
 use Rattle.coco_cluster.specs.Standing.{IsSound, Rests}
-use Rattle.coco_cluster.specs.Trying.{ComesOf, ComesOn, HasGivenUp, HasVoted, IsGivenUpIf, MayCommitOn, MayGoOn, StaysInPlace, commit_of}
+use Rattle.coco_cluster.specs.Stepping.{HaveCommitted, IsVotedFor, MayHaveBegun, OnEnd, StepsTo, VotedForBy}
+use Rattle.coco_cluster.specs.Trying.{ComesOf, ComesOn, HasGivenUp, HasVoted, IsGivenUpIf, LoseIfTold, MayCommitOn, MayGoOn, StaysInPlace, commit_of}
 use Rattle.coco_cluster.specs.declared.cluster.Cluster.{Cluster}
 use Rattle.coco_cluster.specs.declared.fault.TurnFault.{TurnFault}
 use Rattle.coco_cluster.specs.declared.fault.TurnFault.TheVariants.{NoMemory, NotAStore}
 use Rattle.coco_cluster.specs.declared.trying.Tried.{Tried}
+use Rattle.coco_cluster.proofs.AskLemmas.{begins_one, begins_same, voted_whole}
 use Rattle.coco_cluster.proofs.AroundLemmas.{gives_from, later_then, later_used}
 use Rattle.coco_cluster.proofs.AttemptLemmas.{are_few, are_of_epoch, belongs_still, committed_one, given_back, kept_forgotten, layout_forgotten, may_be_kept, next_forgotten, procs_forgotten, rests_ended, rests_gone, stand_gone, shards_gone, stands_ended, stands_gone, trace_forgotten}
 use Rattle.coco_cluster.proofs.BehindLemmas.{behind_later}
 use Rattle.coco_cluster.proofs.RemindLemmas.{all_finished, chief_elsewhere, may_reminded, one_silent, reminded, sound_reminded, stand_reminded, stands_reminded}
 use Rattle.coco_cluster.proofs.SeeingLemmas.{adds_none, keeps_same, rests_read}
+use Rattle.coco_cluster.proofs.StepLemmas.{committed_steps, forgotten_steps, has_begun, on_end, one_begun, part_ends, reminded_steps, same_nodes, steps_number}
+use Rattle.coco_cluster.proofs.StopLemmas.{lose_then, lost_if_told}
 use Rattle.coco_cluster.proofs.ToldLemmas.{commit_failed, committed_then, counts_later, counts_wider, failed_none, keeps_failed, keeps_given, keeps_reading}
 use Rattle.coco_cluster.proofs.cluster.Cluster.attempt.Goals as goal
 
@@ -518,3 +523,212 @@ pub returns-in_err-read_stopped-in-Voted-clause-trace : goal.returns-in_err-read
 returns-in_err-read_stopped-in-Voted-clause-trace g c =
     let p = err_from_is_err_and c.from_residual-in_err-read_stopped-in-Voted.result c.from_residual-in_err-read_stopped-in-Voted.ensures.1 in
     subst (λ (r : Result (Option (Vec Request)) TurnFault). OnErr r (c.args.self.now.trace ≡ None → c.read_stopped.new.self.trace ≡ None)) (sym p.1) (λ was. c.in_err-read_stopped-in-Voted.ensures.untraced)
+
+-- ---- the steps of nodes and coordinator
+
+pub returns-in_err-remind-clause-world : goal.returns-in_err-remind-clause-world
+returns-in_err-remind-clause-world g c =
+    let p = err_from_is_err_and c.from_residual.result c.from_residual.ensures.1 in
+    subst (λ (r : Result (Option (Vec Request)) TurnFault). OnEnd r ((commits : List ℕ) × HaveCommitted r c.args.self.now.next_epoch commits × StepsTo (g.P.Power.stopped c.args.power.now) (g.P.Power.stopped c.args.power.now) c.args.self.now.next_epoch c.args.self.now.next_epoch commits (scene_of c.args.self.now.members (g.N.Net.sent c.args.net.now)) (scene_of c.remind.new.members (g.N.Net.sent c.remind.new.net)))) (sym (p.1 ∙ ap Err p.2)) tt
+
+pub returns-then-not-branch-clause-world : goal.returns-then-not-branch-clause-world
+returns-then-not-branch-clause-world g c =
+    let k : Cluster = c.args.self.now in
+    let told = c.in_ok-remind.ensures in
+    let rest : AreAtRest k.next_epoch (g.N.Net.sent c.remind.new.net) c.remind.new.members = told.rest k.next_epoch c.requires.sound.rests.rest in
+    let i = g.P.Power.stopped c.args.power.now in
+    let first : StepsTo i i k.next_epoch k.next_epoch [] (scene_of k.members (g.N.Net.sent c.args.net.now)) (scene_of c.remind.new.members (g.N.Net.sent c.remind.new.net)) =
+    reminded_steps i k.next_epoch k.members c.remind.new.members (g.N.Net.sent c.args.net.now) (g.N.Net.sent c.remind.new.net) (same_nodes k.members c.remind.new.members c.requires.sound.rests.rest.are rest.are told.finish.layout) told.world in
+    ([], refl, first)
+
+pub returns-in_err-dones-clause-world : goal.returns-in_err-dones-clause-world
+returns-in_err-dones-clause-world g c =
+    let p = err_from_is_err_and c.from_residual-in_err-dones.result c.from_residual-in_err-dones.ensures.1 in
+    part_ends Tried (Option (Vec Request)) ((commits : List ℕ) × HaveCommitted c.from_residual-in_err-dones.result c.try_epoch.new.self.next_epoch commits × StepsTo (g.P.Power.stopped c.args.power.now) (g.P.Power.stopped c.try_epoch.new.power) c.args.self.now.next_epoch c.try_epoch.new.self.next_epoch commits (scene_of c.args.self.now.members (g.N.Net.sent c.args.net.now)) (scene_of c.try_epoch.new.self.members (g.N.Net.sent c.try_epoch.new.net))) c.from_residual-in_err-dones.result c.in_err-dones.field-0.0 (g.H.Host.disk_faults c.args.host.now) (g.H.Host.disk_faults c.try_epoch.new.host) (p.1 ∙ ap Err p.2) c.in_err-dones.ensures.disk
+
+pub returns-in_err-commit_epoch-in-Voted-clause-world : goal.returns-in_err-commit_epoch-in-Voted-clause-world
+returns-in_err-commit_epoch-in-Voted-clause-world g c =
+    let p = err_from_is_err_and c.from_residual-in_err-commit_epoch-in-Voted.result c.from_residual-in_err-commit_epoch-in-Voted.ensures.1 in
+    part_ends (Unit {0}) (Option (Vec Request)) ((commits : List ℕ) × HaveCommitted c.from_residual-in_err-commit_epoch-in-Voted.result c.commit_epoch.new.self.next_epoch commits × StepsTo (g.P.Power.stopped c.args.power.now) (g.P.Power.stopped c.commit_epoch.new.power) c.args.self.now.next_epoch c.commit_epoch.new.self.next_epoch commits (scene_of c.args.self.now.members (g.N.Net.sent c.args.net.now)) (scene_of c.commit_epoch.new.self.members (g.N.Net.sent c.commit_epoch.new.net))) c.from_residual-in_err-commit_epoch-in-Voted.result c.in_err-commit_epoch-in-Voted.field-0.0 (g.H.Host.disk_faults c.try_epoch.new.host) (g.H.Host.disk_faults c.commit_epoch.new.host) (p.1 ∙ ap Err p.2) c.in_err-commit_epoch-in-Voted.ensures.disk
+
+pub returns-in_err-read_stopped-in-Voted-clause-world : goal.returns-in_err-read_stopped-in-Voted-clause-world
+returns-in_err-read_stopped-in-Voted-clause-world g c =
+    let k : Cluster = c.args.self.now in
+    let told = c.in_ok-remind.ensures in
+    let rest : AreAtRest k.next_epoch (g.N.Net.sent c.remind.new.net) c.remind.new.members = told.rest k.next_epoch c.requires.sound.rests.rest in
+    let i = g.P.Power.stopped c.args.power.now in
+    let first : StepsTo i i k.next_epoch k.next_epoch [] (scene_of k.members (g.N.Net.sent c.args.net.now)) (scene_of c.remind.new.members (g.N.Net.sent c.remind.new.net)) =
+    reminded_steps i k.next_epoch k.members c.remind.new.members (g.N.Net.sent c.args.net.now) (g.N.Net.sent c.remind.new.net) (same_nodes k.members c.remind.new.members c.requires.sound.rests.rest.are rest.are told.finish.layout) told.world in
+    let now : Cluster = reminded k c.remind.new.members in
+    let stays : StaysInPlace now c.try_epoch.new.self = c.in_ok-dones.ensures.stays in
+    let map = c.requires.sound.rests.rest.map in
+    let voted : HasVoted c.args.requests.items c.args.workers c.args.attempts map.0 c.in-Voted.dones (traced c.in-Voted.trace) (g.N.Net.sent c.try_epoch.new.net) now c.try_epoch.new.self = subst (λ (tried : Tried). ComesOf tried c.args.requests.items c.args.workers c.args.attempts map.0 (g.N.Net.sent c.try_epoch.new.net) now c.try_epoch.new.self) c.in-Voted.is (c.in_ok-dones.ensures.comes map.0 (told.shards map.0 map.1)) in
+    let ended : HasEnded c.in-Voted.dones (traced c.in-Voted.trace) c.try_epoch.new.self c.commit_epoch.new.self = c.in_ok-commit_epoch-in-Voted.ensures.ended in
+    let number : c.read_stopped.new.self.next_epoch ≡ k.next_epoch + 1 = c.read_stopped.ensures.next ∙ ended.next ∙ ap (λ n. n + 1) stays.next in
+    let steps = committed_steps i (g.P.Power.stopped c.try_epoch.new.power) (g.P.Power.stopped c.commit_epoch.new.power) c.try_epoch.new.self.next_epoch k.next_epoch k.members c.remind.new.members c.try_epoch.new.self.members c.commit_epoch.new.self.members c.read_stopped.new.self.members (g.N.Net.sent c.args.net.now) (g.N.Net.sent c.remind.new.net) (g.N.Net.sent c.try_epoch.new.net) (g.N.Net.sent c.commit_epoch.new.net)
+    stays.next first c.in_ok-dones.ensures.steps (same_nodes c.try_epoch.new.self.members c.commit_epoch.new.self.members voted.voted.are c.in_ok-commit_epoch-in-Voted.ensures.rest.are ended.layout) c.in_ok-commit_epoch-in-Voted.ensures.world c.read_stopped.ensures.cores c.read_stopped.ensures.chief in
+    let p = err_from_is_err_and c.from_residual-in_err-read_stopped-in-Voted.result c.from_residual-in_err-read_stopped-in-Voted.ensures.1 in
+    on_end ((commits : List ℕ) × HaveCommitted c.from_residual-in_err-read_stopped-in-Voted.result c.read_stopped.new.self.next_epoch commits × StepsTo (g.P.Power.stopped c.args.power.now) (g.P.Power.stopped c.commit_epoch.new.power) c.args.self.now.next_epoch c.read_stopped.new.self.next_epoch commits (scene_of c.args.self.now.members (g.N.Net.sent c.args.net.now)) (scene_of c.read_stopped.new.self.members (g.N.Net.sent c.commit_epoch.new.net))) c.from_residual-in_err-read_stopped-in-Voted.result
+    (k.next_epoch ∷ [], subst (λ (r : Result (Option (Vec Request)) TurnFault). HaveCommitted r c.read_stopped.new.self.next_epoch (k.next_epoch ∷ [])) (sym p.1) (inr (k.next_epoch, number, refl)), steps_number _ _ _ _ _ _ _ _ (sym number) steps)
+
+pub returns-in_ok-read_stopped-in-Voted-clause-world : goal.returns-in_ok-read_stopped-in-Voted-clause-world
+returns-in_ok-read_stopped-in-Voted-clause-world g c =
+    let k : Cluster = c.args.self.now in
+    let told = c.in_ok-remind.ensures in
+    let rest : AreAtRest k.next_epoch (g.N.Net.sent c.remind.new.net) c.remind.new.members = told.rest k.next_epoch c.requires.sound.rests.rest in
+    let i = g.P.Power.stopped c.args.power.now in
+    let first : StepsTo i i k.next_epoch k.next_epoch [] (scene_of k.members (g.N.Net.sent c.args.net.now)) (scene_of c.remind.new.members (g.N.Net.sent c.remind.new.net)) =
+    reminded_steps i k.next_epoch k.members c.remind.new.members (g.N.Net.sent c.args.net.now) (g.N.Net.sent c.remind.new.net) (same_nodes k.members c.remind.new.members c.requires.sound.rests.rest.are rest.are told.finish.layout) told.world in
+    let now : Cluster = reminded k c.remind.new.members in
+    let stays : StaysInPlace now c.try_epoch.new.self = c.in_ok-dones.ensures.stays in
+    let map = c.requires.sound.rests.rest.map in
+    let voted : HasVoted c.args.requests.items c.args.workers c.args.attempts map.0 c.in-Voted.dones (traced c.in-Voted.trace) (g.N.Net.sent c.try_epoch.new.net) now c.try_epoch.new.self = subst (λ (tried : Tried). ComesOf tried c.args.requests.items c.args.workers c.args.attempts map.0 (g.N.Net.sent c.try_epoch.new.net) now c.try_epoch.new.self) c.in-Voted.is (c.in_ok-dones.ensures.comes map.0 (told.shards map.0 map.1)) in
+    let ended : HasEnded c.in-Voted.dones (traced c.in-Voted.trace) c.try_epoch.new.self c.commit_epoch.new.self = c.in_ok-commit_epoch-in-Voted.ensures.ended in
+    let number : c.read_stopped.new.self.next_epoch ≡ k.next_epoch + 1 = c.read_stopped.ensures.next ∙ ended.next ∙ ap (λ n. n + 1) stays.next in
+    let steps = committed_steps i (g.P.Power.stopped c.try_epoch.new.power) (g.P.Power.stopped c.commit_epoch.new.power) c.try_epoch.new.self.next_epoch k.next_epoch k.members c.remind.new.members c.try_epoch.new.self.members c.commit_epoch.new.self.members c.read_stopped.new.self.members (g.N.Net.sent c.args.net.now) (g.N.Net.sent c.remind.new.net) (g.N.Net.sent c.try_epoch.new.net) (g.N.Net.sent c.commit_epoch.new.net)
+    stays.next first c.in_ok-dones.ensures.steps (same_nodes c.try_epoch.new.self.members c.commit_epoch.new.self.members voted.voted.are c.in_ok-commit_epoch-in-Voted.ensures.rest.are ended.layout) c.in_ok-commit_epoch-in-Voted.ensures.world c.read_stopped.ensures.cores c.read_stopped.ensures.chief in
+    (k.next_epoch ∷ [], (k.next_epoch, number, refl), steps_number _ _ _ _ _ _ _ _ (sym number) steps)
+
+pub returns-in_err-read_stopped-in-GivenUp-clause-world : goal.returns-in_err-read_stopped-in-GivenUp-clause-world
+returns-in_err-read_stopped-in-GivenUp-clause-world g c =
+    let k : Cluster = c.args.self.now in
+    let told = c.in_ok-remind.ensures in
+    let rest : AreAtRest k.next_epoch (g.N.Net.sent c.remind.new.net) c.remind.new.members = told.rest k.next_epoch c.requires.sound.rests.rest in
+    let i = g.P.Power.stopped c.args.power.now in
+    let first : StepsTo i i k.next_epoch k.next_epoch [] (scene_of k.members (g.N.Net.sent c.args.net.now)) (scene_of c.remind.new.members (g.N.Net.sent c.remind.new.net)) =
+    reminded_steps i k.next_epoch k.members c.remind.new.members (g.N.Net.sent c.args.net.now) (g.N.Net.sent c.remind.new.net) (same_nodes k.members c.remind.new.members c.requires.sound.rests.rest.are rest.are told.finish.layout) told.world in
+    let up : NoneBehind c.remind.new.members.tables = c.finished_nodes_are_not_behind.ensures.none k.next_epoch (g.N.Net.sent c.remind.new.net) c.remind.new.members rest (all_finished c.in_ok-remind.field-0 (chief_of c.remind.new.members.chief) _ c.if-not-branch.false told.all) in
+    let gone : IsForgotten c.try_epoch.new.self c.forget_epoch.new.self = c.forget_epoch.ensures.forgotten in
+    let number : c.read_stopped-in-GivenUp.new.self.next_epoch ≡ k.next_epoch + 1 = c.read_stopped-in-GivenUp.ensures.next ∙ next_forgotten (reminded k c.remind.new.members) c.try_epoch.new.self c.forget_epoch.new.self c.in_ok-dones.ensures.stays gone up in
+    let steps = forgotten_steps i (g.P.Power.stopped c.try_epoch.new.power) k.next_epoch k.members c.remind.new.members c.try_epoch.new.self.members c.read_stopped-in-GivenUp.new.self.members (g.N.Net.sent c.args.net.now) (g.N.Net.sent c.remind.new.net) (g.N.Net.sent c.try_epoch.new.net)
+    first c.in_ok-dones.ensures.steps (c.read_stopped-in-GivenUp.ensures.cores ∙ ap (λ (x : Cluster). x.members.cores) gone.same) (c.read_stopped-in-GivenUp.ensures.chief ∙ ap (λ (x : Cluster). x.members.chief) gone.same) in
+    let p = err_from_is_err_and c.from_residual-in_err-read_stopped-in-GivenUp.result c.from_residual-in_err-read_stopped-in-GivenUp.ensures.1 in
+    on_end ((commits : List ℕ) × HaveCommitted c.from_residual-in_err-read_stopped-in-GivenUp.result c.read_stopped-in-GivenUp.new.self.next_epoch commits × StepsTo (g.P.Power.stopped c.args.power.now) (g.P.Power.stopped c.try_epoch.new.power) c.args.self.now.next_epoch c.read_stopped-in-GivenUp.new.self.next_epoch commits (scene_of c.args.self.now.members (g.N.Net.sent c.args.net.now)) (scene_of c.read_stopped-in-GivenUp.new.self.members (g.N.Net.sent c.try_epoch.new.net))) c.from_residual-in_err-read_stopped-in-GivenUp.result
+    ([], subst (λ (r : Result (Option (Vec Request)) TurnFault). HaveCommitted r c.read_stopped-in-GivenUp.new.self.next_epoch []) (sym p.1) (inl refl), steps_number _ _ _ _ _ _ _ _ (sym number) steps)
+
+pub returns-in_ok-read_stopped-in-GivenUp-clause-world : goal.returns-in_ok-read_stopped-in-GivenUp-clause-world
+returns-in_ok-read_stopped-in-GivenUp-clause-world g c =
+    let k : Cluster = c.args.self.now in
+    let told = c.in_ok-remind.ensures in
+    let rest : AreAtRest k.next_epoch (g.N.Net.sent c.remind.new.net) c.remind.new.members = told.rest k.next_epoch c.requires.sound.rests.rest in
+    let i = g.P.Power.stopped c.args.power.now in
+    let first : StepsTo i i k.next_epoch k.next_epoch [] (scene_of k.members (g.N.Net.sent c.args.net.now)) (scene_of c.remind.new.members (g.N.Net.sent c.remind.new.net)) =
+    reminded_steps i k.next_epoch k.members c.remind.new.members (g.N.Net.sent c.args.net.now) (g.N.Net.sent c.remind.new.net) (same_nodes k.members c.remind.new.members c.requires.sound.rests.rest.are rest.are told.finish.layout) told.world in
+    let up : NoneBehind c.remind.new.members.tables = c.finished_nodes_are_not_behind.ensures.none k.next_epoch (g.N.Net.sent c.remind.new.net) c.remind.new.members rest (all_finished c.in_ok-remind.field-0 (chief_of c.remind.new.members.chief) _ c.if-not-branch.false told.all) in
+    let gone : IsForgotten c.try_epoch.new.self c.forget_epoch.new.self = c.forget_epoch.ensures.forgotten in
+    let number : c.read_stopped-in-GivenUp.new.self.next_epoch ≡ k.next_epoch + 1 = c.read_stopped-in-GivenUp.ensures.next ∙ next_forgotten (reminded k c.remind.new.members) c.try_epoch.new.self c.forget_epoch.new.self c.in_ok-dones.ensures.stays gone up in
+    let steps = forgotten_steps i (g.P.Power.stopped c.try_epoch.new.power) k.next_epoch k.members c.remind.new.members c.try_epoch.new.self.members c.read_stopped-in-GivenUp.new.self.members (g.N.Net.sent c.args.net.now) (g.N.Net.sent c.remind.new.net) (g.N.Net.sent c.try_epoch.new.net)
+    first c.in_ok-dones.ensures.steps (c.read_stopped-in-GivenUp.ensures.cores ∙ ap (λ (x : Cluster). x.members.cores) gone.same) (c.read_stopped-in-GivenUp.ensures.chief ∙ ap (λ (x : Cluster). x.members.chief) gone.same) in
+    ([], refl, steps_number _ _ _ _ _ _ _ _ (sym number) steps)
+
+-- ---- what was asked
+
+pub returns-then-not-branch-clause-asks : goal.returns-then-not-branch-clause-asks
+returns-then-not-branch-clause-asks g c =
+    let a : Around = around g.N.Net.sent g.N.Net.given g.N.Net.faults g.N.Net.last_seed g.P.Power.stops_seen g.P.Power.early_stops g.P.Power.stopped g.P.Power.begun g.P.Power.asked c.args.net.now c.args.power.now in
+    let r : Around = around g.N.Net.sent g.N.Net.given g.N.Net.faults g.N.Net.last_seed g.P.Power.stops_seen g.P.Power.early_stops g.P.Power.stopped g.P.Power.begun g.P.Power.asked c.remind.new.net c.args.power.now in
+    begins_same c.args.self.now.next_epoch a r refl refl
+
+pub returns-in_ok-read_stopped-in-GivenUp-clause-asks : goal.returns-in_ok-read_stopped-in-GivenUp-clause-asks
+returns-in_ok-read_stopped-in-GivenUp-clause-asks g c =
+    let a : Around = around g.N.Net.sent g.N.Net.given g.N.Net.faults g.N.Net.last_seed g.P.Power.stops_seen g.P.Power.early_stops g.P.Power.stopped g.P.Power.begun g.P.Power.asked c.args.net.now c.args.power.now in
+    let r : Around = around g.N.Net.sent g.N.Net.given g.N.Net.faults g.N.Net.last_seed g.P.Power.stops_seen g.P.Power.early_stops g.P.Power.stopped g.P.Power.begun g.P.Power.asked c.remind.new.net c.args.power.now in
+    let t : Around = around g.N.Net.sent g.N.Net.given g.N.Net.faults g.N.Net.last_seed g.P.Power.stops_seen g.P.Power.early_stops g.P.Power.stopped g.P.Power.begun g.P.Power.asked c.try_epoch.new.net c.try_epoch.new.power in
+    let k : Cluster = c.args.self.now in
+    let told = c.in_ok-remind.ensures in
+    let rest : AreAtRest k.next_epoch (g.N.Net.sent c.remind.new.net) c.remind.new.members = told.rest k.next_epoch c.requires.sound.rests.rest in
+    let i = g.P.Power.stopped c.args.power.now in
+    let first : StepsTo i i k.next_epoch k.next_epoch [] (scene_of k.members (g.N.Net.sent c.args.net.now)) (scene_of c.remind.new.members (g.N.Net.sent c.remind.new.net)) =
+    reminded_steps i k.next_epoch k.members c.remind.new.members (g.N.Net.sent c.args.net.now) (g.N.Net.sent c.remind.new.net) (same_nodes k.members c.remind.new.members c.requires.sound.rests.rest.are rest.are told.finish.layout) told.world in
+    let up : NoneBehind c.remind.new.members.tables = c.finished_nodes_are_not_behind.ensures.none k.next_epoch (g.N.Net.sent c.remind.new.net) c.remind.new.members rest (all_finished c.in_ok-remind.field-0 (chief_of c.remind.new.members.chief) _ c.if-not-branch.false told.all) in
+    let gone : IsForgotten c.try_epoch.new.self c.forget_epoch.new.self = c.forget_epoch.ensures.forgotten in
+    let number : c.read_stopped-in-GivenUp.new.self.next_epoch ≡ k.next_epoch + 1 = c.read_stopped-in-GivenUp.ensures.next ∙ next_forgotten (reminded k c.remind.new.members) c.try_epoch.new.self c.forget_epoch.new.self c.in_ok-dones.ensures.stays gone up in
+    let steps = forgotten_steps i (g.P.Power.stopped c.try_epoch.new.power) k.next_epoch k.members c.remind.new.members c.try_epoch.new.self.members c.read_stopped-in-GivenUp.new.self.members (g.N.Net.sent c.args.net.now) (g.N.Net.sent c.remind.new.net) (g.N.Net.sent c.try_epoch.new.net)
+    first c.in_ok-dones.ensures.steps (c.read_stopped-in-GivenUp.ensures.cores ∙ ap (λ (x : Cluster). x.members.cores) gone.same) (c.read_stopped-in-GivenUp.ensures.chief ∙ ap (λ (x : Cluster). x.members.chief) gone.same) in
+    subst (λ n. MayHaveBegun k.next_epoch n a t) (sym number) (begins_one k.next_epoch a t (has_begun a.begun t.begun c.try_epoch.ensures.begun))
+
+pub returns-in_ok-read_stopped-in-Voted-clause-asks : goal.returns-in_ok-read_stopped-in-Voted-clause-asks
+returns-in_ok-read_stopped-in-Voted-clause-asks g c =
+    let a : Around = around g.N.Net.sent g.N.Net.given g.N.Net.faults g.N.Net.last_seed g.P.Power.stops_seen g.P.Power.early_stops g.P.Power.stopped g.P.Power.begun g.P.Power.asked c.args.net.now c.args.power.now in
+    let r : Around = around g.N.Net.sent g.N.Net.given g.N.Net.faults g.N.Net.last_seed g.P.Power.stops_seen g.P.Power.early_stops g.P.Power.stopped g.P.Power.begun g.P.Power.asked c.remind.new.net c.args.power.now in
+    let t : Around = around g.N.Net.sent g.N.Net.given g.N.Net.faults g.N.Net.last_seed g.P.Power.stops_seen g.P.Power.early_stops g.P.Power.stopped g.P.Power.begun g.P.Power.asked c.try_epoch.new.net c.try_epoch.new.power in
+    let b : Around = around g.N.Net.sent g.N.Net.given g.N.Net.faults g.N.Net.last_seed g.P.Power.stops_seen g.P.Power.early_stops g.P.Power.stopped g.P.Power.begun g.P.Power.asked c.commit_epoch.new.net c.commit_epoch.new.power in
+    let k : Cluster = c.args.self.now in
+    let told = c.in_ok-remind.ensures in
+    let now : Cluster = reminded k c.remind.new.members in
+    let map = c.requires.sound.rests.rest.map in
+    let are = c.requires.sound.rests.rest.are in
+    let few : k.members.tables.layout.nodes ≤ 8 = (let most = are.few in omega (arith, most, are.layout)) in
+    let stays : StaysInPlace now c.try_epoch.new.self = c.in_ok-dones.ensures.stays in
+    let voted : HasVoted c.args.requests.items c.args.workers c.args.attempts map.0 c.in-Voted.dones (traced c.in-Voted.trace) (g.N.Net.sent c.try_epoch.new.net) now c.try_epoch.new.self = subst (λ (tried : Tried). ComesOf tried c.args.requests.items c.args.workers c.args.attempts map.0 (g.N.Net.sent c.try_epoch.new.net) now c.try_epoch.new.self) c.in-Voted.is (c.in_ok-dones.ensures.comes map.0 (told.shards map.0 map.1)) in
+    let nodes : k.members.tables.layout.nodes ≡ length c.try_epoch.new.self.members.cores.items = sym (ap (λ (l : Layout). l.nodes) (stays.members.tables.layout ∙ told.finish.layout)) ∙ voted.voted.are.layout in
+    let for_all : IsVotedFor k.members.tables.layout k.next_epoch 1 5 r t = subst (λ (l : Layout). IsVotedFor l k.next_epoch 1 5 r t) told.finish.layout (subst (λ (tried : Tried). VotedForBy tried c.remind.new.members.tables.layout k.next_epoch 1 r t) c.in-Voted.is c.in_ok-dones.ensures.voted) in
+    record {
+      begun = has_begun a.begun b.begun (c.commit_epoch.ensures.power.begun_stays ∙ c.try_epoch.ensures.begun);
+      all = voted_whole k.members.tables.layout k.next_epoch a r t b few (later_used a r c.remind.ensures.sent c.remind.ensures.net (omega arith)) c.try_epoch.ensures.later c.commit_epoch.ensures.later refl c.commit_epoch.ensures.early c.commit_epoch.ensures.power.asked_stays
+          (λ n lt. c.in_ok-commit_epoch-in-Voted.ensures.asked n (omega (arith, lt, nodes))) for_all;
+    }
+
+-- ---- at most one epoch is begun
+
+pub returns-in_err-remind-clause-begins : goal.returns-in_err-remind-clause-begins
+returns-in_err-remind-clause-begins g c = omega arith
+
+pub returns-then-not-branch-clause-begins : goal.returns-then-not-branch-clause-begins
+returns-then-not-branch-clause-begins g c = omega arith
+
+pub returns-in_err-dones-clause-begins : goal.returns-in_err-dones-clause-begins
+returns-in_err-dones-clause-begins g c = one_begun (g.P.Power.begun c.args.power.now) (g.P.Power.begun c.try_epoch.new.power) c.try_epoch.ensures.begun
+
+pub returns-in_err-commit_epoch-in-Voted-clause-begins : goal.returns-in_err-commit_epoch-in-Voted-clause-begins
+returns-in_err-commit_epoch-in-Voted-clause-begins g c = one_begun (g.P.Power.begun c.args.power.now) (g.P.Power.begun c.commit_epoch.new.power) (c.commit_epoch.ensures.power.begun_stays ∙ c.try_epoch.ensures.begun)
+
+pub returns-in_err-read_stopped-in-Voted-clause-begins : goal.returns-in_err-read_stopped-in-Voted-clause-begins
+returns-in_err-read_stopped-in-Voted-clause-begins g c = one_begun (g.P.Power.begun c.args.power.now) (g.P.Power.begun c.commit_epoch.new.power) (c.commit_epoch.ensures.power.begun_stays ∙ c.try_epoch.ensures.begun)
+
+pub returns-in_ok-read_stopped-in-Voted-clause-begins : goal.returns-in_ok-read_stopped-in-Voted-clause-begins
+returns-in_ok-read_stopped-in-Voted-clause-begins g c = one_begun (g.P.Power.begun c.args.power.now) (g.P.Power.begun c.commit_epoch.new.power) (c.commit_epoch.ensures.power.begun_stays ∙ c.try_epoch.ensures.begun)
+
+pub returns-in_err-read_stopped-in-GivenUp-clause-begins : goal.returns-in_err-read_stopped-in-GivenUp-clause-begins
+returns-in_err-read_stopped-in-GivenUp-clause-begins g c = one_begun (g.P.Power.begun c.args.power.now) (g.P.Power.begun c.try_epoch.new.power) c.try_epoch.ensures.begun
+
+pub returns-in_ok-read_stopped-in-GivenUp-clause-begins : goal.returns-in_ok-read_stopped-in-GivenUp-clause-begins
+returns-in_ok-read_stopped-in-GivenUp-clause-begins g c = one_begun (g.P.Power.begun c.args.power.now) (g.P.Power.begun c.try_epoch.new.power) c.try_epoch.ensures.begun
+
+-- ---- where a file is refused a stop was told
+
+pub returns-in_err-remind-clause-refused : goal.returns-in_err-remind-clause-refused
+returns-in_err-remind-clause-refused g c file at is =
+    let p = err_from_is_err_and c.from_residual.result c.from_residual.ensures.1 in
+    let never_so : NoMemory ≡ NotAStore file at = cc (p.1, p.2, is) in absurd (cc)
+
+pub returns-in_err-dones-clause-refused : goal.returns-in_err-dones-clause-refused
+returns-in_err-dones-clause-refused g c file at is =
+    let p = err_from_is_err_and c.from_residual-in_err-dones.result c.from_residual-in_err-dones.ensures.1 in
+    let named : c.in_err-dones.field-0.0 ≡ NotAStore file at = cc (p.1, p.2, is) in absurd (subst (λ (f : TurnFault). CountsPart {T = Unit {0}} (Err f) (g.H.Host.disk_faults c.args.host.now) (g.H.Host.disk_faults c.try_epoch.new.host)) named c.in_err-dones.ensures.disk)
+
+pub returns-in_err-commit_epoch-in-Voted-clause-refused : goal.returns-in_err-commit_epoch-in-Voted-clause-refused
+returns-in_err-commit_epoch-in-Voted-clause-refused g c file at is =
+    let p = err_from_is_err_and c.from_residual-in_err-commit_epoch-in-Voted.result c.from_residual-in_err-commit_epoch-in-Voted.ensures.1 in
+    let named : c.in_err-commit_epoch-in-Voted.field-0.0 ≡ NotAStore file at = cc (p.1, p.2, is) in absurd (subst (λ (f : TurnFault). CountsPart {T = Unit {0}} (Err f) (g.H.Host.disk_faults c.try_epoch.new.host) (g.H.Host.disk_faults c.commit_epoch.new.host)) named c.in_err-commit_epoch-in-Voted.ensures.disk)
+
+pub returns-in_err-read_stopped-in-Voted-clause-refused : goal.returns-in_err-read_stopped-in-Voted-clause-refused
+returns-in_err-read_stopped-in-Voted-clause-refused g c file at is =
+    let k : Cluster = c.args.self.now in
+    let told = c.in_ok-remind.ensures in
+    let rest : AreAtRest k.next_epoch (g.N.Net.sent c.remind.new.net) c.remind.new.members = told.rest k.next_epoch c.requires.sound.rests.rest in
+    let sound : IsSound (reminded k c.remind.new.members) (g.N.Net.sent c.remind.new.net) = sound_reminded k c.remind.new.members c.remind.ensures.stays told.finish.layout told.committed (g.N.Net.sent c.args.net.now) (g.N.Net.sent c.remind.new.net) rest c.requires.sound in
+    lost_if_told (g.P.Power.stops_seen c.args.power.now) (g.P.Power.stops_seen c.commit_epoch.new.power) c.remind.new.members.voters.items c.commit_epoch.new.self.members.voters.items
+    (lose_then (g.P.Power.stops_seen c.args.power.now) (g.P.Power.stops_seen c.try_epoch.new.power) (g.P.Power.stops_seen c.commit_epoch.new.power) c.remind.new.members.voters.items c.try_epoch.new.self.members.voters.items c.commit_epoch.new.self.members.voters.items c.in_ok-dones.ensures.whole c.in_ok-commit_epoch-in-Voted.ensures.whole)
+    sound.whole (λ none. true≢false (sym (subst IsOk c.in_err-read_stopped-in-Voted.was (c.read_stopped.ensures.none none))))
+
+pub returns-in_err-read_stopped-in-GivenUp-clause-refused : goal.returns-in_err-read_stopped-in-GivenUp-clause-refused
+returns-in_err-read_stopped-in-GivenUp-clause-refused g c file at is =
+    let k : Cluster = c.args.self.now in
+    let told = c.in_ok-remind.ensures in
+    let rest : AreAtRest k.next_epoch (g.N.Net.sent c.remind.new.net) c.remind.new.members = told.rest k.next_epoch c.requires.sound.rests.rest in
+    let sound : IsSound (reminded k c.remind.new.members) (g.N.Net.sent c.remind.new.net) = sound_reminded k c.remind.new.members c.remind.ensures.stays told.finish.layout told.committed (g.N.Net.sent c.args.net.now) (g.N.Net.sent c.remind.new.net) rest c.requires.sound in
+    let gone : IsForgotten c.try_epoch.new.self c.forget_epoch.new.self = c.forget_epoch.ensures.forgotten in
+    lost_if_told (g.P.Power.stops_seen c.args.power.now) (g.P.Power.stops_seen c.try_epoch.new.power) c.remind.new.members.voters.items c.forget_epoch.new.self.members.voters.items
+    (subst (λ vs. LoseIfTold (g.P.Power.stops_seen c.args.power.now) (g.P.Power.stops_seen c.try_epoch.new.power) c.remind.new.members.voters.items vs) (sym (ap (λ (x : Cluster). x.members.voters.items) gone.same)) c.in_ok-dones.ensures.whole)
+    sound.whole (λ none. true≢false (sym (subst IsOk c.in_err-read_stopped-in-GivenUp.was (c.read_stopped-in-GivenUp.ensures.none none))))

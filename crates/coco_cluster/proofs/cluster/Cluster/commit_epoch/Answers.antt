@@ -54,3 +54,6 @@ returns-clause-files g c k rests belongs may =
 
 pub returns-clause-stand : goal.returns-clause-stand
 returns-clause-stand g c ready = record { chief = c.in_ok-settle.ensures.stands; nodes = c.in_ok-settle.ensures.ready ready }
+
+pub returns-clause-whole : goal.returns-clause-whole
+returns-clause-whole g c = record { rises = c.settle.ensures.later.seen_rises; whole = c.in_ok-settle.ensures.whole }

@@ -1,4 +1,5 @@
-use Rattle.std.proofs.Common.{◌≡◌, List, Err, sym, ap, ◌∙◌, subst}
+use Rattle.std.proofs.Common.{◌≡◌, true≢false, List, Err, sym, ap, ◌∙◌, subst}
+use Rattle.std.specs.Prelude.{IsOk}
 use Rattle.std.proofs.lemmas.Result.{err_from_is_err_and}
 use Rattle.coco_read.specs.declared.fault.OpenFault.TheVariants.{NotAStore}
 use Rattle.coco_recover.specs.Lost.{AreKnown}
@@ -48,3 +49,6 @@ pub returns-clause-untouched : goal.returns-clause-untouched
 returns-clause-untouched g c none =
     ap (λ t. record c.args.self.now { members = c.read_lost.new.members; trace = t }) c.take-trace.ensures.value
     ∙ ap (λ (m : Members). record c.args.self.now { members = m }) (c.read_lost.ensures.untouched none).2
+
+pub returns-in_err-read_lost-clause-none : goal.returns-in_err-read_lost-clause-none
+returns-in_err-read_lost-clause-none g c none = absurd (true≢false (sym (subst IsOk c.in_err-read_lost.was (c.read_lost.ensures.untouched none).0)))

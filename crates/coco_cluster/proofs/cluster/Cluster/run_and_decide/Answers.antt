@@ -1,10 +1,13 @@
 use Rattle.std.proofs.Common.{◌≡◌, Bool, List, ℕ, Result, Ok, is_err, map, ap, refl, subst}
 use Rattle.std.proofs.lemmas.Result.{err_from_is_err_and, IfOk-from_err}
+use Rattle.coco_entry.specs.declared.layout.Layout.{Layout}
 use Rattle.coco_finish.specs.declared.tables.NodeTables.{NodeTables}
 use Rattle.coco_lost.specs.Requests.{AreRequestsOf}
 use Rattle.coco_letters.specs.Around.{Around, around}
 use Rattle.coco_parallel.specs.Traces.{traced}
 use Rattle.coco_types.specs.declared.call.Request.{Request}
+use Rattle.coco_vote.proofs.PowerLemmas.{later_same as asked_same}
+use Rattle.coco_cluster.specs.Stepping.{IsVotedFor}
 use Rattle.coco_cluster.specs.Trying.{ComesOn}
 use Rattle.coco_cluster.specs.declared.cluster.Cluster.{Cluster}
 use Rattle.coco_cluster.specs.declared.fault.TurnFault.{TurnFault}
@@ -203,3 +206,26 @@ returns-clause-files g c d rests stands room =
       may_go_on run g.H.Host.moment g.H.Host.observed g.H.Host.said g.H.Host.reads g.H.Host.may_leave r c.args.host.now c.decide.new.host c.in_ok-all.ensures.files c.a_run_is_the_next_commit.ensures (record { may = c.a_run_may_be_prepared.ensures.may; ready = c.a_run_may_be_prepared.ensures.ready }) c.requires.some c.requires.below d rests stands room
           c.decide.new.members.tables (rw c.if-all.false at decided.1) c.decide.ensures.keep,
     )
+
+-- ---- the steps of nodes and coordinator, and what was asked
+
+pub returns-in_err-ids-clause-power : goal.returns-in_err-ids-clause-power
+returns-in_err-ids-clause-power g c = asked_same g.P.Power.stops_seen g.P.Power.early_stops g.P.Power.stopped g.P.Power.begun g.P.Power.asked c.args.power.now
+
+pub returns-in_err-dones-clause-power : goal.returns-in_err-dones-clause-power
+returns-in_err-dones-clause-power g c = asked_same g.P.Power.stops_seen g.P.Power.early_stops g.P.Power.stopped g.P.Power.begun g.P.Power.asked c.args.power.now
+
+pub returns-then-all-clause-voted : goal.returns-then-all-clause-voted
+returns-then-all-clause-voted g c =
+    let a : Around = around g.N.Net.sent g.N.Net.given g.N.Net.faults g.N.Net.last_seed g.P.Power.stops_seen g.P.Power.early_stops g.P.Power.stopped g.P.Power.begun g.P.Power.asked c.args.net.now c.args.power.now in
+    let b : Around = around g.N.Net.sent g.N.Net.given g.N.Net.faults g.N.Net.last_seed g.P.Power.stops_seen g.P.Power.early_stops g.P.Power.stopped g.P.Power.begun g.P.Power.asked c.decide.new.net c.decide.new.power in
+    subst (λ (layout : Layout). IsVotedFor layout c.args.self.now.next_epoch 2 5 a b) c.run_epoch.ensures.places.layout (rw c.if-all.true at c.in_ok-all.ensures.voted)
+
+pub returns-then-all-clause-steps : goal.returns-then-all-clause-steps
+returns-then-all-clause-steps g c = c.in_ok-all.ensures.steps
+
+pub returns-clause-voted : goal.returns-clause-voted
+returns-clause-voted g c = tt
+
+pub returns-clause-steps : goal.returns-clause-steps
+returns-clause-steps g c = c.in_ok-all.ensures.steps

@@ -1,19 +1,22 @@
-use Rattle.std.proofs.Common.{is_err, IfOk, OnOk, ap, refl, sym, subst}
-use Rattle.std.proofs.lemmas.Result.{err_from_is_err_and}
+use Rattle.std.proofs.Common.{◌+◌, ◌≤◌, [], arith, length, ◌∙◌, is_err, IfOk, OnOk, ap, refl, sym, subst}
+use Rattle.std.proofs.lemmas.Result.{err_from_is_err_and, IfOk-weaker}
 use Rattle.coco_append.specs.Gaining.{Stands}
 use Rattle.coco_ast.specs.Keyed.{Rows}
 use Rattle.coco_letters.specs.Around.{Around, around}
 use Rattle.coco_log.specs.LogState.{LogState}
-use Rattle.coco_members.specs.AtRest.{NoneBehind, ShardsHaveMap}
+use Rattle.coco_members.specs.AtRest.{NoneBehind, ShardsHaveMap, scene_of}
 use Rattle.coco_members.specs.declared.members.Members.{Members}
 use Rattle.coco_vote.specs.Taking.{AreReady, IsElsewhere}
 use Rattle.coco_cluster.specs.Standing.{IsSound}
+use Rattle.coco_cluster.specs.Stepping.{VotedForBy}
 use Rattle.coco_cluster.specs.Trying.{ComesOf, StaysInPlace, TriesFiles}
 use Rattle.coco_cluster.specs.Turning.{MayTurn}
 use Rattle.coco_cluster.specs.declared.cluster.Cluster.{Cluster}
+use Rattle.coco_cluster.proofs.AskLemmas.{asked_none, tried_before}
 use Rattle.coco_cluster.proofs.AroundLemmas.{gives_stopped, later_still, later_then, tried_from}
 use Rattle.coco_cluster.proofs.DecideLemmas.{idle_keeps, stay_stopped}
 use Rattle.coco_cluster.proofs.RestLemmas.{rest_is_quiet}
+use Rattle.coco_cluster.proofs.StepLemmas.{steps_ended, steps_later, steps_same}
 use Rattle.coco_cluster.proofs.StopLemmas.{logs_ready, lose_on}
 use Rattle.coco_cluster.proofs.TriedLemmas.{stopped_keeps, stopped_on, tried_in_vain}
 use Rattle.coco_cluster.proofs.cluster.Cluster.try_epoch.Goals as goal
@@ -118,3 +121,40 @@ returns-clause-later g c =
 pub returns-clause-whole : goal.returns-clause-whole
 returns-clause-whole g c = lose_on c.run_and_decide.result (g.P.Power.stops_seen c.args.power.now) (g.P.Power.stops_seen c.one_stops.new.power) (g.P.Power.stops_seen c.run_and_decide.new.power) c.args.self.now.members.voters.items c.one_stops.new.members.voters.items c.run_and_decide.new.self.members.voters.items
     c.in_ok-one_stops.ensures.whole c.run_and_decide.ensures.whole
+
+-- ---- the steps of nodes and coordinator, and what was asked
+
+pub returns-then-branch-clause-steps : goal.returns-then-branch-clause-steps
+returns-then-branch-clause-steps g c =
+    let k : Members = c.args.self.now.members in
+    let e = c.args.self.now.next_epoch in
+    let sent = g.N.Net.sent c.args.net.now in
+    steps_later (g.P.Power.stopped c.args.power.now) (g.P.Power.stopped c.one_stops.new.power) e e (e + 1) [] (scene_of k sent) (scene_of c.one_stops.new.members sent) (omega arith)
+    (steps_same (g.P.Power.stopped c.args.power.now) (g.P.Power.stopped c.one_stops.new.power) e (scene_of k sent) (scene_of c.one_stops.new.members sent) c.one_stops.ensures.nodes (c.in_ok-one_stops.ensures.world sent))
+
+pub returns-clause-begun : goal.returns-clause-begun
+returns-clause-begun g c = c.run_and_decide.ensures.power.begun_stays ∙ c.one_stops.ensures.begun
+
+pub returns-clause-steps : goal.returns-clause-steps
+returns-clause-steps g c =
+    let k : Members = c.args.self.now.members in
+    let e = c.args.self.now.next_epoch in
+    let sent = g.N.Net.sent c.args.net.now in
+    let i = g.P.Power.stopped c.args.power.now in
+    let j = g.P.Power.stopped c.one_stops.new.power in
+    steps_ended c.run_and_decide.result i j (g.P.Power.stopped c.run_and_decide.new.power) e e (e + 1) (scene_of k sent) (scene_of c.one_stops.new.members sent) (scene_of c.run_and_decide.new.self.members (g.N.Net.sent c.run_and_decide.new.net))
+    (steps_same i j e (scene_of k sent) (scene_of c.one_stops.new.members sent) c.one_stops.ensures.nodes (c.in_ok-one_stops.ensures.world sent)) c.run_and_decide.ensures.steps
+
+pub returns-clause-voted : goal.returns-clause-voted
+returns-clause-voted g c =
+    let a : Around = around g.N.Net.sent g.N.Net.given g.N.Net.faults g.N.Net.last_seed g.P.Power.stops_seen g.P.Power.early_stops g.P.Power.stopped g.P.Power.begun g.P.Power.asked c.args.net.now c.args.power.now in
+    let m : Around = around g.N.Net.sent g.N.Net.given g.N.Net.faults g.N.Net.last_seed g.P.Power.stops_seen g.P.Power.early_stops g.P.Power.stopped g.P.Power.begun g.P.Power.asked c.args.net.now c.one_stops.new.power in
+    let b : Around = around g.N.Net.sent g.N.Net.given g.N.Net.faults g.N.Net.last_seed g.P.Power.stops_seen g.P.Power.early_stops g.P.Power.stopped g.P.Power.begun g.P.Power.asked c.run_and_decide.new.net c.run_and_decide.new.power in
+    let k : Members = c.args.self.now.members in
+    let e = c.args.self.now.next_epoch in
+    let are = c.requires.sound.rests.rest.are in
+    let few : k.tables.layout.nodes ≤ 8 = (let most = are.few in omega (arith, most, are.layout)) in
+    IfOk-weaker c.run_and_decide.result (λ tried. VotedForBy tried k.tables.layout e 2 m b) (λ tried. VotedForBy tried k.tables.layout e 1 a b)
+    (λ tried. tried_before tried k.tables.layout e 1 a m b few (omega arith) (later_still a m refl refl refl refl c.one_stops.ensures.counts.early_rises) c.run_and_decide.ensures.later (rw c.if-branch.false at c.in_ok-one_stops.ensures.told) c.run_and_decide.ensures.power.asked_stays
+    (λ n lt. asked_none c.in_ok-one_stops.field-0 (length k.cores.items) 1 (g.P.Power.stopped c.args.power.now) (g.P.Power.stopped c.one_stops.new.power) (g.P.Power.asked c.args.power.now) (g.P.Power.asked c.one_stops.new.power) c.if-branch.false are.few (omega arith) c.in_ok-one_stops.ensures.asked n (omega (arith, lt, are.layout))))
+    (subst (λ (x : Members). IfOk c.run_and_decide.result (λ tried. VotedForBy tried x.tables.layout e 2 m b)) (c.in_ok-one_stops.ensures.none c.if-branch.false) c.run_and_decide.ensures.voted)

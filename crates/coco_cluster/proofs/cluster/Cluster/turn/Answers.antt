@@ -2,18 +2,24 @@ use Rattle.std.proofs.Common.{◌≡◌, ◌<◌, ◌≤◌, ℕ, [], Option, So
 use Rattle.std.proofs.lemmas.Result.{err_from_is_err_and}
 use Rattle.std.specs.Global.{Vec}
 use Rattle.std.specs.Prelude.{OnErr}
+use Rattle.coco_entry.specs.declared.layout.Layout.{Layout}
 use Rattle.coco_kept.specs.Keeping.{Keeping}
 use Rattle.coco_letters.specs.Around.{around}
 use Rattle.coco_letters.specs.GivingUp.{AreGivenUp}
+use Rattle.coco_members.specs.AtRest.{scene_of}
 use Rattle.coco_types.specs.Limits.{epochs_end}
 use Rattle.coco_types.specs.declared.call.Request.{Request}
 use Rattle.coco_cluster.specs.Attempts.{Attempts, AttemptsOn, HasCause, HasCommittedOne, IsGivenBack, KeepsMap}
+use Rattle.coco_cluster.specs.Faults.{CountsAttempt}
+use Rattle.coco_cluster.specs.Stepping.{AsksBy, AsksForAll, HasCommittedBy}
 use Rattle.coco_cluster.specs.Trying.{GivesUp}
 use Rattle.coco_cluster.specs.Turning.{HasRoom}
 use Rattle.coco_cluster.specs.declared.cluster.Cluster.{Cluster}
 use Rattle.coco_cluster.specs.declared.fault.TurnFault.{TurnFault}
 use Rattle.coco_cluster.specs.declared.fault.TurnFault.TheVariants.{EpochsUsedUp, NotAStore, Unreachable}
-use Rattle.coco_cluster.proofs.AroundLemmas.{all_later, later_same, later_then}
+use Rattle.coco_cluster.proofs.AskLemmas.{asks_all, begins_same, begins_then}
+use Rattle.coco_cluster.proofs.AroundLemmas.{all_later, all_until, later_same, later_then}
+use Rattle.coco_cluster.proofs.StepLemmas.{attempt_failed, none_committed, steps_after, steps_none, turn_committed}
 use Rattle.coco_cluster.proofs.TurnLemmas.{counts_failed, ends_committed, ends_failed, ends_without, few_more, few_until, goes_first, goes_more, may_still, more_given, none_left, none_of, room_as, same_sound, skips_few, some_left, turned_first}
 use Rattle.coco_cluster.proofs.cluster.Cluster.turn.Goals as goal
 
@@ -34,6 +40,9 @@ loop-attempt-init g c =
       layout = refl;
       seen = omega arith;
       map = λ is m had. had;
+      steps = steps_none (g.P.Power.stopped c.args.power.now) k.next_epoch (scene_of k.members (g.N.Net.sent c.args.net.now));
+      asks = begins_same k.next_epoch (around g.N.Net.sent g.N.Net.given g.N.Net.faults g.N.Net.last_seed g.P.Power.stops_seen g.P.Power.early_stops g.P.Power.stopped g.P.Power.begun g.P.Power.asked c.args.net.now c.args.power.now) (around g.N.Net.sent g.N.Net.given g.N.Net.faults g.N.Net.last_seed g.P.Power.stops_seen g.P.Power.early_stops g.P.Power.stopped g.P.Power.begun g.P.Power.asked c.args.net.now c.args.power.now) refl refl;
+      begins = omega arith;
       untraced = c.keep.ensures;
       unused = λ used. refl;
       told = λ d on stands room. goes_first g.H.Host.moment g.H.Host.observed g.H.Host.said g.H.Host.reads g.H.Host.may_leave g.met.H.Host.only_now d k now c.args.host.now (record { procs = refl; kept = refl; members = refl; base = refl; next = refl }) on stands;
@@ -78,6 +87,11 @@ loop-attempt-preserved g c =
           let more = ok.seen in
           let keeps : KeepsMap (Some c.in-Some.again) c.loop-attempt.self c.attempt.new.self = subst (λ (x : Option (Vec Request)). KeepsMap x c.loop-attempt.self c.attempt.new.self) c.in-Some.is (ok.map (omega (arith, first, more, is))) in
           keeps m (before.map (omega (arith, first, more, is)) m had);
+      steps = (steps_after (g.P.Power.stopped c.args.power.now) (g.P.Power.stopped c.loop-attempt.power) (g.P.Power.stopped c.attempt.new.power) c.args.self.now.next_epoch c.loop-attempt.self.next_epoch c.attempt.new.self.next_epoch [] (scene_of c.args.self.now.members (g.N.Net.sent c.args.net.now)) (scene_of c.loop-attempt.self.members (g.N.Net.sent c.loop-attempt.net)) (scene_of c.attempt.new.self.members (g.N.Net.sent c.attempt.new.net)) before.steps
+          (none_committed c.in_ok-attempt.field-0 c.in-Some.again c.attempt.new.self.next_epoch (scene_of c.loop-attempt.self.members (g.N.Net.sent c.loop-attempt.net)) (scene_of c.attempt.new.self.members (g.N.Net.sent c.attempt.new.net)) c.in-Some.is ok.world));
+      asks = begins_then c.args.self.now.next_epoch c.loop-attempt.self.next_epoch c.attempt.new.self.next_epoch (around g.N.Net.sent g.N.Net.given g.N.Net.faults g.N.Net.last_seed g.P.Power.stops_seen g.P.Power.early_stops g.P.Power.stopped g.P.Power.begun g.P.Power.asked c.args.net.now c.args.power.now) (around g.N.Net.sent g.N.Net.given g.N.Net.faults g.N.Net.last_seed g.P.Power.stops_seen g.P.Power.early_stops g.P.Power.stopped g.P.Power.begun g.P.Power.asked c.loop-attempt.net c.loop-attempt.power) (around g.N.Net.sent g.N.Net.given g.N.Net.faults g.N.Net.last_seed g.P.Power.stops_seen g.P.Power.early_stops g.P.Power.stopped g.P.Power.begun g.P.Power.asked c.attempt.new.net c.attempt.new.power) before.low back.low before.asks
+          (subst (λ (x : Option (Vec Request)). AsksBy x c.loop-attempt.self.members.tables.layout c.loop-attempt.self.next_epoch c.attempt.new.self.next_epoch (around g.N.Net.sent g.N.Net.given g.N.Net.faults g.N.Net.last_seed g.P.Power.stops_seen g.P.Power.early_stops g.P.Power.stopped g.P.Power.begun g.P.Power.asked c.loop-attempt.net c.loop-attempt.power) (around g.N.Net.sent g.N.Net.given g.N.Net.faults g.N.Net.last_seed g.P.Power.stops_seen g.P.Power.early_stops g.P.Power.stopped g.P.Power.begun g.P.Power.asked c.attempt.new.net c.attempt.new.power)) c.in-Some.is ok.asks);
+      begins = (let first = before.begins in let more = did.begins in omega (arith, first, more));
       untraced = back.trace ∙ before.untraced;
       unused = λ used. absurd (omega (arith, used, low, below));
       told = λ d on stands room.
@@ -100,7 +114,7 @@ returns-then-is_empty-clause-turns g c d on stands room =
 
 pub returns-then-is_empty-clause-nothing : goal.returns-then-is_empty-clause-nothing
 returns-then-is_empty-clause-nothing g c empty =
-    (refl, refl, refl, record { procs = refl; kept = refl; members = refl; base = refl; next = refl; trace = c.keep.ensures })
+    (refl, refl, refl, record { procs = refl; kept = refl; members = refl; base = refl; next = refl; trace = c.keep.ensures }, refl)
 
 pub returns-then-is_empty-clause-sound : goal.returns-then-is_empty-clause-sound
 returns-then-is_empty-clause-sound g c =
@@ -313,3 +327,96 @@ pub returns-clause-later : goal.returns-clause-later
 returns-clause-later g c =
     let before = c.loop-attempt.invariant in
     all_later c.loop-attempt._attempt (around g.N.Net.sent g.N.Net.given g.N.Net.faults g.N.Net.last_seed g.P.Power.stops_seen g.P.Power.early_stops g.P.Power.stopped g.P.Power.begun g.P.Power.asked c.args.net.now c.args.power.now) (around g.N.Net.sent g.N.Net.given g.N.Net.faults g.N.Net.last_seed g.P.Power.stops_seen g.P.Power.early_stops g.P.Power.stopped g.P.Power.begun g.P.Power.asked c.loop-attempt.net c.loop-attempt.power) before.given
+
+-- ---- the steps of nodes and coordinator, and what was asked
+
+pub returns-then-is_empty-clause-world : goal.returns-then-is_empty-clause-world
+returns-then-is_empty-clause-world g c =
+    let none : c.args.requests.items ≡ [] = none_of c.args.requests.items c.args.requests.len (sym c.is_empty.ensures ∙ c.if-is_empty.true) c.args.requests.ok.0 in
+    ([], subst (λ rs. HasCommittedBy (Ok tt) rs c.args.self.now.next_epoch []) (sym none) refl, steps_none (g.P.Power.stopped c.args.power.now) c.args.self.now.next_epoch (scene_of c.args.self.now.members (g.N.Net.sent c.args.net.now)))
+
+pub returns-then-is_empty-clause-asks : goal.returns-then-is_empty-clause-asks
+returns-then-is_empty-clause-asks g c some =
+    let none : c.args.requests.items ≡ [] = none_of c.args.requests.items c.args.requests.len (sym c.is_empty.ensures ∙ c.if-is_empty.true) c.args.requests.ok.0 in
+    absurd (none_left c.args.requests.items some none)
+
+pub returns-then-is_empty-clause-begins : goal.returns-then-is_empty-clause-begins
+returns-then-is_empty-clause-begins g c =
+    omega arith
+
+pub returns-then-is_empty-clause-given_up : goal.returns-then-is_empty-clause-given_up
+returns-then-is_empty-clause-given_up g c =
+    (0, omega arith, later_same (around g.N.Net.sent g.N.Net.given g.N.Net.faults g.N.Net.last_seed g.P.Power.stops_seen g.P.Power.early_stops g.P.Power.stopped g.P.Power.begun g.P.Power.asked c.args.net.now c.args.power.now))
+
+pub returns-then-self-ge-EPOCHS_END-clause-world : goal.returns-then-self-ge-EPOCHS_END-clause-world
+returns-then-self-ge-EPOCHS_END-clause-world g c =
+    let before = c.loop-attempt.invariant in
+    ([], refl, before.steps)
+
+pub returns-then-self-ge-EPOCHS_END-clause-begins : goal.returns-then-self-ge-EPOCHS_END-clause-begins
+returns-then-self-ge-EPOCHS_END-clause-begins g c =
+    let before = c.loop-attempt.invariant in
+    (let first = before.begins in omega (arith, first, c.loop-attempt-test.true))
+
+pub returns-in_err-attempt-clause-world : goal.returns-in_err-attempt-clause-world
+returns-in_err-attempt-clause-world g c =
+    let before = c.loop-attempt.invariant in
+    let p = err_from_is_err_and c.from_residual.result c.from_residual.ensures.1 in
+    attempt_failed c.from_residual.result c.in_err-attempt.field-0.0 c.args.requests.items (g.P.Power.stopped c.args.power.now) (g.P.Power.stopped c.loop-attempt.power) (g.P.Power.stopped c.attempt.new.power) c.args.self.now.next_epoch c.loop-attempt.self.next_epoch c.attempt.new.self.next_epoch (scene_of c.args.self.now.members (g.N.Net.sent c.args.net.now)) (scene_of c.loop-attempt.self.members (g.N.Net.sent c.loop-attempt.net)) (scene_of c.attempt.new.self.members (g.N.Net.sent c.attempt.new.net)) (g.H.Host.disk_faults c.loop-attempt.host) (g.H.Host.disk_faults c.attempt.new.host) (p.1 ∙ ap Err p.2) before.steps c.in_err-attempt.ensures.disk c.in_err-attempt.ensures.world
+
+pub returns-in_err-attempt-clause-begins : goal.returns-in_err-attempt-clause-begins
+returns-in_err-attempt-clause-begins g c =
+    let before = c.loop-attempt.invariant in
+    (let first = before.begins in let more = c.attempt.ensures.begins in omega (arith, first, more, c.loop-attempt-test.true))
+
+pub returns-in-None-clause-world : goal.returns-in-None-clause-world
+returns-in-None-clause-world g c =
+    let before = c.loop-attempt.invariant in
+    let some : 0 < length c.args.requests.items = some_left c.args.requests.items c.args.requests.len (sym c.is_empty.ensures ∙ c.if-is_empty.false) c.args.requests.ok.0 in
+    let ok = c.in_ok-attempt.ensures in
+    turn_committed c.in_ok-attempt.field-0 c.args.requests.items (g.P.Power.stopped c.args.power.now) (g.P.Power.stopped c.loop-attempt.power) (g.P.Power.stopped c.attempt.new.power) c.args.self.now.next_epoch c.loop-attempt.self.next_epoch c.attempt.new.self.next_epoch (scene_of c.args.self.now.members (g.N.Net.sent c.args.net.now)) (scene_of c.loop-attempt.self.members (g.N.Net.sent c.loop-attempt.net)) (scene_of c.attempt.new.self.members (g.N.Net.sent c.attempt.new.net)) some c.in-None.is before.steps ok.world
+
+pub returns-in-None-clause-asks : goal.returns-in-None-clause-asks
+returns-in-None-clause-asks g c some =
+    let before = c.loop-attempt.invariant in
+    let ok = c.in_ok-attempt.ensures in
+    let done : HasCommittedOne c.loop-attempt.requests.items c.args.workers c.args.attempts c.loop-attempt.self c.attempt.new.self = subst (λ (x : Option (Vec Request)). Attempts x c.loop-attempt.requests.items c.args.workers c.args.attempts c.loop-attempt.self c.attempt.new.self) c.in-None.is ok.attempts in
+    asks_all c.args.self.now.members.tables.layout c.args.self.now.next_epoch c.loop-attempt.self.next_epoch c.attempt.new.self.next_epoch (around g.N.Net.sent g.N.Net.given g.N.Net.faults g.N.Net.last_seed g.P.Power.stops_seen g.P.Power.early_stops g.P.Power.stopped g.P.Power.begun g.P.Power.asked c.args.net.now c.args.power.now) (around g.N.Net.sent g.N.Net.given g.N.Net.faults g.N.Net.last_seed g.P.Power.stops_seen g.P.Power.early_stops g.P.Power.stopped g.P.Power.begun g.P.Power.asked c.loop-attempt.net c.loop-attempt.power) (around g.N.Net.sent g.N.Net.given g.N.Net.faults g.N.Net.last_seed g.P.Power.stops_seen g.P.Power.early_stops g.P.Power.stopped g.P.Power.begun g.P.Power.asked c.attempt.new.net c.attempt.new.power) before.low done.next (all_later c.loop-attempt._attempt (around g.N.Net.sent g.N.Net.given g.N.Net.faults g.N.Net.last_seed g.P.Power.stops_seen g.P.Power.early_stops g.P.Power.stopped g.P.Power.begun g.P.Power.asked c.args.net.now c.args.power.now) (around g.N.Net.sent g.N.Net.given g.N.Net.faults g.N.Net.last_seed g.P.Power.stops_seen g.P.Power.early_stops g.P.Power.stopped g.P.Power.begun g.P.Power.asked c.loop-attempt.net c.loop-attempt.power) before.given) c.attempt.ensures.later before.asks
+    (subst (λ (l : Layout). AsksForAll l c.loop-attempt.self.next_epoch (around g.N.Net.sent g.N.Net.given g.N.Net.faults g.N.Net.last_seed g.P.Power.stops_seen g.P.Power.early_stops g.P.Power.stopped g.P.Power.begun g.P.Power.asked c.loop-attempt.net c.loop-attempt.power) (around g.N.Net.sent g.N.Net.given g.N.Net.faults g.N.Net.last_seed g.P.Power.stops_seen g.P.Power.early_stops g.P.Power.stopped g.P.Power.begun g.P.Power.asked c.attempt.new.net c.attempt.new.power)) before.layout (subst (λ (x : Option (Vec Request)). AsksBy x c.loop-attempt.self.members.tables.layout c.loop-attempt.self.next_epoch c.attempt.new.self.next_epoch (around g.N.Net.sent g.N.Net.given g.N.Net.faults g.N.Net.last_seed g.P.Power.stops_seen g.P.Power.early_stops g.P.Power.stopped g.P.Power.begun g.P.Power.asked c.loop-attempt.net c.loop-attempt.power) (around g.N.Net.sent g.N.Net.given g.N.Net.faults g.N.Net.last_seed g.P.Power.stops_seen g.P.Power.early_stops g.P.Power.stopped g.P.Power.begun g.P.Power.asked c.attempt.new.net c.attempt.new.power)) c.in-None.is ok.asks))
+
+pub returns-in-None-clause-begins : goal.returns-in-None-clause-begins
+returns-in-None-clause-begins g c =
+    let before = c.loop-attempt.invariant in
+    (let first = before.begins in let more = c.attempt.ensures.begins in omega (arith, first, more, c.loop-attempt-test.true))
+
+pub returns-in-None-clause-given_up : goal.returns-in-None-clause-given_up
+returns-in-None-clause-given_up g c =
+    let before = c.loop-attempt.invariant in
+    (c.loop-attempt._attempt, omega (arith, c.loop-attempt-test.true), all_until c.loop-attempt._attempt (around g.N.Net.sent g.N.Net.given g.N.Net.faults g.N.Net.last_seed g.P.Power.stops_seen g.P.Power.early_stops g.P.Power.stopped g.P.Power.begun g.P.Power.asked c.args.net.now c.args.power.now) (around g.N.Net.sent g.N.Net.given g.N.Net.faults g.N.Net.last_seed g.P.Power.stops_seen g.P.Power.early_stops g.P.Power.stopped g.P.Power.begun g.P.Power.asked c.loop-attempt.net c.loop-attempt.power) (around g.N.Net.sent g.N.Net.given g.N.Net.faults g.N.Net.last_seed g.P.Power.stops_seen g.P.Power.early_stops g.P.Power.stopped g.P.Power.begun g.P.Power.asked c.attempt.new.net c.attempt.new.power) before.given c.attempt.ensures.later)
+
+pub returns-clause-world : goal.returns-clause-world
+returns-clause-world g c =
+    let before = c.loop-attempt.invariant in
+    ([], refl, before.steps)
+
+pub returns-clause-begins : goal.returns-clause-begins
+returns-clause-begins g c =
+    let before = c.loop-attempt.invariant in
+    (let all : c.loop-attempt._attempt ≡ 4 = omega arith in let first = before.begins in omega (arith, first, all))
+
+pub returns-in_err-attempt-clause-refused : goal.returns-in_err-attempt-clause-refused
+returns-in_err-attempt-clause-refused g c file at is =
+    let before = c.loop-attempt.invariant in
+    let p = err_from_is_err_and c.from_residual.result c.from_residual.ensures.1 in
+    let named : c.in_err-attempt.field-0.0 ≡ NotAStore file at = cc (p.1, p.2, is) in
+    let first = before.seen in
+    let rose = c.attempt.ensures.refused file at (c.in_err-attempt.was ∙ ap Err named) in omega (arith, first, rose)
+
+pub returns-in_err-attempt-clause-ended : goal.returns-in_err-attempt-clause-ended
+returns-in_err-attempt-clause-ended g c is =
+    let p = err_from_is_err_and c.from_residual.result c.from_residual.ensures.1 in
+    let named : c.in_err-attempt.field-0.0 ≡ EpochsUsedUp = cc (p.1, p.2, is) in
+    absurd (subst (λ (f : TurnFault). CountsAttempt {T = Unit {0}} (Err f) (g.H.Host.disk_faults c.loop-attempt.host) (g.H.Host.disk_faults c.attempt.new.host)) named c.in_err-attempt.ensures.disk)
+
+pub returns-then-self-ge-EPOCHS_END-clause-ended : goal.returns-then-self-ge-EPOCHS_END-clause-ended
+returns-then-self-ge-EPOCHS_END-clause-ended g c is = (c.if-self-ge-EPOCHS_END.true, (c.loop-attempt._attempt, omega (arith, c.loop-attempt-test.true), c.loop-attempt.invariant.given))

@@ -1,13 +1,14 @@
-use Rattle.std.proofs.Common.{◌≡◌, ◌+◌, ◌*◌, ◌<◌, ◌≤◌, None}
+use Rattle.std.proofs.Common.{◌≡◌, ◌+◌, ◌*◌, ◌<◌, ◌≤◌, [], None}
 use Rattle.coco_append.specs.Gaining.{RestsOn}
 use Rattle.coco_letters.specs.Around.{around, spare}
 use Rattle.coco_letters.specs.GivingUp.{AreGivenUp}
 use Rattle.coco_store.specs.Contents.{Contents}
 use Rattle.coco_types.specs.Limits.{epochs_end}
 use Rattle.coco_cluster.specs.Standing.{AllStand, IsSound, StandsAt}
+use Rattle.coco_cluster.specs.Stepping.{MayHaveBegun, StepsTo}
 use Rattle.coco_cluster.specs.Turning.{HasRoom}
 use Rattle.coco_cluster.proofs.TurnLemmas.{GoesOn}
-use Rattle.coco_members.specs.AtRest.{ShardsHaveMap}
+use Rattle.coco_members.specs.AtRest.{ShardsHaveMap, scene_of}
 use Rattle.coco_ast.specs.Keyed.{Rows}
 use Rattle.coco_cluster.proofs.cluster.Cluster.turn.Given as goal
 
@@ -30,6 +31,11 @@ invariant-loop-attempt g l = record {
   layout : l.self.members.tables.layout ≡ l.fn.self.members.tables.layout;
   seen : g.P.Power.stops_seen l.fn.power ≤ g.P.Power.stops_seen l.power;
   map : g.P.Power.stops_seen l.power ≡ g.P.Power.stops_seen l.fn.power → (m : Rows) → ShardsHaveMap m l.fn.self.members.tables → ShardsHaveMap m l.self.members.tables;
+  steps : StepsTo (g.P.Power.stopped l.fn.power) (g.P.Power.stopped l.power) l.fn.self.next_epoch l.self.next_epoch [] (scene_of l.fn.self.members (g.N.Net.sent l.fn.net)) (scene_of l.self.members (g.N.Net.sent l.net));
+  asks : MayHaveBegun l.fn.self.next_epoch l.self.next_epoch
+      (around g.N.Net.sent g.N.Net.given g.N.Net.faults g.N.Net.last_seed g.P.Power.stops_seen g.P.Power.early_stops g.P.Power.stopped g.P.Power.begun g.P.Power.asked l.fn.net l.fn.power)
+      (around g.N.Net.sent g.N.Net.given g.N.Net.faults g.N.Net.last_seed g.P.Power.stops_seen g.P.Power.early_stops g.P.Power.stopped g.P.Power.begun g.P.Power.asked l.net l.power);
+  begins : g.P.Power.begun l.power ≤ g.P.Power.begun l.fn.power + l._attempt;
   untraced : l.self.trace ≡ None;
   unused : epochs_end ≤ l.fn.self.next_epoch → l.host ≡ l.fn.host;
   told : (c : Contents) → RestsOn c (g.H.Host.reads l.fn.host) (g.H.Host.may_leave l.fn.host) → StandsAt c l.fn.self → HasRoom c l.fn.requests.items
