@@ -51,15 +51,19 @@ use Rattle.coco_commands.specs.Opening.{FailsToOpen}
 use Rattle.coco_commands.specs.Running.{Opens, ending_of_run}
 use Rattle.coco_lines.proofs.ClassLemmas.{classes_length}
 use Rattle.coco_commands.specs.Served as served
-use Rattle.coco_commands.proofs.ServingLemmas.{added_by, all_later, all_spare, few_new, joined-more, none_spare, spare_then}
+use Rattle.coco_commands.proofs.ServingLemmas.{added_by, all_later, all_spare, few_have_numbers, few_new, joined-more, none_spare, spare_then}
 use Rattle.coco_store.specs.Contents.{Contents, Holds, history_of}
 use Rattle.coco_store.specs.Refusals.{IsFirstRefusal, RefusedIsNone}
 use Rattle.coco_store.specs.Texts.{IsAcceptedText}
 use Rattle.coco_commands.specs.Telling.{IsVerdict, SaysText}
-use Rattle.coco_commands.specs.Serving.{Counts, epochs_of, HasCause, Outside, RunBounds, Served, Serves}
-use Rattle.coco_words.specs.declared.Command.TheVariants.{Compact, Dump, Init, Migrate, Query, Rebuild, Run, Verify}
-use Rattle.coco.specs.Commands.{counts_of, ending_in, bounds_of}
-use Rattle.coco.specs.Success.{AllAreAnswered, CompactSucceeds, DumpSucceeds, FewLinesHaveNumbers, HaveNumbers, InitSucceeds, DoneOrNoMemory, MigrateSucceeds, NoneRose, QuerySucceeds, ReadsEmpty, ReadsWithout, RebuildSucceeds, RunSucceeds, VerifySucceeds}
+use Rattle.coco_commands.specs.Trying.{OpensToTry, ending_of_trying}
+use Rattle.coco_commands.specs.Workloads as workloads
+use Rattle.coco_commands.specs.Workloads.{BatchFault}
+use Rattle.coco_commands.specs.Faulted as batch
+use Rattle.coco_commands.specs.Serving.{Around, Counts, epochs_of, HasCause, manner_of, Outside, RunBounds, Served, Serves}
+use Rattle.coco_words.specs.declared.Command.TheVariants.{Compact, Dump, Init, Migrate, Query, Rebuild, Run, Try, Verify}
+use Rattle.coco.specs.Commands.{counts_of, disturbed, ending_in, bounds_of}
+use Rattle.coco.specs.Success.{AllAreAnswered, AllAreTold, CompactSucceeds, DumpSucceeds, FewLinesHaveNumbers, FewRequestsHaveNumbers, HaveNumbers, HaveNumbersFor, InitSucceeds, DoneOrNoMemory, MigrateSucceeds, NoneRose, QuerySucceeds, ReadsEmpty, ReadsWithout, RebuildSucceeds, RunSucceeds, TrySucceeds, VerifySucceeds}
 
 -- ---- numbers
 
@@ -93,6 +97,9 @@ few_lines_have_numbers c next bounds bytes few p used =
     let some = used.has_next.some in
     omega (arith, few, gained, more, all, both, fresh, lines, end, some)
 
+pub few_requests_have_numbers : FewRequestsHaveNumbers
+few_requests_have_numbers c next bounds requests few = few_have_numbers (manner_of c.setting bounds) (history_of c) next bounds.size requests few
+
 -- ---- openings and texts
 
 -- a store that isn't refused is opened, unless memory runs out
@@ -103,6 +110,10 @@ opened_or_memory (ending.NotAStore file at) told files before after are sound fa
     absurd (sound file at (subst (λ (r : Option Files). IfSome r (λ fs. IsFirstRefusal fs file at)) are cause.1))
 opened_or_memory ending.NoMemory told files before after are sound faultless cause = refl
 opened_or_memory how told files before after are sound faultless cause = absurd cause
+
+-- a seed of disturbances moves no count
+none_disturbed : (seed : Option ℕ) (before after : Outside) → NoneRose before after → NoneRose (disturbed seed before) after
+none_disturbed seed before after none = record { source = none.source; stream = none.stream; disk = none.disk; net = none.net; power = none.power }
 
 -- a text is said whole, unless memory runs out
 said_or_memory : (text : List ℕ) (own how : Ending) (before now : Option (List ℕ)) (old new : Counts) → ¬ (Rose old.say new.say) → SaysText text own how before now old new
@@ -160,17 +171,53 @@ module _ {H : Type 0} (moment : H → ℕ) (observed : H → ℕ → Observation
       (λ does. ⊎_elim (λ closed. inr (opened_or_memory how (reads old) store.files before.disk_faults after.disk_faults store.are (λ file at is. refused store.files file at is c store.good.holds) faultless.none_rose.disk closed.cause)) answered does)
       (λ lacks. inr lacks.0) (faultless.obeyed.command (Run run) faultless.is)
     where
-      answered : Opens moment observed said reads may_leave (bounds_of run) how before after old new → DoneOrNoMemory how (AllAreAnswered moment observed said reads may_leave c (bounds_of run) bytes after old new)
+      answered : Opens moment observed said reads may_leave (bounds_of run) how (disturbed run.disturb before) after old new → DoneOrNoMemory how (AllAreAnswered moment observed said reads may_leave c (bounds_of run) bytes after old new)
       answered opens =
           let next = opens.is_next store.files c store.are store.good.holds in
           let same = one_giving before.source after.source opens.bytes bytes opens.gives gives in
-          let cause = subst (λ (b : List ℕ). HasCause opens.next b before after opens.served) same opens.cause in
-          let none = none_spare before.around after.around faultless.none_rose.net faultless.none_rose.power in
+          let cause = subst (λ (b : List ℕ). HasCause opens.next b (disturbed run.disturb before) after opens.served) same opens.cause in
+          let none = none_spare (disturbed run.disturb before).around after.around faultless.none_rose.net faultless.none_rose.power in
           let serves = subst (λ (b : List ℕ). Serves moment observed said reads may_leave c opens.next 0 (bounds_of run) b opens.served opens.opened new) same
           (subst (λ (n : ℕ). Serves moment observed said reads may_leave c opens.next n (bounds_of run) opens.bytes opens.served opens.opened new) none (opens.serves store.files c store.are store.good)) in
           ⊎_elim
           (λ done. inl (done.0, record { opened = opens.opened; opening = opens.opening; next = opens.next; is_next = next; spent = done.1.0; serves = done.1.1 })) inr
-          (served_or_memory c opens.next (bounds_of run) bytes how before after old opens.opened new opens.served opens.ends faultless.none_rose may.few (may.numbers opens.next next) cause serves)
+          (served_or_memory c opens.next (bounds_of run) bytes how (disturbed run.disturb before) after old opens.opened new opens.served opens.ends (none_disturbed run.disturb before after faultless.none_rose) may.few (may.numbers opens.next next) cause serves)
+
+  tried_or_memory : (c : Contents) (next : ℕ) (bounds : RunBounds) (requests : List Request) (how : Ending) (was now : Around) (before after : Counts) (opened new : H) (result : Result (Unit {0}) BatchFault)
+      → how ≡ ending_of_trying result → ¬ (Rose before.say after.say) → ¬ (Rose before.disk after.disk) → ¬ (Rose was.faults now.faults) → ¬ (Rose was.early now.early) → HaveNumbersFor c next bounds requests
+      → workloads.HasCause next (length requests) was now before after result → workloads.Tries moment observed said reads may_leave c next 0 bounds requests result opened new
+      → DoneOrNoMemory how (workloads.Tries moment observed said reads may_leave c next 0 bounds requests (Ok tt) opened new)
+  tried_or_memory c next bounds requests how was now before after opened new (Ok done) ends stream disk net power numbers cause tries = inl (ends, tries)
+  tried_or_memory c next bounds requests how was now before after opened new (Err batch.Say) ends stream disk net power numbers cause tries = absurd (stream cause)
+  tried_or_memory c next bounds requests how was now before after opened new (Err batch.Disk) ends stream disk net power numbers cause tries = absurd (disk cause)
+  tried_or_memory c next bounds requests how was now before after opened new (Err (batch.NotAStore file at)) ends stream disk net power numbers cause tries = absurd tries.ends
+  tried_or_memory c next bounds requests how was now before after opened new (Err batch.Unreachable) ends stream disk net power numbers cause tries =
+      let given_up = all_spare 4 cause.0 now cause.2 in
+      let none = none_spare was now net power in
+      let adds = spare_then was cause.0 now cause.1 (all_later 4 cause.0 now cause.2) in
+      absurd (omega (arith, given_up, none, adds))
+  tried_or_memory c next bounds requests how was now before after opened new (Err batch.EpochsUsedUp) ends stream disk net power numbers cause tries = absurd (numbers tries.progress tries.ends.2)
+  tried_or_memory c next bounds requests how was now before after opened new (Err batch.NoMemory) ends stream disk net power numbers cause tries = inr ends
+
+  pub try_succeeds : RefusedIsNone → TrySucceeds moment observed said reads may_leave
+  try_succeeds refused calls seed run how before after old new c faultless store numbers =
+      ⊎_elim
+      (λ does. ⊎_elim
+      (λ closed. inr (opened_or_memory how (reads old) store.files before.disk_faults after.disk_faults store.are (λ file at is. refused store.files file at is c store.good.holds) faultless.none_rose.disk closed.untold.cause))
+      told does.1)
+      (λ lacks. inr lacks.0) (faultless.obeyed.command (Try calls seed run) faultless.is)
+    where
+      told : OpensToTry moment observed said reads may_leave (bounds_of run) (workloads.workload_of calls seed) how (disturbed run.disturb before).around after.around (counts_of before) (counts_of after) old new
+          → DoneOrNoMemory how (AllAreTold moment observed said reads may_leave c (bounds_of run) (workloads.workload_of calls seed) old new)
+      told opens =
+          let requests = workloads.workload_of calls seed in
+          let was = (disturbed run.disturb before).around in
+          let next = opens.is_next store.files c store.are store.good.holds in
+          let none = none_spare was after.around faultless.none_rose.net faultless.none_rose.power in
+          let tries = subst (λ (n : ℕ). workloads.Tries moment observed said reads may_leave c opens.next n (bounds_of run) requests opens.result opens.opened new) none (opens.tries store.files c store.are store.good) in
+          ⊎_elim (λ done. inl (done.0, record { opened = opens.opened; opening = opens.opening; next = opens.next; is_next = next; tries = done.1 })) inr
+          (tried_or_memory c opens.next (bounds_of run) requests how was after.around (counts_of before) (counts_of after) opens.opened new opens.result opens.ends faultless.none_rose.stream faultless.none_rose.disk
+          faultless.none_rose.net faultless.none_rose.power (numbers opens.next next) opens.cause tries)
 
   made_or_memory : (layout : Layout) (text : List ℕ) (tree : Procedures) (how : Ending) (before after : Outside) (old new : H) (result : Result (Unit {0}) Ending)
       → how ≡ ending_in result → HasOneAnswer text → IsAcceptedText text tree → ReadsEmpty (reads old) → NoneRose before after

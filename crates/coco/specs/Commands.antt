@@ -1,5 +1,5 @@
 -- What a call does for its words: each command by itself.
-use Rattle.std.specs.Prelude.{◌≡◌, ◌≢◌, ◌⊎◌, ⊤, ℕ, List, [], length, Option, Some, Result, Ok, Err}
+use Rattle.std.specs.Prelude.{◌≡◌, ◌≢◌, ◌⊎◌, ⊤, ℕ, List, [], length, Option, None, Some, Result, Ok, Err}
 use Rattle.coco_host.specs.Files.{Files}
 use Rattle.coco_host.specs.Moments.{Observation}
 use Rattle.coco_ending.specs.declared.ending.Ending.{Ending}
@@ -14,10 +14,12 @@ use Rattle.coco_commands.specs.Querying.{Queries}
 use Rattle.coco_commands.specs.Rebuilding.{Rebuilds}
 use Rattle.coco_commands.specs.Running.{RunsOn}
 use Rattle.coco_commands.specs.Telling.{Dumps, Verifies}
+use Rattle.coco_commands.specs.Trying.{TriesOn}
 use Rattle.coco_commands.specs.Serving.{Counts, Outside, RunBounds}
+use Rattle.coco_commands.specs.Workloads.{workload_of}
 use Rattle.coco_words.specs.Commands.{IsCommand, IsOnlyCommand}
 use Rattle.coco_words.specs.declared.Command.{Command}
-use Rattle.coco_words.specs.declared.Command.TheVariants.{Init, Run, Dump, Verify, Migrate, Compact, Rebuild, Query}
+use Rattle.coco_words.specs.declared.Command.TheVariants.{Init, Run, Dump, Verify, Migrate, Compact, Rebuild, Query, Try}
 use Rattle.coco_words.specs.declared.RunOptions.{RunOptions}
 
 -- the ending of a call that succeeded, or that came to this one
@@ -28,6 +30,20 @@ ending_in (Err e) = e
 -- as many lines in a batch, as many workers and as many attempts as the words have
 abbrev pub bounds_of : RunOptions → RunBounds
 bounds_of run = record { size = run.epoch; workers = run.workers; attempts = run.attempts }
+
+-- the seed of the net's disturbances, behind words that may have one
+abbrev pub seed_from : Option ℕ → Option ℕ → Option ℕ
+seed_from None before = before
+seed_from (Some seed) before = Some seed
+
+-- the net was asked for the disturbances of that seed, if there is one
+abbrev pub disturbed : Option ℕ → Outside → Outside
+disturbed seed o = record o { around = record o.around { seed = seed_from seed o.around.seed } }
+
+-- a command takes nothing of its input
+pub record KeepsSource (before after : Outside) : Type 0 where
+  pub source : after.source ≡ before.source
+  pub faults : after.source_faults ≡ before.source_faults
 
 -- a command takes nothing of its input, and leaves net and power as they are
 pub record KeepsInput (before after : Outside) : Type 0 where
@@ -59,13 +75,15 @@ module _ {H : Type 0} (moment : H → ℕ) (observed : H → ℕ → Observation
 
   abbrev pub Does : Command → Ending → Outside → Outside → H → H → Type 0
   Does (Init nodes partitions copies) how before after old new = Inits nodes partitions copies how before after old new
-  Does (Run run) how before after old new = RunsOn moment observed said reads may_leave (bounds_of run) how before after old new
+  Does (Run run) how before after old new = RunsOn moment observed said reads may_leave (bounds_of run) how (disturbed run.disturb before) after old new
   Does Dump how before after old new = KeepsInput before after × Dumps moment observed said reads may_leave how (counts_of before) (counts_of after) old new
   Does Verify how before after old new = KeepsInput before after × Verifies moment observed said reads may_leave how (counts_of before) (counts_of after) old new
   Does (Migrate keep) how before after old new = KeepsInput before after × Migrates moment observed said reads may_leave keep how (counts_of before) (counts_of after) old new
   Does Compact how before after old new = KeepsInput before after × Compacts moment observed said reads may_leave how (counts_of before) (counts_of after) old new
   Does (Rebuild node) how before after old new = KeepsInput before after × Rebuilds moment observed said reads may_leave node how (counts_of before) (counts_of after) old new
   Does (Query at readers) how before after old new = Queries moment observed said reads may_leave at how before after old new
+  Does (Try calls seed run) how before after old new = KeepsSource before after
+      × TriesOn moment observed said reads may_leave (bounds_of run) (workload_of calls seed) how (disturbed run.disturb before).around after.around (counts_of before) (counts_of after) old new
 
   -- nothing is done, for want of memory
   abbrev pub LacksMemory : Ending → Outside → Outside → H → H → Type 0

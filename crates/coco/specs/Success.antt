@@ -2,6 +2,7 @@
 use Rattle.std.specs.Prelude.{◌≡◌, ◌⊎◌, ℕ, ◌+◌, ◌<◌, ◌≤◌, List, [], length, Option, Some, Ok}
 use Rattle.std.specs.Io.KnownBytes.{append_known}
 use Rattle.coco_types.specs.Limits.{epochs_end, most_input_bytes}
+use Rattle.coco_types.specs.declared.call.Request.{Request}
 use Rattle.coco_append.specs.Gaining.{RestsAs, RestsOn}
 use Rattle.coco_asks.specs.Asking.{answers_from}
 use Rattle.coco_ast.specs.History.{epoch_dones}
@@ -27,10 +28,11 @@ use Rattle.coco_store.specs.Contents.{Contents, IsGoodStore, history_of}
 use Rattle.coco_store.specs.Texts.{IsAcceptedText}
 use Rattle.coco_commands.specs.Querying.{MayBeAsked, past_at}
 use Rattle.coco_commands.specs.Telling.{dump_in}
+use Rattle.coco_commands.specs.Workloads as workloads
 use Rattle.coco_commands.specs.Serving.{AreUsedUp, manner_of, Outside, Progress, RunBounds, Serves}
 use Rattle.coco_words.specs.Commands.{IsCommand}
 use Rattle.coco_words.specs.declared.Command.{Command}
-use Rattle.coco_words.specs.declared.Command.TheVariants.{Init, Run, Dump, Verify, Migrate, Compact, Rebuild, Query}
+use Rattle.coco_words.specs.declared.Command.TheVariants.{Init, Run, Dump, Verify, Migrate, Compact, Rebuild, Query, Try}
 use Rattle.coco_words.specs.declared.RunOptions.{RunOptions}
 use Rattle.coco.specs.Commands.{Obeys, bounds_of}
 
@@ -73,6 +75,15 @@ HaveNumbers c next bounds bytes = (p : Progress (manner_of c.setting bounds) (hi
 abbrev pub FewLinesHaveNumbers : Type 0
 FewLinesHaveNumbers = (c : Contents) (next : ℕ) (bounds : RunBounds) (bytes : List ℕ) → next + length (lines_of bytes) ≤ epochs_end → HaveNumbers c next bounds bytes
 
+-- so it is where requests are worked off
+abbrev pub HaveNumbersFor : Contents → ℕ → RunBounds → List Request → Type 0
+HaveNumbersFor c next bounds requests = (p : workloads.Progress (manner_of c.setting bounds) (history_of c) next 0 bounds.size requests)
+    → ¬ (workloads.AreUsedUp (manner_of c.setting bounds) (history_of c) next 0 bounds.size requests p)
+
+-- so it is where each request could have a number of its own
+abbrev pub FewRequestsHaveNumbers : Type 0
+FewRequestsHaveNumbers = (c : Contents) (next : ℕ) (bounds : RunBounds) (requests : List Request) → next + length requests ≤ epochs_end → HaveNumbersFor c next bounds requests
+
 -- a store may take all lines of these bytes
 pub record MayTake (c : Contents) (bounds : RunBounds) (bytes : List ℕ) : Type 0 where
   pub few : length bytes < most_input_bytes
@@ -101,6 +112,14 @@ module _ {H : Type 0} (moment : H → ℕ) (observed : H → ℕ → Observation
     pub spent : IsSpent after.source
     pub serves : Serves moment observed said reads may_leave c next 0 bounds bytes served.Finished opened new
 
+  -- all requests are committed and told of; no number was skipped
+  pub record AllAreTold (c : Contents) (bounds : RunBounds) (requests : List Request) (old new : H) : Type 0 where
+    pub opened : H
+    pub opening : IsOnlyRead moment observed said reads may_leave old opened
+    pub next : ℕ
+    pub is_next : IsNextOf c next
+    pub tries : workloads.Tries moment observed said reads may_leave c next 0 bounds requests (Ok tt) opened new
+
   -- this text was said
   abbrev pub Says : List ℕ → H → H → Type 0
   Says text old new = said new ≡ append_known (said old) text
@@ -112,6 +131,13 @@ module _ {H : Type 0} (moment : H → ℕ) (observed : H → ℕ → Observation
   RunSucceeds = (run : RunOptions) (how : Ending) (before after : Outside) (old new : H) (c : Contents) (bytes : List ℕ)
       → IsFaultless (Run run) how before after old new → ReadsAs c (reads old) → Gives before.source after.source bytes → MayTake c (bounds_of run) bytes
       → DoneOrNoMemory how (AllAreAnswered c (bounds_of run) bytes after old new)
+
+  -- `try` on a good store that has a number for each epoch of the workload
+  abbrev pub TrySucceeds : Type 0
+  TrySucceeds = (calls seed : ℕ) (run : RunOptions) (how : Ending) (before after : Outside) (old new : H) (c : Contents)
+      → IsFaultless (Try calls seed run) how before after old new → ReadsAs c (reads old)
+      → ((next : ℕ) → IsNextOf c next → HaveNumbersFor c next (bounds_of run) (workloads.workload_of calls seed))
+      → DoneOrNoMemory how (AllAreTold c (bounds_of run) (workloads.workload_of calls seed) old new)
 
   -- `init` where no store is, with an accepted text given
   abbrev pub InitSucceeds : Type 0

@@ -6,10 +6,12 @@ ghost use Rattle.coco_ending.specs.declared.ending.Ending.{Ending as CallEnding}
 ghost use Rattle.coco_words.specs.Commands.{Agree, kind_of, numbers_of, options_of};
 ghost use Rattle.coco_words.specs.Options.{AreInRange};
 ghost use Rattle.coco_commands.specs.Serving.{around};
-ghost use Rattle.coco.specs.Commands.{Does, Inits, Obeys, bounds_of};
+ghost use Rattle.coco.specs.Commands.{Does, Inits, Obeys, bounds_of, seed_from};
 ghost use Rattle.coco.specs.Reporting.{IsReported};
 
-use coco_commands::{QueryBounds, RunBounds, compact, dump, migrate, query, rebuild, run, verify};
+use coco_commands::{
+    QueryBounds, RunBounds, Workload, compact, dump, migrate, query, rebuild, run, try_out, verify,
+};
 use coco_ending::Ending;
 use coco_gate::Gate;
 use coco_host::Host;
@@ -147,7 +149,10 @@ fn execute<
             Ok(()) => Ending::Finished,
             Err(ending) => ending,
         },
-        Command::Run(options) => run(rt, alloc, host, net, power, input, bounds_of(options), gate),
+        Command::Run(options) => {
+            disturb(net, options.disturb);
+            run(rt, alloc, host, net, power, input, bounds_of(options), gate)
+        }
         Command::Dump => dump(alloc, host),
         Command::Verify => verify(alloc, host),
         Command::Migrate { keep } => migrate(alloc, host, keep),
@@ -157,10 +162,31 @@ fn execute<
             let bounds = QueryBounds { epoch: at, readers };
             query(rt, alloc, host, input, bounds, gate)
         }
+        Command::Try {
+            calls,
+            seed,
+            options,
+        } => {
+            disturb(net, options.disturb);
+            let load = Workload { calls, seed };
+            try_out(rt, alloc, host, net, power, load, bounds_of(options), gate)
+        }
     }
 }
 
-// How `run` works its lines off, by its options.
+// Asks the net for the disturbances of a seed, where there is one.
+fn disturb<N: Net>(net: &mut N, seed: Option<u64>)
+    ensures seed { N.last_seed net.new ≡ seed_from seed (N.last_seed net.old) }
+    ensures sent { N.sent net.new ≡ N.sent net.old }
+    ensures given { N.given net.new ≡ N.given net.old }
+    ensures faults { N.faults net.new ≡ N.faults net.old }
+{
+    if let Some(seed) = seed {
+        net.disturb(seed);
+    }
+}
+
+// How `run` and `try` work their requests off, by their options.
 fn bounds_of(options: RunOptions) -> RunBounds
     ensures { result ≡ bounds_of options }
 {

@@ -41,7 +41,13 @@ pub fn class_of(
     }
 }
 
-fn class_of_request(procs: &Checked, kept: &Kept, fresh: &NewRequests, request: Request) -> Class
+/// The class of a request that was read: the first that fits of those from same on.
+pub fn class_of_request(
+    procs: &Checked,
+    kept: &Kept,
+    fresh: &NewRequests,
+    request: Request,
+) -> Class
     requires new { MayCommit procs.now kept.now fresh.now }
     requires fits { Fits procs.now request.call }
     ensures class { first_that_fits (request_tests (known_of kept.now fresh.now) (Some request)) ≡ Some result }

@@ -31,11 +31,11 @@ const COMMITS: [u8; 9] = *b"COCOLOG\x01\x00";
 
 const PREPARED: [u8; 9] = *b"COCOLOG\x02\x00";
 
+// What the worked store tells.
 const TOLD: &str =
     r#"{"args":[5,70],"call":"put","epoch":1,"id":1,"ok":70,"snapshot":false,"time":1}
 {"args":[5],"call":"get","epoch":2,"id":2,"ok":70,"snapshot":false,"time":1}
 {"row":5,"table":"main","value":70}
-serial 0
 "#;
 
 // A line that is known, and a new one.
@@ -63,6 +63,13 @@ fn has(host: &mut MemoryHost, file: u32, bytes: &[u8]) -> bool {
     host.read_at(file, 0, &mut there) == Ok(bytes.len()) && there.starts_with(bytes)
 }
 
+// Whether the store tells what the worked one does.
+fn tells(alloc: Global, host: &mut MemoryHost) -> bool {
+    let before = host.said().len();
+    let ending = dump(alloc, host);
+    ending == Ending::Finished && host.said().get(before..) == Some(TOLD.as_bytes())
+}
+
 #[test]
 fn the_new_files_have_the_base_and_no_epoch(rt: HostRuntime) -> Result<(), Fail> {
     let mut host = small_store(&rt, rt.alloc())?;
@@ -81,10 +88,10 @@ fn the_new_files_have_the_base_and_no_epoch(rt: HostRuntime) -> Result<(), Fail>
 #[test]
 fn no_line_tells_a_small_store_from_the_other(rt: HostRuntime) -> Result<(), Fail> {
     let mut host = small_store(&rt, rt.alloc())?;
+    assert!(rt; tells(rt.alloc(), &mut host));
     let before = host.said().len();
-    let _ = dump(rt.alloc(), &mut host);
     let _ = verify(rt.alloc(), &mut host);
-    assert!(rt; host.said().get(before..) == Some(TOLD.as_bytes()));
+    assert!(rt; host.said().get(before..) == Some(&b"serial 0\n"[..]));
     let before = host.said().len();
     run_lines(&rt, rt.alloc(), &mut host, LINES, 1)?;
     assert!(rt; host.said().get(before..) == Some(ANSWERS.as_bytes()));
@@ -105,8 +112,9 @@ fn a_small_store_is_made_small_again(rt: HostRuntime) -> Result<(), Fail> {
     Ok(())
 }
 
-// Whether a host that stops behind so many writes and syncs leaves, after a crash by this pick, a store that is
-// opened, with its old files or with the new ones, and that is made small then.
+// Whether a host that stops behind so many writes and syncs, which is told as a fault of the disk, leaves, after a crash by
+// this pick, a store that is opened, with its old files or with the new ones, tells what it told before, and is made small
+// then.
 fn leaves_a_store<R: Threads + Wait + Clock + Sync>(
     rt: &R,
     alloc: Global,
@@ -114,11 +122,14 @@ fn leaves_a_store<R: Threads + Wait + Clock + Sync>(
     pick: u64,
 ) -> Result<bool, Fail> {
     let mut host = FuseHost::new(worked_store(rt, alloc)?, passes);
-    let is_whole = compact(alloc, &mut host) == Ending::Finished;
+    let ending = compact(alloc, &mut host);
+    let is_whole = ending == Ending::Finished;
+    let is_told = is_whole || ending == Ending::DiskFault;
     let mut host = host.inner().crash(pick)?;
     let base_file = recover(alloc, &mut host)?.base_file;
     let is_one = base_file == Some(3) || (base_file.is_none() && !is_whole);
-    Ok(is_one && compact(alloc, &mut host) == Ending::Finished)
+    let is_same = tells(alloc, &mut host);
+    Ok(is_told && is_one && is_same && compact(alloc, &mut host) == Ending::Finished)
 }
 
 // Behind the three syncs of the opening.

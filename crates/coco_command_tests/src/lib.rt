@@ -30,3 +30,5 @@ mod rebuild;
 mod tells;
 #[cfg(test)]
 mod turns;
+#[cfg(test)]
+mod workload;

@@ -40,6 +40,8 @@ enum Over {
     Often,
     // What is sent to the third node is lost.
     WithoutThird,
+    // The same. All else comes twice, and the last letter to a place first.
+    TwiceWithoutThird,
     // All is lost.
     Silence,
 }
@@ -121,12 +123,18 @@ fn ended_over<R: Threads + Wait + Clock + Sync>(
         Over::WithoutThird => {
             ended_by_script(rt, alloc, host, (Lose::To(2), false, 1), power, text)
         }
+        Over::TwiceWithoutThird => {
+            ended_by_script(rt, alloc, host, (Lose::To(2), true, 2), power, text)
+        }
         Over::Silence => ended_by_script(rt, alloc, host, (Lose::All, false, 1), power, text),
     }
 }
 
 const LINES: &str = r#"{"args":[5,70],"call":"put","id":1}
 {"args":[5],"call":"get","id":2}
+"#;
+
+const FIRST: &str = r#"{"args":[5,70],"call":"put","id":1}
 "#;
 
 const THIRD: &str = r#"{"args":[5,71],"call":"put","id":3}
@@ -290,21 +298,22 @@ fn a_node_stops_at_each_point(rt: HostRuntime) -> Result<(), Fail> {
     Ok(())
 }
 
-// Whether nothing comes of a third line over such a net, with these stops: nothing is said, and the store tells what it
-// told before, with or without a history.
+// Whether nothing comes of a line over such a net, with these stops: nothing is said, and the store tells what it told
+// behind the lines before, with or without a history.
 fn comes_to_nothing<R: Threads + Wait + Clock + Sync>(
     rt: &R,
     alloc: Global,
     nodes: Nodes,
     over: Over,
     stops: &[Stop],
-    before: &str,
+    lines: (&str, &str),
 ) -> Result<bool, NoMemory> {
+    let (before, line) = lines;
     let mut host = new_store(alloc, nodes, "")?;
     ended_over(rt, alloc, &mut host, Over::Quiet, &[], before)?;
     let mut host = told(alloc, host)?;
     let said = host.said().to_vec(alloc)?;
-    let ending = ended_over(rt, alloc, &mut host, over, stops, THIRD)?;
+    let ending = ended_over(rt, alloc, &mut host, over, stops, line)?;
     let is_silent = ending == Ending::Unreachable && host.said() == said.as_slice();
     let told = told(alloc, host)?;
     Ok(is_silent && told.said() == said.as_slice())
@@ -320,14 +329,15 @@ fn nothing_comes_of_four_lost_epochs(rt: HostRuntime) -> Result<(), Fail> {
         (Nodes::Two, Over::Silence, &STOPS[..0]),
         (Nodes::Three, Over::Silence, &STOPS[..0]),
         (Nodes::Three, Over::WithoutThird, &STOPS[..0]),
+        (Nodes::Three, Over::TwiceWithoutThird, &STOPS[..0]),
         (Nodes::Three, Over::Quiet, &STOPS[..]),
         (Nodes::Three, Over::FirstLost, &STOPS[..]),
     ];
     for (nodes, over, stops) in cases {
-        for before in ["", LINES] {
+        for lines in [("", FIRST), (LINES, THIRD)] {
             assert!(rt;
-                comes_to_nothing(&rt, rt.alloc(), nodes, over, stops, before)?,
-                "{nodes:?} {over:?} {before}"
+                comes_to_nothing(&rt, rt.alloc(), nodes, over, stops, lines)?,
+                "{nodes:?} {over:?} {lines:?}"
             );
         }
     }

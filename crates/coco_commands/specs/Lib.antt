@@ -1,4 +1,5 @@
 pub mod Compacting
+pub mod Faulted
 pub mod Keeping
 pub mod Migrating
 pub mod Opening
@@ -8,3 +9,5 @@ pub mod Running
 pub mod Served
 pub mod Serving
 pub mod Telling
+pub mod Trying
+pub mod Workloads

@@ -94,12 +94,12 @@ execution_of (r ∷ rs) bounds epoch trace c d g =
     let b = beginning_on c (r ∷ rs) bounds.workers bounds.attempts in
     (g.e, subst (λ n. ComeOfExecution b n g.e.dones) (sym g.number) (comes_of b epoch g.e.dones trace g.traced), g.history)
 
-grows_by_execution : (requests : List Request) (bounds : RunBounds) (epoch : ℕ) (trace : Traced) (c d : Contents) → Grown requests bounds.workers bounds.attempts epoch trace c d
+pub grows_by_execution : (requests : List Request) (bounds : RunBounds) (epoch : ℕ) (trace : Traced) (c d : Contents) → Grown requests bounds.workers bounds.attempts epoch trace c d
     → GrowsByExecution (manner_of c.setting bounds) (history_of c) requests (history_of d)
 grows_by_execution requests bounds epoch trace c d g = (g.grows, execution_of requests bounds epoch trace c d g)
 
 -- they make one epoch
-one_epoch : (requests : List Request) (workers attempts epoch : ℕ) (trace : Traced) (c d : Contents) → Grown requests workers attempts epoch trace c d → epochs_of requests ≡ 1
+pub one_epoch : (requests : List Request) (workers attempts epoch : ℕ) (trace : Traced) (c d : Contents) → Grown requests workers attempts epoch trace c d → epochs_of requests ≡ 1
 one_epoch requests workers attempts epoch trace c d g =
     let gained = added_by (history_of c) requests (history_of d) g.grows in
     let before = (history_of c).epochs in
@@ -107,7 +107,7 @@ one_epoch requests workers attempts epoch trace c d g =
     let by_one = ap (λ (h : History). length h.epochs) g.history in
     omega (arith, by_count, by_one, gained.2, length-append before gained.0, length-append before (g.e ∷ []))
 
-abbrev adds_one : (requests : List Request) (workers attempts next epoch spare : ℕ) (trace : Traced) (c d : Contents) → Grown requests workers attempts epoch trace c d → IsTaken next epoch spare
+abbrev pub adds_one : (requests : List Request) (workers attempts next epoch spare : ℕ) (trace : Traced) (c d : Contents) → Grown requests workers attempts epoch trace c d → IsTaken next epoch spare
     → AddsWithin next (epoch + epochs_of requests) spare (history_of c) (history_of d)
 adds_one requests workers attempts next epoch spare trace c d g taken =
     let one = one_epoch requests workers attempts epoch trace c d g in
@@ -117,7 +117,7 @@ adds_one requests workers attempts next epoch spare trace c d g taken =
     record { added = g.e ∷ []; epochs = ap (λ (h : History). h.epochs) g.history; numbered = (omega (arith, low, number), omega (arith, one, number)); few = omega (arith, one, few) }
 
 -- so behind it no entry is of a later one
-below_one : (requests : List Request) (workers attempts epoch : ℕ) (trace : Traced) (c d : Contents) → Grown requests workers attempts epoch trace c d → IsBehindAll d (epoch + epochs_of requests)
+pub below_one : (requests : List Request) (workers attempts epoch : ℕ) (trace : Traced) (c d : Contents) → Grown requests workers attempts epoch trace c d → IsBehindAll d (epoch + epochs_of requests)
 below_one requests workers attempts epoch trace c d g =
     let one = one_epoch requests workers attempts epoch trace c d g in behind_later d (epoch + 1) (epoch + epochs_of requests) (omega (arith, one)) g.below
 
@@ -225,7 +225,7 @@ module _ {H : Type 0} (moment : H → ℕ) (observed : H → ℕ → Observation
   refused_so turn.EpochsUsedUp c end host none ends = ends
   refused_so turn.NoMemory c end host none ends = tt
 
-  refused : (f : TurnFault) (turned : Result (Unit {0}) TurnFault) (requests : List Request) (spare : ℕ) (c : Contents) (before : Cluster) (old new : H) → turned ≡ Err f → RefusesNone f → said new ≡ said old
+  pub refused : (f : TurnFault) (turned : Result (Unit {0}) TurnFault) (requests : List Request) (spare : ℕ) (c : Contents) (before : Cluster) (old new : H) → turned ≡ Err f → RefusesNone f → said new ≡ said old
       → KeepsHistory moment observed said reads may_leave turned requests before.next_epoch spare c old new → IsRefused moment observed said reads may_leave (Err (fault_of_turn f)) c before.next_epoch spare old new
   refused f turned requests spare c before old new was none quiet k = record {
     number = k.number;

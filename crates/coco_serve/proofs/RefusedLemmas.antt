@@ -38,7 +38,7 @@ use Rattle.coco_serve.proofs.NumberLemmas.{adds_more, adds_none}
 use Rattle.coco_serve.proofs.RunLemmas.{AreServed, SeenNow, all_served, classes_at, later_served, left_by, moved, paired}
 
 -- prepared entries change no history
-history_stays : (c d : Contents) → AddsOnlyPrepared c d → history_of d ≡ history_of c
+pub history_stays : (c d : Contents) → AddsOnlyPrepared c d → history_of d ≡ history_of c
 history_stays c d adds =
     let settings = adds.setting in
     let bases = adds.base in

@@ -118,6 +118,92 @@ fn fields_have_their_highest_byte_first(rt: HostRuntime) -> Result<(), Fail> {
     Ok(())
 }
 
+// The kinds of fields. Counted bytes are at most two.
+#[derive(Clone, Copy, Debug)]
+enum Kind {
+    Byte,
+    Flag,
+    Two,
+    Four,
+    Eight,
+    Signed,
+    Counted,
+    Key,
+    Value,
+}
+
+// What is wrong with a field at place 1: the bytes end within it, or there is no such one. A key's row and what stands
+// behind a value's kind have places of their own.
+const FAULTS: [(Kind, &[u8], FieldFault); 17] = [
+    (Kind::Byte, &[9], FieldFault::Short { at: 1 }),
+    (Kind::Flag, &[9], FieldFault::Short { at: 1 }),
+    (Kind::Flag, &[9, 2], FieldFault::Bad { at: 1 }),
+    (Kind::Two, &[9, 0], FieldFault::Short { at: 1 }),
+    (Kind::Four, &[9, 0, 0, 0], FieldFault::Short { at: 1 }),
+    (
+        Kind::Eight,
+        &[9, 0, 0, 0, 0, 0, 0, 0],
+        FieldFault::Short { at: 1 },
+    ),
+    (
+        Kind::Signed,
+        &[9, 0, 0, 0, 0, 0, 0, 0],
+        FieldFault::Short { at: 1 },
+    ),
+    (Kind::Counted, &[9, 0, 2, 104], FieldFault::Short { at: 1 }),
+    (
+        Kind::Counted,
+        &[9, 0, 3, 104, 105, 106],
+        FieldFault::Bad { at: 1 },
+    ),
+    (
+        Kind::Key,
+        &[9, 0, 1, 0, 0, 0, 0, 0, 0, 0],
+        FieldFault::Short { at: 3 },
+    ),
+    (
+        Kind::Key,
+        &[9, 0, 1, 128, 0, 0, 0, 0, 0, 0, 0],
+        FieldFault::Bad { at: 3 },
+    ),
+    (Kind::Value, &[9], FieldFault::Short { at: 1 }),
+    (Kind::Value, &[9, 3], FieldFault::Bad { at: 1 }),
+    (
+        Kind::Value,
+        &[9, 1, 0, 0, 0, 0, 0, 0, 0],
+        FieldFault::Short { at: 2 },
+    ),
+    (Kind::Value, &[9, 2, 0, 2, 104], FieldFault::Short { at: 2 }),
+    (Kind::Value, &[9, 2, 1, 1], FieldFault::Bad { at: 2 }),
+    (Kind::Value, &[9, 2, 0, 1, 255], FieldFault::Bad { at: 2 }),
+];
+
+fn fault_at_one(from: &[u8], kind: Kind) -> Option<FieldFault> {
+    let at = from.len().min(1);
+    match kind {
+        Kind::Byte => get_u8(from, at).err(),
+        Kind::Flag => get_flag(from, at).err(),
+        Kind::Two => get_u16(from, at).err(),
+        Kind::Four => get_u32(from, at).err(),
+        Kind::Eight => get_u64(from, at).err(),
+        Kind::Signed => get_i64(from, at).err(),
+        Kind::Counted => get_bytes16(from, at, 2).err(),
+        Kind::Key => get_key(from, at).err(),
+        Kind::Value => get_value(from, at).err(),
+    }
+}
+
+#[test]
+fn cut_and_wrong_fields_are_told_at_their_places(rt: HostRuntime) -> Result<(), Fail> {
+    for (kind, from, fault) in &FAULTS {
+        assert!(rt;
+            fault_at_one(from, *kind) == Some(*fault),
+            "{kind:?} {fault}"
+        );
+    }
+    Ok(())
+}
+
 #[test]
 fn faults_are_readable(rt: HostRuntime) -> Result<(), Fail> {
     let (short, bad) = (FieldFault::Short { at: 3 }, FieldFault::Bad { at: 4 });

@@ -30,6 +30,22 @@ run --workers 0
 run --workers 17
 run --attempts 9
 run --workers 2 --workers 2
+run --disturb
+run --disturb -1
+run --disturb 9223372036854775808
+run --disturb 5 --disturb 5
+run --seed 5
+try
+try --calls 1
+try --seed 1
+try --calls 0 --seed 1
+try --calls 1000001 --seed 1
+try --calls 1 --seed 8796093022208
+try --calls 1 --seed 1 --epoch 0
+try --calls 1 --calls 1 --seed 1
+try --calls 1 --seed 1 --nodes 1
+try 1 1
+init --disturb 5
 init --epoch 5
 init --nodes 0
 init --nodes 9
@@ -90,12 +106,29 @@ fn init(nodes: u8, partitions: u8, copies: u8) -> Command {
     }
 }
 
-fn run(epoch: u32, workers: u8, attempts: u8) -> Command {
-    Command::Run(RunOptions {
+fn options(epoch: u32, workers: u8, attempts: u8, disturb: Option<u64>) -> RunOptions {
+    RunOptions {
         epoch,
         workers,
         attempts,
-    })
+        disturb,
+    }
+}
+
+fn run(epoch: u32, workers: u8, attempts: u8) -> Command {
+    Command::Run(options(epoch, workers, attempts, None))
+}
+
+fn run_disturbed(seed: u64) -> Command {
+    Command::Run(options(100, 1, 3, Some(seed)))
+}
+
+fn attempt(calls: u32, seed: u64, options: RunOptions) -> Command {
+    Command::Try {
+        calls,
+        seed,
+        options,
+    }
 }
 
 fn query(at: u64, readers: u8) -> Command {
@@ -112,6 +145,23 @@ fn each_command_has_the_numbers_that_are_given_or_its_own(rt: HostRuntime) {
         ("run --attempts=8 --epoch=1", run(1, 1, 8)),
         ("run --attempts 1 --workers 2", run(100, 2, 1)),
         ("run --epoch 0000000000000000001", run(1, 1, 3)),
+        ("run --disturb 0", run_disturbed(0)),
+        (
+            "run --disturb=9223372036854775807",
+            run_disturbed(9_223_372_036_854_775_807),
+        ),
+        (
+            "try --calls 2000 --seed 7",
+            attempt(2_000, 7, options(100, 1, 3, None)),
+        ),
+        (
+            "try --seed=8796093022207 --epoch 1 --calls=1000000 --disturb 5",
+            attempt(1_000_000, 8_796_093_022_207, options(1, 1, 3, Some(5))),
+        ),
+        (
+            "try --attempts 8 --workers 4 --calls 1 --seed 0",
+            attempt(1, 0, options(100, 4, 8, None)),
+        ),
         ("init", init(1, 1, 0)),
         ("init --partitions 64", init(1, 64, 0)),
         ("init --copies=0 --partitions=03 --nodes 1", init(1, 3, 0)),

@@ -13,11 +13,11 @@ use Rattle.clap.proofs.OnLiterals.{clap_on_literals}
 use Rattle.clap.proofs.WalkLemmas.{first_value-rows}
 use Rattle.clap.specs.Words.{first_of, first_value, found_of, rows_of}
 use Rattle.clap.specs.declared.parser.matches.ArgMatches.{ArgMatches}
-use Rattle.coco_words.specs.Commands.{Agree, IsCommand, IsOnlyCommand, kind_of, name_of, numbers_of, options_for}
+use Rattle.coco_words.specs.Commands.{Agree, IsCommand, IsOnlyCommand, kind_of, name_of, numbers_of, options_for, run_options}
 use Rattle.coco_words.specs.Matches.{HasValuesOf, app_for}
 use Rattle.coco_words.specs.Options.{AreNumbersOf, GivesNumbers, GivesOptions, names_in, value_of}
 use Rattle.coco_words.specs.declared.Command.{Command}
-use Rattle.coco_words.specs.declared.Command.TheVariants.{Init, Run, Dump, Verify, Migrate, Compact, Rebuild, Query}
+use Rattle.coco_words.specs.declared.Command.TheVariants.{Init, Run, Dump, Verify, Migrate, Compact, Rebuild, Query, Try}
 use Rattle.coco_words.specs.declared.Kind.{Kind}
 use Rattle.coco_words.specs.declared.Kind.TheVariants as kind
 use Rattle.coco_words.proofs.ClapOptions.{at, check-nil, dash, defaults-nil, finished-is, first_of-rows, or_else-nil, rows, rule, shape, spelled}
@@ -42,6 +42,7 @@ is_free kind.Migrate = refl
 is_free kind.Compact = refl
 is_free kind.Rebuild = refl
 is_free kind.Query = refl
+is_free kind.Try = refl
 
 pub is_plain_parser : (k : Kind) → is_simple (app_for (names_for k)) ≡ true
 unfolding clap_on_literals
@@ -53,6 +54,7 @@ is_plain_parser kind.Migrate = refl
 is_plain_parser kind.Compact = refl
 is_plain_parser kind.Rebuild = refl
 is_plain_parser kind.Query = refl
+is_plain_parser kind.Try = refl
 
 module _ (ns : List Text) where
   abbrev built : App
@@ -81,6 +83,7 @@ fault-is kind.Migrate words = level-is (names_for kind.Migrate) words
 fault-is kind.Compact words = level-is (names_for kind.Compact) words
 fault-is kind.Rebuild words = level-is (names_for kind.Rebuild) words
 fault-is kind.Query words = level-is (names_for kind.Query) words
+fault-is kind.Try words = level-is (names_for kind.Try) words
 
 finished : (ns words : List Text) → fold with_default (found own ns (ended own ns (at [] None idle) words)) (map rule ns) ≡ found own ns (ended own ns (at [] None idle) words)
 finished ns words = finished-is (found own ns (ended own ns (at [] None idle) words)) ns
@@ -94,6 +97,7 @@ matches-is kind.Migrate words = finished (names_for kind.Migrate) words
 matches-is kind.Compact words = finished (names_for kind.Compact) words
 matches-is kind.Rebuild words = finished (names_for kind.Rebuild) words
 matches-is kind.Query words = finished (names_for kind.Query) words
+matches-is kind.Try words = finished (names_for kind.Try) words
 
 -- what may be wrong with the words, in turn
 level-parts : (k : Kind) (words : List Text) → let ns = names_for k in let end = found own ns (ended own ns (at [] None idle) words) in
@@ -108,6 +112,7 @@ level-parts kind.Migrate words = refl
 level-parts kind.Compact words = refl
 level-parts kind.Rebuild words = refl
 level-parts kind.Query words = refl
+level-parts kind.Try words = refl
 
 -- ---- what is read
 
@@ -163,15 +168,31 @@ spells-readers : Spells (codes "readers")
 spells-readers None = refl
 spells-readers (Some v) = refl
 
+spells-disturb : Spells (codes "disturb")
+spells-disturb None = refl
+spells-disturb (Some v) = refl
+
+spells-calls : Spells (codes "calls")
+spells-calls None = refl
+spells-calls (Some v) = refl
+
+spells-seed : Spells (codes "seed")
+spells-seed None = refl
+spells-seed (Some v) = refl
+
+spells-run : AllByRecursion Spells (names_in run_options)
+spells-run = (spells-epoch, (spells-workers, (spells-attempts, (spells-disturb, tt))))
+
 spells : (k : Kind) → AllByRecursion Spells (names_for k)
 spells kind.Init = (spells-nodes, (spells-partitions, (spells-copies, tt)))
-spells kind.Run = (spells-epoch, (spells-workers, (spells-attempts, tt)))
+spells kind.Run = spells-run
 spells kind.Dump = tt
 spells kind.Verify = tt
 spells kind.Migrate = (spells-keep, tt)
 spells kind.Compact = tt
 spells kind.Rebuild = (spells-node, tt)
 spells kind.Query = (spells-at, (spells-readers, tt))
+spells kind.Try = (spells-calls, (spells-seed, spells-run))
 
 readable : (k : Kind) → IsReadable own (names_for k)
 readable k = contained Spells (names_for k) (spells k)
@@ -222,13 +243,14 @@ module _ {W : Type 0} (text : W → Text) where
 -- the command of a kind with these numbers
 made : Kind → List (Option ℕ) → Command
 made kind.Init (Some n ∷ Some p ∷ Some c ∷ []) = Init n p c
-made kind.Run (Some e ∷ Some w ∷ Some a ∷ []) = Run (record { epoch = e; workers = w; attempts = a })
+made kind.Run (Some e ∷ Some w ∷ Some a ∷ d ∷ []) = Run (record { epoch = e; workers = w; attempts = a; disturb = d })
 made kind.Dump ns = Dump
 made kind.Verify ns = Verify
 made kind.Migrate (Some n ∷ []) = Migrate n
 made kind.Compact ns = Compact
 made kind.Rebuild (Some n ∷ []) = Rebuild n
 made kind.Query (Some e ∷ Some n ∷ []) = Query e n
+made kind.Try (Some c ∷ Some s ∷ Some e ∷ Some w ∷ Some a ∷ d ∷ []) = Try c s (record { epoch = e; workers = w; attempts = a; disturb = d })
 made k ns = Dump
 
 made-is : (command : Command) → made (kind_of command) (numbers_of command) ≡ command
@@ -241,6 +263,7 @@ made-is (Migrate keep) = refl
 made-is Compact = refl
 made-is (Rebuild node) = refl
 made-is (Query at readers) = refl
+made-is (Try calls seed run) = refl
 
 same_command : (c d : Command) → kind_of c ≡ kind_of d → numbers_of c ≡ numbers_of d → c ≡ d
 same_command c d k n = sym (made-is c) ∙ (λ i. made (k i) (n i)) ∙ made-is d
@@ -256,6 +279,7 @@ kind_at name =
     else if bytes_eq name (codes "compact") then Some kind.Compact
     else if bytes_eq name (codes "rebuild") then Some kind.Rebuild
     else if bytes_eq name (codes "query") then Some kind.Query
+    else if bytes_eq name (codes "try") then Some kind.Try
     else None
 
 kind-at : (k : Kind) → kind_at (name_of k) ≡ Some k
@@ -268,6 +292,7 @@ kind-at kind.Migrate = refl
 kind-at kind.Compact = refl
 kind-at kind.Rebuild = refl
 kind-at kind.Query = refl
+kind-at kind.Try = refl
 
 same_kind : (j k : Kind) → name_of j ≡ name_of k → j ≡ k
 same_kind j k e = let same : Some j ≡ Some k = sym (kind-at j) ∙ ap kind_at e ∙ kind-at k in cc

@@ -59,6 +59,13 @@ no_numbers values [] o behind (n ∷ ns) none are = none n are.0
 no_numbers values (b ∷ before) o behind [] none are = are
 no_numbers values (b ∷ before) o behind (n ∷ ns) none are = no_numbers values before o behind ns none are.1
 
+-- and where some of the options have none, there are none of all
+pub none_behind : (values : Text → Option Text) (before behind : List NumberOption) (numbers : List (Option ℕ))
+    → ((ns : List (Option ℕ)) → AreNumbersOf values behind ns → ⊥) → AreNumbersOf values (before ++ behind) numbers → ⊥
+none_behind values [] behind numbers none are = none numbers are
+none_behind values (b ∷ before) behind [] none are = are
+none_behind values (b ∷ before) behind (n ∷ ns) none are = none_behind values before behind ns none are.1
+
 -- ---- values that are numbers are plain
 
 pub record IsWritten (text : Text) : Type 0 where

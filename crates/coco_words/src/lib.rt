@@ -7,7 +7,7 @@ mod reading;
 ghost use Rattle.std.specs.Prelude.{◌≡◌, ℕ, List, map, Option, MatchOption, IfOk};
 ghost use Rattle.std.specs.String.{string_bytes};
 ghost use Rattle.clap.specs.Words.{first_value, found_of};
-ghost use Rattle.coco_words.specs.Commands.{Agree, IsCommand, IsOnlyCommand, kind_of, name_of, numbers_of, options_for, options_of, reads_alone};
+ghost use Rattle.coco_words.specs.Commands.{Agree, IsCommand, IsOnlyCommand, kind_of, name_of, numbers_of, options_for, options_of, reads_alone, run_numbers, run_options};
 ghost use Rattle.coco_words.specs.Options.{AreInRange, AreNumbersOf};
 ghost use Rattle.coco_words.specs.declared.Command.{Command as Asked};
 
@@ -16,11 +16,20 @@ use coco_types::limits::{
     EPOCHS_END, MOST_ATTEMPTS, MOST_BATCH_LINES, MOST_COPIES, MOST_KEEP, MOST_NODES,
     MOST_PARTITIONS, MOST_WORKERS,
 };
-use numbers::number_of;
+use numbers::{NotANumber, found_number, number_of};
 use reading::options_in;
 use std::alloc::{AllocError, Global};
 use std::error::Error;
 use std::fmt;
+
+/// The greatest seed of disturbances.
+const MOST_DISTURB: u64 = (1 << 63) - 1;
+
+/// How many calls a workload may have.
+const MOST_CALLS: u64 = 1_000_000;
+
+/// The greatest seed of a workload: ids of each seed are 64 bits wide.
+const MOST_SEED: u64 = (1 << 43) - 1;
 
 /// What the program is asked to do.
 #[derive(Clone, Copy, Debug, PartialEq, Eq)]
@@ -52,9 +61,15 @@ pub enum Command {
         at: u64,
         readers: u8,
     },
+    /// Run a workload of so many calls, 1 to 1,000,000, that is made from a seed, 0 to 2^43 - 1.
+    Try {
+        calls: u32,
+        seed: u64,
+        options: RunOptions,
+    },
 }
 
-/// The options of `run`.
+/// The options of `run`, which `try` has too.
 #[derive(Clone, Copy, Debug, PartialEq, Eq)]
 pub struct RunOptions {
     /// How many lines make an epoch, 1 to 1,024.
@@ -63,6 +78,8 @@ pub struct RunOptions {
     pub workers: u8,
     /// How often the workers try a request, 1 to 8.
     pub attempts: u8,
+    /// The seed of disturbances of the net, 0 to 2^63 - 1, where there shall be any.
+    pub disturb: Option<u64>,
 }
 
 /// Why words are no command.
@@ -85,6 +102,7 @@ pub enum Kind {
     Compact,
     Rebuild,
     Query,
+    Try,
 }
 
 /// The command that the words are: its name, and then its options.
@@ -126,7 +144,8 @@ impl Kind {
     {
         match self {
             Kind::Dump | Kind::Verify | Kind::Query => true,
-            Kind::Init | Kind::Run | Kind::Migrate | Kind::Compact | Kind::Rebuild => false,
+            Kind::Init | Kind::Run | Kind::Migrate | Kind::Compact | Kind::Rebuild | Kind::Try =>
+                false,
         }
     }
 }
@@ -144,6 +163,7 @@ fn kind_named(name: &str) -> Option<Kind>
         "compact" => Some(Kind::Compact),
         "rebuild" => Some(Kind::Rebuild),
         "query" => Some(Kind::Query),
+        "try" => Some(Kind::Try),
         _ => None,
     }
 }
@@ -157,7 +177,7 @@ fn command_with(kind: Kind, matches: &ArgMatches<'_>) -> Option<Command>
 {
     match kind {
         Kind::Init => store_to_make(matches),
-        Kind::Run => lines_to_run(matches),
+        Kind::Run => Some(Command::Run(run_options(matches)?)),
         Kind::Dump => Some(Command::Dump),
         Kind::Verify => Some(Command::Verify),
         Kind::Migrate => {
@@ -170,24 +190,45 @@ fn command_with(kind: Kind, matches: &ArgMatches<'_>) -> Option<Command>
             Some(Command::Rebuild { node: node as u8 })
         }
         Kind::Query => epoch_to_ask(matches),
+        Kind::Try => calls_to_try(matches),
     }
 }
 
-// The command `run` whose options have these values.
-fn lines_to_run(matches: &ArgMatches<'_>) -> Option<Command>
+// The options of `run` that have these values.
+fn run_options(matches: &ArgMatches<'_>) -> Option<RunOptions>
     ensures { MatchOption result
-        ((numbers : List (Option ℕ)) → AreNumbersOf (first_value (found_of matches.now)) (options_for Kind.Run) numbers → Agree Kind.Run numbers → ⊥)
-        (λ command. (kind_of command ≡ Kind.Run) × AreNumbersOf (first_value (found_of matches.now)) (options_for Kind.Run) (numbers_of command)
-        × AreInRange (options_for Kind.Run) (numbers_of command) × Agree Kind.Run (numbers_of command)) }
+        ((numbers : List (Option ℕ)) → AreNumbersOf (first_value (found_of matches.now)) run_options numbers → ⊥)
+        (λ run. AreNumbersOf (first_value (found_of matches.now)) run_options (run_numbers run) × AreInRange run_options (run_numbers run)) }
 {
     let epoch = number_of(matches, "epoch", Some(100), 1, MOST_BATCH_LINES as u64)?;
     let workers = number_of(matches, "workers", Some(1), 1, MOST_WORKERS as u64)?;
     let attempts = number_of(matches, "attempts", Some(3), 1, MOST_ATTEMPTS as u64)?;
-    Some(Command::Run(RunOptions {
-        epoch: epoch as u32,
-        workers: workers as u8,
-        attempts: attempts as u8,
-    }))
+    match found_number(matches, "disturb", 0, MOST_DISTURB) {
+        Ok(disturb) => Some(RunOptions {
+            epoch: epoch as u32,
+            workers: workers as u8,
+            attempts: attempts as u8,
+            disturb,
+        }),
+        Err(NotANumber) => None,
+    }
+}
+
+// The command `try` whose options have these values.
+fn calls_to_try(matches: &ArgMatches<'_>) -> Option<Command>
+    ensures { MatchOption result
+        ((numbers : List (Option ℕ)) → AreNumbersOf (first_value (found_of matches.now)) (options_for Kind.Try) numbers → Agree Kind.Try numbers → ⊥)
+        (λ command. (kind_of command ≡ Kind.Try) × AreNumbersOf (first_value (found_of matches.now)) (options_for Kind.Try) (numbers_of command)
+        × AreInRange (options_for Kind.Try) (numbers_of command) × Agree Kind.Try (numbers_of command)) }
+{
+    let calls = number_of(matches, "calls", None, 1, MOST_CALLS)?;
+    let seed = number_of(matches, "seed", None, 0, MOST_SEED)?;
+    let options = run_options(matches)?;
+    Some(Command::Try {
+        calls: calls as u32,
+        seed,
+        options,
+    })
 }
 
 // The command `query` whose options have these values.

@@ -4,8 +4,8 @@ ghost use Rattle.std.specs.List.{list_any};
 ghost use Rattle.std.specs.Str.{bytes_eq};
 ghost use Rattle.std.specs.String.{string_bytes};
 ghost use Rattle.clap.specs.Words.{app_of, kind_of};
-ghost use Rattle.coco_words.specs.Commands.{options_for};
-ghost use Rattle.coco_words.specs.Matches.{HasValuesOf, app_for, with_named};
+ghost use Rattle.coco_words.specs.Commands.{options_for, run_options};
+ghost use Rattle.coco_words.specs.Matches.{HasValuesOf, app_for, with_named, with_names};
 ghost use Rattle.coco_words.specs.Options.{GivesNumbers, GivesOptions, Text, names_in};
 
 use crate::{Kind, WordsFault};
@@ -53,11 +53,7 @@ fn parser_for<'a>(alloc: Global, kind: Kind) -> Result<Command<'a>, AllocError>
             let partitions = with_option(alloc, nodes, "partitions")?;
             with_option(alloc, partitions, "copies")
         }
-        Kind::Run => {
-            let epoch = with_option(alloc, none, "epoch")?;
-            let workers = with_option(alloc, epoch, "workers")?;
-            with_option(alloc, workers, "attempts")
-        }
+        Kind::Run => with_run_options(alloc, none),
         Kind::Dump => Ok(none),
         Kind::Verify => Ok(none),
         Kind::Migrate => with_option(alloc, none, "keep"),
@@ -67,7 +63,22 @@ fn parser_for<'a>(alloc: Global, kind: Kind) -> Result<Command<'a>, AllocError>
             let at = with_option(alloc, none, "at")?;
             with_option(alloc, at, "readers")
         }
+        Kind::Try => {
+            let calls = with_option(alloc, none, "calls")?;
+            let seed = with_option(alloc, calls, "seed")?;
+            with_run_options(alloc, seed)
+        }
     }
+}
+
+// The same command with the options of `run` more.
+fn with_run_options<'a>(alloc: Global, command: Command<'a>) -> Result<Command<'a>, AllocError>
+    ensures { IfOk result (λ more. app_of more ≡ with_names (app_of command.entry) (names_in run_options)) }
+{
+    let epoch = with_option(alloc, command, "epoch")?;
+    let workers = with_option(alloc, epoch, "workers")?;
+    let attempts = with_option(alloc, workers, "attempts")?;
+    with_option(alloc, attempts, "disturb")
 }
 
 // The same command with one option more.

@@ -1,0 +1,54 @@
+-- What the command `try` does with the store in a host's files, and what is seen of it.
+use Rattle.std.specs.Prelude.{◌≡◌, ◌⊎◌, ℕ, List, length, Option, Some, Result, Ok, Err}
+use Rattle.coco_types.specs.declared.call.Request.{Request}
+use Rattle.coco_cluster.specs.Around.{Around, IsLater, spare}
+use Rattle.coco_ending.specs.declared.ending.Ending.{Ending}
+use Rattle.coco_ending.specs.declared.ending.Ending.TheVariants as ending
+use Rattle.coco_host.specs.Files.{Files}
+use Rattle.coco_host.specs.Moments.{Observation}
+use Rattle.coco_load.specs.Epochs.{IsNextOf}
+use Rattle.coco_log.specs.LogState.{IsOnlyRead}
+use Rattle.coco_serve.specs.Faults.{Counts}
+use Rattle.coco_serve.specs.declared.bounds.RunBounds.{RunBounds}
+use Rattle.coco_serve.specs.declared.fault.BatchFault.{BatchFault}
+use Rattle.coco_serve.specs.declared.fault.BatchFault.TheVariants as fault
+use Rattle.coco_store.specs.Contents.{Contents, Holds, IsGoodStore}
+use Rattle.coco_try.specs.Trying.{HasCause, Tries}
+use Rattle.coco_commands.specs.Telling.{IsUntold}
+
+-- how a call ends whose workload came to this
+abbrev pub ending_of_trying : Result (Unit {0}) BatchFault → Ending
+ending_of_trying (Ok done) = ending.Finished
+ending_of_trying (Err fault.Say) = ending.SayFault
+ending_of_trying (Err fault.Disk) = ending.DiskFault
+ending_of_trying (Err (fault.NotAStore file at)) = ending.NotAStore file at
+ending_of_trying (Err fault.Unreachable) = ending.Unreachable
+ending_of_trying (Err fault.EpochsUsedUp) = ending.EpochsUsedUp
+ending_of_trying (Err fault.NoMemory) = ending.NoMemory
+
+module _ {H : Type 0} (moment : H → ℕ) (observed : H → ℕ → Observation → Type 0) (said : H → Option (List ℕ)) (reads : H → Option Files) (may_leave : H → Files → Type 0) where
+  -- the store isn't opened: nothing is said, no file changes, and net and power are as they were
+  pub record IsUntried (how : Ending) (was now : Around) (before after : Counts) (old new : H) : Type 0 where
+    pub untold : IsUntold moment observed said reads may_leave how before after old new
+    pub around : now ≡ was
+
+  -- the store is opened, and then these requests are worked off on it. Until the opening has ended nothing is said, and all that a crash may leave it might have left at entry. Only files that
+  -- are a store are opened, and such files are never refused (`a_refused_store_is_none`). After it, where the files read at entry as a good store, of however many nodes, each moment shows a
+  -- good store whose history is that of entry grown by first batches of the requests, its new epochs numbered from `next` on with few numbers skipped. Nothing is said before all requests are
+  -- worked off; and no file of it is refused any more
+  pub record OpensToTry (bounds : RunBounds) (requests : List Request) (how : Ending) (was now : Around) (before after : Counts) (old new : H) : Type 0 where
+    pub opened : H
+    pub opening : IsOnlyRead moment observed said reads may_leave old opened
+    pub holds : (files : Files) → reads old ≡ Some files → (c : Contents) × Holds files c
+    pub next : ℕ
+    pub is_next : (files : Files) (c : Contents) → reads old ≡ Some files → Holds files c → IsNextOf c next
+    pub result : Result (Unit {0}) BatchFault
+    pub ends : how ≡ ending_of_trying result
+    pub later : IsLater was now
+    pub cause : HasCause next (length requests) was now before after result
+    pub tries : (files : Files) (c : Contents) → reads old ≡ Some files → IsGoodStore files c
+        → Tries moment observed said reads may_leave c next (spare was now) bounds requests result opened new
+
+  -- the store isn't opened, or it is
+  abbrev pub TriesOn : RunBounds → List Request → Ending → Around → Around → Counts → Counts → H → H → Type 0
+  TriesOn bounds requests how was now before after old new = IsUntried how was now before after old new ⊎ OpensToTry bounds requests how was now before after old new

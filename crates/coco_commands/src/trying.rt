@@ -1,0 +1,76 @@
+//! The command `try`.
+
+ghost use Rattle.std.specs.Prelude.{◌≡◌, ◌<◌, ◌≤◌, ◌^◌, []};
+ghost use Rattle.coco_types.specs.Limits.{most_batch_lines};
+ghost use Rattle.coco_cluster.specs.Around.{around};
+ghost use Rattle.coco_gen.specs.Workload.{workload_of};
+ghost use Rattle.coco_commands.specs.Trying.{TriesOn, ending_of_trying};
+
+use crate::opening::open_cluster;
+use coco_ending::Ending;
+use coco_gate::Gate;
+use coco_host::Host;
+use coco_net::Net;
+use coco_power::Power;
+use coco_serve::{BatchFault, RunBounds};
+use coco_try::{Workload, try_calls};
+use std::alloc::Global;
+use std::sync::Wait;
+use std::thread::Threads;
+use std::time::Clock;
+
+/// Opens the store, works a workload off on it within these bounds, and says three lines of it. Its nodes send their
+/// letters over a net that has none of before.
+pub fn try_out<R: Threads + Wait + Clock + Sync, H: Host, N: Net + Sync, P: Power, G: Gate + Sync>(
+    rt: &R,
+    alloc: Global,
+    host: &mut H,
+    net: &mut N,
+    power: &mut P,
+    load: Workload,
+    bounds: RunBounds,
+    gate: &G,
+) -> Ending
+    requires calls { load.calls ≤ 1000000 }
+    requires seed { load.seed < 2 ^ 43 }
+    requires some { 0 < bounds.size }
+    requires few { bounds.size ≤ most_batch_lines }
+    requires workers { 0 < bounds.workers }
+    requires attempts { 0 < bounds.attempts }
+    requires unsent { N.sent net.old ≡ [] }
+    ensures { TriesOn H.moment H.observed H.said H.reads H.may_leave bounds (workload_of load.calls load.seed) result
+        (around N.sent N.given N.faults N.last_seed P.stops_seen P.early_stops P.stopped P.begun P.asked net.old power.old)
+        (around N.sent N.given N.faults N.last_seed P.stops_seen P.early_stops P.stopped P.begun P.asked net.new power.new)
+        (record { say = H.say_faults host.old; disk = H.disk_faults host.old }) (record { say = H.say_faults host.new; disk = H.disk_faults host.new })
+        host.old host.new }
+{
+    match open_cluster(alloc, host) {
+        Ok(mut cluster) => ending_of_trying(try_calls(
+            rt,
+            alloc,
+            host,
+            net,
+            power,
+            &mut cluster,
+            load,
+            bounds,
+            gate,
+        )),
+        Err(ending) => ending,
+    }
+}
+
+// How a call ends whose workload came to this.
+fn ending_of_trying(tried: Result<(), BatchFault>) -> Ending
+    ensures { result ≡ ending_of_trying tried }
+{
+    match tried {
+        Ok(()) => Ending::Finished,
+        Err(BatchFault::Say) => Ending::SayFault,
+        Err(BatchFault::Disk) => Ending::DiskFault,
+        Err(BatchFault::NotAStore { file, at }) => Ending::NotAStore { file, at },
+        Err(BatchFault::Unreachable) => Ending::Unreachable,
+        Err(BatchFault::EpochsUsedUp) => Ending::EpochsUsedUp,
+        Err(BatchFault::NoMemory) => Ending::NoMemory,
+    }
+}

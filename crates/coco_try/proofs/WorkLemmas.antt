@@ -1,0 +1,169 @@
+-- One batch of requests: what its turn makes of the store.
+use Rattle.std.proofs.Common.{◌≡◌, ◌≢◌, ℕ, ◌+◌, ◌<◌, ◌≤◌, inl, inr, ◌⊎◌, ⊎_elim, List, [], ◌∷◌, length, Option, Result, Ok, Err, refl, sym, ap, subst, ◌∙◌, arith, true≢false}
+use Rattle.std.specs.Prelude.{IsOk}
+use Rattle.coco_types.specs.declared.call.Request.{Request}
+use Rattle.coco_batches.specs.Asking.{known_of}
+use Rattle.coco_cluster.specs.Around.{Around}
+use Rattle.coco_cluster.specs.Faults.{CountsTurn, MayHaveCommitted}
+use Rattle.coco_cluster.specs.Standing.{IsBehindAll, StandsAt}
+use Rattle.coco_cluster.specs.Turning.{KeepsHistory, Turns, epochs_of}
+use Rattle.coco_cluster.specs.declared.cluster.Cluster.{Cluster}
+use Rattle.coco_cluster.specs.declared.fault.TurnFault.{TurnFault}
+use Rattle.coco_cluster.specs.declared.fault.TurnFault.TheVariants as turn
+use Rattle.coco_host.specs.Files.{Files}
+use Rattle.coco_host.specs.Moments.{Observation}
+use Rattle.coco_lines.specs.Classes.{Known, known_in, new_of}
+use Rattle.coco_store.specs.Contents.{Contents, history_of}
+use Rattle.coco_serve.specs.Faults.{Counts, fault_of_turn}
+use Rattle.coco_serve.specs.Growth.{AddsWithin, GrowsByExecution, manner_of}
+use Rattle.coco_serve.specs.declared.bounds.RunBounds.{RunBounds}
+use Rattle.coco_serve.specs.declared.fault.BatchFault.{BatchFault}
+use Rattle.coco_serve.proofs.BatchLemmas.{Committed, RefusesNone, adds_one, below_one, grows_by_execution, refused}
+use Rattle.coco_serve.proofs.RunLemmas.{few_new, known_at}
+use Rattle.coco_try.specs.Growth.{AreClassesOf}
+use Rattle.coco_try.specs.Work.{ComesOfPart, CountsPart, HasClasses, HasNew, IsFew, WorksOffPart}
+use Rattle.coco_try.specs.declared.one_part.Worked.{Worked}
+use Rattle.coco_try.proofs.PartLemmas.{classes-length, part_few}
+
+-- ---- new requests
+
+pub few_fresh : (k : Known) (part fresh : List Request) (answered : ℕ) → HasClasses k part fresh answered → length fresh ≤ length part
+few_fresh k part fresh answered has =
+    let same = ap (length {A = Request}) has.fresh_are in
+    let few = few_new has.classes in
+    let count = classes-length k part has.classes has.are in
+    omega (arith, same, few, count)
+
+epochs_few : (rs : List Request) → epochs_of rs ≤ length rs
+epochs_few [] = omega arith
+epochs_few (r ∷ rs) = omega arith
+
+-- what is counted is no more than there are requests
+pub worked_few : (k : Known) (part fresh requests : List Request) (answered : ℕ) (worked : Worked) → HasClasses k part fresh answered → requests ≡ fresh → worked.answered ≡ answered → worked.epochs ≡ epochs_of requests
+    → IsFew (length part) worked
+worked_few k part fresh requests answered worked has same answered_is epochs_is =
+    let counted = part_few k part fresh answered has in
+    let few = few_fresh k part fresh answered has in
+    let made = epochs_few requests in
+    let as_many = ap (length {A = Request}) same in
+    record { answered = omega (arith, answered_is, counted); epochs = omega (arith, epochs_is, made, as_many, few) }
+
+-- a turn that failed had a request
+some_failed : (requests : List Request) (f : TurnFault) (turned : Result (Unit {0}) TurnFault) → turned ≡ Err f → (requests ≡ [] → IsOk turned) → 0 < length requests
+some_failed [] f turned was nothing = absurd (true≢false (sym (subst (λ r. IsOk r) was (nothing refl))))
+some_failed (r ∷ rs) f turned was nothing = omega arith
+
+has_new : (k : Known) (part fresh requests : List Request) (answered : ℕ) → HasClasses k part fresh answered → requests ≡ fresh → 0 < length requests → HasNew k part
+has_new k part fresh requests answered has same some =
+    let as_many = ap (length {A = Request}) (same ∙ has.fresh_are) in
+    record { classes = has.classes; are = has.are; some = omega (arith, as_many, some) }
+
+-- the counts of a turn's fault are those of its batch
+pub part_counts : (f : TurnFault) (turned : Result (Unit {0}) TurnFault) (result : Result Worked BatchFault) (k : Known) (part fresh requests : List Request) (answered next : ℕ) (was now : Around) (before after : Counts)
+    → turned ≡ Err f → result ≡ Err (fault_of_turn f) → (requests ≡ [] → IsOk turned) → HasClasses k part fresh answered → requests ≡ fresh → after.say ≡ before.say → CountsTurn turned next was now before.disk after.disk
+    → CountsPart result k part next was now before after
+part_counts f turned result k part fresh requests answered next was now before after failed is nothing has same says counts =
+    subst (λ r. CountsPart r k part next was now before after) (sym is) (by f (subst (λ r. CountsTurn r next was now before.disk after.disk) failed counts))
+  where
+    new : HasNew k part
+    new = has_new k part fresh requests answered has same (some_failed requests f turned failed nothing)
+
+    both : after.disk ≡ before.disk → after ≡ before
+    both disks = λ i. record { say = says i; disk = disks i }
+
+    by : (f : TurnFault) → CountsTurn {T = Unit {0}} (Err f) next was now before.disk after.disk → CountsPart (Err (fault_of_turn f)) k part next was now before after
+    by turn.Disk counts = counts
+    by (turn.NotAStore file at) counts = both counts
+    by turn.NoMemory counts = tt
+    by turn.Unreachable counts = (counts.1, new)
+    by turn.EpochsUsedUp counts = (counts.1, new)
+
+-- ---- files
+
+module _ {H : Type 0} (moment : H → ℕ) (observed : H → ℕ → Observation → Type 0) (said : H → Option (List ℕ)) (reads : H → Option Files) (may_leave : H → Files → Type 0) where
+  module _ (part fresh requests : List Request) (answered : ℕ) (bounds : RunBounds) (spare : ℕ) (c : Contents) (before after : Cluster) (old new : H) (has : HasClasses (known_of before.kept []) part fresh answered)
+      (same : requests ≡ fresh) (stands : StandsAt c before) where
+    are : AreClassesOf (known_in (history_of c)) part has.classes
+    are = subst (λ k. AreClassesOf k part has.classes) (known_at c before stands) has.are
+
+    news : requests ≡ new_of has.classes
+    news = same ∙ has.fresh_are
+
+    -- its turn failed
+    module _ (f : TurnFault) (turned : Result (Unit {0}) TurnFault) (was : turned ≡ Err f) (none : RefusesNone f) where
+      fails : Turns moment observed said reads may_leave turned requests bounds.workers bounds.attempts spare c before after old new
+          → WorksOffPart moment observed said reads may_leave (Err (fault_of_turn f)) part bounds c before.next_epoch spare after old new
+      fails t = by f none (subst MayHaveCommitted was t.may)
+        where
+          numbers : AddsWithin before.next_epoch (t.number + epochs_of (new_of has.classes)) spare (history_of c) (history_of t.d)
+          numbers = subst (λ rs. AddsWithin before.next_epoch (t.number + epochs_of rs) spare (history_of c) (history_of t.d)) news
+              (adds_one requests bounds.workers bounds.attempts before.next_epoch t.number spare t.trace c t.d t.grown t.taken)
+
+          below : IsBehindAll t.d (t.number + epochs_of (new_of has.classes))
+          below = subst (λ rs. IsBehindAll t.d (t.number + epochs_of rs)) news (below_one requests bounds.workers bounds.attempts t.number t.trace c t.d t.grown)
+
+          grows : GrowsByExecution (manner_of c.setting bounds) (history_of c) (new_of has.classes) (history_of t.d)
+          grows = subst (λ rs. GrowsByExecution (manner_of c.setting bounds) (history_of c) rs (history_of t.d)) news (grows_by_execution requests bounds t.number t.trace c t.d t.grown)
+
+          by : (f : TurnFault) → RefusesNone f → MayHaveCommitted {T = Unit {0}} (Err f) → WorksOffPart moment observed said reads may_leave (Err (fault_of_turn f)) part bounds c before.next_epoch spare after old new
+          by turn.Disk none may = record {
+            classes = has.classes;
+            are = are;
+            d = t.d;
+            setting = t.grown.setting;
+            grows = grows;
+            number = t.number;
+            taken = t.taken;
+            numbers = numbers;
+            below = below;
+            next_is = tt;
+            moments = t.moments;
+            others = t.others;
+            ends = t.left;
+          }
+          by (turn.NotAStore file at) none may = absurd (none file at refl)
+          by turn.Unreachable none may = absurd may
+          by turn.EpochsUsedUp none may = absurd may
+          by turn.NoMemory none may = record {
+            classes = has.classes;
+            are = are;
+            d = t.d;
+            setting = t.grown.setting;
+            grows = grows;
+            number = t.number;
+            taken = t.taken;
+            numbers = numbers;
+            below = below;
+            next_is = tt;
+            moments = t.moments;
+            others = t.others;
+            ends = t.left;
+          }
+
+    pub part_failed : (f : TurnFault) (turned : Result (Unit {0}) TurnFault) (result : Result Worked BatchFault) → turned ≡ Err f → ((file at : ℕ) → turned ≢ Err (turn.NotAStore file at))
+        → result ≡ Err (fault_of_turn f) → said new ≡ said old
+        → KeepsHistory moment observed said reads may_leave turned requests before.next_epoch spare c old new ⊎ Turns moment observed said reads may_leave turned requests bounds.workers bounds.attempts spare c before after old new
+        → ComesOfPart moment observed said reads may_leave result part bounds c before.next_epoch spare after old new
+    part_failed f turned result was never is quiet turns =
+        let none : RefusesNone f = λ file at e. never file at (was ∙ ap Err e) in
+        subst (λ r. ComesOfPart moment observed said reads may_leave r part bounds c before.next_epoch spare after old new) (sym is)
+        (⊎_elim (λ keeps. inl (refused moment observed said reads may_leave f turned requests spare c before old new was none quiet keeps)) (λ t. inr (fails f turned was none t)) turns)
+
+    -- it committed
+    pub part_done : (worked : Worked) → worked.answered ≡ answered → worked.epochs ≡ epochs_of requests → Committed moment observed said reads may_leave c requests bounds before.next_epoch spare after old new
+        → WorksOffPart moment observed said reads may_leave (Ok worked) part bounds c before.next_epoch spare after old new
+    part_done worked answered_is epochs_is done = record {
+      classes = has.classes;
+      are = are;
+      d = done.d;
+      setting = done.setting;
+      grows = subst (λ rs. GrowsByExecution (manner_of c.setting bounds) (history_of c) rs (history_of done.d)) news done.grows;
+      number = done.number;
+      taken = done.taken;
+      numbers = subst (λ rs. AddsWithin before.next_epoch (done.number + epochs_of rs) spare (history_of c) (history_of done.d)) news done.numbers;
+      below = subst (λ rs. IsBehindAll done.d (done.number + epochs_of rs)) news done.below;
+      next_is = subst (λ rs. after.next_epoch ≡ done.number + epochs_of rs) news done.next_is;
+      moments = done.moments;
+      others = done.others;
+      ends = (done.rests, done.stands, record { answered = answered_is ∙ has.answered_are; epochs = epochs_is ∙ ap epochs_of news });
+    }
