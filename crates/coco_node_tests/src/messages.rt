@@ -90,6 +90,55 @@ fn a_ship_is_read_as_it_was_written(rt: HostRuntime) -> Result<(), Fail> {
     Ok(())
 }
 
+// Bytes that are no message, and the first place that can't stand: an unknown tag, a field that the bytes end within, a flag,
+// a row and a value that there are not, places that don't rise, a byte that is left over.
+const BAD: [(&str, &[u8], usize); 10] = [
+    ("no byte", &[], 0),
+    ("tag 0", &[0, 0, 0, 0, 0, 0, 0, 0, 1], 0),
+    ("tag 12", &[12, 0, 0, 0, 0, 0, 0, 0, 1], 0),
+    ("a cut epoch", &[5, 0, 0, 0, 0, 0, 0, 0], 1),
+    ("a vote without a flag", &[6, 0, 0, 0, 0, 0, 0, 0, 1], 9),
+    ("a vote that is neither", &[6, 0, 0, 0, 0, 0, 0, 0, 1, 2], 9),
+    ("a byte more", &[5, 0, 0, 0, 0, 0, 0, 0, 1, 0], 9),
+    (
+        "a cut place",
+        &[2, 0, 0, 0, 0, 0, 0, 0, 1, 0, 0, 0, 0, 1, 0, 0, 0],
+        14,
+    ),
+    (
+        "a place that stands twice",
+        &[
+            3, 0, 0, 0, 0, 0, 0, 0, 1, 0, 0, 0, 0, 2, 0, 0, 0, 7, 0, 0, 0, 7,
+        ],
+        18,
+    ),
+    (
+        "a write of a text that has ended",
+        &[
+            1, 0, 0, 0, 0, 0, 0, 0, 1, 2, 0, 0, 0, 3, 0, 0, 0, 0, 0, 0, 0, 4, 0, 0, 0, 1, 0, 0, 0,
+            0, 0, 0, 0, 0, 0, 5, 2, 0, 2, 104,
+        ],
+        37,
+    ),
+];
+
+// Where the bytes are told to be bad.
+fn bad_place(alloc: Global, bytes: &[u8]) -> Option<usize> {
+    match read_message(alloc, bytes) {
+        Err(MessageFault::Bad { at }) => Some(at),
+        _ => None,
+    }
+}
+
+#[test]
+fn other_bytes_are_bad_at_their_first_field(rt: HostRuntime) -> Result<(), Fail> {
+    for (name, bytes, at) in &BAD {
+        let bad = bad_place(rt.alloc(), bytes);
+        assert!(rt; bad == Some(*at), "{name}: {bad:?}");
+    }
+    Ok(())
+}
+
 #[test]
 fn faults_are_readable(rt: HostRuntime) -> Result<(), Fail> {
     let said = format!(in rt.alloc();

@@ -96,3 +96,21 @@ fn a_log_is_opened_whatever_stands_behind_its_last_gate(rt: HostRuntime) -> Resu
     assert!(rt; goes_on(rt.alloc(), &mut host)?);
     Ok(())
 }
+
+// Whether a log's first entry can't be had of this host.
+fn lacks_first(alloc: Global, host: &mut MemoryHost, log: &mut Log, fault: LogFault) -> bool {
+    log.count() > 0 && log.entry(alloc, host, 0).err() == Some(fault)
+}
+
+// The file has been cut since the log was opened, or can't be read any more.
+#[test]
+fn an_entry_that_is_gone_is_told_at_its_gate(rt: HostRuntime) -> Result<(), Fail> {
+    let mut host = host_with(rt.alloc(), &[(2, &TWO_ENTRIES)])?;
+    let mut log = Log::reopen(rt.alloc(), &mut host, 2, 1)?;
+    let mut cut = host_with(rt.alloc(), &[(2, &TWO_ENTRIES[..14])])?;
+    let mut failing = MemoryHost::new(rt.alloc(), Vec::from_slice(rt.alloc(), &[0])?);
+    let is_cut = lacks_first(rt.alloc(), &mut cut, &mut log, LogFault::NotALog { at: 8 });
+    let is_failing = lacks_first(rt.alloc(), &mut failing, &mut log, LogFault::Disk);
+    assert!(rt; is_cut && is_failing);
+    Ok(())
+}
