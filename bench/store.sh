@@ -1,7 +1,7 @@
 #!/usr/bin/env bash
 # Stores on real files, on a RAM disk and on a disk: bank transfers in epochs of 1, 100 and 1,000 lines, and bookings with
-# texts; then a store that keeps all those requests opened, verified, dumped and compacted; and the same transfers in SQLite, with a
-# transaction for each epoch. Each figure is of the best of so many runs, each on a new store. One worker runs them on one
+# texts; then a store that keeps all those requests opened, verified, dumped and compacted; one of as many rows; and the same
+# transfers in SQLite, with a transaction for each epoch. Each figure is of the best of so many runs, each on a new store. One worker runs them on one
 # partition; bench/workers.sh measures several of both.
 # Words: how many lines, how many runs. COCO is the program, RAM and DISK are the folders; where a batch is synced for
 # real, at most EPOCHS batches are taken.
@@ -70,6 +70,22 @@ small() {
     row '  opening the compacted store' "$lines" "$clock" "$processor" "$memory"
 }
 
+# rows: a store with so many rows of whole numbers, which keeps the replies of one epoch alone and was made small; opened,
+# dumped, and an epoch of 1,000 lines more over its rows, opening included.
+rows() {
+    local clock processor memory
+    awk -v count="$lines" 'BEGIN { for (i = 1; i <= count; i++) printf "{\"args\":[%d,%d],\"call\":\"put\",\"id\":%d}\n", i, i, i }' >"$ram/input"
+    measured 1 bash -c "$fresh" - "$ram/store" "$program" /dev/null -- "$program" "$ram/store" run --epoch 1000 >/dev/null
+    "$program" "$ram/store" migrate --keep 1 </dev/null
+    "$program" "$ram/store" compact </dev/null
+    told '  rows, opening' run
+    told '  rows, dump' dump
+    awk -v count="$lines" 'BEGIN { for (i = 1; i <= 1000; i++) printf "{\"args\":[%d,1],\"call\":\"add\",\"id\":%d}\n", i * 7 % count + 1, count + i }' >"$ram/input"
+    read -r clock processor memory < <(measured "$runs" bash -c 'rm -rf "$2" && cp -r "$1" "$2"' - "$ram/store" "$ram/small" \
+        -- "$program" "$ram/small" run --epoch 1000)
+    row '  rows, an epoch of 1,000 more' "$lines" "$clock" "$processor" "$memory"
+}
+
 few=${EPOCHS:-500}
 printf '%-34s %9s %10s %10s %9s\n' '' requests 'a second' 'us each' MiB
 moves "$lines" >"$ram/lines"
@@ -83,6 +99,7 @@ told '  opening' run
 told '  verify' verify
 told '  dump' dump
 small
+rows
 for epoch in 1 100 1000; do
     ran "transfers, disk, epochs of $epoch" "$disk" bench/bank.coco "$epoch" $((lines < few * epoch ? lines : few * epoch))
 done

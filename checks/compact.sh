@@ -58,6 +58,8 @@ says 'a known line and a new one' '{"epoch":1,"id":1,"ok":70,"time":1}
 {"epoch":3,"id":3,"ok":70,"time":1}'
 on "$work/store" verify
 says 'verify after a line more' 'serial 1'
+on "$work/store" query --at 1
+ends 'a query of an epoch left behind' 14 'coco: epoch 1 is not in 2 to 3'
 on "$work/store" compact
 ends 'compact again' 0
 has 'compact again' 0 010000001f0103010100000000020000000600000000000000030000000000000000000100

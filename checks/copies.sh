@@ -6,6 +6,7 @@
 adds 60000 >"$work/lines"
 input=$work/lines
 new "$work/store" --partitions 3
+: >"$work/answers"
 "$program" "$work/store" run --epoch 20 <"$input" >"$work/answers" 2>"$work/errors" &
 runner=$!
 copies=0

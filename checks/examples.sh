@@ -1,6 +1,7 @@
 #!/usr/bin/env bash
 # The examples on the built program: answers and rows are those that stand beside the requests, for epochs of several
-# sizes and on several partitions; the same lines again get the same answers, and change nothing.
+# sizes and on several partitions; the same lines again get the same answers, and change nothing. And the stores of three
+# nodes and of a year: what their scripts say.
 set -u
 cd "$(dirname "$0")/.." || exit 2
 program=${1:-$PWD/crates/coco/out/coco}
@@ -61,6 +62,45 @@ example bank 4 1 2 3 5
 example builtin 4 1 2 3
 example shop 100 1 2 3 5 1024
 example booking 100 1 2 3 7 1024
+
+# Three nodes: the answers stand there twice, and between them which file was lost and which one there is now.
+name='three nodes' size=4
+COCO=$program bash examples/nodes.sh >"$work/said" || failed=1
+same 'what it says' "$work/said" <(
+    echo 'coco store init --nodes 3 --partitions 3 --copies 2'
+    echo 'coco store run --epoch 4'
+    cat examples/bank/replies.jsonl
+    echo 'rm store/3.coco'
+    echo 'coco store run --epoch 4'
+    echo 'coco: not a store: file 3 at byte 0'
+    echo 'status 7'
+    echo 'python3 layout.py store/0.coco files'
+    echo '1 2 3 4'
+    echo 'coco store rebuild --node 1'
+    echo 'python3 layout.py store/0.coco files'
+    echo '1 2 5 4'
+    echo 'coco store run --epoch 4'
+    cat examples/bank/replies.jsonl
+    echo 'coco store verify'
+    echo 'serial 15'
+    echo 'rm -r store'
+    echo 'coco store init --nodes 3 --partitions 3 --copies 2'
+    echo 'coco store run --epoch 4 --disturb 5'
+    cat examples/bank/replies.jsonl
+    echo 'coco store verify'
+    echo 'serial 15'
+)
+
+# A year of ten lines a day. How long the store takes to open is left out.
+name='a year' size=10
+COCO=$program bash examples/year.sh 10 >"$work/said" || failed=1
+same 'what it says' <(sed 's/ in [0-9]* milliseconds//' "$work/said") <(
+    echo 'at the end of the year: 320382 bytes, opened'
+    echo '320382 bytes were 21908'
+    echo 'made small: 21908 bytes, opened'
+    echo '{"epoch":365,"id":3650,"ok":1000,"time":10}'
+    echo '{"error":"old","line":2}'
+)
 
 # quotes PAGE TEXT: what a page shows of an example is what stands there.
 quotes() {

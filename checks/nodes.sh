@@ -86,15 +86,22 @@ alike 3 3 2
 alike 4 3 1
 alike 8 64 7
 
-# A node's file that is lost is made again, and the next run goes on.
-shape='behind rebuild'
+# A node's file may lie elsewhere, behind a link. With that place it is lost, and made again in the folder; and the next run
+# goes on.
+shape='with a file elsewhere, and behind rebuild'
+head -n 250 "$work/lines" >"$work/half"
 for node in 0 1 2; do
     input=/dev/null
     new "$work/one"
     new "$work/store" --nodes 3 --partitions 5 --copies 1
     input=$work/first
     as_one 'a run' run --epoch 10
-    : >"$work/store/$((2 + node)).coco"
+    mv "$work/store/$((2 + node)).coco" "$work/elsewhere"
+    ln -s "$work/elsewhere" "$work/store/$((2 + node)).coco"
+    input=$work/half
+    as_one 'a run' run --epoch 10
+    [ -L "$work/store/$((2 + node)).coco" ] || wrong 'the link is gone'
+    rm "$work/elsewhere"
     on "$work/store" run
     ends 'a run without a file' 7 "coco: not a store: file $((2 + node)) at byte 0"
     on "$work/store" rebuild --node "$node"
@@ -105,7 +112,8 @@ for node in 0 1 2; do
     as_one 'a dump' dump
 done
 
-# Kills: what was said before one stands, and each request has its one answer.
+# Kills: what was said before one stands, and each request has its one answer. Two of the three nodes are the primary of two
+# partitions, and each holds all five.
 size=10
 lines=150
 input=$work/lines
@@ -113,7 +121,7 @@ span=0
 while [ "$span" -lt 250000 ] && [ "$failed" -eq 0 ]; do
     lines=$((lines * 2))
     adds "$lines" >"$work/lines"
-    new "$work/calm" --nodes 3 --partitions 3 --copies 2
+    new "$work/calm" --nodes 3 --partitions 5 --copies 2
     began=${EPOCHREALTIME/[.,]/}
     on "$work/calm" run --epoch "$size"
     ends 'an undisturbed run' 0
@@ -122,6 +130,7 @@ done
 bare "$work/said" >"$work/wanted"
 on "$work/calm" dump
 bare "$work/said" >"$work/wanted_dump"
+grep -v '^{"row"' "$work/wanted_dump" >"$work/wanted_dones"
 
 # kill_one: starts a run and kills it after up to a third of the time that a whole run takes, if it hasn't ended.
 kill_one() {
@@ -142,17 +151,29 @@ told() {
     bare "$work/front" | cmp -s - <(head -n "$whole" "$work/wanted") || wrong "answers before kill $kills"
 }
 
+# kept: the replies are those of a serial run, and the Dones are the first of those wanted, with each that was said.
+kept() {
+    local count
+    on "$work/store" verify
+    ends "the verdict after kill $kills" 0
+    on "$work/store" dump
+    ends "the dump after kill $kills" 0
+    bare "$work/said" | grep -v '^{"row"' >"$work/dones"
+    count=$(wc -l <"$work/dones")
+    cmp -s "$work/dones" <(head -n "$count" "$work/wanted_dones") || wrong "the Dones after kill $kills"
+    [ "$(grep -o '"id":[0-9]*' "$work/front" | sort -u | wc -l)" -le "$count" ] || wrong "an answer before kill $kills is gone"
+}
+
 kills=0
 number=${2:-60}
 while [ "$failed" -eq 0 ] && [ "$kills" -lt "$number" ]; do
-    new "$work/store" --nodes 3 --partitions 3 --copies 2
+    new "$work/store" --nodes 3 --partitions 5 --copies 2
     while [ "$failed" -eq 0 ] && [ "$kills" -lt "$number" ]; do
         kill_one
         [ "$status" -eq 137 ] || break
         kills=$((kills + 1))
         told
-        on "$work/store" verify
-        ends "the verdict after kill $kills" 0
+        kept
     done
     whole "$work/store"
     on "$work/store" dump

@@ -49,6 +49,16 @@ says_all() {
     [ "$(<"$work/said")" = "serial $1" ] || wrong "verify after rebuild: $(<"$work/said")"
 }
 
+# reads: in a copy of the store a get of row 5 is the next epoch's request.
+reads() {
+    local input=$work/get
+    rm -rf "$work/copy"
+    cp -r "$work/store" "$work/copy"
+    on "$work/copy" run
+    ends 'a get after rebuild' 0
+    [ "$(<"$work/said")" = '{"epoch":2,"id":2,"ok":70,"time":1}' ] || wrong "a get after rebuild: $(<"$work/said")"
+}
+
 # rebuilt NODE FILE: the node's file is made again as this one, and nothing is said.
 rebuilt() {
     on "$work/store" rebuild --node "$1"
@@ -75,6 +85,7 @@ ends 'no store' 7 'coco: not a store: file 0 at byte 0'
 [ ! -e "$work/absent" ] || wrong 'rebuild made a folder'
 
 # Three nodes, each of which holds all three partitions, and one epoch. The files' numbers go to and fro.
+echo '{"args":[5],"call":"get","id":2}' >"$work/get"
 several 3 3 2 1 2
 lose 4
 on "$work/store" run
@@ -84,8 +95,7 @@ same 1 2 3 4
 names 1 2 3 5
 cmp -s "$work/store/5.coco" "$work/store/3.coco" || wrong 'the file of the other node'
 says_all 1
-on "$work/store" run
-ends 'a run of three nodes' 0
+reads
 rm "$work/store/4.coco"
 rebuilt 2 4
 names 1 2 3 4
@@ -105,6 +115,7 @@ names 5 6 7 8 1
 [ "$(tail -c 45 "$work/store/0.coco" | od -An -v -tx1 | tr -d ' \n')" = \
     010000002701030303020000000600000007000000080000000100000000000000010000000003e80000000500 ] || wrong 'the last layout'
 [ "$(head -c 9 "$work/store/1.coco" | od -An -v -tx1 | tr -d ' \n')" = 434f434f4c4f470200 ] || wrong 'file 1 after compact'
+reads
 on "$work/store" dump
 cmp -s "$work/said" "$work/dump" || wrong 'the dump after compact and rebuild'
 

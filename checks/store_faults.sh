@@ -21,10 +21,10 @@ read_only() {
         status=$?
         ends "$command in a read-only folder" 4 'coco: disk fault'
     done
-    for command in dump verify; do
+    for command in dump verify 'query --at 3'; do
         on "$work/calm" $command
         mv "$work/said" "$work/wanted_here"
-        "${user[@]}" "$work/program" "$work/shut" $command </dev/null >"$work/said" 2>"$work/errors"
+        "${user[@]}" "$work/program" "$work/shut" $command <"$input" >"$work/said" 2>"$work/errors"
         status=$?
         ends "$command in a read-only folder" 0
         cmp "$work/said" "$work/wanted_here" || wrong "$command in a read-only folder says something else"
