@@ -110,9 +110,9 @@ impl Cluster {
             (around N.sent N.given N.faults N.last_seed P.stops_seen P.early_stops P.stopped P.begun P.asked net.old power.old)
             (around N.sent N.given N.faults N.last_seed P.stops_seen P.early_stops P.stopped P.begun P.asked net.new power.new)) }
         ensures begins { P.begun power.new ≤ P.begun power.old + 4 }
-        ensures given_up { OnOk result ((n : ℕ) × (n < 4) × AreGivenUp n (around N.sent N.given N.faults N.last_seed P.stops_seen P.early_stops P.stopped P.begun P.asked net.old power.old) (around N.sent N.given N.faults N.last_seed P.stops_seen P.early_stops P.stopped P.begun P.asked net.new power.new)) }
+        ensures given_up { OnOk result ((n : ℕ) × (n < 4) × (self.new.next_epoch ≤ self.old.next_epoch + n + 1) × AreGivenUp n (around N.sent N.given N.faults N.last_seed P.stops_seen P.early_stops P.stopped P.begun P.asked net.old power.old) (around N.sent N.given N.faults N.last_seed P.stops_seen P.early_stops P.stopped P.begun P.asked net.new power.new)) }
         ensures refused { (file at : ℕ) → result ≡ Err (fault.NotAStore file at) → P.stops_seen power.old < P.stops_seen power.new }
-        ensures ended { result ≡ Err fault.EpochsUsedUp → (EPOCHS_END ≤ self.new.next_epoch) × ((n : ℕ) × (n < 4) × AreGivenUp n (around N.sent N.given N.faults N.last_seed P.stops_seen P.early_stops P.stopped P.begun P.asked net.old power.old) (around N.sent N.given N.faults N.last_seed P.stops_seen P.early_stops P.stopped P.begun P.asked net.new power.new)) }
+        ensures ended { result ≡ Err fault.EpochsUsedUp → (EPOCHS_END ≤ self.new.next_epoch) × ((n : ℕ) × (n < 4) × (self.new.next_epoch ≤ self.old.next_epoch + n) × AreGivenUp n (around N.sent N.given N.faults N.last_seed P.stops_seen P.early_stops P.stopped P.begun P.asked net.old power.old) (around N.sent N.given N.faults N.last_seed P.stops_seen P.early_stops P.stopped P.begun P.asked net.new power.new)) }
         ensures untraced { OnErr result (self.new.trace ≡ None) }
         ensures used_up { 0 < length requests.items → EPOCHS_END ≤ self.old.next_epoch → result ≡ Err fault.EpochsUsedUp }
         ensures procs { self.new.procs ≡ self.old.procs }

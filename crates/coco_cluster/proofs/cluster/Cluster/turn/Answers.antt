@@ -34,6 +34,7 @@ loop-attempt-init g c =
       given = later_same (around g.N.Net.sent g.N.Net.given g.N.Net.faults g.N.Net.last_seed g.P.Power.stops_seen g.P.Power.early_stops g.P.Power.stopped g.P.Power.begun g.P.Power.asked c.args.net.now c.args.power.now);
       begun = λ some. absurd (omega (arith, some));
       low = omega arith;
+      high = omega arith;
       few = omega arith;
       kept = refl;
       procs = refl;
@@ -77,6 +78,7 @@ loop-attempt-preserved g c =
       given = more_given c.loop-attempt._attempt (around g.N.Net.sent g.N.Net.given g.N.Net.faults g.N.Net.last_seed g.P.Power.stops_seen g.P.Power.early_stops g.P.Power.stopped g.P.Power.begun g.P.Power.asked c.args.net.now c.args.power.now) (around g.N.Net.sent g.N.Net.given g.N.Net.faults g.N.Net.last_seed g.P.Power.stops_seen g.P.Power.early_stops g.P.Power.stopped g.P.Power.begun g.P.Power.asked c.loop-attempt.net c.loop-attempt.power) (around g.N.Net.sent g.N.Net.given g.N.Net.faults g.N.Net.last_seed g.P.Power.stops_seen g.P.Power.early_stops g.P.Power.stopped g.P.Power.begun g.P.Power.asked c.attempt.new.net c.attempt.new.power) before.given cause;
       begun = λ some. omega (arith, low, below);
       low = (let up = back.low in omega (arith, low, up));
+      high = (let first = before.high in let up = back.high in omega (arith, first, up));
       few = few_more c.loop-attempt.self.next_epoch c.attempt.new.self.next_epoch c.args.self.now.next_epoch (around g.N.Net.sent g.N.Net.given g.N.Net.faults g.N.Net.last_seed g.P.Power.stops_seen g.P.Power.early_stops g.P.Power.stopped g.P.Power.begun g.P.Power.asked c.args.net.now c.args.power.now) (around g.N.Net.sent g.N.Net.given g.N.Net.faults g.N.Net.last_seed g.P.Power.stops_seen g.P.Power.early_stops g.P.Power.stopped g.P.Power.begun g.P.Power.asked c.loop-attempt.net c.loop-attempt.power) (around g.N.Net.sent g.N.Net.given g.N.Net.faults g.N.Net.last_seed g.P.Power.stops_seen g.P.Power.early_stops g.P.Power.stopped g.P.Power.begun g.P.Power.asked c.attempt.new.net c.attempt.new.power) before.few (all_later c.loop-attempt._attempt (around g.N.Net.sent g.N.Net.given g.N.Net.faults g.N.Net.last_seed g.P.Power.stops_seen g.P.Power.early_stops g.P.Power.stopped g.P.Power.begun g.P.Power.asked c.args.net.now c.args.power.now) (around g.N.Net.sent g.N.Net.given g.N.Net.faults g.N.Net.last_seed g.P.Power.stops_seen g.P.Power.early_stops g.P.Power.stopped g.P.Power.begun g.P.Power.asked c.loop-attempt.net c.loop-attempt.power) before.given) cause back.high;
       kept = back.kept ∙ ap (λ (n : Keeping). record n { room = c.attempt.new.self.kept.room }) before.kept;
       procs = back.procs ∙ before.procs;
@@ -346,7 +348,7 @@ returns-then-is_empty-clause-begins g c =
 
 pub returns-then-is_empty-clause-given_up : goal.returns-then-is_empty-clause-given_up
 returns-then-is_empty-clause-given_up g c =
-    (0, omega arith, later_same (around g.N.Net.sent g.N.Net.given g.N.Net.faults g.N.Net.last_seed g.P.Power.stops_seen g.P.Power.early_stops g.P.Power.stopped g.P.Power.begun g.P.Power.asked c.args.net.now c.args.power.now))
+    (0, omega arith, omega arith, later_same (around g.N.Net.sent g.N.Net.given g.N.Net.faults g.N.Net.last_seed g.P.Power.stops_seen g.P.Power.early_stops g.P.Power.stopped g.P.Power.begun g.P.Power.asked c.args.net.now c.args.power.now))
 
 pub returns-then-self-ge-EPOCHS_END-clause-world : goal.returns-then-self-ge-EPOCHS_END-clause-world
 returns-then-self-ge-EPOCHS_END-clause-world g c =
@@ -392,7 +394,9 @@ returns-in-None-clause-begins g c =
 pub returns-in-None-clause-given_up : goal.returns-in-None-clause-given_up
 returns-in-None-clause-given_up g c =
     let before = c.loop-attempt.invariant in
-    (c.loop-attempt._attempt, omega (arith, c.loop-attempt-test.true), all_until c.loop-attempt._attempt (around g.N.Net.sent g.N.Net.given g.N.Net.faults g.N.Net.last_seed g.P.Power.stops_seen g.P.Power.early_stops g.P.Power.stopped g.P.Power.begun g.P.Power.asked c.args.net.now c.args.power.now) (around g.N.Net.sent g.N.Net.given g.N.Net.faults g.N.Net.last_seed g.P.Power.stops_seen g.P.Power.early_stops g.P.Power.stopped g.P.Power.begun g.P.Power.asked c.loop-attempt.net c.loop-attempt.power) (around g.N.Net.sent g.N.Net.given g.N.Net.faults g.N.Net.last_seed g.P.Power.stops_seen g.P.Power.early_stops g.P.Power.stopped g.P.Power.begun g.P.Power.asked c.attempt.new.net c.attempt.new.power) before.given c.attempt.ensures.later)
+    let ok = c.in_ok-attempt.ensures in
+    let done : HasCommittedOne c.loop-attempt.requests.items c.args.workers c.args.attempts c.loop-attempt.self c.attempt.new.self = subst (λ (x : Option (Vec Request)). Attempts x c.loop-attempt.requests.items c.args.workers c.args.attempts c.loop-attempt.self c.attempt.new.self) c.in-None.is ok.attempts in
+    (c.loop-attempt._attempt, omega (arith, c.loop-attempt-test.true), (let high = before.high in let up = done.next in omega (arith, high, up)), all_until c.loop-attempt._attempt (around g.N.Net.sent g.N.Net.given g.N.Net.faults g.N.Net.last_seed g.P.Power.stops_seen g.P.Power.early_stops g.P.Power.stopped g.P.Power.begun g.P.Power.asked c.args.net.now c.args.power.now) (around g.N.Net.sent g.N.Net.given g.N.Net.faults g.N.Net.last_seed g.P.Power.stops_seen g.P.Power.early_stops g.P.Power.stopped g.P.Power.begun g.P.Power.asked c.loop-attempt.net c.loop-attempt.power) (around g.N.Net.sent g.N.Net.given g.N.Net.faults g.N.Net.last_seed g.P.Power.stops_seen g.P.Power.early_stops g.P.Power.stopped g.P.Power.begun g.P.Power.asked c.attempt.new.net c.attempt.new.power) before.given c.attempt.ensures.later)
 
 pub returns-clause-world : goal.returns-clause-world
 returns-clause-world g c =
@@ -419,4 +423,4 @@ returns-in_err-attempt-clause-ended g c is =
     absurd (subst (λ (f : TurnFault). CountsAttempt {T = Unit {0}} (Err f) (g.H.Host.disk_faults c.loop-attempt.host) (g.H.Host.disk_faults c.attempt.new.host)) named c.in_err-attempt.ensures.disk)
 
 pub returns-then-self-ge-EPOCHS_END-clause-ended : goal.returns-then-self-ge-EPOCHS_END-clause-ended
-returns-then-self-ge-EPOCHS_END-clause-ended g c is = (c.if-self-ge-EPOCHS_END.true, (c.loop-attempt._attempt, omega (arith, c.loop-attempt-test.true), c.loop-attempt.invariant.given))
+returns-then-self-ge-EPOCHS_END-clause-ended g c is = (c.if-self-ge-EPOCHS_END.true, (c.loop-attempt._attempt, omega (arith, c.loop-attempt-test.true), c.loop-attempt.invariant.high, c.loop-attempt.invariant.given))

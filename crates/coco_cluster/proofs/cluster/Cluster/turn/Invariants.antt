@@ -23,6 +23,7 @@ invariant-loop-attempt g l = record {
       (around g.N.Net.sent g.N.Net.given g.N.Net.faults g.N.Net.last_seed g.P.Power.stops_seen g.P.Power.early_stops g.P.Power.stopped g.P.Power.begun g.P.Power.asked l.net l.power);
   begun : 0 < l._attempt → l.fn.self.next_epoch < epochs_end;
   low : l.fn.self.next_epoch ≤ l.self.next_epoch;
+  high : l.self.next_epoch ≤ l.fn.self.next_epoch + l._attempt;
   few : 16 * l.self.next_epoch ≤ 16 * l.fn.self.next_epoch + spare
       (around g.N.Net.sent g.N.Net.given g.N.Net.faults g.N.Net.last_seed g.P.Power.stops_seen g.P.Power.early_stops g.P.Power.stopped g.P.Power.begun g.P.Power.asked l.fn.net l.fn.power)
       (around g.N.Net.sent g.N.Net.given g.N.Net.faults g.N.Net.last_seed g.P.Power.stops_seen g.P.Power.early_stops g.P.Power.stopped g.P.Power.begun g.P.Power.asked l.net l.power);
