@@ -274,6 +274,7 @@ module _ {H : Type 0} (moment : H → ℕ) (observed : H → ℕ → Observation
   added_or_memory Was Now how before after opened new (Err fault.Disk) ends faultless cause gains = absurd (faultless cause)
   added_or_memory Was Now how before after opened new (Err fault.NoMemory) ends faultless cause gains = inr ends
   added_or_memory Was Now how before after opened new (Err (fault.NotALog at)) ends faultless cause gains = absurd cause
+  added_or_memory Was Now how before after opened new (Err fault.TooLong) ends faultless cause gains = absurd cause
 
   pub migrate_succeeds : RefusedIsNone → MigrateSucceeds moment observed said reads may_leave
   migrate_succeeds refused keep how before after old new c faultless store =

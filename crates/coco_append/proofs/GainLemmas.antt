@@ -1,5 +1,5 @@
 -- What one append makes of a good store, and of the logs in hand.
-use Rattle.std.proofs.Common.{◌≡◌, ◌≢◌, inl, inr, ⊎_elim, ℕ, ◌≤◌, List, [], ◌∷◌, ◌++◌, Option, Some, None, IfSome, Result, Ok, Err, refl, sym, subst, ◌∙◌}
+use Rattle.std.proofs.Common.{◌≡◌, ◌≢◌, inl, ℕ, ◌≤◌, List, [], ◌∷◌, ◌++◌, Option, Some, None, IfSome, Result, Ok, Err, refl, sym, subst, ◌∙◌}
 use Rattle.std.specs.Prelude.{OnOk, OnErr}
 use Rattle.coco_entry.specs.declared.commit.Commit.{Commit}
 use Rattle.coco_entry.specs.declared.prepared.Prepared.{Prepared}
@@ -8,7 +8,6 @@ use Rattle.coco_entry.specs.Rows.{prepared_bytes}
 use Rattle.coco_host.specs.Files.{Files, Become, Follows}
 use Rattle.coco_host.specs.Moments.{Observation, SeesOnly}
 use Rattle.coco_host.proofs.Sees.{started}
-use Rattle.coco_log.specs.declared.fault.LogFault.{LogFault}
 use Rattle.coco_log.specs.Grammar.{IsLog}
 use Rattle.coco_log.specs.LogState.{LogState, ChangesOne, IsAppended, IsAtRest, IsBeforeOrAfter, IsMade, IsOpened, SameBut, with_entry}
 use Rattle.coco_log.proofs.OnlyRead.{sees_weaker}

@@ -1,3 +1,4 @@
+mod AddLemmas
 pub mod GainLemmas
 pub mod PastLemmas
 pub mod SwitchLemmas

@@ -2,7 +2,9 @@
 #![tactic(auto)]
 
 mod adding;
+mod fault;
 mod layouts;
 
 pub use adding::{add_commit, add_prepared};
+pub use fault::AddFault;
 pub use layouts::add_layout;

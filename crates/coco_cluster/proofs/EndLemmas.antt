@@ -47,6 +47,7 @@ pub counts_log : (f : LogFault) (old new : ℕ) → CountsFault {T = Unit {0}} (
 counts_log log.Disk old new counts = counts
 counts_log log.NoMemory old new counts = counts
 counts_log (log.NotALog at) old new counts = absurd counts
+counts_log log.TooLong old new counts = absurd counts
 
 pub counts_open : (f : OpenFault) (old new : ℕ) → Counts {T = Unit {0}} (Err f) old new → CountsAttempt {T = Unit {0}} (Err (turn_fault_of_open f)) old new
 counts_open open_fault.Disk old new counts = counts

@@ -16,6 +16,7 @@ abbrev pub turn_fault_of : LogFault → TurnFault
 turn_fault_of log.Disk = fault.Disk
 turn_fault_of log.NoMemory = fault.NoMemory
 turn_fault_of (log.NotALog at) = fault.Disk
+turn_fault_of log.TooLong = fault.Disk
 
 -- what a fault of reading a node anew is to a turn
 abbrev pub turn_fault_of_open : OpenFault → TurnFault

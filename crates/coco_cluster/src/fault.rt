@@ -30,7 +30,7 @@ impl From<LogFault> for TurnFault {
         match fault {
             LogFault::Disk => TurnFault::Disk,
             LogFault::NoMemory => TurnFault::NoMemory,
-            LogFault::NotALog { at: _ } => TurnFault::Disk,
+            LogFault::NotALog { .. } | LogFault::TooLong => TurnFault::Disk,
         }
     }
 }

@@ -13,7 +13,6 @@ use Rattle.coco_commands.specs.Opening.{FailsToOpen}
 use Rattle.coco_serve.specs.Faults.{Counts}
 use Rattle.coco_store.specs.Contents.{Contents, Holds, IsGoodStore}
 use Rattle.coco_store.specs.Entries.{layouts_file}
-use Rattle.coco_store.specs.Refusals.{IsFirstRefusal}
 use Rattle.coco_commands.specs.Keeping.{contents_keeping}
 
 -- how a call ends whose layout was added so; an append refuses no file
@@ -22,6 +21,7 @@ ending_of_adding (Ok u) = ending.Finished
 ending_of_adding (Err fault.Disk) = ending.DiskFault
 ending_of_adding (Err fault.NoMemory) = ending.NoMemory
 ending_of_adding (Err (fault.NotALog at)) = ending.DiskFault
+ending_of_adding (Err fault.TooLong) = ending.DiskFault
 
 module _ {H : Type 0} (moment : H → ℕ) (observed : H → ℕ → Observation → Type 0) (said : H → Option (List ℕ)) (reads : H → Option Files) (may_leave : H → Files → Type 0) where
   -- the store isn't opened: no file changes

@@ -35,6 +35,6 @@ pub fn ending_of_adding(added: Result<(), LogFault>) -> Ending
         Ok(()) => Ending::Finished,
         Err(LogFault::NoMemory) => Ending::NoMemory,
         // An append refuses no file.
-        Err(LogFault::Disk | LogFault::NotALog { .. }) => Ending::DiskFault,
+        Err(LogFault::Disk | LogFault::NotALog { .. } | LogFault::TooLong) => Ending::DiskFault,
     }
 }

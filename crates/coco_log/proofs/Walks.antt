@@ -13,7 +13,7 @@ use Rattle.coco_bytes.proofs.FieldLemmas.{ok_then, pick, Stands-append}
 use Rattle.coco_bytes.proofs.NumberLemmas.{u32_agrees}
 use Rattle.std.specs.Prelude.{Result}
 use Rattle.coco_log.specs.declared.fault.LogFault.{LogFault}
-use Rattle.coco_log.specs.declared.fault.LogFault.TheVariants.{Disk, NoMemory, NotALog}
+use Rattle.coco_log.specs.declared.fault.LogFault.TheVariants.{Disk, NoMemory, NotALog, TooLong}
 use Rattle.coco_log.specs.declared.gates.Head.{Head}
 use Rattle.coco_log.specs.declared.gates.Head.TheVariants.{End, Closed, Short, Open}
 use Rattle.coco_log.specs.Grammar.{most_entry_bytes, header, counted, entry, front, IsShort, IsNoHeader, IsLog, FitsNoLog}
@@ -192,6 +192,7 @@ place_in (Ok x) = 0
 place_in (Err Disk) = 0
 place_in (Err NoMemory) = 0
 place_in (Err (NotALog at)) = at
+place_in (Err TooLong) = 0
 
 pub same_place : (T : Type 0) (x : Result T LogFault) (at : ℕ) → x ≡ Err (NotALog at) → place_in x ≡ at
 same_place T x at e = ap place_in e

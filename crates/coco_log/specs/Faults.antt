@@ -17,10 +17,20 @@ CountsFault (Ok x) old new = new ≡ old
 CountsFault (Err fault.Disk) old new = Rose old new
 CountsFault (Err fault.NoMemory) old new = new ≡ old
 CountsFault (Err (fault.NotALog at)) old new = ⊥
+CountsFault (Err fault.TooLong) old new = ⊥
 
--- so is a call that may refuse one, for which the count stays
+-- so is a call that reads an opened one and may refuse it, for which the count stays
+abbrev pub CountsRead : {T : Type 0} → Result T LogFault → ℕ → ℕ → Type 0
+CountsRead (Ok x) old new = new ≡ old
+CountsRead (Err fault.Disk) old new = Rose old new
+CountsRead (Err fault.NoMemory) old new = new ≡ old
+CountsRead (Err (fault.NotALog at)) old new = new ≡ old
+CountsRead (Err fault.TooLong) old new = ⊥
+
+-- and one that opens a file, which may be too long besides
 abbrev pub CountsOpen : {T : Type 0} → Result T LogFault → ℕ → ℕ → Type 0
 CountsOpen (Ok x) old new = new ≡ old
 CountsOpen (Err fault.Disk) old new = Rose old new
 CountsOpen (Err fault.NoMemory) old new = new ≡ old
 CountsOpen (Err (fault.NotALog at)) old new = new ≡ old
+CountsOpen (Err fault.TooLong) old new = new ≡ old

@@ -2,7 +2,7 @@
 use Rattle.std.specs.Prelude.{◌≡◌, ◌≢◌, ◌⊎◌, ℕ, ◌+◌, ◌<◌, ◌^◌, List, [], ◌∷◌, ◌++◌, length, take, drop, Option, Some, None, Result, Ok, Err}
 use Rattle.coco_bytes.specs.Fields.{u32_bytes}
 use Rattle.coco_log.specs.declared.fault.LogFault.{LogFault}
-use Rattle.coco_log.specs.declared.fault.LogFault.TheVariants.{Disk, NoMemory, NotALog}
+use Rattle.coco_log.specs.declared.fault.LogFault.TheVariants.{Disk, NoMemory, NotALog, TooLong}
 use Rattle.coco_log.specs.declared.gates.Head.{Head}
 use Rattle.coco_log.specs.declared.gates.Head.TheVariants.{End, Closed, Short, Open}
 use Rattle.coco_log.specs.Grammar.{entry, counted, IsShort}
@@ -47,3 +47,4 @@ IsStep file at (Ok (Some next)) = (far : ℕ) × (next ≡ at + far) × IsEntry 
 IsStep file at (Err (NotALog p)) = (p ≡ at) × ((drop at file ≡ []) ⊎ IsBroken (drop at file))
 IsStep file at (Err Disk) = Unit {0}
 IsStep file at (Err NoMemory) = Unit {0}
+IsStep file at (Err TooLong) = ⊥

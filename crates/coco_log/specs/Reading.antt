@@ -3,7 +3,7 @@ use Rattle.std.specs.Prelude.{◌≡◌, ◌⊎◌, ℕ, ◌<◌, Bool, true, fa
 use Rattle.std.specs.List.{All}
 use Rattle.coco_host.specs.Files.{Files}
 use Rattle.coco_log.specs.declared.fault.LogFault.{LogFault}
-use Rattle.coco_log.specs.declared.fault.LogFault.TheVariants.{Disk, NoMemory, NotALog}
+use Rattle.coco_log.specs.declared.fault.LogFault.TheVariants.{Disk, NoMemory, NotALog, TooLong}
 use Rattle.coco_log.specs.Grammar.{front, IsShort, FitsNoLog}
 use Rattle.coco_log.specs.Gates.{IsPart}
 use Rattle.coco_log.specs.LogState.{LogState, Holds, places_from}
@@ -57,3 +57,4 @@ IsNext (Ok false) old new bodies file = IsReading new bodies file × Holds (log_
 IsNext (Err (NotALog at)) old new bodies file = IsReading new bodies file × (at ≡ old.at) × FitsNoLog old.kind file at
 IsNext (Err Disk) old new bodies file = IsReading new bodies file
 IsNext (Err NoMemory) old new bodies file = IsReading new bodies file
+IsNext (Err TooLong) old new bodies file = ⊥

@@ -1,8 +1,9 @@
 //! A log's file read once from its front, entry by entry.
 ghost use Rattle.std.specs.Prelude.{◌≡◌, ℕ, ◌+◌, ◌<◌, ◌≤◌, List, Some, true, [], Ok, Err, length, take, drop, vec_len, IfOk};
+ghost use Rattle.coco_types.specs.Limits.{files_end};
 ghost use Rattle.coco_host.specs.Files.{Files};
 ghost use Rattle.coco_log.specs.declared.fault.LogFault.TheVariants as fault;
-ghost use Rattle.coco_log.specs.Faults.{CountsOpen};
+ghost use Rattle.coco_log.specs.Faults.{CountsOpen, CountsRead};
 ghost use Rattle.coco_log.specs.Grammar.{IsNoHeader};
 ghost use Rattle.coco_log.specs.LogState.{IsOnlyRead};
 ghost use Rattle.coco_log.specs.Reading.{IsReading, IsBegun, IsNext, IsOf, log_of};
@@ -50,6 +51,7 @@ impl Entries {
         ensures of { IfOk result (λ reading. IsOf file kind reading) }
         ensures ok { IfOk result (λ reading. (files : Files) → H.reads host.old ≡ Some files → IsBegun reading files (H.may_leave host.new)) }
         ensures refused { (at : ℕ) (files : Files) → result ≡ Err (fault.NotALog at) → H.reads host.old ≡ Some files → IsNoHeader kind (files file) at }
+        ensures long { (files : Files) → result ≡ Err fault.TooLong → H.reads host.old ≡ Some files → files_end ≤ length (files file) }
         ensures read { IsOnlyRead H.moment H.observed H.said H.reads H.may_leave host.old host.new }
         ensures counts { CountsOpen result (H.disk_faults host.old) (H.disk_faults host.new) }
         ensures others { H.say_faults host.new ≡ H.say_faults host.old }
@@ -59,7 +61,7 @@ impl Entries {
         read_header(host, &mut window, kind)?;
         let end = host.len(file)?;
         if end >= FILES_END {
-            return Err(LogFault::NoMemory);
+            return Err(LogFault::TooLong);
         }
         Ok(Entries {
             window,
@@ -81,7 +83,7 @@ impl Entries {
         ensures end { self.new.end ≡ self.old.end }
         ensures on { result ≡ Ok true → (self.old.at < self.new.at) × (self.new.at < self.new.end) }
         ensures read { IsOnlyRead H.moment H.observed H.said H.reads H.may_leave host.old host.new }
-        ensures counts { CountsOpen result (H.disk_faults host.old) (H.disk_faults host.new) }
+        ensures counts { CountsRead result (H.disk_faults host.old) (H.disk_faults host.new) }
         ensures others { H.say_faults host.new ≡ H.say_faults host.old }
     {
         self.length = 0;

@@ -14,6 +14,8 @@ pub enum LogFault {
     NoMemory,
     /// The file is no log: its bytes fit no more from this place on.
     NotALog { at: u64 },
+    /// The file is longer than a log may be that is opened.
+    TooLong,
 }
 
 impl From<Failed> for LogFault {

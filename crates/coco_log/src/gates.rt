@@ -3,7 +3,7 @@ ghost use Rattle.std.specs.Prelude.{◌≡◌, ◌≢◌, ◌⊎◌, ℕ, ◌+�
 ghost use Rattle.coco_types.specs.Limits.{files_end};
 ghost use Rattle.coco_host.specs.Files.{Files};
 ghost use Rattle.coco_log.specs.declared.fault.LogFault.TheVariants as fault;
-ghost use Rattle.coco_log.specs.Faults.{CountsFault, CountsOpen};
+ghost use Rattle.coco_log.specs.Faults.{CountsFault, CountsRead};
 ghost use Rattle.coco_log.specs.Grammar.{header, IsNoHeader};
 ghost use Rattle.coco_log.specs.Gates.{IsHead, IsPart, IsStep};
 ghost use Rattle.coco_log.specs.LogState.{IsOnlyRead};
@@ -75,7 +75,7 @@ pub fn next_gate<H: Host>(
         → IsStep (files window.old.file) at result }
     ensures on { (next : ℕ) → result ≡ Ok (Some next) → (at + 5 ≤ next) × (next < at + 2 ^ 32) × (next < end) }
     ensures read { IsOnlyRead H.moment H.observed H.said H.reads H.may_leave host.old host.new }
-    ensures counts { CountsOpen result (H.disk_faults host.old) (H.disk_faults host.new) }
+    ensures counts { CountsRead result (H.disk_faults host.old) (H.disk_faults host.new) }
     ensures others { H.say_faults host.new ≡ H.say_faults host.old }
 {
     match head_at(host, window, at)? {
@@ -109,7 +109,7 @@ pub fn read_header<H: Host>(host: &mut H, window: &mut Window, kind: u8) -> Resu
     ensures refused { (at : ℕ) (files : Files) → result ≡ Err (fault.NotALog at) → H.reads host.old ≡ Some files → IsPart window.old.from window.old.count window.old.bytes.items (files window.old.file)
         → IsNoHeader kind (files window.old.file) at }
     ensures read { IsOnlyRead H.moment H.observed H.said H.reads H.may_leave host.old host.new }
-    ensures counts { CountsOpen result (H.disk_faults host.old) (H.disk_faults host.new) }
+    ensures counts { CountsRead result (H.disk_faults host.old) (H.disk_faults host.new) }
     ensures others { H.say_faults host.new ≡ H.say_faults host.old }
 {
     let header = [b'C', b'O', b'C', b'O', b'L', b'O', b'G', kind];

@@ -4,7 +4,7 @@ ghost use Rattle.coco_types.specs.Limits.{files_end};
 ghost use Rattle.coco_host.specs.Files.{Files, Become, Follows};
 ghost use Rattle.coco_host.specs.Moments.{SeesOnly};
 ghost use Rattle.coco_log.specs.declared.fault.LogFault.TheVariants as fault;
-ghost use Rattle.coco_log.specs.Faults.{CountsFault, CountsOpen};
+ghost use Rattle.coco_log.specs.Faults.{CountsFault, CountsOpen, CountsRead};
 ghost use Rattle.coco_log.specs.Grammar.{most_entry_bytes, counted, FitsNoLog};
 ghost use Rattle.coco_log.specs.Making.{MakesLog};
 ghost use Rattle.coco_log.specs.LogState.{without_entries, with_entry, gates, IsAtRest, IsBeforeOrAfter, ChangesOne, SameBut, IsAppended, IsMade, IsOnlyRead, IsFresh, IsOpened, Holds, HasEntry};
@@ -80,6 +80,7 @@ impl Log {
         ensures log { IfOk result (λ log. IsFresh log file kind) }
         ensures ok { IfOk result (λ log. (files : Files) → H.reads host.old ≡ Some files → IsOpened log files (H.may_leave host.new)) }
         ensures refused { (at : ℕ) (files : Files) → result ≡ Err (fault.NotALog at) → H.reads host.old ≡ Some files → FitsNoLog kind (files file) at }
+        ensures long { (files : Files) → result ≡ Err fault.TooLong → H.reads host.old ≡ Some files → files_end ≤ length (files file) }
         ensures read { IsOnlyRead H.moment H.observed H.said H.reads H.may_leave host.old host.new }
         ensures counts { CountsOpen result (H.disk_faults host.old) (H.disk_faults host.new) }
         ensures others { H.say_faults host.new ≡ H.say_faults host.old }
@@ -118,7 +119,7 @@ impl Log {
             × ((files : Files) (body : List ℕ) → H.reads host.old ≡ Some files → HasEntry self.old number body (files self.old.file) → ⊥) }
         ensures same { self.new ≡ self.old }
         ensures read { IsOnlyRead H.moment H.observed H.said H.reads H.may_leave host.old host.new }
-        ensures counts { CountsOpen result (H.disk_faults host.old) (H.disk_faults host.new) }
+        ensures counts { CountsRead result (H.disk_faults host.old) (H.disk_faults host.new) }
         ensures others { H.say_faults host.new ≡ H.say_faults host.old }
     {
         let number = number as usize;

@@ -11,6 +11,7 @@ abbrev pub make_fault_of : LogFault → MakeFault
 make_fault_of log.Disk = Disk
 make_fault_of log.NoMemory = NoMemory
 make_fault_of (log.NotALog at) = Disk
+make_fault_of log.TooLong = Disk
 
 -- a disk fault where the host's count rose, and want of memory where it didn't
 abbrev pub CountsMake : {T : Type 0} → Result T MakeFault → ℕ → ℕ → Type 0

@@ -48,7 +48,7 @@ impl From<LogFault> for MakeFault {
     // Making a log refuses no file.
     fn from(fault: LogFault) -> MakeFault {
         match fault {
-            LogFault::Disk | LogFault::NotALog { .. } => MakeFault::Disk,
+            LogFault::Disk | LogFault::NotALog { .. } | LogFault::TooLong => MakeFault::Disk,
             LogFault::NoMemory => MakeFault::NoMemory,
         }
     }

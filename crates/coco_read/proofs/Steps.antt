@@ -8,7 +8,7 @@ use Rattle.coco_log.specs.Grammar.{FitsNoLog, IsNoHeader, front}
 use Rattle.coco_log.specs.LogState.{LogState, Holds}
 use Rattle.coco_log.specs.Reading.{Reading, IsNext, IsOf, IsReading, log_of}
 use Rattle.coco_log.specs.declared.fault.LogFault.{LogFault}
-use Rattle.coco_log.specs.declared.fault.LogFault.TheVariants.{Disk, NoMemory as OutOfMemory, NotALog}
+use Rattle.coco_log.specs.declared.fault.LogFault.TheVariants.{Disk, NoMemory as OutOfMemory, NotALog, TooLong}
 use Rattle.coco_host.specs.Files.{Files}
 use Rattle.coco_types.specs.declared.error.NoMemory.{NoMemory}
 use Rattle.coco_read.specs.declared.fault.OpenFault.{OpenFault}
@@ -123,6 +123,7 @@ module _ {E : Type 0} (rules : EntryRules E) (reads : (before : List E) (e : E) 
     fault_step after OutOfMemory is = tt
     fault_step after (NotALog at) is =
         subst (λ (k : ℕ). IsFirstIn rules k (files number) at) (sym of.of_kind) (refused_cut old es (files number) at way is.1 is.2)
+    fault_step after TooLong is = absurd is
 
     pub step_fault : (after : List E) (fault : LogFault) (answer : OpenFault) → result ≡ Err fault → answer ≡ fault_of number fault → IsStep rules (Err answer) new after (files number)
     step_fault after fault answer is told =
@@ -173,3 +174,4 @@ pub no_log_of : (file : ℕ) (fault : LogFault) (other at : ℕ) → fault_of fi
 no_log_of file Disk other at is = cc
 no_log_of file OutOfMemory other at is = cc
 no_log_of file (NotALog place) other at is = cc
+no_log_of file TooLong other at is = cc

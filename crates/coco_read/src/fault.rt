@@ -52,7 +52,8 @@ pub fn fault_in(file: u32, fault: LogFault) -> OpenFault
 {
     match fault {
         LogFault::Disk => OpenFault::Disk,
-        LogFault::NoMemory => OpenFault::NoMemory,
+        // A file that is longer than a log may be can't be read in the memory that there is.
+        LogFault::NoMemory | LogFault::TooLong => OpenFault::NoMemory,
         LogFault::NotALog { at } => OpenFault::NotAStore { file, at },
     }
 }

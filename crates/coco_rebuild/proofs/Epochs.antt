@@ -18,7 +18,7 @@ use Rattle.coco_log.specs.Drafts.{Drafted, Drafts, HasLog}
 use Rattle.coco_log.specs.LogState.{IsAsBefore, IsOnlyRead}
 use Rattle.coco_log.specs.Reading.{Reading}
 use Rattle.coco_log.specs.declared.fault.LogFault.{LogFault}
-use Rattle.coco_log.specs.declared.fault.LogFault.TheVariants.{Disk, NoMemory, NotALog}
+use Rattle.coco_log.specs.declared.fault.LogFault.TheVariants.{Disk, NoMemory, NotALog, TooLong}
 use Rattle.coco_log.proofs.Changing.{apart}
 use Rattle.coco_log.proofs.OnlyRead.{sees_weaker}
 use Rattle.coco_store.specs.Contents.{Contents, HoldsNode}
@@ -39,6 +39,7 @@ answered (Ok u) P is = is
 answered (Err Disk) P is = tt
 answered (Err NoMemory) P is = tt
 answered (Err (NotALog at)) P is = tt
+answered (Err TooLong) P is = tt
 
 -- what is only read changes nothing
 module _ {H : Type 0} (moment : H → ℕ) (observed : H → ℕ → Observation → Type 0) (said : H → Option (List ℕ)) (reads : H → Option Files) (may_leave : H → Files → Type 0) where

@@ -121,6 +121,7 @@ module _ (all done rest : List Prepared) (file : List ℕ) (are : ArePrepared al
   fails old new number fault.Disk kind next = tt
   fails old new number fault.NoMemory kind next = tt
   fails old new number (fault.NotALog at) kind next = absurd (is_log old.kind at kind next.2)
+  fails old new number fault.TooLong kind next = absurd next
 
 pub after_next : (old new : Reading) (number : ℕ) (files : Files) (bodies : List (List ℕ)) (result : Result Bool LogFault) → old.file ≡ number → IsReading old bodies (files number)
     → (IsReading old bodies (files old.file) → IsNext result old new bodies (files old.file)) → IsNext result old new bodies (files number)

@@ -15,7 +15,7 @@ use Rattle.coco_log.specs.Changes.{SameBesides}
 use Rattle.coco_log.specs.Drafts.{HasLog, KeepsLog}
 use Rattle.coco_log.specs.Grammar.{IsLog}
 use Rattle.coco_log.specs.declared.fault.LogFault.{LogFault}
-use Rattle.coco_log.specs.declared.fault.LogFault.TheVariants.{Disk, NoMemory, NotALog}
+use Rattle.coco_log.specs.declared.fault.LogFault.TheVariants.{Disk, NoMemory, NotALog, TooLong}
 use Rattle.coco_log.specs.Faults.{CountsFault}
 use Rattle.coco_read.specs.Faults.{Counts}
 use Rattle.coco_read.specs.declared.fault.OpenFault.{OpenFault}
@@ -89,6 +89,7 @@ answered_ok (Ok u) P p = p
 answered_ok (Err Disk) P p = tt
 answered_ok (Err NoMemory) P p = tt
 answered_ok (Err (NotALog at)) P p = tt
+answered_ok (Err TooLong) P p = tt
 
 pub gains_answered : {H : Type 0} (moment : H → ℕ) (observed : H → ℕ → Observation → Type 0) (said : H → Option (List ℕ)) (reads : H → Option Files) (may_leave : H → Files → Type 0)
     (written : Result (Unit {0}) LogFault) (result : Result (Unit {0}) OpenFault) (Was Now : Files → Type 0) (old new : H) → result ≡ answer_to written
@@ -105,12 +106,14 @@ never_refused (Ok u) result file at is bad = let no : ◌≡◌ {A = Result (Uni
 never_refused (Err Disk) result file at is bad = let no : ◌≡◌ {A = Result (Unit {0}) OpenFault} (Err opening.Disk) (Err (NotAStore file at)) = sym is ∙ bad in cc
 never_refused (Err NoMemory) result file at is bad = let no : ◌≡◌ {A = Result (Unit {0}) OpenFault} (Err opening.NoMemory) (Err (NotAStore file at)) = sym is ∙ bad in cc
 never_refused (Err (NotALog place)) result file at is bad = let no : ◌≡◌ {A = Result (Unit {0}) OpenFault} (Err opening.Disk) (Err (NotAStore file at)) = sym is ∙ bad in cc
+never_refused (Err TooLong) result file at is bad = let no : ◌≡◌ {A = Result (Unit {0}) OpenFault} (Err opening.Disk) (Err (NotAStore file at)) = sym is ∙ bad in cc
 
 answered_counts : (written : Result (Unit {0}) LogFault) (old new : ℕ) → CountsFault written old new → Counts (answer_to written) old new
 answered_counts (Ok u) old new counts = counts
 answered_counts (Err Disk) old new counts = counts
 answered_counts (Err NoMemory) old new counts = counts
 answered_counts (Err (NotALog at)) old new counts = absurd counts
+answered_counts (Err TooLong) old new counts = absurd counts
 
 pub counts_answered : (written : Result (Unit {0}) LogFault) (result : Result (Unit {0}) OpenFault) (old new : ℕ) → result ≡ answer_to written → CountsFault written old new → Counts result old new
 counts_answered written result old new is counts = subst (λ (r : Result (Unit {0}) OpenFault). Counts r old new) (sym is) (answered_counts written old new counts)

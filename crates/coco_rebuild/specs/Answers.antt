@@ -32,6 +32,7 @@ answer_to (Ok u) = Ok u
 answer_to (Err log.Disk) = Err opening.Disk
 answer_to (Err log.NoMemory) = Err opening.NoMemory
 answer_to (Err (log.NotALog at)) = Err opening.Disk
+answer_to (Err log.TooLong) = Err opening.Disk
 
 -- the disk failed where the host's count of faults rose, and nowhere else
 abbrev pub CountsRebuild : {T : Type 0} → Result T RebuildFault → ℕ → ℕ → Type 0

@@ -64,7 +64,7 @@ pub fn fault_in(file: u32, fault: LogFault) -> OpenFault
 {
     match fault {
         LogFault::Disk => OpenFault::Disk,
-        LogFault::NoMemory => OpenFault::NoMemory,
+        LogFault::NoMemory | LogFault::TooLong => OpenFault::NoMemory,
         LogFault::NotALog { at } => OpenFault::NotAStore { file, at },
     }
 }
@@ -76,6 +76,6 @@ pub fn answer_to(written: Result<(), LogFault>) -> Result<(), OpenFault>
     match written {
         Ok(()) => Ok(()),
         Err(LogFault::NoMemory) => Err(OpenFault::NoMemory),
-        Err(LogFault::Disk | LogFault::NotALog { .. }) => Err(OpenFault::Disk),
+        Err(LogFault::Disk | LogFault::NotALog { .. } | LogFault::TooLong) => Err(OpenFault::Disk),
     }
 }

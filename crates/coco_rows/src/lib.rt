@@ -18,8 +18,8 @@ use std::mem;
 pub use stored::Stored;
 use stored::written;
 
-/// The newest version of a row: the stable one, or what was installed in this epoch. It says too whether anything else
-/// than the stable value was touched since the row came to rest.
+/// The newest version of a row: the stable one, or what was installed in this epoch. `Untouched` is the
+/// stable one too, of a row that nothing has touched since it came to rest.
 #[derive(Debug, Drop)]
 pub enum Newest {
     Untouched,

@@ -33,11 +33,14 @@ impl Rooms {
         }
     }
 
-    /// A room. It takes memory only where none is free.
+    /// A room. It takes memory only where none is free, and then for those too that come back.
     pub fn take(&mut self) -> Result<Room, NoMemory> {
         match self.free.pop() {
             Some(room) => Ok(room),
-            None => built(*self.free.allocator()),
+            None => {
+                self.free.reserve(MOST_FREE)?;
+                built(*self.free.allocator())
+            }
         }
     }
 
@@ -52,7 +55,7 @@ impl Rooms {
         }
     }
 
-    /// Keeps a room that is needed no more. It takes no memory that isn't there.
+    /// Keeps a room that is needed no more, where it takes no memory to.
     pub fn give(&mut self, room: Option<Room>) {
         if let Some(room) = room
             && self.free.len() < MOST_FREE

@@ -83,6 +83,7 @@ impl Stored {
         }
     }
 
+    /// The value by itself, its text copied.
     pub fn get(&self) -> Option<Value>
         ensures { result ≡ self.now }
     {

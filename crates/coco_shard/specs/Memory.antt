@@ -9,6 +9,7 @@ use Rattle.coco_shard.specs.declared.ops.Op.TheVariants.{Read, Lock, Extend, Ins
 use Rattle.coco_shard.specs.RowState.{ShardState}
 use Rattle.coco_shard.specs.Table.{key_of}
 
+-- whether the operation is a lock
 abbrev pub is_lock : Op → Bool
 is_lock (Read key) = false
 is_lock (Lock key) = true

@@ -9,7 +9,6 @@ use Rattle.coco_host.proofs.Sees.{started}
 use Rattle.coco_entry.specs.declared.commit.Commit.{Commit}
 use Rattle.coco_entry.specs.declared.prepared.Prepared.{Prepared}
 use Rattle.coco_entry.specs.declared.prepared.Row.{Row}
-use Rattle.coco_log.specs.declared.fault.LogFault.{LogFault}
 use Rattle.coco_log.specs.LogState.{LogState, with_entry}
 use Rattle.coco_log.proofs.OnlyRead.{sees_then, sees_weaker}
 use Rattle.coco_store.specs.Contents.{Contents, IsGoodStore, file_of}
@@ -69,7 +68,7 @@ module _ (c : Contents) (b : Ballot) (has : ℕ → Bool) (d : Contents) (voted 
 -- ---- logs
 
 -- a log stays in its file, whatever an append to it answered
-pub stays_in_file : {T : Type 0} (r : Result T LogFault) (old new : LogState) (body : List ℕ) (P : Type 0) → OnOk r (new ≡ with_entry old body) → OnErr r ((P × (new ≡ old)) ⊎ (new ≡ record old { spent = true }))
+pub stays_in_file : {T E : Type 0} (r : Result T E) (old new : LogState) (body : List ℕ) (P : Type 0) → OnOk r (new ≡ with_entry old body) → OnErr r ((P × (new ≡ old)) ⊎ (new ≡ record old { spent = true }))
     → (new.file ≡ old.file) × (new.kind ≡ old.kind)
 stays_in_file (Ok x) old new body P ok err = (ap (λ (l : LogState). l.file) ok, ap (λ (l : LogState). l.kind) ok)
 stays_in_file (Err e) old new body P ok err =
@@ -125,6 +124,23 @@ module _ {H : Type 0} (moment : H → ℕ) (observed : H → ℕ → Observation
   votes_none result fault is only_now had has host rests = record {
     keeps = keeps_same only_now had host rests;
     ok = none_ok result fault (RestsVoted c b has (reads host) (may_leave host)) is;
+  }
+
+  -- a call that failed as the one within it did
+  pub votes_failed : {T E F : Type 0} (within : Result T E) (result : Result T F) (fault : F) → result ≡ Err fault → (has : ℕ → Bool) (old new : H)
+      → Votes moment observed said reads may_leave within c b has old new → Votes moment observed said reads may_leave result c b has old new
+  votes_failed within result fault is has old new votes = record {
+    keeps = votes.keeps;
+    ok = none_ok result fault (RestsVoted c b has (reads new) (may_leave new)) is;
+  }
+
+  -- and one that succeeded so
+  pub votes_succeeded : {T E F : Type 0} (within : Result T E) (result : Result T F) (x : T) → within ≡ Ok x → result ≡ Ok x → (has : ℕ → Bool) (old new : H)
+      → Votes moment observed said reads may_leave within c b has old new → Votes moment observed said reads may_leave result c b has old new
+  votes_succeeded within result x was is has old new votes = record {
+    keeps = votes.keeps;
+    ok = subst (λ (o : Result _ _). OnOk o (RestsVoted c b has (reads new) (may_leave new))) (sym is)
+        (subst (λ (o : Result _ _). OnOk o (RestsVoted c b has (reads new) (may_leave new))) was votes.ok);
   }
 
   -- one that changed nothing of the files

@@ -59,7 +59,8 @@ fn prepare_entry<H: Host>(
     ensures stream { H.say_faults host.new ≡ H.say_faults host.old }
 {
     let rows = prepared_rows(*body.allocator(), pieces, held)?;
-    add_prepared(host, log, epoch, rows.as_slice(), body)
+    add_prepared(host, log, epoch, rows.as_slice(), body)?;
+    Ok(())
 }
 
 /// A node that has stopped before its entry begins anew without the rows of the epoch. Its tables are lost.

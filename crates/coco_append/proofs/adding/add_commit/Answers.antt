@@ -33,3 +33,9 @@ returns-clause-log g c =
     let entry : Commit = record { epoch = c.args.epoch; dones = c.args.dones.now } in
     let is : c.as_slice.result.now ≡ commit_bytes entry = rw (c.as_slice.ensures.value, c.in_ok-put_commit.ensures.ok, c.clear.ensures.items) refl in
     rw is at c.add.ensures.log
+
+pub returns-clause-long : goal.returns-clause-long
+returns-clause-long g c =
+    let entry : Commit = record { epoch = c.args.epoch; dones = c.args.dones.now } in
+    let is : c.as_slice.result.now ≡ commit_bytes entry = rw (c.as_slice.ensures.value, c.in_ok-put_commit.ensures.ok, c.clear.ensures.items) refl in
+    rw is at c.add.ensures.long
