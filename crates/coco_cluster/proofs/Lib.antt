@@ -4,6 +4,7 @@ pub mod AttemptLemmas
 pub mod BehindLemmas
 pub mod DecideLemmas
 pub mod EndLemmas
+pub mod EntryLemmas
 pub mod KeepLemmas
 pub mod ReadLemmas
 pub mod RemindLemmas

@@ -25,7 +25,7 @@ use Rattle.coco_cluster.specs.declared.fault.TurnFault.TheVariants as fault
 
 -- ---- which epochs are below a number
 
-above_later : (n m : ℕ) (w : World) → n ≤ m → IsAbove w n → IsAbove w m
+pub above_later : (n m : ℕ) (w : World) → n ≤ m → IsAbove w n → IsAbove w m
 above_later n m w le above = record {
   begun = λ e is. (let lt = above.begun e is in omega (arith, lt, le));
   prepared = λ k e within is. (let lt = above.prepared k e within is in omega (arith, lt, le));
@@ -36,14 +36,14 @@ above_later n m w le above = record {
 above_more : (n : ℕ) (xs : List ℕ) → ((e : ℕ) → has xs e ≡ true → e < n) → (e : ℕ) → has (n ∷ xs) e ≡ true → e < n + 1
 above_more n xs above e is = ⊎_elim (λ same. omega (arith, same)) (λ later. (let lt = above e later in omega (arith, lt))) (has-cases xs n e is)
 
-above_same : (n : ℕ) (w v : World) → v.count ≡ w.count → SameEntries w v → IsAbove w n → IsAbove v n
+pub above_same : (n : ℕ) (w v : World) → v.count ≡ w.count → SameEntries w v → IsAbove w n → IsAbove v n
 above_same n w v count same above = record {
   begun = λ e is. above.begun e (ap (λ xs. has xs e) (sym same.begun) ∙ is);
   prepared = λ k e within is. above.prepared k e (omega (arith, within, count)) (ap (λ (f : ℕ → List ℕ). has (f k) e) (sym same.prepared) ∙ is);
   committed = λ e is. above.committed e (ap (λ xs. has xs e) (sym same.commits) ∙ is);
 }
 
-above_voted : (n : ℕ) (w v : World) → v.count ≡ w.count → StartsVote n w v → IsAbove w n → IsAbove v (n + 1)
+pub above_voted : (n : ℕ) (w v : World) → v.count ≡ w.count → StartsVote n w v → IsAbove w n → IsAbove v (n + 1)
 above_voted n w v count starts above = record {
   begun = λ e is. above_more n w.begun above.begun e (ap (λ xs. has xs e) (sym starts.begun) ∙ is);
   prepared = λ k e within is. ⊎_elim
@@ -56,7 +56,7 @@ above_voted n w v count starts above = record {
     gained : {before after : List ℕ} → GainsNewest n before after → after ≡ n ∷ before
     gained gains = gains.gained
 
-above_committed : (n : ℕ) (w v : World) → v.count ≡ w.count → Commits n w v → IsAbove w (n + 1) → IsAbove v (n + 1)
+pub above_committed : (n : ℕ) (w v : World) → v.count ≡ w.count → Commits n w v → IsAbove w (n + 1) → IsAbove v (n + 1)
 above_committed n w v count commits above = record {
   begun = λ e is. above.begun e (ap (λ xs. has xs e) (sym commits.begun) ∙ is);
   prepared = λ k e within is. above.prepared k e (omega (arith, within, count)) (ap (λ (f : ℕ → List ℕ). has (f k) e) (sym commits.prepared) ∙ is);
@@ -65,7 +65,7 @@ above_committed n w v count commits above = record {
 
 -- ---- from call to call
 
-count_of : (w v : World) (a b : Scene) → length b.cores ≡ length a.cores → IsWorld w a → IsWorld v b → v.count ≡ w.count
+pub count_of : (w v : World) (a b : Scene) → length b.cores ≡ length a.cores → IsWorld w a → IsWorld v b → v.count ≡ w.count
 count_of w v a b same one two = two.count ∙ same ∙ sym one.count
 
 -- where nothing has happened
@@ -174,7 +174,7 @@ on_end Fact (Err fault.EpochsUsedUp) fact = fact
 pub same_nodes : (a b : Members) → AreMembers a → AreMembers b → b.tables.layout ≡ a.tables.layout → length b.cores.items ≡ length a.cores.items
 same_nodes a b one two same = sym two.layout ∙ ap (λ (l : Layout). l.nodes) same ∙ one.layout
 
-same_scene : (a b : Members) (sent : List Posted) → b.cores ≡ a.cores → b.chief ≡ a.chief → scene_of b sent ≡ scene_of a sent
+pub same_scene : (a b : Members) (sent : List Posted) → b.cores ≡ a.cores → b.chief ≡ a.chief → scene_of b sent ≡ scene_of a sent
 same_scene a b sent cores chief = λ i. record { cores = (cores i).items; chief = chief_of (chief i); sent = sent }
 
 -- where nodes were reminded, and no more

@@ -13,7 +13,7 @@ use Rattle.coco_host.specs.Files.{Files}
 use Rattle.coco_host.specs.Moments.{Observation}
 use Rattle.coco_lost.specs.Requests.{AreRequestsOf}
 use Rattle.coco_members.proofs.TableLemmas.{primaries_stand}
-use Rattle.coco_members.specs.AtRest.{primaries_of, NoneBehind, ShardsHaveMap}
+use Rattle.coco_members.specs.AtRest.{primaries_of, scene_of, NoneBehind, ShardsHaveMap}
 use Rattle.coco_members.specs.declared.members.Members.{Members}
 use Rattle.coco_net.specs.declared.letter.Posted.{Posted}
 use Rattle.coco_parallel.specs.Ending.{Start}
@@ -33,6 +33,7 @@ use Rattle.coco_types.specs.declared.call.Request.{Request}
 use Rattle.coco_vote.specs.Preparing.{MayForce}
 use Rattle.coco_vote.proofs.VoterLemmas.{places_same}
 use Rattle.coco_worker.specs.declared.slot.EpochConfig.{EpochConfig}
+use Rattle.coco_cluster.specs.Entries.{DecidesEntries, StepsOn}
 use Rattle.coco_cluster.specs.Standing.{IsSound, StandsAt}
 use Rattle.coco_cluster.specs.Trying.{ballot_on, AreQuiet, ComesOn, DecidesFiles, DecidesOn, GiveIf, HasGivenUp, HasVoted, Keeps, KeepShards, MayCommitOn, MayGoOn, RestsDecided, StayInPlace, StaysInPlace, TriesFiles}
 use Rattle.coco_cluster.specs.Turning.{HasRoom, MayTurn}
@@ -225,3 +226,8 @@ module _ {k : Cluster} {sent : List Posted} {requests : List Request} {workers a
     pub may_go_on : (tables : NodeTables) → RestsDecided false c (ballot_on k.next_epoch pieces (held_at k.members.voters.items)) (reads host_new) (may_leave host_new) → ((m : Rows) → KeepAll m t → KeepAll m tables)
         → MayGoOn c k.next_epoch tables (reads host_new) (may_leave host_new)
     may_go_on tables ready keep = record { rests = ready; keeps = keep m1 keep1 }
+
+    -- the steps of nodes and coordinator, where they gain the entries that the files gain
+    pub entered : (d : Contents) (i j : ℕ → ℕ) (new : Members) (sent_new : List Posted) → DecidesEntries reads may_leave k.next_epoch pieces i j mid new sent sent_new host host_new → RestsOn d (reads host_new) (may_leave host_new)
+        → StepsOn c d i j k.next_epoch (k.next_epoch + 1) [] (scene_of k.members sent) (scene_of new sent_new)
+    entered d i j new sent_new entries behind = entries c d (held_at k.members.voters.items) (are_held k.members.voters.items) force nodes stands.belongs.logs rests behind

@@ -2,6 +2,7 @@ pub mod Attempts
 pub mod Around
 pub mod GivingUp
 pub mod Ending
+pub mod Entries
 pub mod Faults
 pub mod Messages
 pub mod Standing

@@ -6,6 +6,7 @@ ghost use Rattle.coco_letters.specs.Around.{IsLater, around};
 ghost use Rattle.coco_members.specs.AtRest.{ShardsHaveMap, scene_of};
 ghost use Rattle.coco_store.specs.Contents.{Contents};
 ghost use Rattle.coco_cluster.specs.Attempts.{Attempts, AttemptsOn, HasCause, KeepsMap};
+ghost use Rattle.coco_cluster.specs.Entries.{StepsOn};
 ghost use Rattle.coco_cluster.specs.Faults.{CountsAttempt};
 ghost use Rattle.coco_cluster.specs.Standing.{AllStand, IsSound, StandsAt};
 ghost use Rattle.coco_cluster.specs.Stepping.{AsksBy, HaveCommitted, OnEnd, StepsTo};
@@ -64,6 +65,9 @@ impl Cluster {
             (around N.sent N.given N.faults N.last_seed P.stops_seen P.early_stops P.stopped P.begun P.asked net.new power.new)) }
         ensures world { OnEnd result ((commits : List ℕ) × HaveCommitted result self.new.next_epoch commits
             × StepsTo (P.stopped power.old) (P.stopped power.new) self.old.next_epoch self.new.next_epoch commits (scene_of self.old.members (N.sent net.old)) (scene_of self.new.members (N.sent net.new))) }
+        ensures entries { (c d : Contents) → RestsOn c (H.reads host.old) (H.may_leave host.old) → StandsAt c self.old → HasRoom c requests.items → RestsOn d (H.reads host.new) (H.may_leave host.new)
+            → OnEnd result ((commits : List ℕ) × HaveCommitted result self.new.next_epoch commits
+            × StepsOn c d (P.stopped power.old) (P.stopped power.new) self.old.next_epoch self.new.next_epoch commits (scene_of self.old.members (N.sent net.old)) (scene_of self.new.members (N.sent net.new))) }
         ensures map { IfOk result (λ again. P.stops_seen power.new ≡ P.stops_seen power.old → KeepsMap again self.old self.new) }
         ensures procs { self.new.procs ≡ self.old.procs }
         ensures trace { OnErr result (self.old.trace ≡ None → self.new.trace ≡ None) }

@@ -7,6 +7,7 @@ ghost use Rattle.coco_letters.specs.Around.{IsLater, SkipsFew, around, spare};
 ghost use Rattle.coco_letters.specs.GivingUp.{AreGivenUp};
 ghost use Rattle.coco_members.specs.AtRest.{ShardsHaveMap, scene_of};
 ghost use Rattle.coco_store.specs.Contents.{Contents};
+ghost use Rattle.coco_cluster.specs.Entries.{StepsOn};
 ghost use Rattle.coco_cluster.specs.Faults.{CountsTurn};
 ghost use Rattle.coco_cluster.specs.Standing.{AllStand, IsSound, StandsAt};
 ghost use Rattle.coco_cluster.specs.Stepping.{HasAsked, HasCommittedBy, OnEnd, StepsTo};
@@ -106,6 +107,9 @@ impl Cluster {
         ensures from { OnOk result (0 < length requests.items → P.stops_seen power.new ≡ P.stops_seen power.old → (m : Rows) → ShardsHaveMap m self.old.members.tables → HasTurned requests.items workers attempts m self.old self.new) }
         ensures world { OnEnd result ((commits : List ℕ) × HasCommittedBy result requests.items self.new.next_epoch commits
             × StepsTo (P.stopped power.old) (P.stopped power.new) self.old.next_epoch self.new.next_epoch commits (scene_of self.old.members (N.sent net.old)) (scene_of self.new.members (N.sent net.new))) }
+        ensures entries { (c d : Contents) → RestsOn c (H.reads host.old) (H.may_leave host.old) → StandsAt c self.old → HasRoom c requests.items → RestsOn d (H.reads host.new) (H.may_leave host.new)
+            → OnEnd result ((commits : List ℕ) × HasCommittedBy result requests.items self.new.next_epoch commits
+            × StepsOn c d (P.stopped power.old) (P.stopped power.new) self.old.next_epoch self.new.next_epoch commits (scene_of self.old.members (N.sent net.old)) (scene_of self.new.members (N.sent net.new))) }
         ensures asks { OnOk result (0 < length requests.items → HasAsked self.old.members.tables.layout self.old.next_epoch self.new.next_epoch
             (around N.sent N.given N.faults N.last_seed P.stops_seen P.early_stops P.stopped P.begun P.asked net.old power.old)
             (around N.sent N.given N.faults N.last_seed P.stops_seen P.early_stops P.stopped P.begun P.asked net.new power.new)) }

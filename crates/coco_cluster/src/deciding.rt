@@ -18,6 +18,7 @@ ghost use Rattle.coco_trial.specs.Voting.{MayVote};
 ghost use Rattle.coco_vote.specs.Asking.{RisesIf, IsLater as StaysAsked};
 ghost use Rattle.coco_vote.specs.Counting.{GivesOn};
 ghost use Rattle.coco_vote.specs.Taking.{AreReady, IsElsewhere};
+ghost use Rattle.coco_cluster.specs.Entries.{DecidesEntries};
 ghost use Rattle.coco_cluster.specs.Faults.{CountsPart};
 ghost use Rattle.coco_cluster.specs.Stepping.{StepsTo, VotedForIf};
 ghost use Rattle.coco_cluster.specs.Trying.{next_if, AreQuiet, DecidesFiles, DecidesOn, GiveIf, GivenUpIfNot, IsSilentSince, LoseIfTold, SameLogs, StayInPlace};
@@ -126,6 +127,7 @@ pub(crate) fn decide<H: Host, N: Net, P: Power>(
         (around N.sent N.given N.faults N.last_seed P.stops_seen P.early_stops P.stopped P.begun P.asked net.old power.old)
         (around N.sent N.given N.faults N.last_seed P.stops_seen P.early_stops P.stopped P.begun P.asked net.new power.new)) }
     ensures steps { OnOk result (StepsTo (P.stopped power.old) (P.stopped power.new) epoch (epoch + 1) [] (scene_of members.old (N.sent net.old)) (scene_of members.new (N.sent net.new))) }
+    ensures entries { OnOk result (DecidesEntries H.reads H.may_leave epoch pieces.now (P.stopped power.old) (P.stopped power.new) members.old members.new (N.sent net.old) (N.sent net.new) host.old host.new) }
     ensures places { OnOk result (StayInPlace members.old members.new) }
     ensures whole { OnOk result (LoseIfTold (P.stops_seen power.old) (P.stops_seen power.new) members.old.voters.items members.new.voters.items) }
     // The tables.
@@ -176,6 +178,7 @@ fn ship_and_vote<H: Host, N: Net, P: Power>(
         (around N.sent N.given N.faults N.last_seed P.stops_seen P.early_stops P.stopped P.begun P.asked net.old power.old)
         (around N.sent N.given N.faults N.last_seed P.stops_seen P.early_stops P.stopped P.begun P.asked net.new power.new)) }
     ensures steps { OnOk result (StepsTo (P.stopped power.old) (P.stopped power.new) epoch (epoch + 1) [] (scene_of members.old (N.sent net.old)) (scene_of members.new (N.sent net.new))) }
+    ensures entries { OnOk result (DecidesEntries H.reads H.may_leave epoch pieces.now (P.stopped power.old) (P.stopped power.new) members.old members.new (N.sent net.old) (N.sent net.new) host.old host.new) }
     ensures places { OnOk result (StayInPlace members.old members.new) }
     ensures whole { OnOk result (LoseIfTold (P.stops_seen power.old) (P.stops_seen power.new) members.old.voters.items members.new.voters.items) }
     // The tables.

@@ -8,6 +8,7 @@ ghost use Rattle.coco_members.specs.AtRest.{NoneBehind, ShardsHaveMap, scene_of}
 ghost use Rattle.coco_power.specs.Counting.{begun_after};
 ghost use Rattle.coco_vote.specs.Asking.{IsLater as StaysAsked};
 ghost use Rattle.coco_vote.specs.Taking.{AreReady, IsElsewhere};
+ghost use Rattle.coco_cluster.specs.Entries.{TriesEntries};
 ghost use Rattle.coco_cluster.specs.Faults.{CountsPart};
 ghost use Rattle.coco_cluster.specs.Standing.{IsSound};
 ghost use Rattle.coco_cluster.specs.Stepping.{StepsTo, VotedForBy};
@@ -78,6 +79,7 @@ impl Cluster {
             (around N.sent N.given N.faults N.last_seed P.stops_seen P.early_stops P.stopped P.begun P.asked net.old power.old)
             (around N.sent N.given N.faults N.last_seed P.stops_seen P.early_stops P.stopped P.begun P.asked net.new power.new)) }
         ensures steps { OnOk result (StepsTo (P.stopped power.old) (P.stopped power.new) self.old.next_epoch (self.old.next_epoch + 1) [] (scene_of self.old.members (N.sent net.old)) (scene_of self.new.members (N.sent net.new))) }
+        ensures entries { OnOk result (TriesEntries H.reads H.may_leave requests.items (P.stopped power.old) (P.stopped power.new) self.old self.new (N.sent net.old) (N.sent net.new) host.old host.new) }
         ensures stays { OnOk result (StaysInPlace self.old self.new) }
         ensures whole { OnOk result (LoseIfTold (P.stops_seen power.old) (P.stops_seen power.new) self.old.members.voters.items self.new.members.voters.items) }
         ensures procs { self.new.procs ≡ self.old.procs }
@@ -139,6 +141,7 @@ impl Cluster {
             (around N.sent N.given N.faults N.last_seed P.stops_seen P.early_stops P.stopped P.begun P.asked net.old power.old)
             (around N.sent N.given N.faults N.last_seed P.stops_seen P.early_stops P.stopped P.begun P.asked net.new power.new)) }
         ensures steps { OnOk result (StepsTo (P.stopped power.old) (P.stopped power.new) self.old.next_epoch (self.old.next_epoch + 1) [] (scene_of self.old.members (N.sent net.old)) (scene_of self.new.members (N.sent net.new))) }
+        ensures entries { OnOk result (TriesEntries H.reads H.may_leave requests.items (P.stopped power.old) (P.stopped power.new) self.old self.new (N.sent net.old) (N.sent net.new) host.old host.new) }
         ensures stays { OnOk result (StaysInPlace self.old self.new) }
         ensures whole { OnOk result (LoseIfTold (P.stops_seen power.old) (P.stops_seen power.new) self.old.members.voters.items self.new.members.voters.items) }
         ensures procs { self.new.procs ≡ self.old.procs }

@@ -17,6 +17,7 @@ use Rattle.coco_cluster.specs.Trying.{AreQuiet, DecidesFiles, DecidesOn, GiveIf,
 use Rattle.coco_cluster.proofs.AskLemmas.{asked_none, voted_before}
 use Rattle.coco_cluster.proofs.AroundLemmas.{causes_from, gives_stopped, later_still, later_then}
 use Rattle.coco_cluster.proofs.DecideLemmas.{failed_files, idle_keeps, rests_now, stay_stopped}
+use Rattle.coco_cluster.proofs.EntryLemmas.{decides_on, on_later, on_rests, on_same}
 use Rattle.coco_cluster.proofs.StepLemmas.{steps_ended, steps_later, steps_same}
 use Rattle.coco_cluster.proofs.StopLemmas.{logs_ready, lose_on}
 use Rattle.coco_cluster.proofs.deciding.decide.Goals as goal
@@ -173,3 +174,20 @@ returns-clause-voted g c =
     (λ all. voted_before all k.tables.layout c.args.epoch 2 a m b few (omega arith) (later_still a m refl refl refl refl c.one_stops.ensures.counts.early_rises) c.ship_and_vote.ensures.later (rw c.if-branch.false at c.in_ok-one_stops.ensures.told) c.ship_and_vote.ensures.power.asked_stays
     (λ n lt. asked_none c.in_ok-one_stops.field-0 (length k.cores.items) 2 (g.P.Power.stopped c.args.power.now) (g.P.Power.stopped c.one_stops.new.power) (g.P.Power.asked c.args.power.now) (g.P.Power.asked c.one_stops.new.power) c.if-branch.false c.requires.quiet.are.few (omega arith) c.in_ok-one_stops.ensures.asked n (omega (arith, lt, c.requires.quiet.are.layout))))
     (subst (λ (x : Members). IfOk c.ship_and_vote.result (λ all. VotedForIf all x.tables.layout c.args.epoch 3 m b)) (c.in_ok-one_stops.ensures.none c.if-branch.false) c.ship_and_vote.ensures.voted)
+
+pub returns-then-branch-clause-entries : goal.returns-then-branch-clause-entries
+returns-then-branch-clause-entries g c d e hold held may nodes logs rests behind =
+    let i = g.P.Power.stopped c.args.power.now in
+    let j = g.P.Power.stopped c.one_stops.new.power in
+    let sent = g.N.Net.sent c.args.net.now in
+    let a = scene_of c.args.members.now sent in
+    let b = scene_of c.one_stops.new.members sent in
+    on_rests d d e i j c.args.epoch (c.args.epoch + 1) [] a b (g.H.Host.reads c.args.host.now) (g.H.Host.may_leave c.args.host.now) rests behind
+    (on_later d d i j c.args.epoch c.args.epoch (c.args.epoch + 1) [] a b (omega arith) (on_same d i j c.args.epoch a b c.one_stops.ensures.nodes (c.in_ok-one_stops.ensures.world sent)))
+
+pub returns-clause-entries : goal.returns-clause-entries
+returns-clause-entries g c =
+    let sent = g.N.Net.sent c.args.net.now in
+    decides_on g.H.Host.reads g.H.Host.may_leave c.args.host.now c.ship_and_vote.new.host (g.P.Power.stopped c.args.power.now) (g.P.Power.stopped c.one_stops.new.power) (g.P.Power.stopped c.ship_and_vote.new.power) sent (g.N.Net.sent c.ship_and_vote.new.net)
+    c.ship_and_vote.result c.args.epoch c.args.pieces.now c.args.members.now c.one_stops.new.members c.ship_and_vote.new.members (c.in_ok-one_stops.ensures.none c.if-branch.false) c.one_stops.ensures.nodes (c.in_ok-one_stops.ensures.world sent)
+    c.ship_and_vote.ensures.entries

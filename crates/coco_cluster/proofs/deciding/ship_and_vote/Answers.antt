@@ -8,11 +8,12 @@ use Rattle.coco_members.specs.AtRest.{scene_of}
 use Rattle.coco_members.specs.declared.members.Members.{Members}
 use Rattle.coco_trial.specs.Running.{GiveAll, KeepAll}
 use Rattle.coco_vote.proofs.PowerLemmas.{later_same as asked_same}
-use Rattle.coco_vote.specs.Preparing.{Ballot}
+use Rattle.coco_vote.specs.Preparing.{Ballot, RestsVoted, have_durable}
 use Rattle.coco_vote.specs.Taking.{AreHeld, AreReady, HaveLogs, IsElsewhere}
 use Rattle.coco_cluster.specs.Trying.{ballot_on, RestsDecided}
 use Rattle.coco_cluster.proofs.AskLemmas.{voted_shipped}
 use Rattle.coco_cluster.proofs.AroundLemmas.{gives_silent, later_then, later_used}
+use Rattle.coco_cluster.proofs.EntryLemmas.{on_after, on_later, on_rests, on_same, on_voted}
 use Rattle.coco_cluster.proofs.DecideLemmas.{cause_so, decides_so, failed_files, idle_keeps, rests_decided, rests_now, silent_quiet, stay_shipped, stay_voted, writes_voted}
 use Rattle.coco_cluster.proofs.SeeingLemmas.{keeps_voted}
 use Rattle.coco_cluster.proofs.StepLemmas.{steps_after, steps_later, steps_on, steps_voted}
@@ -200,3 +201,29 @@ returns-clause-voted g c =
     let nodes : k.tables.layout.nodes ≡ length c.vote.new.members.cores.items = c.requires.quiet.are.layout ∙ sym (ap (λ (x : Members). length x.cores.items) c.are_shipped.ensures.stays) ∙ sym c.vote.ensures.keeps.count in
     voted_shipped c.in_ok-all.all k.tables.layout c.args.epoch c.vote.new.members.cores.items (chief_of c.vote.new.members.chief) a m b nodes (later_used a m c.are_shipped.ensures.sent c.are_shipped.ensures.net (omega arith))
     (later_used m b c.vote.ensures.sent c.vote.ensures.net c.vote.ensures.later.early_rises) refl (c.in_ok-are_shipped.ensures.answered c.if-not-branch.false) c.in_ok-all.ensures.comes
+
+pub returns-then-not-branch-clause-entries : goal.returns-then-not-branch-clause-entries
+returns-then-not-branch-clause-entries g c d e hold held may nodes logs rests behind =
+    let i = g.P.Power.stopped c.args.power.now in
+    let a = scene_of c.args.members.now (g.N.Net.sent c.args.net.now) in
+    let b = scene_of c.are_shipped.new.members (g.N.Net.sent c.are_shipped.new.net) in
+    on_rests d d e i i c.args.epoch (c.args.epoch + 1) [] a b (g.H.Host.reads c.args.host.now) (g.H.Host.may_leave c.args.host.now) rests behind
+    (on_later d d i i c.args.epoch c.args.epoch (c.args.epoch + 1) [] a b (omega arith)
+    (on_same d i i c.args.epoch a b (ap (λ (x : Members). length x.cores.items) c.are_shipped.ensures.stays) (c.in_ok-are_shipped.ensures.world i)))
+
+pub returns-clause-entries : goal.returns-clause-entries
+returns-clause-entries g c d e hold held may nodes logs rests behind =
+    let k : Members = c.are_shipped.new.members in
+    let ballot : Ballot = ballot_on c.args.epoch c.args.pieces.now hold in
+    let now : k ≡ record c.args.members.now { tables = k.tables } = c.are_shipped.ensures.stays in
+    let logs_now : HaveLogs d k.voters.items = subst (λ (x : Members). HaveLogs d x.voters.items) (sym now) logs in
+    let same : length k.cores.items ≡ length c.args.members.now.cores.items = ap (λ (x : Members). length x.cores.items) now in
+    let voted : RestsVoted d ballot (have_durable c.args.epoch c.vote.new.members.cores.items) (g.H.Host.reads c.vote.new.host) (g.H.Host.may_leave c.vote.new.host) = (c.in_ok-all.ensures.files d hold (subst (λ (x : Members). AreHeld hold x.voters.items) (sym now) held) may (nodes ∙ sym same) logs_now rests).ok in
+    let i = g.P.Power.stopped c.args.power.now in
+    let j = g.P.Power.stopped c.vote.new.power in
+    let x = scene_of c.args.members.now (g.N.Net.sent c.args.net.now) in
+    let y = scene_of k (g.N.Net.sent c.are_shipped.new.net) in
+    let z = scene_of c.vote.new.members (g.N.Net.sent c.vote.new.net) in
+    on_rests d voted.contents e i j c.args.epoch (c.args.epoch + 1) [] x z (g.H.Host.reads c.vote.new.host) (g.H.Host.may_leave c.vote.new.host) voted.rests behind
+    (on_after d d voted.contents i i j c.args.epoch c.args.epoch (c.args.epoch + 1) [] x y z (on_same d i i c.args.epoch x y same (c.in_ok-are_shipped.ensures.world i))
+    (on_voted d voted.contents ballot i j y z c.in_ok-are_shipped.ensures.may.rest.new voted.voted c.vote.ensures.keeps.count c.in_ok-all.ensures.world))

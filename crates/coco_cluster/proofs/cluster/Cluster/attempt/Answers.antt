@@ -19,6 +19,7 @@ use Rattle.coco_store.specs.Laws.{MayCommit, with_commit}
 use Rattle.coco_types.specs.Limits.{epochs_end}
 use Rattle.coco_types.specs.declared.call.Request.{Request}
 use Rattle.coco_cluster.specs.Ending.{Commits, HasEnded, IsForgotten}
+use Rattle.coco_cluster.specs.Entries.{StepsOn}
 use Rattle.coco_cluster.specs.Faults.{CountsAttempt, CountsPart}
 use Rattle.coco_cluster.specs.Standing.{IsSound, Rests}
 use Rattle.coco_cluster.specs.Stepping.{HaveCommitted, IsVotedFor, MayHaveBegun, OnEnd, StepsTo, VotedForBy}
@@ -31,6 +32,7 @@ use Rattle.coco_cluster.proofs.AskLemmas.{begins_one, begins_same, voted_whole}
 use Rattle.coco_cluster.proofs.AroundLemmas.{gives_from, later_then, later_used}
 use Rattle.coco_cluster.proofs.AttemptLemmas.{are_few, are_of_epoch, belongs_still, committed_one, given_back, kept_forgotten, layout_forgotten, may_be_kept, next_forgotten, procs_forgotten, rests_ended, rests_gone, stand_gone, shards_gone, stands_ended, stands_gone, trace_forgotten}
 use Rattle.coco_cluster.proofs.BehindLemmas.{behind_later}
+use Rattle.coco_cluster.proofs.EntryLemmas.{committed_on, forgotten_on, on_number, on_rests, on_same, unrefused}
 use Rattle.coco_cluster.proofs.RemindLemmas.{all_finished, chief_elsewhere, may_reminded, one_silent, reminded, sound_reminded, stand_reminded, stands_reminded}
 use Rattle.coco_cluster.proofs.SeeingLemmas.{adds_none, keeps_same, rests_read}
 use Rattle.coco_cluster.proofs.StepLemmas.{committed_steps, forgotten_steps, has_begun, on_end, one_begun, part_ends, reminded_steps, same_nodes, steps_number}
@@ -732,3 +734,102 @@ returns-in_err-read_stopped-in-GivenUp-clause-refused g c file at is =
     lost_if_told (g.P.Power.stops_seen c.args.power.now) (g.P.Power.stops_seen c.try_epoch.new.power) c.remind.new.members.voters.items c.forget_epoch.new.self.members.voters.items
     (subst (λ vs. LoseIfTold (g.P.Power.stops_seen c.args.power.now) (g.P.Power.stops_seen c.try_epoch.new.power) c.remind.new.members.voters.items vs) (sym (ap (λ (x : Cluster). x.members.voters.items) gone.same)) c.in_ok-dones.ensures.whole)
     sound.whole (λ none. true≢false (sym (subst IsOk c.in_err-read_stopped-in-GivenUp.was (c.read_stopped-in-GivenUp.ensures.none none))))
+
+-- ---- with the entries of the files
+
+pub returns-in_err-remind-clause-entries : goal.returns-in_err-remind-clause-entries
+returns-in_err-remind-clause-entries g c d e on stands room behind =
+    let p = err_from_is_err_and c.from_residual.result c.from_residual.ensures.1 in
+    subst (λ (r : Result (Option (Vec Request)) TurnFault). OnEnd r ((commits : List ℕ) × HaveCommitted r c.args.self.now.next_epoch commits × StepsOn d e (g.P.Power.stopped c.args.power.now) (g.P.Power.stopped c.args.power.now) c.args.self.now.next_epoch c.args.self.now.next_epoch commits (scene_of c.args.self.now.members (g.N.Net.sent c.args.net.now)) (scene_of c.remind.new.members (g.N.Net.sent c.remind.new.net)))) (sym (p.1 ∙ ap Err p.2)) tt
+
+pub returns-then-not-branch-clause-entries : goal.returns-then-not-branch-clause-entries
+returns-then-not-branch-clause-entries g c d e on stands room behind =
+    let k : Cluster = c.args.self.now in
+    let told = c.in_ok-remind.ensures in
+    let rest : AreAtRest k.next_epoch (g.N.Net.sent c.remind.new.net) c.remind.new.members = told.rest k.next_epoch c.requires.sound.rests.rest in
+    let i = g.P.Power.stopped c.args.power.now in
+    let first : StepsOn d d i i k.next_epoch k.next_epoch [] (scene_of k.members (g.N.Net.sent c.args.net.now)) (scene_of c.remind.new.members (g.N.Net.sent c.remind.new.net)) =
+    on_same d i i k.next_epoch (scene_of k.members (g.N.Net.sent c.args.net.now)) (scene_of c.remind.new.members (g.N.Net.sent c.remind.new.net)) (same_nodes k.members c.remind.new.members c.requires.sound.rests.rest.are rest.are told.finish.layout) (told.world i) in
+    ([], refl, on_rests d d e i i k.next_epoch k.next_epoch [] (scene_of k.members (g.N.Net.sent c.args.net.now)) (scene_of c.remind.new.members (g.N.Net.sent c.remind.new.net)) (g.H.Host.reads c.args.host.now) (g.H.Host.may_leave c.args.host.now) on behind first)
+
+pub returns-in_err-dones-clause-entries : goal.returns-in_err-dones-clause-entries
+returns-in_err-dones-clause-entries g c d e on stands room behind =
+    let p = err_from_is_err_and c.from_residual-in_err-dones.result c.from_residual-in_err-dones.ensures.1 in
+    part_ends Tried (Option (Vec Request)) ((commits : List ℕ) × HaveCommitted c.from_residual-in_err-dones.result c.try_epoch.new.self.next_epoch commits × StepsOn d e (g.P.Power.stopped c.args.power.now) (g.P.Power.stopped c.try_epoch.new.power) c.args.self.now.next_epoch c.try_epoch.new.self.next_epoch commits (scene_of c.args.self.now.members (g.N.Net.sent c.args.net.now)) (scene_of c.try_epoch.new.self.members (g.N.Net.sent c.try_epoch.new.net))) c.from_residual-in_err-dones.result c.in_err-dones.field-0.0 (g.H.Host.disk_faults c.args.host.now) (g.H.Host.disk_faults c.try_epoch.new.host) (p.1 ∙ ap Err p.2) c.in_err-dones.ensures.disk
+
+pub returns-in_err-commit_epoch-in-Voted-clause-entries : goal.returns-in_err-commit_epoch-in-Voted-clause-entries
+returns-in_err-commit_epoch-in-Voted-clause-entries g c d e on stands room behind =
+    let p = err_from_is_err_and c.from_residual-in_err-commit_epoch-in-Voted.result c.from_residual-in_err-commit_epoch-in-Voted.ensures.1 in
+    part_ends (Unit {0}) (Option (Vec Request)) ((commits : List ℕ) × HaveCommitted c.from_residual-in_err-commit_epoch-in-Voted.result c.commit_epoch.new.self.next_epoch commits × StepsOn d e (g.P.Power.stopped c.args.power.now) (g.P.Power.stopped c.commit_epoch.new.power) c.args.self.now.next_epoch c.commit_epoch.new.self.next_epoch commits (scene_of c.args.self.now.members (g.N.Net.sent c.args.net.now)) (scene_of c.commit_epoch.new.self.members (g.N.Net.sent c.commit_epoch.new.net))) c.from_residual-in_err-commit_epoch-in-Voted.result c.in_err-commit_epoch-in-Voted.field-0.0 (g.H.Host.disk_faults c.try_epoch.new.host) (g.H.Host.disk_faults c.commit_epoch.new.host) (p.1 ∙ ap Err p.2) c.in_err-commit_epoch-in-Voted.ensures.disk
+
+pub returns-in_err-read_stopped-in-Voted-clause-entries : goal.returns-in_err-read_stopped-in-Voted-clause-entries
+returns-in_err-read_stopped-in-Voted-clause-entries g c d e on stands room behind =
+    let p = err_from_is_err_and c.from_residual-in_err-read_stopped-in-Voted.result c.from_residual-in_err-read_stopped-in-Voted.ensures.1 in
+    unrefused (Unit {0}) (Option (Vec Request)) ((commits : List ℕ) × HaveCommitted c.from_residual-in_err-read_stopped-in-Voted.result c.read_stopped.new.self.next_epoch commits × StepsOn d e (g.P.Power.stopped c.args.power.now) (g.P.Power.stopped c.commit_epoch.new.power) c.args.self.now.next_epoch c.read_stopped.new.self.next_epoch commits (scene_of c.args.self.now.members (g.N.Net.sent c.args.net.now)) (scene_of c.read_stopped.new.self.members (g.N.Net.sent c.commit_epoch.new.net))) c.from_residual-in_err-read_stopped-in-Voted.result c.in_err-read_stopped-in-Voted.field-0.0 (g.H.Host.disk_faults c.commit_epoch.new.host) (g.H.Host.disk_faults c.read_stopped.new.host) (p.1 ∙ ap Err p.2) c.in_err-read_stopped-in-Voted.ensures.disk
+    (λ file place is. returns-in_err-read_stopped-in-Voted-clause-never g c file place d on stands room is)
+
+pub returns-in_err-read_stopped-in-GivenUp-clause-entries : goal.returns-in_err-read_stopped-in-GivenUp-clause-entries
+returns-in_err-read_stopped-in-GivenUp-clause-entries g c d e on stands room behind =
+    let p = err_from_is_err_and c.from_residual-in_err-read_stopped-in-GivenUp.result c.from_residual-in_err-read_stopped-in-GivenUp.ensures.1 in
+    unrefused (Unit {0}) (Option (Vec Request)) ((commits : List ℕ) × HaveCommitted c.from_residual-in_err-read_stopped-in-GivenUp.result c.read_stopped-in-GivenUp.new.self.next_epoch commits × StepsOn d e (g.P.Power.stopped c.args.power.now) (g.P.Power.stopped c.try_epoch.new.power) c.args.self.now.next_epoch c.read_stopped-in-GivenUp.new.self.next_epoch commits (scene_of c.args.self.now.members (g.N.Net.sent c.args.net.now)) (scene_of c.read_stopped-in-GivenUp.new.self.members (g.N.Net.sent c.try_epoch.new.net))) c.from_residual-in_err-read_stopped-in-GivenUp.result c.in_err-read_stopped-in-GivenUp.field-0.0 (g.H.Host.disk_faults c.try_epoch.new.host) (g.H.Host.disk_faults c.read_stopped-in-GivenUp.new.host) (p.1 ∙ ap Err p.2) c.in_err-read_stopped-in-GivenUp.ensures.disk
+    (λ file place is. returns-in_err-read_stopped-in-GivenUp-clause-never g c file place d on stands room is)
+
+pub returns-in_ok-read_stopped-in-Voted-clause-entries : goal.returns-in_ok-read_stopped-in-Voted-clause-entries
+returns-in_ok-read_stopped-in-Voted-clause-entries g c d e on stands room behind =
+    let k : Cluster = c.args.self.now in
+    let now : Cluster = reminded k c.remind.new.members in
+    let told = c.in_ok-remind.ensures in
+    let rest : AreAtRest k.next_epoch (g.N.Net.sent c.remind.new.net) c.remind.new.members = told.rest k.next_epoch c.requires.sound.rests.rest in
+    let i = g.P.Power.stopped c.args.power.now in
+    let first : StepsOn d d i i k.next_epoch k.next_epoch [] (scene_of k.members (g.N.Net.sent c.args.net.now)) (scene_of c.remind.new.members (g.N.Net.sent c.remind.new.net)) =
+    on_same d i i k.next_epoch (scene_of k.members (g.N.Net.sent c.args.net.now)) (scene_of c.remind.new.members (g.N.Net.sent c.remind.new.net)) (same_nodes k.members c.remind.new.members c.requires.sound.rests.rest.are rest.are told.finish.layout) (told.world i) in
+    let stays : StaysInPlace now c.try_epoch.new.self = c.in_ok-dones.ensures.stays in
+    let at = stands_reminded k c.remind.new.members c.remind.ensures.stays told.finish.layout told.committed d (c.remind.ensures.map (map_in d)) stands in
+    let files = c.in_ok-dones.ensures.files d on at room in
+    let map = c.requires.sound.rests.rest.map in
+    let voted : HasVoted c.args.requests.items c.args.workers c.args.attempts map.0 c.in-Voted.dones (traced c.in-Voted.trace) (g.N.Net.sent c.try_epoch.new.net) now c.try_epoch.new.self = subst (λ (tried : Tried). ComesOf tried c.args.requests.items c.args.workers c.args.attempts map.0 (g.N.Net.sent c.try_epoch.new.net) now c.try_epoch.new.self) c.in-Voted.is (c.in_ok-dones.ensures.comes map.0 (told.shards map.0 map.1)) in
+    let ended : HasEnded c.in-Voted.dones (traced c.in-Voted.trace) c.try_epoch.new.self c.commit_epoch.new.self = c.in_ok-commit_epoch-in-Voted.ensures.ended in
+    let may : MayCommitOn d c.args.requests.items c.args.workers c.args.attempts k.next_epoch c.in-Voted.dones (traced c.in-Voted.trace) c.try_epoch.new.self.members.tables (g.H.Host.reads c.try_epoch.new.host) (g.H.Host.may_leave c.try_epoch.new.host) = subst (λ (tried : Tried). ComesOn tried d c.args.requests.items c.args.workers c.args.attempts k.next_epoch c.try_epoch.new.self.members.tables (g.H.Host.reads c.try_epoch.new.host) (g.H.Host.may_leave c.try_epoch.new.host)) c.in-Voted.is files.1 in
+    let end = with_commit (commit_of k.next_epoch c.in-Voted.dones) may.d in
+    let rests : RestsOn end (g.H.Host.reads c.commit_epoch.new.host) (g.H.Host.may_leave c.commit_epoch.new.host) = subst (λ n. RestsOn (with_commit (commit_of n c.in-Voted.dones) may.d) (g.H.Host.reads c.commit_epoch.new.host) (g.H.Host.may_leave c.commit_epoch.new.host)) stays.next
+    (c.in_ok-commit_epoch-in-Voted.ensures.files may.d may.rests (belongs_still d may.d now c.try_epoch.new.self may.only stays.procs stays.base stays.kept stays.members at.belongs) (subst (λ n. IsCommit (commit_of n c.in-Voted.dones) → MayCommit may.d (commit_of n c.in-Voted.dones)) (sym stays.next) may.commit)).ok in
+    let number : c.read_stopped.new.self.next_epoch ≡ k.next_epoch + 1 = c.read_stopped.ensures.next ∙ ended.next ∙ ap (λ n. n + 1) stays.next in
+    let l = g.P.Power.stopped c.commit_epoch.new.power in
+    let a = scene_of k.members (g.N.Net.sent c.args.net.now) in
+    let b = scene_of c.read_stopped.new.self.members (g.N.Net.sent c.commit_epoch.new.net) in
+    let steps : StepsOn d end i l k.next_epoch (k.next_epoch + 1) (k.next_epoch ∷ []) a b = committed_on d may.d c.in-Voted.dones i (g.P.Power.stopped c.try_epoch.new.power) l c.try_epoch.new.self.next_epoch k.next_epoch k.members c.remind.new.members c.try_epoch.new.self.members c.commit_epoch.new.self.members c.read_stopped.new.self.members (g.N.Net.sent c.args.net.now) (g.N.Net.sent c.remind.new.net) (g.N.Net.sent c.try_epoch.new.net) (g.N.Net.sent c.commit_epoch.new.net)
+    stays.next first (c.in_ok-dones.ensures.entries d may.d on at room may.rests) (same_nodes c.try_epoch.new.self.members c.commit_epoch.new.self.members voted.voted.are c.in_ok-commit_epoch-in-Voted.ensures.rest.are ended.layout) c.in_ok-commit_epoch-in-Voted.ensures.world c.read_stopped.ensures.cores c.read_stopped.ensures.chief in (
+      k.next_epoch ∷ [],
+      (k.next_epoch, number, refl),
+      on_number d e i l k.next_epoch (k.next_epoch + 1) c.read_stopped.new.self.next_epoch (k.next_epoch ∷ []) a b (sym number)
+          (on_rests d end e i l k.next_epoch (k.next_epoch + 1) (k.next_epoch ∷ []) a b (g.H.Host.reads c.read_stopped.new.host) (g.H.Host.may_leave c.read_stopped.new.host)
+          (rests_read g.H.Host.moment g.H.Host.observed g.H.Host.said g.H.Host.reads g.H.Host.may_leave end c.commit_epoch.new.host c.read_stopped.new.host c.read_stopped.ensures.read rests) behind steps),
+    )
+
+pub returns-in_ok-read_stopped-in-GivenUp-clause-entries : goal.returns-in_ok-read_stopped-in-GivenUp-clause-entries
+returns-in_ok-read_stopped-in-GivenUp-clause-entries g c d e on stands room behind =
+    let k : Cluster = c.args.self.now in
+    let now : Cluster = reminded k c.remind.new.members in
+    let told = c.in_ok-remind.ensures in
+    let rest : AreAtRest k.next_epoch (g.N.Net.sent c.remind.new.net) c.remind.new.members = told.rest k.next_epoch c.requires.sound.rests.rest in
+    let i = g.P.Power.stopped c.args.power.now in
+    let first : StepsOn d d i i k.next_epoch k.next_epoch [] (scene_of k.members (g.N.Net.sent c.args.net.now)) (scene_of c.remind.new.members (g.N.Net.sent c.remind.new.net)) =
+    on_same d i i k.next_epoch (scene_of k.members (g.N.Net.sent c.args.net.now)) (scene_of c.remind.new.members (g.N.Net.sent c.remind.new.net)) (same_nodes k.members c.remind.new.members c.requires.sound.rests.rest.are rest.are told.finish.layout) (told.world i) in
+    let stays : StaysInPlace now c.try_epoch.new.self = c.in_ok-dones.ensures.stays in
+    let at = stands_reminded k c.remind.new.members c.remind.ensures.stays told.finish.layout told.committed d (c.remind.ensures.map (map_in d)) stands in
+    let files = c.in_ok-dones.ensures.files d on at room in
+    let may : MayGoOn d k.next_epoch c.try_epoch.new.self.members.tables (g.H.Host.reads c.try_epoch.new.host) (g.H.Host.may_leave c.try_epoch.new.host) = subst (λ (tried : Tried). ComesOn tried d c.args.requests.items c.args.workers c.args.attempts k.next_epoch c.try_epoch.new.self.members.tables (g.H.Host.reads c.try_epoch.new.host) (g.H.Host.may_leave c.try_epoch.new.host)) c.in-GivenUp.is files.1 in
+    let up : NoneBehind c.remind.new.members.tables = c.finished_nodes_are_not_behind.ensures.none k.next_epoch (g.N.Net.sent c.remind.new.net) c.remind.new.members rest (all_finished c.in_ok-remind.field-0 (chief_of c.remind.new.members.chief) _ c.if-not-branch.false told.all) in
+    let gone : IsForgotten c.try_epoch.new.self c.forget_epoch.new.self = c.forget_epoch.ensures.forgotten in
+    let number : c.read_stopped-in-GivenUp.new.self.next_epoch ≡ k.next_epoch + 1 = c.read_stopped-in-GivenUp.ensures.next ∙ next_forgotten now c.try_epoch.new.self c.forget_epoch.new.self stays gone up in
+    let j = g.P.Power.stopped c.try_epoch.new.power in
+    let a = scene_of k.members (g.N.Net.sent c.args.net.now) in
+    let b = scene_of c.read_stopped-in-GivenUp.new.self.members (g.N.Net.sent c.try_epoch.new.net) in
+    let steps : StepsOn d may.rests.0 i j k.next_epoch (k.next_epoch + 1) [] a b = forgotten_on d may.rests.0 i j k.next_epoch k.members c.remind.new.members c.try_epoch.new.self.members c.read_stopped-in-GivenUp.new.self.members (g.N.Net.sent c.args.net.now) (g.N.Net.sent c.remind.new.net) (g.N.Net.sent c.try_epoch.new.net)
+    first (c.in_ok-dones.ensures.entries d may.rests.0 on at room may.rests.3) (c.read_stopped-in-GivenUp.ensures.cores ∙ ap (λ (x : Cluster). x.members.cores) gone.same) (c.read_stopped-in-GivenUp.ensures.chief ∙ ap (λ (x : Cluster). x.members.chief) gone.same) in (
+      [],
+      refl,
+      on_number d e i j k.next_epoch (k.next_epoch + 1) c.read_stopped-in-GivenUp.new.self.next_epoch [] a b (sym number)
+          (on_rests d may.rests.0 e i j k.next_epoch (k.next_epoch + 1) [] a b (g.H.Host.reads c.read_stopped-in-GivenUp.new.host) (g.H.Host.may_leave c.read_stopped-in-GivenUp.new.host)
+          (rests_read g.H.Host.moment g.H.Host.observed g.H.Host.said g.H.Host.reads g.H.Host.may_leave may.rests.0 c.try_epoch.new.host c.read_stopped-in-GivenUp.new.host c.read_stopped-in-GivenUp.ensures.read may.rests.3) behind steps),
+    )

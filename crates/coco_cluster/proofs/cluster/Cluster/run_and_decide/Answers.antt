@@ -12,7 +12,7 @@ use Rattle.coco_cluster.specs.Trying.{ComesOn}
 use Rattle.coco_cluster.specs.declared.cluster.Cluster.{Cluster}
 use Rattle.coco_cluster.specs.declared.fault.TurnFault.{TurnFault}
 use Rattle.coco_cluster.proofs.AroundLemmas.{later_same}
-use Rattle.coco_cluster.proofs.TriedLemmas.{been_run, begun_run, decided_files, given_up_so, may_commit, may_go_on, quiet_mid, ring_run, shippable_run, stays_tried, tried_in_vain, voted_so, HaveBeenRun}
+use Rattle.coco_cluster.proofs.TriedLemmas.{been_run, begun_run, decided_files, entered, given_up_so, may_commit, may_go_on, quiet_mid, ring_run, shippable_run, stays_tried, tried_in_vain, voted_so, HaveBeenRun}
 use Rattle.coco_cluster.proofs.TryLemmas.{may_try}
 use Rattle.coco_cluster.proofs.cluster.Cluster.run_and_decide.Goals as goal
 
@@ -229,3 +229,29 @@ returns-clause-voted g c = tt
 
 pub returns-clause-steps : goal.returns-clause-steps
 returns-clause-steps g c = c.in_ok-all.ensures.steps
+
+pub returns-then-all-clause-entries : goal.returns-then-all-clause-entries
+returns-then-all-clause-entries g c d e rests stands room behind =
+    let k : Cluster = c.args.self.now in
+    let t : NodeTables = c.run_epoch.new.tables in
+    let sent = g.N.Net.sent c.args.net.now in
+    let carries = g.N.Net.carries c.args.net.now in
+    let run : HaveBeenRun k sent c.args.requests.items c.args.workers c.args.attempts carries t c.in_ok-dones.field-0.dones c.as_slice-2.result.now (traced c.in_ok-dones.field-0.trace) =
+    been_run k sent c.args.requests.items c.args.workers c.args.attempts c.config_of-config.result carries t c.in_ok-dones.field-0.dones c.in_ok-dones.field-0.pieces c.as_slice-2.result.now (traced c.in_ok-dones.field-0.trace) c.config_of-config.ensures c.as_slice-2.ensures c.requires.sound c.requires.up c.requires.may
+    c.in_ok-dones.ensures.ran c.run_epoch.ensures.keep c.in_ok-dones.ensures.shippable c.in_ok-dones.ensures.begun c.run_epoch.ensures.places in
+    let r : Result Bool TurnFault = Ok c.in_ok-all.all in
+    entered run g.H.Host.moment g.H.Host.observed g.H.Host.said g.H.Host.reads g.H.Host.may_leave r c.args.host.now c.decide.new.host c.in_ok-all.ensures.files c.a_run_is_the_next_commit.ensures (record { may = c.a_run_may_be_prepared.ensures.may; ready = c.a_run_may_be_prepared.ensures.ready }) c.requires.some c.requires.below d rests stands room
+    e (g.P.Power.stopped c.args.power.now) (g.P.Power.stopped c.decide.new.power) c.decide.new.members (g.N.Net.sent c.decide.new.net) c.in_ok-all.ensures.entries behind
+
+pub returns-clause-entries : goal.returns-clause-entries
+returns-clause-entries g c d e rests stands room behind =
+    let k : Cluster = c.args.self.now in
+    let t : NodeTables = c.run_epoch.new.tables in
+    let sent = g.N.Net.sent c.args.net.now in
+    let carries = g.N.Net.carries c.args.net.now in
+    let run : HaveBeenRun k sent c.args.requests.items c.args.workers c.args.attempts carries t c.in_ok-dones.field-0.dones c.as_slice-2.result.now (traced c.in_ok-dones.field-0.trace) =
+    been_run k sent c.args.requests.items c.args.workers c.args.attempts c.config_of-config.result carries t c.in_ok-dones.field-0.dones c.in_ok-dones.field-0.pieces c.as_slice-2.result.now (traced c.in_ok-dones.field-0.trace) c.config_of-config.ensures c.as_slice-2.ensures c.requires.sound c.requires.up c.requires.may
+    c.in_ok-dones.ensures.ran c.run_epoch.ensures.keep c.in_ok-dones.ensures.shippable c.in_ok-dones.ensures.begun c.run_epoch.ensures.places in
+    let r : Result Bool TurnFault = Ok c.in_ok-all.all in
+    entered run g.H.Host.moment g.H.Host.observed g.H.Host.said g.H.Host.reads g.H.Host.may_leave r c.args.host.now c.decide.new.host c.in_ok-all.ensures.files c.a_run_is_the_next_commit.ensures (record { may = c.a_run_may_be_prepared.ensures.may; ready = c.a_run_may_be_prepared.ensures.ready }) c.requires.some c.requires.below d rests stands room
+    e (g.P.Power.stopped c.args.power.now) (g.P.Power.stopped c.decide.new.power) c.decide.new.members (g.N.Net.sent c.decide.new.net) c.in_ok-all.ensures.entries behind

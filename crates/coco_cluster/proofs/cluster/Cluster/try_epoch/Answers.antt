@@ -15,6 +15,7 @@ use Rattle.coco_cluster.specs.declared.cluster.Cluster.{Cluster}
 use Rattle.coco_cluster.proofs.AskLemmas.{asked_none, tried_before}
 use Rattle.coco_cluster.proofs.AroundLemmas.{gives_stopped, later_still, later_then, tried_from}
 use Rattle.coco_cluster.proofs.DecideLemmas.{idle_keeps, stay_stopped}
+use Rattle.coco_cluster.proofs.EntryLemmas.{on_later, on_rests, on_same, tries_on}
 use Rattle.coco_cluster.proofs.RestLemmas.{rest_is_quiet}
 use Rattle.coco_cluster.proofs.StepLemmas.{steps_ended, steps_later, steps_same}
 use Rattle.coco_cluster.proofs.StopLemmas.{logs_ready, lose_on}
@@ -158,3 +159,21 @@ returns-clause-voted g c =
     (λ tried. tried_before tried k.tables.layout e 1 a m b few (omega arith) (later_still a m refl refl refl refl c.one_stops.ensures.counts.early_rises) c.run_and_decide.ensures.later (rw c.if-branch.false at c.in_ok-one_stops.ensures.told) c.run_and_decide.ensures.power.asked_stays
     (λ n lt. asked_none c.in_ok-one_stops.field-0 (length k.cores.items) 1 (g.P.Power.stopped c.args.power.now) (g.P.Power.stopped c.one_stops.new.power) (g.P.Power.asked c.args.power.now) (g.P.Power.asked c.one_stops.new.power) c.if-branch.false are.few (omega arith) c.in_ok-one_stops.ensures.asked n (omega (arith, lt, are.layout))))
     (subst (λ (x : Members). IfOk c.run_and_decide.result (λ tried. VotedForBy tried x.tables.layout e 2 m b)) (c.in_ok-one_stops.ensures.none c.if-branch.false) c.run_and_decide.ensures.voted)
+
+pub returns-then-branch-clause-entries : goal.returns-then-branch-clause-entries
+returns-then-branch-clause-entries g c d e rests stands room behind =
+    let n = c.args.self.now.next_epoch in
+    let i = g.P.Power.stopped c.args.power.now in
+    let j = g.P.Power.stopped c.one_stops.new.power in
+    let sent = g.N.Net.sent c.args.net.now in
+    let a = scene_of c.args.self.now.members sent in
+    let b = scene_of c.one_stops.new.members sent in
+    on_rests d d e i j n (n + 1) [] a b (g.H.Host.reads c.args.host.now) (g.H.Host.may_leave c.args.host.now) rests behind
+    (on_later d d i j n n (n + 1) [] a b (omega arith) (on_same d i j n a b c.one_stops.ensures.nodes (c.in_ok-one_stops.ensures.world sent)))
+
+pub returns-clause-entries : goal.returns-clause-entries
+returns-clause-entries g c =
+    let sent = g.N.Net.sent c.args.net.now in
+    tries_on g.H.Host.reads g.H.Host.may_leave c.args.host.now c.run_and_decide.new.host (g.P.Power.stopped c.args.power.now) (g.P.Power.stopped c.one_stops.new.power) (g.P.Power.stopped c.run_and_decide.new.power) sent (g.N.Net.sent c.run_and_decide.new.net)
+    c.run_and_decide.result c.args.requests.items c.args.self.now c.one_stops.new.members c.run_and_decide.new.self (c.in_ok-one_stops.ensures.none c.if-branch.false) c.one_stops.ensures.nodes (c.in_ok-one_stops.ensures.world sent)
+    c.run_and_decide.ensures.entries

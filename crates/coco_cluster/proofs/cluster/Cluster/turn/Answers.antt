@@ -1,4 +1,4 @@
-use Rattle.std.proofs.Common.{◌≡◌, ◌<◌, ◌≤◌, ℕ, [], Option, Some, None, Result, Ok, Err, length, inl, refl, sym, ap, ◌∙◌, subst, arith}
+use Rattle.std.proofs.Common.{◌≡◌, ◌<◌, ◌≤◌, ℕ, List, [], Option, Some, None, Result, Ok, Err, length, inl, refl, sym, ap, ◌∙◌, subst, arith}
 use Rattle.std.proofs.lemmas.Result.{err_from_is_err_and}
 use Rattle.std.specs.Global.{Vec}
 use Rattle.std.specs.Prelude.{OnErr}
@@ -10,6 +10,7 @@ use Rattle.coco_members.specs.AtRest.{scene_of}
 use Rattle.coco_types.specs.Limits.{epochs_end}
 use Rattle.coco_types.specs.declared.call.Request.{Request}
 use Rattle.coco_cluster.specs.Attempts.{Attempts, AttemptsOn, HasCause, HasCommittedOne, IsGivenBack, KeepsMap}
+use Rattle.coco_cluster.specs.Entries.{StepsOn}
 use Rattle.coco_cluster.specs.Faults.{CountsAttempt}
 use Rattle.coco_cluster.specs.Stepping.{AsksBy, AsksForAll, HasCommittedBy}
 use Rattle.coco_cluster.specs.Trying.{GivesUp}
@@ -19,6 +20,7 @@ use Rattle.coco_cluster.specs.declared.fault.TurnFault.{TurnFault}
 use Rattle.coco_cluster.specs.declared.fault.TurnFault.TheVariants.{EpochsUsedUp, NotAStore, Unreachable}
 use Rattle.coco_cluster.proofs.AskLemmas.{asks_all, begins_same, begins_then}
 use Rattle.coco_cluster.proofs.AroundLemmas.{all_later, all_until, later_same, later_then}
+use Rattle.coco_cluster.proofs.EntryLemmas.{none_committed_on, on_after, on_none, on_rests, turn_committed_on, unrefused}
 use Rattle.coco_cluster.proofs.StepLemmas.{attempt_failed, none_committed, steps_after, steps_none, turn_committed}
 use Rattle.coco_cluster.proofs.TurnLemmas.{counts_failed, ends_committed, ends_failed, ends_without, few_more, few_until, goes_first, goes_more, may_still, more_given, none_left, none_of, room_as, same_sound, skips_few, some_left, turned_first}
 use Rattle.coco_cluster.proofs.cluster.Cluster.turn.Goals as goal
@@ -47,6 +49,10 @@ loop-attempt-init g c =
       untraced = c.keep.ensures;
       unused = λ used. refl;
       told = λ d on stands room. goes_first g.H.Host.moment g.H.Host.observed g.H.Host.said g.H.Host.reads g.H.Host.may_leave g.met.H.Host.only_now d k now c.args.host.now (record { procs = refl; kept = refl; members = refl; base = refl; next = refl }) on stands;
+      entries = λ d e on stands room behind.
+          let i = g.P.Power.stopped c.args.power.now in
+          let a = scene_of k.members (g.N.Net.sent c.args.net.now) in
+          on_rests d d e i i k.next_epoch k.next_epoch [] a a (g.H.Host.reads c.args.host.now) (g.H.Host.may_leave c.args.host.now) on behind (on_none d i k.next_epoch a);
       said = refl;
       disk = refl;
       stream = refl;
@@ -100,6 +106,17 @@ loop-attempt-preserved g c =
           let goes = before.told d on stands room in
           goes_more g.H.Host.moment g.H.Host.observed g.H.Host.said g.H.Host.reads g.H.Host.may_leave d c.loop-attempt.self c.attempt.new.self c.args.host.now c.loop-attempt.host c.attempt.new.host goes c.loop-attempt.requests.items c.args.workers c.args.attempts (Ok c.in_ok-attempt.field-0) c.in-Some.again (ap Ok c.in-Some.is) back.low
           (ok.files goes.on.d goes.on.rests goes.on.stands (room_as d goes.on.d c.args.requests.items c.loop-attempt.requests.items goes.on.only before.same room));
+      entries = λ d e on stands room behind.
+          let goes = before.told d on stands room in
+          let first : HasRoom goes.on.d c.loop-attempt.requests.items = room_as d goes.on.d c.args.requests.items c.loop-attempt.requests.items goes.on.only before.same room in
+          let j = g.P.Power.stopped c.loop-attempt.power in
+          let l = g.P.Power.stopped c.attempt.new.power in
+          let m = c.loop-attempt.self.next_epoch in
+          let o = c.attempt.new.self.next_epoch in
+          let y = scene_of c.loop-attempt.self.members (g.N.Net.sent c.loop-attempt.net) in
+          let z = scene_of c.attempt.new.self.members (g.N.Net.sent c.attempt.new.net) in
+          on_after d goes.on.d e (g.P.Power.stopped c.args.power.now) j l c.args.self.now.next_epoch m o [] (scene_of c.args.self.now.members (g.N.Net.sent c.args.net.now)) y z (before.entries d goes.on.d on stands room goes.on.rests)
+          (none_committed_on goes.on.d e c.in_ok-attempt.field-0 c.in-Some.again j l m o y z c.in-Some.is (ok.entries goes.on.d e goes.on.rests goes.on.stands first behind));
       said = did.said ∙ before.said;
       disk = ok.disk ∙ before.disk;
       stream = did.stream ∙ before.stream;
@@ -424,3 +441,36 @@ returns-in_err-attempt-clause-ended g c is =
 
 pub returns-then-self-ge-EPOCHS_END-clause-ended : goal.returns-then-self-ge-EPOCHS_END-clause-ended
 returns-then-self-ge-EPOCHS_END-clause-ended g c is = (c.if-self-ge-EPOCHS_END.true, (c.loop-attempt._attempt, omega (arith, c.loop-attempt-test.true), c.loop-attempt.invariant.high, c.loop-attempt.invariant.given))
+
+-- ---- with the entries of the files
+
+pub returns-then-is_empty-clause-entries : goal.returns-then-is_empty-clause-entries
+returns-then-is_empty-clause-entries g c d e on stands room behind =
+    let none : c.args.requests.items ≡ [] = none_of c.args.requests.items c.args.requests.len (sym c.is_empty.ensures ∙ c.if-is_empty.true) c.args.requests.ok.0 in
+    let i = g.P.Power.stopped c.args.power.now in
+    let n = c.args.self.now.next_epoch in
+    let a = scene_of c.args.self.now.members (g.N.Net.sent c.args.net.now) in
+    ([], subst (λ rs. HasCommittedBy (Ok tt) rs n []) (sym none) refl, on_rests d d e i i n n [] a a (g.H.Host.reads c.args.host.now) (g.H.Host.may_leave c.args.host.now) on behind (on_none d i n a))
+
+pub returns-then-self-ge-EPOCHS_END-clause-entries : goal.returns-then-self-ge-EPOCHS_END-clause-entries
+returns-then-self-ge-EPOCHS_END-clause-entries g c d e on stands room behind = ([], refl, c.loop-attempt.invariant.entries d e on stands room behind)
+
+pub returns-in_err-attempt-clause-entries : goal.returns-in_err-attempt-clause-entries
+returns-in_err-attempt-clause-entries g c d e on stands room behind =
+    let p = err_from_is_err_and c.from_residual.result c.from_residual.ensures.1 in
+    unrefused (Option (Vec Request)) (Unit {0}) ((commits : List ℕ) × HasCommittedBy c.from_residual.result c.args.requests.items c.attempt.new.self.next_epoch commits
+    × StepsOn d e (g.P.Power.stopped c.args.power.now) (g.P.Power.stopped c.attempt.new.power) c.args.self.now.next_epoch c.attempt.new.self.next_epoch commits (scene_of c.args.self.now.members (g.N.Net.sent c.args.net.now)) (scene_of c.attempt.new.self.members (g.N.Net.sent c.attempt.new.net)))
+    c.from_residual.result c.in_err-attempt.field-0.0 (g.H.Host.disk_faults c.loop-attempt.host) (g.H.Host.disk_faults c.attempt.new.host) (p.1 ∙ ap Err p.2) c.in_err-attempt.ensures.disk (λ file place is. returns-in_err-attempt-clause-never g c file place d on stands room is)
+
+pub returns-in-None-clause-entries : goal.returns-in-None-clause-entries
+returns-in-None-clause-entries g c d e on stands room behind =
+    let before = c.loop-attempt.invariant in
+    let some : 0 < length c.args.requests.items = some_left c.args.requests.items c.args.requests.len (sym c.is_empty.ensures ∙ c.if-is_empty.false) c.args.requests.ok.0 in
+    let goes = before.told d on stands room in
+    let first : HasRoom goes.on.d c.loop-attempt.requests.items = room_as d goes.on.d c.args.requests.items c.loop-attempt.requests.items goes.on.only before.same room in
+    turn_committed_on d goes.on.d e c.in_ok-attempt.field-0 c.args.requests.items (g.P.Power.stopped c.args.power.now) (g.P.Power.stopped c.loop-attempt.power) (g.P.Power.stopped c.attempt.new.power) c.args.self.now.next_epoch c.loop-attempt.self.next_epoch c.attempt.new.self.next_epoch
+    (scene_of c.args.self.now.members (g.N.Net.sent c.args.net.now)) (scene_of c.loop-attempt.self.members (g.N.Net.sent c.loop-attempt.net)) (scene_of c.attempt.new.self.members (g.N.Net.sent c.attempt.new.net)) some c.in-None.is (before.entries d goes.on.d on stands room goes.on.rests)
+    (c.in_ok-attempt.ensures.entries goes.on.d e goes.on.rests goes.on.stands first behind)
+
+pub returns-clause-entries : goal.returns-clause-entries
+returns-clause-entries g c d e on stands room behind = ([], refl, c.loop-attempt.invariant.entries d e on stands room behind)

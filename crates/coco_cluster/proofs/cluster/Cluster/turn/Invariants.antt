@@ -4,6 +4,7 @@ use Rattle.coco_letters.specs.Around.{around, spare}
 use Rattle.coco_letters.specs.GivingUp.{AreGivenUp}
 use Rattle.coco_store.specs.Contents.{Contents}
 use Rattle.coco_types.specs.Limits.{epochs_end}
+use Rattle.coco_cluster.specs.Entries.{StepsOn}
 use Rattle.coco_cluster.specs.Standing.{AllStand, IsSound, StandsAt}
 use Rattle.coco_cluster.specs.Stepping.{MayHaveBegun, StepsTo}
 use Rattle.coco_cluster.specs.Turning.{HasRoom}
@@ -41,6 +42,8 @@ invariant-loop-attempt g l = record {
   unused : epochs_end ≤ l.fn.self.next_epoch → l.host ≡ l.fn.host;
   told : (c : Contents) → RestsOn c (g.H.Host.reads l.fn.host) (g.H.Host.may_leave l.fn.host) → StandsAt c l.fn.self → HasRoom c l.fn.requests.items
       → GoesOn g.H.Host.moment g.H.Host.observed g.H.Host.said g.H.Host.reads g.H.Host.may_leave c l.self l.fn.host l.host;
+  entries : (c d : Contents) → RestsOn c (g.H.Host.reads l.fn.host) (g.H.Host.may_leave l.fn.host) → StandsAt c l.fn.self → HasRoom c l.fn.requests.items → RestsOn d (g.H.Host.reads l.host) (g.H.Host.may_leave l.host)
+      → StepsOn c d (g.P.Power.stopped l.fn.power) (g.P.Power.stopped l.power) l.fn.self.next_epoch l.self.next_epoch [] (scene_of l.fn.self.members (g.N.Net.sent l.fn.net)) (scene_of l.self.members (g.N.Net.sent l.net));
   said : g.H.Host.said l.host ≡ g.H.Host.said l.fn.host;
   disk : g.H.Host.disk_faults l.host ≡ g.H.Host.disk_faults l.fn.host;
   stream : g.H.Host.say_faults l.host ≡ g.H.Host.say_faults l.fn.host;
