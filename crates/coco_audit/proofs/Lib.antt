@@ -1,4 +1,5 @@
 pub mod Between
+pub mod DumpLemmas
 pub mod Fitting
 pub mod LineLemmas
 pub mod Replies

@@ -1,39 +1,18 @@
-//! The dump of a store: a line for each Done, in order of commit, and then one for each row, by table and row.
+//! The lines of a dump: that of a Done, and that of a row.
 
-ghost use Rattle.std.specs.Prelude.{◌≡◌, ◌<◌, ◌++◌, ◌∷◌, [], codes, flat_map, length, slice_get, Some, IfOk, OnOk, OnErr};
-ghost use Rattle.std.specs.FinMap.{entries};
+ghost use Rattle.std.specs.Prelude.{◌≡◌, ◌<◌, ◌++◌, ◌∷◌, [], codes, length, slice_get, Some, OnOk, OnErr};
 ghost use Rattle.json.specs.Token.{key, string};
 ghost use Rattle.json.specs.Tree.{json_tokens};
 ghost use Rattle.serde_json.specs.Data.{array};
 ghost use Rattle.serde_json.specs.Written.{outline};
 ghost use Rattle.coco_lines.specs.Texts.{reply_key, reply_json};
-ghost use Rattle.coco_load.specs.RowMaps.{joined, lent_map, map_with};
-ghost use Rattle.coco_audit.specs.Texts.{args_json, dump_done_json, dump_row_json, dump_done_text, dump_row_text, dump_text, proc_name, table_name};
+ghost use Rattle.coco_audit.specs.Texts.{args_json, dump_done_json, dump_row_json, dump_done_text, dump_row_text, proc_name, table_name};
 
 use crate::writing::{ended, put_answer, put_count, put_reply, put_text, put_value, writer_over};
 use coco_ast::Checked;
-use coco_kept::Kept;
-use coco_load::{LentMap, merged};
-use coco_types::{Args, Done, KeptReply, Key, MapRows, NoMemory, Value};
+use coco_types::{Args, Done, KeptReply, Key, NoMemory, Value};
 use json::Writer;
 use std::alloc::{AllocError, Global};
-
-/// The text of all Dones, in order of commit, and then of the map that the lists of rows make together, by table
-/// and row. Of two values of a key that of the later list counts.
-pub fn dump_of(
-    alloc: Global,
-    procs: &Checked,
-    kept: &Kept,
-    rows: &[MapRows],
-) -> Result<Vec<u8>, NoMemory>
-    ensures { IfOk result (λ text. text.items ≡ dump_text procs.now kept.now.dones (map_with (joined rows.now))) }
-{
-    let mut out = Vec::new(alloc);
-    write_dones(&mut out, procs, kept)?;
-    let rows = merged(alloc, rows)?;
-    write_rows(&mut out, procs, &rows)?;
-    Ok(out)
-}
 
 /// Puts the line of a Done at the end of a buffer, whole or not at all.
 pub fn write_dump_done(out: &mut Vec<u8>, procs: &Checked, done: &Done) -> Result<(), NoMemory>
@@ -63,24 +42,6 @@ pub fn write_dump_row(
     let put = put_row(&mut writer, procs, key, value);
     *out = writer.into_inner();
     ended(out, before, put)
-}
-
-fn write_dones(out: &mut Vec<u8>, procs: &Checked, kept: &Kept) -> Result<(), NoMemory>
-    ensures { OnOk result (out.new.items ≡ out.old.items ++ flat_map (dump_done_text procs.now) kept.now.dones) }
-{
-    for done in kept.iter() {
-        write_dump_done(out, procs, done)?;
-    }
-    Ok(())
-}
-
-fn write_rows(out: &mut Vec<u8>, procs: &Checked, rows: &LentMap<'_>) -> Result<(), NoMemory>
-    ensures { OnOk result (out.new.items ≡ out.old.items ++ flat_map (dump_row_text procs.now) (entries (lent_map rows.now))) }
-{
-    for (key, value) in rows {
-        write_dump_row(out, procs, *key, value)?;
-    }
-    Ok(())
 }
 
 fn put_done(

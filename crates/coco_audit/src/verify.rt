@@ -1,11 +1,12 @@
 //! Whether the kept replies are those of one executor on one map.
 
-ghost use Rattle.std.specs.Prelude.{◌≡◌, ◌≢◌, ◌++◌, ◌∷◌, [], ◌<◌, drop, length, slice_get, Some, true, false, IfOk, IfNone, IfSome, OnOk, OnErr};
+ghost use Rattle.std.specs.Prelude.{◌≡◌, ◌≢◌, ◌++◌, ◌∷◌, [], ◌<◌, drop, length, map, slice_get, Some, true, false, IfOk, IfNone, IfSome, OnOk, OnErr};
 ghost use Rattle.json.specs.Token.{key};
 ghost use Rattle.json.specs.Tree.{json_tokens};
 ghost use Rattle.serde_json.specs.Written.{outline};
 ghost use Rattle.coco_ast.specs.History.{RepliesAreRuns};
-ghost use Rattle.coco_load.specs.RowMaps.{map_with};
+ghost use Rattle.coco_ast.specs.Keyed.{put_over};
+ghost use Rattle.coco_load.specs.RowMaps.{as_write, joined, map_with};
 ghost use Rattle.coco_audit.specs.Differing.{AllFit, IsFirstUnlike};
 ghost use Rattle.coco_audit.specs.Texts.{reply_object, not_serial_json, not_serial_text, serial_text};
 
@@ -13,7 +14,7 @@ use crate::writing::{ended, put_count, put_reply, writer_over};
 use coco_ast::Checked;
 use coco_kept::Kept;
 use coco_serial::Executor;
-use coco_types::{Done, KeptReply, MapRows, NoMemory, Reply};
+use coco_types::{Done, KeptReply, Key, MapRows, NoMemory, Reply, Value};
 use json::Writer;
 use std::alloc::{AllocError, Global};
 
@@ -26,20 +27,20 @@ pub struct NotSerial {
     pub computed: Reply,
 }
 
-/// Runs the calls of the Dones from a place on, in order, from the map of the base's rows, and answers the first
-/// whose kept reply isn't that of its run. None is answered exactly where all replies are their runs'.
+/// Runs the calls of the Dones from a place on, in order, from the map that the base's lists of rows make together, and
+/// answers the first whose kept reply isn't that of its run. None is answered exactly where all replies are their runs'.
 pub fn verify_of(
     alloc: Global,
     procs: &Checked,
-    base: &MapRows,
+    base: &[MapRows],
     kept: &Kept,
     first: u64,
 ) -> Result<Option<NotSerial>, NoMemory>
     requires { AllFit procs.now (drop first kept.now.dones) }
     ensures serial { IfOk result (λ found.
-        IfNone found (RepliesAreRuns procs.now (map_with base.now) (drop first kept.now.dones))) }
+        IfNone found (RepliesAreRuns procs.now (map_with (joined base.now)) (drop first kept.now.dones))) }
     ensures unlike { IfOk result (λ found.
-        IfSome found (IsFirstUnlike procs.now (map_with base.now) (drop first kept.now.dones))) }
+        IfSome found (IsFirstUnlike procs.now (map_with (joined base.now)) (drop first kept.now.dones))) }
 {
     let mut executor = executor_on(alloc, base)?;
     for place in first..kept.len() {
@@ -81,15 +82,25 @@ pub fn write_serial(out: &mut Vec<u8>, count: u64) -> Result<(), NoMemory>
     Ok(())
 }
 
-// An executor on the map of these rows.
-fn executor_on(alloc: Global, base: &MapRows) -> Result<Executor, NoMemory>
-    ensures { IfOk result (λ executor. executor.rows ≡ map_with base.now) }
+// An executor on the map that these lists of rows make together.
+fn executor_on(alloc: Global, lists: &[MapRows]) -> Result<Executor, NoMemory>
+    ensures { IfOk result (λ executor. executor.rows ≡ map_with (joined lists.now)) }
 {
     let mut executor = Executor::new(alloc);
-    for (key, value) in base.as_slice() {
-        executor.load(*key, *value)?;
+    for list in lists {
+        load_rows(&mut executor, list.as_slice())?;
     }
     Ok(executor)
+}
+
+// Puts rows over those that the executor has.
+fn load_rows(executor: &mut Executor, rows: &[(Key, Value)]) -> Result<(), NoMemory>
+    ensures { OnOk result (executor.new.rows ≡ put_over executor.old.rows (map as_write rows.now)) }
+{
+    for (key, value) in rows {
+        executor.load(*key, *value)?;
+    }
+    Ok(())
 }
 
 fn done_at(kept: &Kept, place: u64) -> &Done

@@ -3,6 +3,7 @@ pub mod BaseLemmas
 pub mod Holding
 pub mod KeepLemmas
 pub mod RunLemmas
+pub mod SayingLemmas
 pub mod ServingLemmas
 pub mod StoreTexts
 pub mod TellLemmas

@@ -15,7 +15,6 @@ use Rattle.coco_recover.specs.Opening.{HaveRows}
 use Rattle.coco_commands.specs.Opening.{FailsToOpen}
 use Rattle.coco_serve.specs.Faults.{Counts}
 use Rattle.coco_store.specs.Contents.{Contents, Holds, history_of, map_in}
-use Rattle.coco_store.specs.Refusals.{IsFirstRefusal}
 
 -- ---- what a store's contents say
 
@@ -51,6 +50,14 @@ EndsVerdict (ending.NotSerial place) = ⊤
 EndsVerdict _ = ⊥
 
 module _ {H : Type 0} (moment : H → ℕ) (observed : H → ℕ → Observation → Type 0) (said : H → Option (List ℕ)) (reads : H → Option Files) (may_leave : H → Files → Type 0) where
+  -- a text is said whole, or its front, and no file changes
+  pub record Says (text : List ℕ) (own ending : Ending) (before after : Counts) (old new : H) : Type 0 where
+    pub says : SaysText text own ending (said old) (said new) before after
+    pub same : reads new ≡ reads old
+    pub crash : NoMore (may_leave old) (may_leave new)
+    pub sees : SeesOnly moment observed old new (IsNew (may_leave old) (said old) (said new))
+    pub disk : after.disk ≡ before.disk
+
   -- the store isn't opened: nothing is said and no file changes
   pub record IsUntold (ending : Ending) (before after : Counts) (old new : H) : Type 0 where
     pub read : IsOnlyRead moment observed said reads may_leave old new

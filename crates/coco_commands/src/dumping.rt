@@ -1,20 +1,18 @@
 //! The command `dump`.
 
-ghost use Rattle.std.specs.Prelude.{◌≡◌, None, IfOk};
-ghost use Rattle.coco_recover.specs.Opening.{Has, HaveRows};
-ghost use Rattle.coco_store.specs.Contents.{Contents};
-ghost use Rattle.coco_commands.specs.Telling.{Dumps, dump_in};
+ghost use Rattle.std.specs.Prelude.{◌≡◌};
+ghost use Rattle.coco_audit.specs.Dumping.{text_of};
+ghost use Rattle.coco_commands.specs.Telling.{Dumps, Says};
 
 use crate::opening::ending_of_opening;
-use crate::saying::say_text;
-use coco_audit::dump_of;
+use coco_audit::Dump;
 use coco_ending::Ending;
-use coco_host::Host;
-use coco_recover::{Opened, recover_whole};
-use coco_types::NoMemory;
+use coco_host::{Host, say_all};
+use coco_recover::recover_whole;
+use coco_types::{NoMemory, OutFault};
 use std::alloc::Global;
 
-/// Says what the store has kept, and its rows.
+/// Says what the store has kept, and its rows, piece by piece.
 pub fn dump<H: Host>(alloc: Global, host: &mut H) -> Ending
     ensures { Dumps H.moment H.observed H.said H.reads H.may_leave result (record { say = H.say_faults host.old; disk = H.disk_faults host.old })
         (record { say = H.say_faults host.new; disk = H.disk_faults host.new }) host.old host.new }
@@ -23,19 +21,31 @@ pub fn dump<H: Host>(alloc: Global, host: &mut H) -> Ending
         Ok(store) => store,
         Err(fault) => return ending_of_opening(fault),
     };
-    match text_of(alloc, &store) {
-        Ok(text) => say_text(host, text.as_slice(), Ending::Finished),
+    let shards = store.shards.as_slice();
+    match Dump::new(alloc, &store.procs, &store.kept, shards) {
+        Ok(dump) => say_pieces(alloc, host, dump),
         Err(NoMemory) => Ending::NoMemory,
     }
 }
 
-// The dump of an opened store.
-fn text_of(alloc: Global, store: &Opened) -> Result<Vec<u8>, NoMemory>
-    ensures { IfOk result (λ text. (c : Contents) → Has None c store.now → HaveRows c → text.items ≡ dump_in c) }
+// Says a dump, each piece before the next one is made.
+fn say_pieces<H: Host>(alloc: Global, host: &mut H, mut dump: Dump<'_>) -> Ending
+    ensures { Says H.moment H.observed H.said H.reads H.may_leave (text_of dump.entry) Ending.Finished result (record { say = H.say_faults host.old; disk = H.disk_faults host.old })
+        (record { say = H.say_faults host.new; disk = H.disk_faults host.new }) host.old host.new }
 {
-    let mut rows = Vec::with_capacity(alloc, store.shards.len())?;
-    for shard in &store.shards {
-        rows.push(shard.rows(true)?)?;
+    let mut piece = Vec::new(alloc);
+    'pieces: loop {
+        match dump.next(&mut piece) {
+            Ok(()) => {}
+            Err(NoMemory) => return Ending::NoMemory,
+        }
+        if piece.is_empty() {
+            return Ending::Finished;
+        }
+        match say_all(host, piece.as_slice()) {
+            Ok(()) => {}
+            Err(OutFault::Failed) => return Ending::SayFault,
+            Err(OutFault::NoMemory) => return Ending::NoMemory,
+        }
     }
-    dump_of(alloc, &store.procs, &store.kept, rows.as_slice())
 }

@@ -1,6 +1,6 @@
 //! The command `verify`.
 
-ghost use Rattle.std.specs.Prelude.{◌≡◌, flat_map, None, IfOk};
+ghost use Rattle.std.specs.Prelude.{◌≡◌, None, IfOk};
 ghost use Rattle.coco_audit.specs.Texts.{not_serial_text, serial_text};
 ghost use Rattle.coco_recover.specs.Opening.{Has, IsSoundStore};
 ghost use Rattle.coco_store.specs.Contents.{Contents, Holds};
@@ -13,7 +13,7 @@ use coco_audit::{NotSerial, verify_of, write_not_serial, write_serial};
 use coco_ending::Ending;
 use coco_host::Host;
 use coco_recover::{Opened, recover_whole};
-use coco_types::{MapRows, NoMemory};
+use coco_types::NoMemory;
 use std::alloc::Global;
 
 // A line, and how a call ends that says it.
@@ -44,10 +44,15 @@ fn verdict_of(alloc: Global, store: &Opened) -> Result<Verdict, NoMemory>
     ensures ends { IfOk result (λ verdict. EndsVerdict verdict.ending) }
     ensures verdict { IfOk result (λ verdict. (files : Files) (c : Contents) → Holds files c → Has None c store.now → IsVerdict c verdict.text.items verdict.ending) }
 {
-    let base = joined(alloc, store.base.as_slice())?;
     // Those of the base.
     let first = store.kept.count_until(store.layout.base_epoch);
-    match verify_of(alloc, &store.procs, &base, &store.kept, first) {
+    match verify_of(
+        alloc,
+        &store.procs,
+        store.base.as_slice(),
+        &store.kept,
+        first,
+    ) {
         Ok(None) => serial_verdict(alloc, store.kept.len() - first),
         Ok(Some(found)) => not_serial_verdict(alloc, &found),
         Err(NoMemory) => Err(NoMemory),
@@ -76,15 +81,4 @@ fn not_serial_verdict(alloc: Global, found: &NotSerial) -> Result<Verdict, NoMem
         text,
         ending: Ending::NotSerial { place: found.place },
     })
-}
-
-// The rows of all lists, one list behind another.
-fn joined(alloc: Global, lists: &[MapRows]) -> Result<MapRows, NoMemory>
-    ensures { IfOk result (λ rows. rows ≡ flat_map (λ list. list) lists.now) }
-{
-    let mut rows = Vec::new(alloc);
-    for list in lists {
-        rows.extend_from_slice(list.as_slice())?;
-    }
-    Ok(MapRows::from_vec(rows))
 }

@@ -6,11 +6,13 @@ ghost use Rattle.coco_audit.specs.Differing.{AllFit};
 
 use coco_ast::Checked;
 use coco_audit::{
-    NotSerial, dump_of, verify_of, write_dump_done, write_dump_row, write_not_serial, write_serial,
+    Dump, NotSerial, PIECE_BYTES, verify_of, write_dump_done, write_dump_row, write_not_serial,
+    write_serial,
 };
 use coco_check::built_in;
 use coco_kept::{Found, Kept};
 use coco_lines::{LineError, RequestFault, Scratch, request};
+use coco_shard::Shard;
 use coco_types::{Cause, Done, KeptReply, Key, MapRows, NoMemory, Reply, Text, Value};
 use std::alloc::Global;
 use std::test::Fail;
@@ -140,35 +142,99 @@ fn lists_of(alloc: Global, lists: &[&[Row]]) -> Result<Vec<MapRows>, NoMemory> {
     Ok(rows)
 }
 
+// How many partitions the rows of a dump are in.
+const PARTITIONS: u32 = 3;
+
+// A shard with those of the rows that are of this partition.
+fn shard_of(alloc: Global, partition: u32, rows: &[Row]) -> Result<Shard, NoMemory> {
+    let mut shard = Shard::new(alloc);
+    for (table, row, number) in rows {
+        let key = Key {
+            table: *table,
+            row: u64::from(*row),
+        };
+        if *row % PARTITIONS == partition {
+            shard.load(key, Some(Value::Int(*number)))?;
+        }
+    }
+    Ok(shard)
+}
+
+fn shards_of(alloc: Global, rows: &[Row]) -> Result<Vec<Shard>, NoMemory> {
+    let mut shards = Vec::new(alloc);
+    for partition in 0..PARTITIONS {
+        shards.push(shard_of(alloc, partition, rows)?)?;
+    }
+    Ok(shards)
+}
+
+// The first four pieces of a dump.
+fn pieces_of(alloc: Global, mut dump: Dump<'_>) -> Result<Vec<Vec<u8>>, NoMemory> {
+    let mut pieces = Vec::new(alloc);
+    for _ in 0..4 {
+        let mut piece = Vec::new(alloc);
+        dump.next(&mut piece)?;
+        pieces.push(piece)?;
+    }
+    Ok(pieces)
+}
+
 fn dump_with(
     alloc: Global,
     procs: &Checked,
     answer: &Reply,
-    rows: &[MapRows],
-) -> Result<Vec<u8>, RequestFault> {
+    shards: &[Shard],
+) -> Result<Vec<Vec<u8>>, RequestFault> {
     let kept = kept_of(alloc, procs, answer, answer)?;
-    Ok(dump_of(alloc, procs, &kept, rows)?)
+    let dump = Dump::new(alloc, procs, &kept, shards)?;
+    Ok(pieces_of(alloc, dump)?)
 }
 
-// The dump of a put and a get that answered 70, and of these lists of rows.
-fn dump(alloc: Global, lists: &[&[Row]]) -> Result<Vec<u8>, RequestFault> {
+// The first pieces of the dump of a put and a get that answered 70, and of these rows.
+fn dump(alloc: Global, rows: &[Row]) -> Result<Vec<Vec<u8>>, RequestFault> {
     let procs = built_in(alloc)?;
-    let rows = lists_of(alloc, lists)?;
-    dump_with(alloc, &procs, &reply(Ok(70)), rows.as_slice())
+    let shards = shards_of(alloc, rows)?;
+    dump_with(alloc, &procs, &reply(Ok(70)), shards.as_slice())
 }
 
 #[test]
 fn dones_are_said_in_order_and_then_rows(rt: HostRuntime) -> Result<(), Fail> {
-    let lists: [&[Row]; 3] = [&[(1, 4, -6), (0, 7, 7)], &[], &[(0, 5, 70), (1, 1, 990)]];
-    let said = dump(rt.alloc(), &lists)?;
+    let rows: [Row; 5] = [(1, 4, -6), (0, 7, 7), (0, 5, 70), (1, 1, 990), (0, 11, 0)];
+    let pieces = dump(rt.alloc(), &rows)?;
     let lines = r#"{"args":[5,70],"call":"put","epoch":1,"id":1,"ok":70,"snapshot":false,"time":1}
 {"args":[5],"call":"get","epoch":2,"id":2,"ok":70,"snapshot":false,"time":1}
 {"row":5,"table":"main","value":70}
 {"row":7,"table":"main","value":7}
+{"row":11,"table":"main","value":0}
 {"row":1,"table":"","value":990}
 {"row":4,"table":"","value":-6}
 "#;
-    assert!(rt; said.as_slice() == lines.as_bytes());
+    let said = pieces.first().map(|piece| piece.as_slice());
+    assert!(rt; said == Some(lines.as_bytes()));
+    assert!(rt; pieces.iter().skip(1).all(|piece| piece.is_empty()));
+    Ok(())
+}
+
+// So many rows of the first table.
+fn many_rows(alloc: Global, count: u32) -> Result<Vec<Row>, NoMemory> {
+    let mut rows = Vec::new(alloc);
+    for row in 0..count {
+        rows.push((0, row, -1))?;
+    }
+    Ok(rows)
+}
+
+#[test]
+fn a_dump_comes_in_whole_lines(rt: HostRuntime) -> Result<(), Fail> {
+    let rows = many_rows(rt.alloc(), 3000)?;
+    let pieces = dump(rt.alloc(), rows.as_slice())?;
+    let mut lengths = Vec::new(rt.alloc());
+    for piece in &pieces {
+        assert!(rt; matches!(piece.last(), None | Some(b'\n')));
+        lengths.push(piece.len())?;
+    }
+    assert!(rt; lengths.as_slice() == [65_542, 50_505, 0, 0].as_slice());
+    assert!(rt; PIECE_BYTES <= 65_542);
     Ok(())
 }
 
@@ -185,7 +251,7 @@ fn line_of(alloc: Global, found: Option<NotSerial>, count: u64) -> Result<Vec<u8
 fn verdict_with(
     alloc: Global,
     procs: &Checked,
-    base: &MapRows,
+    base: &[MapRows],
     put: &Reply,
     get: &Reply,
     first: u64,
@@ -198,20 +264,22 @@ fn verdict_with(
 // The verdict on a put and a get with these replies, from a place on, as a line.
 fn verdict(
     alloc: Global,
-    base: &[Row],
+    base: &[&[Row]],
     put: Answer,
     get: Answer,
     first: u64,
 ) -> Result<Vec<u8>, RequestFault> {
     let procs = built_in(alloc)?;
-    let base = rows_of(alloc, base)?;
-    verdict_with(alloc, &procs, &base, &reply(put), &reply(get), first)
+    let base = lists_of(alloc, base)?;
+    let (put, get) = (reply(put), reply(get));
+    verdict_with(alloc, &procs, base.as_slice(), &put, &get, first)
 }
 
 #[test]
 fn the_first_unlike_reply_is_told(rt: HostRuntime) -> Result<(), Fail> {
-    let stored: &[Row] = &[(0, 5, 70)];
-    let cases: [(&[Row], Answer, Answer, u64, &str); 6] = [
+    let stored: &[&[Row]] = &[&[(0, 5, 70)]];
+    let in_lists: &[&[Row]] = &[&[(0, 5, 1), (0, 6, 2)], &[], &[(0, 5, 70)]];
+    let cases: [(&[&[Row]], Answer, Answer, u64, &str); 7] = [
         (&[], Ok(70), Ok(70), 0, "serial 2\n"),
         (
             &[],
@@ -235,6 +303,7 @@ fn the_first_unlike_reply_is_told(rt: HostRuntime) -> Result<(), Fail> {
             "{\"computed\":{\"ok\":null},\"id\":2,\"kept\":{\"ok\":70},\"place\":1}\n",
         ),
         (stored, Ok(70), Ok(70), 1, "serial 1\n"),
+        (in_lists, Ok(70), Ok(70), 1, "serial 1\n"),
         (stored, Ok(70), Ok(70), 3, "serial 0\n"),
     ];
     for (base, put, get, first, line) in cases {

@@ -1,6 +1,6 @@
-use Rattle.std.proofs.Common.{◌-◌, nat_le, ap, ◌∙◌, arith}
+use Rattle.std.proofs.Common.{◌-◌, nat_le, ap, arith}
 use Rattle.std.specs.Prelude.{Result, Ok, Err, IfOk}
-use Rattle.std.specs.List.{flat_map}
+use Rattle.coco_load.specs.RowMaps.{joined}
 use Rattle.std.proofs.lemmas.List.Sums.{prefix_len-le-length}
 use Rattle.coco_types.specs.declared.call.Done.{Done}
 use Rattle.coco_ast.specs.Fitting.{Fits}
@@ -23,10 +23,10 @@ overflow_sub-len c =
 pub returns-in-Ok-None-clause-verdict : goal.returns-in-Ok-None-clause-verdict
 returns-in-Ok-None-clause-verdict c = if_ok c.serial_verdict.result _ _ c.serial_verdict.ensures (λ v is files d holds has.
     let runs = rw c.in-Ok-None.field-0-is at c.in-Ok-None.ensures.serial in
-    serial_told files d holds c.args.store.now has c.count_until-first.result c.count_until-first.ensures c.in_ok-base.base (c.in_ok-base.ensures ∙ ap (flat_map (λ list. list)) c.as_slice.ensures.value) v.ending v.text.items _ is.0 is.1
+    serial_told files d holds c.args.store.now has c.count_until-first.result c.count_until-first.ensures (joined c.as_slice.result.now) (ap joined c.as_slice.ensures.value) v.ending v.text.items _ is.0 is.1
     (ap (λ n. n - c.count_until-first.result) c.len.ensures.len) runs)
 
 pub returns-in-Ok-Some-clause-verdict : goal.returns-in-Ok-Some-clause-verdict
 returns-in-Ok-Some-clause-verdict c = if_ok c.not_serial_verdict.result _ _ c.not_serial_verdict.ensures (λ v is files d holds has.
     let unlike = rw c.in-Ok-Some.field-0-is at c.in-Ok-Some.ensures.unlike in
-    unlike_told files d holds c.args.store.now has c.count_until-first.result c.count_until-first.ensures c.in_ok-base.base (c.in_ok-base.ensures ∙ ap (flat_map (λ list. list)) c.as_slice.ensures.value) v.ending v.text.items c.in-Ok-Some.found is.0 is.1 unlike)
+    unlike_told files d holds c.args.store.now has c.count_until-first.result c.count_until-first.ensures (joined c.as_slice.result.now) (ap joined c.as_slice.ensures.value) v.ending v.text.items c.in-Ok-Some.found is.0 is.1 unlike)
