@@ -23,11 +23,17 @@ pub const PREPARED: [u8; 54] = [
     0, 1, 0, 0, 0, 0, 0, 0, 0, 0, 0, 5, 0, 0, 0, 0, 0, 0, 0, 1, 1, 0, 0, 0, 0, 0, 0, 0, 70, 0,
 ];
 
-/// A host that has these files.
-pub fn host_with(alloc: Global, files: &[(u32, &[u8])]) -> Result<MemoryHost, OutFault> {
-    let mut host = MemoryHost::new(alloc, Vec::new(alloc));
+/// Writes these files.
+pub fn fill<H: Host>(host: &mut H, files: &[(u32, &[u8])]) -> Result<(), OutFault> {
     for (file, bytes) in files {
         host.write_at(*file, 0, bytes)?;
     }
+    Ok(())
+}
+
+/// A host that has these files.
+pub fn host_with(alloc: Global, files: &[(u32, &[u8])]) -> Result<MemoryHost, OutFault> {
+    let mut host = MemoryHost::new(alloc, Vec::new(alloc));
+    fill(&mut host, files)?;
     Ok(host)
 }

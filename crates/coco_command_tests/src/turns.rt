@@ -5,19 +5,20 @@ ghost use Rattle.coco_types.specs.Limits.{most_kept};
 ghost use Rattle.coco_cluster.specs.Standing.{AllStand, IsSound};
 ghost use Rattle.coco_cluster.specs.Turning.{MayTurn};
 
-use crate::made::{COMMITS, PREPARED};
+use crate::made::{COMMITS, LAYOUTS, PREPARED, fill};
 use coco_batches::{Batch, read_batch};
-use coco_cluster::Cluster;
+use coco_cluster::{Cluster, TurnFault};
 use coco_commands::open_cluster;
 use coco_gate::OpenGate;
-use coco_host::{Host, MemoryHost};
+use coco_host::{FolderHost, Host, MemoryHost, Purpose};
 use coco_init::init;
 use coco_io::MemorySource;
 use coco_lines::{Reader, Scratch};
 use coco_net::{Net, QuietNet};
-use coco_power::SteadyPower;
+use coco_power::{ScriptPower, SteadyPower};
 use coco_types::Request;
 use std::alloc::Global;
+use std::fs;
 use std::sync::Wait;
 use std::test::Fail;
 use std::thread::Threads;
@@ -171,5 +172,76 @@ fn a_trace_is_told_until_the_next_turn(rt: HostRuntime) -> Result<(), Fail> {
         tail: 0,
     };
     assert!(rt; behind_put == Some(wanted) && behind_nothing.is_none());
+    Ok(())
+}
+
+// The cluster of the worked store.
+fn worked_cluster<H: Host>(alloc: Global, host: &mut H) -> Result<Cluster, Fail>
+    ensures sound { IfOk result (λ k. IsSound k []) }
+    ensures stand { IfOk result (λ k. AllStand k (H.reads host.new) (H.may_leave host.new)) }
+    ensures room { IfOk result (λ k. length k.kept.dones ≤ most_kept) }
+{
+    fill(host, &[(0, &LAYOUTS), (1, &COMMITS), (2, &PREPARED)])?;
+    Ok(open_cluster(alloc, host)?)
+}
+
+const PUT_OF_ONE: &str = r#"{"args":[6,1],"call":"put","id":2}
+"#;
+
+const FOLDER: &str = "a_stopped_node";
+
+// How a put ends on the worked store, where the node stops at this point of its first epoch, at none where that is 0, and
+// the node's file has these bytes since the store was opened; and how long the coordinator's file is then.
+fn ended_behind<R: Threads + Wait + Clock + Sync, N: Net + Sync>(
+    rt: &R,
+    machine: HostRuntime,
+    net: &mut N,
+    point: u8,
+    file: &[u8],
+) -> Result<(Result<(), TurnFault>, Option<u64>), Fail>
+    requires { N.sent net.old ≡ [] }
+{
+    let alloc = machine.alloc();
+    let mut host = FolderHost::new(machine, FOLDER, Purpose::Writing, machine.stdout())?;
+    let mut cluster = worked_cluster(alloc, &mut host)?;
+    let requests = request_of(alloc, &cluster, PUT_OF_ONE)?;
+    fs::write(&machine, "a_stopped_node/2.coco", file)?;
+    let mut power = ScriptPower::new(Vec::from_slice(alloc, &[(1, 0, point)])?);
+    let ended = cluster.turn(
+        rt, alloc, &mut host, net, &mut power, requests, 1, 3, &OpenGate,
+    );
+    Ok((ended, host.len(1).ok()))
+}
+
+// Of the worked store the coordinator's file has 75 bytes, and 141 with one epoch more.
+#[test]
+fn a_stopped_nodes_file_is_refused_at_its_place(rt: HostRuntime) -> Result<(), Fail> {
+    let refused = |at| Err(TurnFault::NotAStore { file: 2, at });
+    let cases: [(u8, &[u8], Result<(), TurnFault>, u64); 10] = [
+        // It isn't read anew where the node doesn't stop.
+        (0, &PREPARED[..0], Ok(()), 141),
+        (1, &PREPARED, Ok(()), 141),
+        (1, &PREPARED[..0], refused(0), 75),
+        (2, &PREPARED[..7], refused(7), 75),
+        (3, &PREPARED[..8], refused(8), 75),
+        (1, &PREPARED[..53], refused(8), 75),
+        // Of another kind.
+        (1, &COMMITS, refused(7), 75),
+        // Without the epoch that was committed.
+        (1, b"COCOLOG\x02\0", refused(8), 75),
+        // The epoch is committed where the node stops behind its entry.
+        (4, &COMMITS, refused(7), 141),
+        (6, &PREPARED[..0], refused(0), 141),
+    ];
+    for (point, file, ended, len) in cases {
+        let mut net = QuietNet::new(rt.alloc());
+        let found = ended_behind(&rt, rt, &mut net, point, file)?;
+        fs::remove_dir_all(&rt, FOLDER)?;
+        assert!(rt;
+            found == (ended, Some(len)),
+            "point {point}, {} bytes",
+            file.len()
+        );
+    }
     Ok(())
 }

@@ -3,6 +3,7 @@
 ghost use Rattle.std.specs.Prelude.{◌≡◌, ◌<◌, ◌≤◌, ◌^◌, []};
 ghost use Rattle.coco_types.specs.Limits.{most_batch_lines};
 
+use crate::made::{LAYOUTS, host_with};
 use coco_commands::{RunBounds, Workload, migrate, run, try_out, verify};
 use coco_ending::Ending;
 use coco_gate::OpenGate;
@@ -11,7 +12,7 @@ use coco_init::init;
 use coco_io::MemorySource;
 use coco_net::{Lose, Net, QuietNet, ScriptNet, SeededNet};
 use coco_power::SteadyPower;
-use coco_types::NoMemory;
+use coco_types::{NoMemory, OutFault};
 use std::alloc::Global;
 use std::sync::Wait;
 use std::test::Fail;
@@ -229,6 +230,34 @@ fn nothing_is_said_where_a_workload_breaks_off(rt: HostRuntime) -> Result<(), Fa
     let mut net = QuietNet::new(alloc);
     let ending = ended(&rt, alloc, &mut host, &mut net, THREE, bounds(2, 1));
     assert!(rt; ending == Ending::NotAStore { file: 0, at: 0 } && host.said().is_empty());
+    Ok(())
+}
+
+// A store without history, in whose node's file an entry of this number stands, less than 256 below the end of all.
+fn store_near_the_end(alloc: Global, low: u8) -> Result<MemoryHost, OutFault> {
+    let prepared = [
+        b'C', b'O', b'C', b'O', b'L', b'O', b'G', 2, 1, 0, 0, 0, 13, 3, 0, 0, 0, 255, 255, 255,
+        255, low, 0, 0, 0, 0, 0,
+    ];
+    let commits = b"COCOLOG\x01\0";
+    host_with(alloc, &[(0, &LAYOUTS), (1, commits), (2, &prepared)])
+}
+
+// The first batch, of two calls, is committed where the greatest number is left.
+#[test]
+fn nothing_is_said_where_epochs_are_used_up(rt: HostRuntime) -> Result<(), Fail> {
+    let alloc = rt.alloc();
+    for (low, told) in [(254, "serial 2\n"), (255, "serial 0\n")] {
+        let mut host = store_near_the_end(alloc, low)?;
+        let mut net = QuietNet::new(alloc);
+        let ending = ended(&rt, alloc, &mut host, &mut net, THREE, bounds(2, 1));
+        let is_silent = ending == Ending::EpochsUsedUp && host.said().is_empty();
+        let is_serial = verify(alloc, &mut host) == Ending::Finished;
+        assert!(rt;
+            is_silent && is_serial && host.said() == told.as_bytes(),
+            "{low}"
+        );
+    }
     Ok(())
 }
 
