@@ -25,6 +25,7 @@ use Rattle.coco_ending.specs.declared.ending.Ending.TheVariants as ending
 use Rattle.coco_entry.specs.declared.layout.Layout.{Layout}
 use Rattle.coco_host.specs.Files.{Files}
 use Rattle.coco_host.specs.Moments.{Observation}
+use Rattle.coco_host.specs.declared.host.Host.{Ghosts as HostGhosts}
 use Rattle.coco_init.specs.Counts.{CountsDisk, CountsReads}
 use Rattle.coco_init.specs.Initiating.{Initiates}
 use Rattle.coco_init.specs.Texts.{HasOneAnswer}
@@ -146,11 +147,11 @@ verdict_is_serial c text own serial verdict = absurd verdict
 
 -- ---- each command
 
-module _ {H : Type 0} (moment : H → ℕ) (observed : H → ℕ → Observation → Type 0) (said : H → Option (List ℕ)) (reads : H → Option Files) (may_leave : H → Files → Type 0) where
+module _ {H : Type 0} (frame : HostGhosts H) where
   served_or_memory : (c : Contents) (next : ℕ) (bounds : RunBounds) (bytes : List ℕ) (how : Ending) (before after : Outside) (old opened new : H) (s : Served)
       → how ≡ ending_of_run s → NoneRose before after → length bytes < most_input_bytes → HaveNumbers c next bounds bytes → HasCause next bytes before after s
-      → Serves moment observed said reads may_leave c next 0 bounds bytes s opened new
-      → DoneOrNoMemory how (HasCause next bytes before after served.Finished × Serves moment observed said reads may_leave c next 0 bounds bytes served.Finished opened new)
+      → Serves frame c next 0 bounds bytes s opened new
+      → DoneOrNoMemory how (HasCause next bytes before after served.Finished × Serves frame c next 0 bounds bytes served.Finished opened new)
   served_or_memory c next bounds bytes how before after old opened new served.Finished ends faultless few numbers cause serves = inl (ends, (cause, serves))
   served_or_memory c next bounds bytes how before after old opened new served.ReadFault ends faultless few numbers cause serves =
       absurd (⊎_elim faultless.source (λ full. omega (arith, few, full)) cause)
@@ -165,28 +166,28 @@ module _ {H : Type 0} (moment : H → ℕ) (observed : H → ℕ → Observation
   served_or_memory c next bounds bytes how before after old opened new served.EpochsUsedUp ends faultless few numbers cause serves = absurd (numbers serves.progress serves.ends.2)
   served_or_memory c next bounds bytes how before after old opened new served.NoMemory ends faultless few numbers cause serves = inr ends
 
-  pub run_succeeds : RefusedIsNone → RunSucceeds moment observed said reads may_leave
+  pub run_succeeds : RefusedIsNone → RunSucceeds frame
   run_succeeds refused run how before after old new c bytes faultless store gives may =
       ⊎_elim
-      (λ does. ⊎_elim (λ closed. inr (opened_or_memory how (reads old) store.files before.disk_faults after.disk_faults store.are (λ file at is. refused store.files file at is c store.good.holds) faultless.none_rose.disk closed.cause)) answered does)
+      (λ does. ⊎_elim (λ closed. inr (opened_or_memory how (frame.reads old) store.files before.disk_faults after.disk_faults store.are (λ file at is. refused store.files file at is c store.good.holds) faultless.none_rose.disk closed.cause)) answered does)
       (λ lacks. inr lacks.0) (faultless.obeyed.command (Run run) faultless.is)
     where
-      answered : Opens moment observed said reads may_leave (bounds_of run) how (disturbed run.disturb before) after old new → DoneOrNoMemory how (AllAreAnswered moment observed said reads may_leave c (bounds_of run) bytes after old new)
+      answered : Opens frame (bounds_of run) how (disturbed run.disturb before) after old new → DoneOrNoMemory how (AllAreAnswered frame c (bounds_of run) bytes after old new)
       answered opens =
           let next = opens.is_next store.files c store.are store.good.holds in
           let same = one_giving before.source after.source opens.bytes bytes opens.gives gives in
           let cause = subst (λ (b : List ℕ). HasCause opens.next b (disturbed run.disturb before) after opens.served) same opens.cause in
           let none = none_spare (disturbed run.disturb before).around after.around faultless.none_rose.net faultless.none_rose.power in
-          let serves = subst (λ (b : List ℕ). Serves moment observed said reads may_leave c opens.next 0 (bounds_of run) b opens.served opens.opened new) same
-          (subst (λ (n : ℕ). Serves moment observed said reads may_leave c opens.next n (bounds_of run) opens.bytes opens.served opens.opened new) none (opens.serves store.files c store.are store.good)) in
+          let serves = subst (λ (b : List ℕ). Serves frame c opens.next 0 (bounds_of run) b opens.served opens.opened new) same
+          (subst (λ (n : ℕ). Serves frame c opens.next n (bounds_of run) opens.bytes opens.served opens.opened new) none (opens.serves store.files c store.are store.good)) in
           ⊎_elim
           (λ done. inl (done.0, record { opened = opens.opened; opening = opens.opening; next = opens.next; is_next = next; spent = done.1.0; serves = done.1.1 })) inr
           (served_or_memory c opens.next (bounds_of run) bytes how (disturbed run.disturb before) after old opens.opened new opens.served opens.ends (none_disturbed run.disturb before after faultless.none_rose) may.few (may.numbers opens.next next) cause serves)
 
   tried_or_memory : (c : Contents) (next : ℕ) (bounds : RunBounds) (requests : List Request) (how : Ending) (was now : Around) (before after : Counts) (opened new : H) (result : Result (Unit {0}) BatchFault)
       → how ≡ ending_of_trying result → ¬ (Rose before.say after.say) → ¬ (Rose before.disk after.disk) → ¬ (Rose was.faults now.faults) → ¬ (Rose was.early now.early) → HaveNumbersFor c next bounds requests
-      → workloads.HasCause next (length requests) was now before after result → workloads.Tries moment observed said reads may_leave c next 0 bounds requests result opened new
-      → DoneOrNoMemory how (workloads.Tries moment observed said reads may_leave c next 0 bounds requests (Ok tt) opened new)
+      → workloads.HasCause next (length requests) was now before after result → workloads.Tries frame c next 0 bounds requests result opened new
+      → DoneOrNoMemory how (workloads.Tries frame c next 0 bounds requests (Ok tt) opened new)
   tried_or_memory c next bounds requests how was now before after opened new (Ok done) ends stream disk net power numbers cause tries = inl (ends, tries)
   tried_or_memory c next bounds requests how was now before after opened new (Err batch.Say) ends stream disk net power numbers cause tries = absurd (stream cause)
   tried_or_memory c next bounds requests how was now before after opened new (Err batch.Disk) ends stream disk net power numbers cause tries = absurd (disk cause)
@@ -199,31 +200,31 @@ module _ {H : Type 0} (moment : H → ℕ) (observed : H → ℕ → Observation
   tried_or_memory c next bounds requests how was now before after opened new (Err batch.EpochsUsedUp) ends stream disk net power numbers cause tries = absurd (numbers tries.progress tries.ends.2)
   tried_or_memory c next bounds requests how was now before after opened new (Err batch.NoMemory) ends stream disk net power numbers cause tries = inr ends
 
-  pub try_succeeds : RefusedIsNone → TrySucceeds moment observed said reads may_leave
+  pub try_succeeds : RefusedIsNone → TrySucceeds frame
   try_succeeds refused calls seed run how before after old new c faultless store numbers =
       ⊎_elim
       (λ does. ⊎_elim
-      (λ closed. inr (opened_or_memory how (reads old) store.files before.disk_faults after.disk_faults store.are (λ file at is. refused store.files file at is c store.good.holds) faultless.none_rose.disk closed.untold.cause))
+      (λ closed. inr (opened_or_memory how (frame.reads old) store.files before.disk_faults after.disk_faults store.are (λ file at is. refused store.files file at is c store.good.holds) faultless.none_rose.disk closed.untold.cause))
       told does.1)
       (λ lacks. inr lacks.0) (faultless.obeyed.command (Try calls seed run) faultless.is)
     where
-      told : OpensToTry moment observed said reads may_leave (bounds_of run) (workloads.workload_of calls seed) how (disturbed run.disturb before).around after.around (counts_of before) (counts_of after) old new
-          → DoneOrNoMemory how (AllAreTold moment observed said reads may_leave c (bounds_of run) (workloads.workload_of calls seed) old new)
+      told : OpensToTry frame (bounds_of run) (workloads.workload_of calls seed) how (disturbed run.disturb before).around after.around (counts_of before) (counts_of after) old new
+          → DoneOrNoMemory how (AllAreTold frame c (bounds_of run) (workloads.workload_of calls seed) old new)
       told opens =
           let requests = workloads.workload_of calls seed in
           let was = (disturbed run.disturb before).around in
           let next = opens.is_next store.files c store.are store.good.holds in
           let none = none_spare was after.around faultless.none_rose.net faultless.none_rose.power in
-          let tries = subst (λ (n : ℕ). workloads.Tries moment observed said reads may_leave c opens.next n (bounds_of run) requests opens.result opens.opened new) none (opens.tries store.files c store.are store.good) in
+          let tries = subst (λ (n : ℕ). workloads.Tries frame c opens.next n (bounds_of run) requests opens.result opens.opened new) none (opens.tries store.files c store.are store.good) in
           ⊎_elim (λ done. inl (done.0, record { opened = opens.opened; opening = opens.opening; next = opens.next; is_next = next; tries = done.1 })) inr
           (tried_or_memory c opens.next (bounds_of run) requests how was after.around (counts_of before) (counts_of after) opens.opened new opens.result opens.ends faultless.none_rose.stream faultless.none_rose.disk
           faultless.none_rose.net faultless.none_rose.power (numbers opens.next next) opens.cause tries)
 
   made_or_memory : (layout : Layout) (text : List ℕ) (tree : Procedures) (how : Ending) (before after : Outside) (old new : H) (result : Result (Unit {0}) Ending)
-      → how ≡ ending_in result → HasOneAnswer text → IsAcceptedText text tree → ReadsEmpty (reads old) → NoneRose before after
+      → how ≡ ending_in result → HasOneAnswer text → IsAcceptedText text tree → ReadsEmpty (frame.reads old) → NoneRose before after
       → CountsReads result before.source_faults after.source_faults → CountsDisk result before.disk_faults after.disk_faults
-      → Initiates moment observed said reads may_leave result layout text after.source old new
-      → DoneOrNoMemory how (Initiates moment observed said reads may_leave (Ok tt) layout text after.source old new)
+      → Initiates frame result layout text after.source old new
+      → DoneOrNoMemory how (Initiates frame (Ok tt) layout text after.source old new)
   made_or_memory layout text tree how before after old new (Ok u) ends one accepted empty faultless reading disk makes = inl (ends, makes)
   made_or_memory layout text tree how before after old new (Err ending.ReadFault) ends one accepted empty faultless reading disk makes = absurd (faultless.source reading)
   made_or_memory layout text tree how before after old new (Err ending.DiskFault) ends one accepted empty faultless reading disk makes = absurd (faultless.disk disk)
@@ -237,65 +238,65 @@ module _ {H : Type 0} (moment : H → ℕ) (observed : H → ℕ → Observation
       absurd (omega (arith, some, counted, none))
   made_or_memory layout text tree how before after old new (Err e) ends one accepted empty faultless reading disk makes = absurd makes
 
-  pub init_succeeds : ((text : List ℕ) → HasOneAnswer text) → InitSucceeds moment observed said reads may_leave
+  pub init_succeeds : ((text : List ℕ) → HasOneAnswer text) → InitSucceeds frame
   init_succeeds one nodes partitions copies how before after old new text tree faultless empty gives accepted =
       ⊎_elim
       (λ inits.
       let same = one_giving before.source after.source inits.text text inits.gives gives in
       made_or_memory (new_layout nodes partitions copies text) text tree how before after old new inits.result inits.ends (one text) accepted empty faultless.none_rose inits.reading inits.disk
-      (subst (λ (t : List ℕ). Initiates moment observed said reads may_leave inits.result (new_layout nodes partitions copies t) t after.source old new) same inits.initiates))
+      (subst (λ (t : List ℕ). Initiates frame inits.result (new_layout nodes partitions copies t) t after.source old new) same inits.initiates))
       (λ lacks. inr lacks.0) (faultless.obeyed.command (Init nodes partitions copies) faultless.is)
 
-  pub dump_succeeds : RefusedIsNone → DumpSucceeds moment observed said reads may_leave
+  pub dump_succeeds : RefusedIsNone → DumpSucceeds frame
   dump_succeeds refused how before after old new c faultless store =
       ⊎_elim
       (λ does. ⊎_elim
-      (λ closed. inr (opened_or_memory how (reads old) store.files before.disk_faults after.disk_faults store.are (λ file at is. refused store.files file at is c store.good.holds) faultless.none_rose.disk closed.cause))
+      (λ closed. inr (opened_or_memory how (frame.reads old) store.files before.disk_faults after.disk_faults store.are (λ file at is. refused store.files file at is c store.good.holds) faultless.none_rose.disk closed.cause))
       (λ tells.
       let is = tells.of_store store.files c store.are store.good.holds store.good.rows in
-      ⊎_elim (λ done. inl (done.0 ∙ tells.ends, done.1 ∙ ap (append_known (said old)) is)) inr
-      (said_or_memory tells.text tells.own how (said old) (said new) (counts_of before) (counts_of after) faultless.none_rose.stream tells.says)) does.1)
+      ⊎_elim (λ done. inl (done.0 ∙ tells.ends, done.1 ∙ ap (append_known (frame.said old)) is)) inr
+      (said_or_memory tells.text tells.own how (frame.said old) (frame.said new) (counts_of before) (counts_of after) faultless.none_rose.stream tells.says)) does.1)
       (λ lacks. inr lacks.0) (faultless.obeyed.command Dump faultless.is)
 
-  pub verify_succeeds : RefusedIsNone → VerifySucceeds moment observed said reads may_leave
+  pub verify_succeeds : RefusedIsNone → VerifySucceeds frame
   verify_succeeds refused how before after old new c faultless store =
       ⊎_elim
       (λ does. ⊎_elim
-      (λ closed. inr (opened_or_memory how (reads old) store.files before.disk_faults after.disk_faults store.are (λ file at is. refused store.files file at is c store.good.holds) faultless.none_rose.disk closed.cause))
+      (λ closed. inr (opened_or_memory how (frame.reads old) store.files before.disk_faults after.disk_faults store.are (λ file at is. refused store.files file at is c store.good.holds) faultless.none_rose.disk closed.cause))
       (λ tells.
       let is = verdict_is_serial c tells.text tells.own store.good.serial (tells.of_store store.files c store.are store.good.holds tt) in
-      ⊎_elim (λ done. inl (done.0 ∙ is.0, done.1 ∙ ap (append_known (said old)) is.1)) inr
-      (said_or_memory tells.text tells.own how (said old) (said new) (counts_of before) (counts_of after) faultless.none_rose.stream tells.says)) does.1)
+      ⊎_elim (λ done. inl (done.0 ∙ is.0, done.1 ∙ ap (append_known (frame.said old)) is.1)) inr
+      (said_or_memory tells.text tells.own how (frame.said old) (frame.said new) (counts_of before) (counts_of after) faultless.none_rose.stream tells.says)) does.1)
       (λ lacks. inr lacks.0) (faultless.obeyed.command Verify faultless.is)
 
   added_or_memory : (Was Now : Files → Type 0) (how : Ending) (before after : ℕ) (opened new : H) (added : Result (Unit {0}) LogFault) → how ≡ ending_of_adding added → ¬ (Rose before after)
-      → CountsFault added before after → GainsAs moment observed said reads may_leave added Was Now opened new → DoneOrNoMemory how (RestsAs Now (reads new) (may_leave new))
+      → CountsFault added before after → GainsAs frame added Was Now opened new → DoneOrNoMemory how (RestsAs Now (frame.reads new) (frame.may_leave new))
   added_or_memory Was Now how before after opened new (Ok u) ends faultless cause gains = inl (ends, gains.ok)
   added_or_memory Was Now how before after opened new (Err fault.Disk) ends faultless cause gains = absurd (faultless cause)
   added_or_memory Was Now how before after opened new (Err fault.NoMemory) ends faultless cause gains = inr ends
   added_or_memory Was Now how before after opened new (Err (fault.NotALog at)) ends faultless cause gains = absurd cause
   added_or_memory Was Now how before after opened new (Err fault.TooLong) ends faultless cause gains = absurd cause
 
-  pub migrate_succeeds : RefusedIsNone → MigrateSucceeds moment observed said reads may_leave
+  pub migrate_succeeds : RefusedIsNone → MigrateSucceeds frame
   migrate_succeeds refused keep how before after old new c faultless store =
       ⊎_elim
       (λ does. ⊎_elim
-      (λ closed. inr (opened_or_memory how (reads old) store.files before.disk_faults after.disk_faults store.are (λ file at is. refused store.files file at is c store.good.holds) faultless.none_rose.disk closed.cause))
+      (λ closed. inr (opened_or_memory how (frame.reads old) store.files before.disk_faults after.disk_faults store.are (λ file at is. refused store.files file at is c store.good.holds) faultless.none_rose.disk closed.cause))
       (λ sets. added_or_memory (HasStore c) (HasStore (contents_keeping keep c)) how before.disk_faults after.disk_faults sets.opened new sets.added sets.ends faultless.none_rose.disk sets.cause (sets.gains store.files c store.are store.good)) does.1)
       (λ lacks. inr lacks.0) (faultless.obeyed.command (Migrate keep) faultless.is)
 
-  pub compact_succeeds : RefusedIsNone → CompactSucceeds moment observed said reads may_leave
+  pub compact_succeeds : RefusedIsNone → CompactSucceeds frame
   compact_succeeds refused how before after old new c faultless store =
       ⊎_elim
       (λ does. ⊎_elim
-      (λ closed. inr (opened_or_memory how (reads old) store.files before.disk_faults after.disk_faults store.are (λ file at is. refused store.files file at is c store.good.holds) faultless.none_rose.disk closed.cause))
+      (λ closed. inr (opened_or_memory how (frame.reads old) store.files before.disk_faults after.disk_faults store.are (λ file at is. refused store.files file at is c store.good.holds) faultless.none_rose.disk closed.cause))
       (λ makes. added_or_memory (HasStore c) (HasCompacted c) how before.disk_faults after.disk_faults makes.opened new makes.added makes.ends faultless.none_rose.disk makes.cause (makes.gains store.files c store.are store.good)) does.1)
       (λ lacks. inr lacks.0) (faultless.obeyed.command Compact faultless.is)
 
   rebuilt_or_memory : (node : ℕ) (c : Contents) (how : Ending) (before after : ℕ) (old new : H) (result : Result (Unit {0}) RebuildFault) → how ≡ ending_of_rebuilding node result
-      → ¬ (Rose before after) → CountsRebuild result before after → (store : ReadsWithout node c (reads old)) → AnswersFor node c.setting.entry.layout result
-      → IsLeftAlone moment observed said reads may_leave result old new ⊎ MakesAgain moment observed said reads may_leave node result old new
-      → DoneOrNoMemory how (RestsAs (HasRebuilt node c) (reads new) (may_leave new))
+      → ¬ (Rose before after) → CountsRebuild result before after → (store : ReadsWithout node c (frame.reads old)) → AnswersFor node c.setting.entry.layout result
+      → IsLeftAlone frame result old new ⊎ MakesAgain frame node result old new
+      → DoneOrNoMemory how (RestsAs (HasRebuilt node c) (frame.reads new) (frame.may_leave new))
   rebuilt_or_memory node c how before after old new (Ok u) ends faultless cause store answers seen =
       inl (ends, ⊎_elim (λ left. absurd (true≢false (sym left.failed))) (λ makes. (makes.gains store.files c store.are store.good).ok) seen)
   rebuilt_or_memory node c how before after old new (Err rebuilding.Disk) ends faultless cause store answers seen = absurd (faultless cause)
@@ -305,7 +306,7 @@ module _ {H : Type 0} (moment : H → ℕ) (observed : H → ℕ → Observation
   rebuilt_or_memory node c how before after old new (Err (rebuilding.NoHolder p)) ends faultless cause store answers seen = absurd (store.held p answers.1.refused)
   rebuilt_or_memory node c how before after old new (Err rebuilding.NoMemory) ends faultless cause store answers seen = inr ends
 
-  pub rebuild_succeeds : RebuildSucceeds moment observed said reads may_leave
+  pub rebuild_succeeds : RebuildSucceeds frame
   rebuild_succeeds node how before after old new c faultless store =
       ⊎_elim
       (λ does. (let is = does.1 in
@@ -327,15 +328,15 @@ module _ {H : Type 0} (moment : H → ℕ) (observed : H → ℕ → Observation
   asked_or_memory answers bytes how before after was now asked.SayFault ends faultless few cause says = absurd (faultless.stream cause.0)
   asked_or_memory answers bytes how before after was now asked.NoMemory ends faultless few cause says = inr ends
 
-  pub query_succeeds : RefusedIsNone → QuerySucceeds moment observed said reads may_leave
+  pub query_succeeds : RefusedIsNone → QuerySucceeds frame
   query_succeeds refused at readers how before after old new c bytes faultless store gives few may =
       ⊎_elim
       (λ does. ⊎_elim
-      (λ closed. inr (opened_or_memory how (reads old) store.files before.disk_faults after.disk_faults store.are (λ file place is. refused store.files file place is c store.good.holds) faultless.none_rose.disk closed.cause))
-      (λ found. ⊎_elim (λ unasked. inr (not_asked_or_memory at how (reads old) store.files c store.are store.good.holds may unasked.cause))
+      (λ closed. inr (opened_or_memory how (frame.reads old) store.files before.disk_faults after.disk_faults store.are (λ file place is. refused store.files file place is c store.good.holds) faultless.none_rose.disk closed.cause))
+      (λ found. ⊎_elim (λ unasked. inr (not_asked_or_memory at how (frame.reads old) store.files c store.are store.good.holds may unasked.cause))
       (λ asks.
       let same = one_giving before.source after.source asks.bytes bytes asks.gives gives in
-      subst (λ (given : List ℕ). DoneOrNoMemory how (said new ≡ append_known (said old) (answers_from (past_at c at) 1 (lines_of given)))) same
-      (asked_or_memory (answers_from (past_at c at) 1) asks.bytes how before after (said old) (said new) asks.asked asks.ends faultless.none_rose
+      subst (λ (given : List ℕ). DoneOrNoMemory how (frame.said new ≡ append_known (frame.said old) (answers_from (past_at c at) 1 (lines_of given)))) same
+      (asked_or_memory (answers_from (past_at c at) 1) asks.bytes how before after (frame.said old) (frame.said new) asks.asked asks.ends faultless.none_rose
       (subst (λ (given : List ℕ). length given < most_input_bytes) (sym same) few) asks.cause (asks.says store.files c store.are store.good))) found) does)
       (λ lacks. inr lacks.0) (faultless.obeyed.command (Query at readers) faultless.is)

@@ -2,6 +2,7 @@
 use Rattle.std.specs.Prelude.{◌≡◌, ◌≢◌, ◌⊎◌, ⊤, ℕ, List, [], length, Option, None, Some, Result, Ok, Err}
 use Rattle.coco_host.specs.Files.{Files}
 use Rattle.coco_host.specs.Moments.{Observation}
+use Rattle.coco_host.specs.declared.host.Host.{Ghosts as HostGhosts}
 use Rattle.coco_ending.specs.declared.ending.Ending.{Ending}
 use Rattle.coco_ending.specs.declared.ending.Ending.TheVariants as ending
 use Rattle.coco_init.specs.Counts.{CountsDisk, CountsReads}
@@ -60,30 +61,30 @@ NeedsCommand ending.BadCommandLine is = ⊤
 NeedsCommand ending.NoMemory is = ⊤
 NeedsCommand _ is = is
 
-module _ {H : Type 0} (moment : H → ℕ) (observed : H → ℕ → Observation → Type 0) (said : H → Option (List ℕ)) (reads : H → Option Files) (may_leave : H → Files → Type 0) where
+module _ {H : Type 0} (frame : HostGhosts H) where
   -- `init`: a store of these sizes, with the procedures of the text that the source gave
   pub record Inits (nodes partitions copies : ℕ) (how : Ending) (before after : Outside) (old new : H) : Type 0 where
     pub result : Result (Unit {0}) Ending
     pub ends : how ≡ ending_in result
     pub text : List ℕ
     pub gives : Gives before.source after.source text
-    pub initiates : Initiates moment observed said reads may_leave result (new_layout nodes partitions copies text) text after.source old new
-    pub only_there : (files : Files) → reads old ≡ Some files → files 0 ≢ [] → (result ≡ Err (ending.AlreadyThere (length (files 0)))) ⊎ (result ≡ Err ending.DiskFault)
+    pub initiates : Initiates frame result (new_layout nodes partitions copies text) text after.source old new
+    pub only_there : (files : Files) → frame.reads old ≡ Some files → files 0 ≢ [] → (result ≡ Err (ending.AlreadyThere (length (files 0)))) ⊎ (result ≡ Err ending.DiskFault)
     pub reading : CountsReads result before.source_faults after.source_faults
     pub disk : CountsDisk result before.disk_faults after.disk_faults
     pub around : after.around ≡ before.around
 
   abbrev pub Does : Command → Ending → Outside → Outside → H → H → Type 0
   Does (Init nodes partitions copies) how before after old new = Inits nodes partitions copies how before after old new
-  Does (Run run) how before after old new = RunsOn moment observed said reads may_leave (bounds_of run) how (disturbed run.disturb before) after old new
-  Does Dump how before after old new = KeepsInput before after × Dumps moment observed said reads may_leave how (counts_of before) (counts_of after) old new
-  Does Verify how before after old new = KeepsInput before after × Verifies moment observed said reads may_leave how (counts_of before) (counts_of after) old new
-  Does (Migrate keep) how before after old new = KeepsInput before after × Migrates moment observed said reads may_leave keep how (counts_of before) (counts_of after) old new
-  Does Compact how before after old new = KeepsInput before after × Compacts moment observed said reads may_leave how (counts_of before) (counts_of after) old new
-  Does (Rebuild node) how before after old new = KeepsInput before after × Rebuilds moment observed said reads may_leave node how (counts_of before) (counts_of after) old new
-  Does (Query at readers) how before after old new = Queries moment observed said reads may_leave at how before after old new
+  Does (Run run) how before after old new = RunsOn frame (bounds_of run) how (disturbed run.disturb before) after old new
+  Does Dump how before after old new = KeepsInput before after × Dumps frame how (counts_of before) (counts_of after) old new
+  Does Verify how before after old new = KeepsInput before after × Verifies frame how (counts_of before) (counts_of after) old new
+  Does (Migrate keep) how before after old new = KeepsInput before after × Migrates frame keep how (counts_of before) (counts_of after) old new
+  Does Compact how before after old new = KeepsInput before after × Compacts frame how (counts_of before) (counts_of after) old new
+  Does (Rebuild node) how before after old new = KeepsInput before after × Rebuilds frame node how (counts_of before) (counts_of after) old new
+  Does (Query at readers) how before after old new = Queries frame at how before after old new
   Does (Try calls seed run) how before after old new = KeepsSource before after
-      × TriesOn moment observed said reads may_leave (bounds_of run) (workload_of calls seed) how (disturbed run.disturb before).around after.around (counts_of before) (counts_of after) old new
+      × TriesOn frame (bounds_of run) (workload_of calls seed) how (disturbed run.disturb before).around after.around (counts_of before) (counts_of after) old new
 
   -- nothing is done, for want of memory
   abbrev pub LacksMemory : Ending → Outside → Outside → H → H → Type 0

@@ -10,6 +10,7 @@ use Rattle.coco_ast.specs.Tree.{Procedures}
 use Rattle.coco_audit.specs.Texts.{serial_text}
 use Rattle.coco_host.specs.Files.{Files}
 use Rattle.coco_host.specs.Moments.{Observation}
+use Rattle.coco_host.specs.declared.host.Host.{Ghosts as HostGhosts}
 use Rattle.coco_io.specs.Counts.{Rose}
 use Rattle.coco_ckpt.specs.Compacting.{HasCompacted}
 use Rattle.coco_ending.specs.declared.ending.Ending.{Ending}
@@ -95,82 +96,82 @@ pub record MayTake (c : Contents) (bounds : RunBounds) (bytes : List ℕ) : Type
 abbrev pub DoneOrNoMemory : Ending → Type 0 → Type 0
 DoneOrNoMemory how Left = ((how ≡ ending.Finished) × Left) ⊎ (how ≡ ending.NoMemory)
 
-module _ {H : Type 0} (moment : H → ℕ) (observed : H → ℕ → Observation → Type 0) (said : H → Option (List ℕ)) (reads : H → Option Files) (may_leave : H → Files → Type 0) where
+module _ {H : Type 0} (frame : HostGhosts H) where
   -- the words are this command and were obeyed, and no count of faults rose
   pub record IsFaultless (command : Command) (how : Ending) (before after : Outside) (old new : H) : Type 0 where
     pub words : List (List ℕ)
     pub is : IsCommand words command
-    pub obeyed : Obeys moment observed said reads may_leave words how before after old new
+    pub obeyed : Obeys frame words how before after old new
     pub none_rose : NoneRose before after
 
   -- the input was read to its end, and all its lines are committed and answered; no number was skipped
   pub record AllAreAnswered (c : Contents) (bounds : RunBounds) (bytes : List ℕ) (after : Outside) (old new : H) : Type 0 where
     pub opened : H
-    pub opening : IsOnlyRead moment observed said reads may_leave old opened
+    pub opening : IsOnlyRead frame old opened
     pub next : ℕ
     pub is_next : IsNextOf c next
     pub spent : IsSpent after.source
-    pub serves : Serves moment observed said reads may_leave c next 0 bounds bytes served.Finished opened new
+    pub serves : Serves frame c next 0 bounds bytes served.Finished opened new
 
   -- all requests are committed and told of; no number was skipped
   pub record AllAreTold (c : Contents) (bounds : RunBounds) (requests : List Request) (old new : H) : Type 0 where
     pub opened : H
-    pub opening : IsOnlyRead moment observed said reads may_leave old opened
+    pub opening : IsOnlyRead frame old opened
     pub next : ℕ
     pub is_next : IsNextOf c next
-    pub tries : workloads.Tries moment observed said reads may_leave c next 0 bounds requests (Ok tt) opened new
+    pub tries : workloads.Tries frame c next 0 bounds requests (Ok tt) opened new
 
   -- this text was said
   abbrev pub Says : List ℕ → H → H → Type 0
-  Says text old new = said new ≡ append_known (said old) text
+  Says text old new = frame.said new ≡ append_known (frame.said old) text
 
   -- ---- each command
 
   -- `run` on a good store that may take all lines of the bytes given
   abbrev pub RunSucceeds : Type 0
   RunSucceeds = (run : RunOptions) (how : Ending) (before after : Outside) (old new : H) (c : Contents) (bytes : List ℕ)
-      → IsFaultless (Run run) how before after old new → ReadsAs c (reads old) → Gives before.source after.source bytes → MayTake c (bounds_of run) bytes
+      → IsFaultless (Run run) how before after old new → ReadsAs c (frame.reads old) → Gives before.source after.source bytes → MayTake c (bounds_of run) bytes
       → DoneOrNoMemory how (AllAreAnswered c (bounds_of run) bytes after old new)
 
   -- `try` on a good store that has a number for each epoch of the workload
   abbrev pub TrySucceeds : Type 0
   TrySucceeds = (calls seed : ℕ) (run : RunOptions) (how : Ending) (before after : Outside) (old new : H) (c : Contents)
-      → IsFaultless (Try calls seed run) how before after old new → ReadsAs c (reads old)
+      → IsFaultless (Try calls seed run) how before after old new → ReadsAs c (frame.reads old)
       → ((next : ℕ) → IsNextOf c next → HaveNumbersFor c next (bounds_of run) (workloads.workload_of calls seed))
       → DoneOrNoMemory how (AllAreTold c (bounds_of run) (workloads.workload_of calls seed) old new)
 
   -- `init` where no store is, with an accepted text given
   abbrev pub InitSucceeds : Type 0
   InitSucceeds = (nodes partitions copies : ℕ) (how : Ending) (before after : Outside) (old new : H) (text : List ℕ) (tree : Procedures)
-      → IsFaultless (Init nodes partitions copies) how before after old new → ReadsEmpty (reads old) → Gives before.source after.source text → IsAcceptedText text tree
-      → DoneOrNoMemory how (Initiates moment observed said reads may_leave (Ok tt) (new_layout nodes partitions copies text) text after.source old new)
+      → IsFaultless (Init nodes partitions copies) how before after old new → ReadsEmpty (frame.reads old) → Gives before.source after.source text → IsAcceptedText text tree
+      → DoneOrNoMemory how (Initiates frame (Ok tt) (new_layout nodes partitions copies text) text after.source old new)
 
   -- `dump` of a good store
   abbrev pub DumpSucceeds : Type 0
-  DumpSucceeds = (how : Ending) (before after : Outside) (old new : H) (c : Contents) → IsFaultless Dump how before after old new → ReadsAs c (reads old) → DoneOrNoMemory how (Says (dump_in c) old new)
+  DumpSucceeds = (how : Ending) (before after : Outside) (old new : H) (c : Contents) → IsFaultless Dump how before after old new → ReadsAs c (frame.reads old) → DoneOrNoMemory how (Says (dump_in c) old new)
 
   -- `verify` of a good store, whose history is serial
   abbrev pub VerifySucceeds : Type 0
-  VerifySucceeds = (how : Ending) (before after : Outside) (old new : H) (c : Contents) → IsFaultless Verify how before after old new → ReadsAs c (reads old)
+  VerifySucceeds = (how : Ending) (before after : Outside) (old new : H) (c : Contents) → IsFaultless Verify how before after old new → ReadsAs c (frame.reads old)
       → DoneOrNoMemory how (Says (serial_text (length (epoch_dones (history_of c)))) old new)
 
   -- `migrate` of a good store
   abbrev pub MigrateSucceeds : Type 0
-  MigrateSucceeds = (keep : ℕ) (how : Ending) (before after : Outside) (old new : H) (c : Contents) → IsFaultless (Migrate keep) how before after old new → ReadsAs c (reads old)
-      → DoneOrNoMemory how (RestsOn (contents_keeping keep c) (reads new) (may_leave new))
+  MigrateSucceeds = (keep : ℕ) (how : Ending) (before after : Outside) (old new : H) (c : Contents) → IsFaultless (Migrate keep) how before after old new → ReadsAs c (frame.reads old)
+      → DoneOrNoMemory how (RestsOn (contents_keeping keep c) (frame.reads new) (frame.may_leave new))
 
   -- `compact` of a good store
   abbrev pub CompactSucceeds : Type 0
-  CompactSucceeds = (how : Ending) (before after : Outside) (old new : H) (c : Contents) → IsFaultless Compact how before after old new → ReadsAs c (reads old)
-      → DoneOrNoMemory how (RestsAs (HasCompacted c) (reads new) (may_leave new))
+  CompactSucceeds = (how : Ending) (before after : Outside) (old new : H) (c : Contents) → IsFaultless Compact how before after old new → ReadsAs c (frame.reads old)
+      → DoneOrNoMemory how (RestsAs (HasCompacted c) (frame.reads new) (frame.may_leave new))
 
   -- `rebuild` of a node that is there, of a store that is good but for its file, where each of its partitions has another holder
   abbrev pub RebuildSucceeds : Type 0
-  RebuildSucceeds = (node : ℕ) (how : Ending) (before after : Outside) (old new : H) (c : Contents) → IsFaultless (Rebuild node) how before after old new → ReadsWithout node c (reads old)
-      → DoneOrNoMemory how (RestsAs (HasRebuilt node c) (reads new) (may_leave new))
+  RebuildSucceeds = (node : ℕ) (how : Ending) (before after : Outside) (old new : H) (c : Contents) → IsFaultless (Rebuild node) how before after old new → ReadsWithout node c (frame.reads old)
+      → DoneOrNoMemory how (RestsAs (HasRebuilt node c) (frame.reads new) (frame.may_leave new))
 
   -- `query` of a good store, at one of its epochs, by fewer than 2^62 bytes: each line is answered by its rows at the end of that epoch
   abbrev pub QuerySucceeds : Type 0
-  QuerySucceeds = (at readers : ℕ) (how : Ending) (before after : Outside) (old new : H) (c : Contents) (bytes : List ℕ) → IsFaultless (Query at readers) how before after old new → ReadsAs c (reads old)
+  QuerySucceeds = (at readers : ℕ) (how : Ending) (before after : Outside) (old new : H) (c : Contents) (bytes : List ℕ) → IsFaultless (Query at readers) how before after old new → ReadsAs c (frame.reads old)
       → Gives before.source after.source bytes → length bytes < most_input_bytes → MayBeAsked (history_of c) at
       → DoneOrNoMemory how (Says (answers_from (past_at c at) 1 (lines_of bytes)) old new)

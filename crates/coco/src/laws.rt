@@ -13,15 +13,15 @@ use coco_store::a_refused_store_is_none;
 /// is good but for the node's file, where each partition of the node has another holder; `query` on a good store at one of
 /// its epochs, by fewer than 2^62 bytes, and then all lines are answered.
 pub fn commands_succeed<H: Host>()
-    ensures run { RunSucceeds H.moment H.observed H.said H.reads H.may_leave }
-    ensures tries { TrySucceeds H.moment H.observed H.said H.reads H.may_leave }
-    ensures init { InitSucceeds H.moment H.observed H.said H.reads H.may_leave }
-    ensures dump { DumpSucceeds H.moment H.observed H.said H.reads H.may_leave }
-    ensures verify { VerifySucceeds H.moment H.observed H.said H.reads H.may_leave }
-    ensures migrate { MigrateSucceeds H.moment H.observed H.said H.reads H.may_leave }
-    ensures compact { CompactSucceeds H.moment H.observed H.said H.reads H.may_leave }
-    ensures rebuild { RebuildSucceeds H.moment H.observed H.said H.reads H.may_leave }
-    ensures query { QuerySucceeds H.moment H.observed H.said H.reads H.may_leave }
+    ensures run { RunSucceeds H.Host }
+    ensures tries { TrySucceeds H.Host }
+    ensures init { InitSucceeds H.Host }
+    ensures dump { DumpSucceeds H.Host }
+    ensures verify { VerifySucceeds H.Host }
+    ensures migrate { MigrateSucceeds H.Host }
+    ensures compact { CompactSucceeds H.Host }
+    ensures rebuild { RebuildSucceeds H.Host }
+    ensures query { QuerySucceeds H.Host }
     ensures numbers { FewLinesHaveNumbers }
     ensures numbers_for { FewRequestsHaveNumbers }
 {

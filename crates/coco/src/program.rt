@@ -46,9 +46,9 @@ pub fn program<
     requires { N.sent net.old ≡ [] }
     ensures obeys { IfOk given.now (λ arguments. IfOk host.old (λ old. (new : H) × (host.new ≡ Ok new)
         × ((ending : CallEnding) × IsReported ending result (E.contents errs.old) (E.contents errs.new) (E.faults errs.old) (E.faults errs.new)
-        × Obeys H.moment H.observed H.said H.reads H.may_leave (map string_bytes (drop 2 arguments.items)) ending
-        (record { source = record { given = I.given input.old; left = I.remaining input.old; at_end = I.at_end input.old }; source_faults = I.faults input.old; say_faults = H.say_faults old; disk_faults = H.disk_faults old; around = around N.sent N.given N.faults N.last_seed P.stops_seen P.early_stops P.stopped P.begun P.asked net.old power.old })
-        (record { source = record { given = I.given input.new; left = I.remaining input.new; at_end = I.at_end input.new }; source_faults = I.faults input.new; say_faults = H.say_faults new; disk_faults = H.disk_faults new; around = around N.sent N.given N.faults N.last_seed P.stops_seen P.early_stops P.stopped P.begun P.asked net.new power.new })
+        × Obeys H.Host (map string_bytes (drop 2 arguments.items)) ending
+        (record { source = record { given = I.given input.old; left = I.remaining input.old; at_end = I.at_end input.old }; source_faults = I.faults input.old; say_faults = H.say_faults old; disk_faults = H.disk_faults old; around = around N.Net P.Power net.old power.old })
+        (record { source = record { given = I.given input.new; left = I.remaining input.new; at_end = I.at_end input.new }; source_faults = I.faults input.new; say_faults = H.say_faults new; disk_faults = H.disk_faults new; around = around N.Net P.Power net.new power.new })
         old new))) }
     ensures no_host { IfOk given.now (λ _. IfErr host.old (λ _. (host.new ≡ host.old) × (net.new ≡ net.old) × (power.new ≡ power.old) × (input.new ≡ input.old)
         × IsReported CallEnding.NoMemory result (E.contents errs.old) (E.contents errs.new) (E.faults errs.old) (E.faults errs.new))) }

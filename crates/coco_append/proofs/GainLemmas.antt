@@ -8,6 +8,7 @@ use Rattle.coco_entry.specs.Rows.{prepared_bytes}
 use Rattle.coco_host.specs.Files.{Files, Become, Follows}
 use Rattle.coco_host.specs.Moments.{Observation, SeesOnly}
 use Rattle.coco_host.proofs.Sees.{started}
+use Rattle.coco_host.specs.declared.host.Host.{Ghosts as HostGhosts}
 use Rattle.coco_log.specs.Grammar.{IsLog}
 use Rattle.coco_log.specs.LogState.{LogState, ChangesOne, IsAppended, IsAtRest, IsBeforeOrAfter, IsMade, IsOpened, SameBut, with_entry}
 use Rattle.coco_log.proofs.OnlyRead.{sees_weaker}
@@ -89,27 +90,27 @@ stands_grown r old new body (Some fs) after left leaves become stands ok =
 
 -- ---- moments
 
-module _ {T E H : Type 0} (moment : H → ℕ) (observed : H → ℕ → Observation → Type 0) (said : H → Option (List ℕ)) (reads : H → Option Files) (may_leave : H → Files → Type 0)
+module _ {T E H : Type 0} (frame : HostGhosts H)
     (result : Result T E) (Was Now : Files → Type 0) where
   -- a call that changed nothing
-  pub nothing_gained : ((host : H) (seen : Observation) → observed host (moment host) seen → may_leave host seen.image × (said host ≡ Some seen.said))
-      → (host : H) (fault : E) → result ≡ Err fault → RestsAs Was (reads host) (may_leave host) → GainsAs moment observed said reads may_leave result Was Now host host
+  pub nothing_gained : ((host : H) (seen : Observation) → frame.observed host (frame.moment host) seen → frame.may_leave host seen.image × (frame.said host ≡ Some seen.said))
+      → (host : H) (fault : E) → result ≡ Err fault → RestsAs Was (frame.reads host) (frame.may_leave host) → GainsAs frame result Was Now host host
   nothing_gained only_now host fault is rests = record {
-    ok = subst (λ (r : Result T E). OnOk r (RestsAs Now (reads host) (may_leave host))) (sym is) tt;
-    moments = started moment observed host (ShowsAs Was Now (said host)) (λ seen since. let now = only_now host seen since in record { store = inl (rests.left seen.image now.0); said = now.1 });
+    ok = subst (λ (r : Result T E). OnOk r (RestsAs Now (frame.reads host) (frame.may_leave host))) (sym is) tt;
+    moments = started frame.moment frame.observed host (ShowsAs Was Now (frame.said host)) (λ seen since. let now = only_now host seen since in record { store = inl (rests.left seen.image now.0); said = now.1 });
     left = λ bytes spoke image leaves. inl (rests.left image leaves);
   }
 
-  module _ (old new : H) (log grown : LogState) (body : List ℕ) (rests : RestsAs Was (reads old) (may_leave old)) (stands : Stands log (reads old) (may_leave old))
+  module _ (old new : H) (log grown : LogState) (body : List ℕ) (rests : RestsAs Was (frame.reads old) (frame.may_leave old)) (stands : Stands log (frame.reads old) (frame.may_leave old))
       (grows : GrowsAs Was Now log.file log.kind body) where
-    opened : IsOpened log rests.files (may_leave old)
-    opened = told (reads old) rests.files (λ fs. IsOpened log fs (may_leave old)) rests.are stands
+    opened : IsOpened log rests.files (frame.may_leave old)
+    opened = told (frame.reads old) rests.files (λ fs. IsOpened log fs (frame.may_leave old)) rests.are stands
 
-    was_log : (before : Files) → may_leave old before → IsLog log.kind opened.bodies (before log.file)
+    was_log : (before : Files) → frame.may_leave old before → IsLog log.kind opened.bodies (before log.file)
     was_log before left = subst (λ (l : List ℕ). IsLog log.kind opened.bodies l) (sym (opened.rest.durable before left)) opened.rest.holds.is_log
 
     -- what is seen within the append
-    meanwhile : (seen : Observation) → ChangesOne log.file (IsBeforeOrAfter log.kind opened.bodies body) (may_leave old) (said old) seen → ShowsAs Was Now (said old) seen
+    meanwhile : (seen : Observation) → ChangesOne log.file (IsBeforeOrAfter log.kind opened.bodies body) (frame.may_leave old) (frame.said old) seen → ShowsAs Was Now (frame.said old) seen
     meanwhile seen changes = record {
       store = grows.meanwhile changes.before seen.image (rests.left changes.before changes.was_left) (record {
         bodies = opened.bodies;
@@ -126,7 +127,7 @@ module _ {T E H : Type 0} (moment : H → ℕ) (observed : H → ℕ → Observa
     grown_files before after good was is same =
         grows.grown before after good (record { bodies = opened.bodies; was = was; is = is; others = λ n any other. same_file (before n) (after n) (same n other) })
 
-    rests_grown : IsAppended log (with_entry log body) opened.bodies body rests.files (reads new) (may_leave new) → Follows (SameBut log.file) (may_leave old) (may_leave new) → RestsAs Now (reads new) (may_leave new)
+    rests_grown : IsAppended log (with_entry log body) opened.bodies body rests.files (frame.reads new) (frame.may_leave new) → Follows (SameBut log.file) (frame.may_leave old) (frame.may_leave new) → RestsAs Now (frame.reads new) (frame.may_leave new)
     rests_grown is follows = record {
       files = is.files;
       are = is.are;
@@ -136,23 +137,23 @@ module _ {T E H : Type 0} (moment : H → ℕ) (observed : H → ℕ → Observa
           (subst (λ (l : List ℕ). IsLog log.kind (opened.bodies ++ body ∷ []) l) (sym (is.rest.durable image leaves)) is.rest.holds.is_log) from.2;
     }
 
-    pub gained : ((host : H) (t : ℕ) (seen : Observation) → t ≤ moment host → may_leave host seen.image → said host ≡ Some seen.said → observed host t seen)
-        → ((files : Files) (bodies : List (List ℕ)) → reads old ≡ Some files → IsAtRest log bodies files (may_leave old)
-        → SeesOnly moment observed old new (ChangesOne log.file (IsBeforeOrAfter log.kind bodies body) (may_leave old) (said old)))
-        → OnOk result ((files : Files) (bodies : List (List ℕ)) → reads old ≡ Some files → IsAtRest log bodies files (may_leave old) → IsAppended log grown bodies body files (reads new) (may_leave new))
-        → OnOk result (grown ≡ with_entry log body) → Follows (SameBut log.file) (may_leave old) (may_leave new) → said new ≡ said old
-        → GainsAs moment observed said reads may_leave result Was Now old new
+    pub gained : ((host : H) (t : ℕ) (seen : Observation) → t ≤ frame.moment host → frame.may_leave host seen.image → frame.said host ≡ Some seen.said → frame.observed host t seen)
+        → ((files : Files) (bodies : List (List ℕ)) → frame.reads old ≡ Some files → IsAtRest log bodies files (frame.may_leave old)
+        → SeesOnly frame.moment frame.observed old new (ChangesOne log.file (IsBeforeOrAfter log.kind bodies body) (frame.may_leave old) (frame.said old)))
+        → OnOk result ((files : Files) (bodies : List (List ℕ)) → frame.reads old ≡ Some files → IsAtRest log bodies files (frame.may_leave old) → IsAppended log grown bodies body files (frame.reads new) (frame.may_leave new))
+        → OnOk result (grown ≡ with_entry log body) → Follows (SameBut log.file) (frame.may_leave old) (frame.may_leave new) → frame.said new ≡ frame.said old
+        → GainsAs frame result Was Now old new
     gained seen_now moments ok is follows same =
-        let sees : SeesOnly moment observed old new (ShowsAs Was Now (said old)) =
-        sees_weaker moment observed old new (ChangesOne log.file (IsBeforeOrAfter log.kind opened.bodies body) (may_leave old) (said old)) (ShowsAs Was Now (said old)) meanwhile
+        let sees : SeesOnly frame.moment frame.observed old new (ShowsAs Was Now (frame.said old)) =
+        sees_weaker frame.moment frame.observed old new (ChangesOne log.file (IsBeforeOrAfter log.kind opened.bodies body) (frame.may_leave old) (frame.said old)) (ShowsAs Was Now (frame.said old)) meanwhile
         (moments rests.files opened.bodies rests.are opened.rest) in
         record {
           ok = on_both result _ _ _ (λ goes grew. rests_grown
-              (subst (λ (l : LogState). IsAppended log l opened.bodies body rests.files (reads new) (may_leave new)) grew (goes rests.files opened.bodies rests.are opened.rest)) follows) ok is;
+              (subst (λ (l : LogState). IsAppended log l opened.bodies body rests.files (frame.reads new) (frame.may_leave new)) grew (goes rests.files opened.bodies rests.are opened.rest)) follows) ok is;
           moments = sees;
           left = λ bytes spoke image leaves.
               let seen : Observation = record { image = image; said = bytes } in
-              (sees.each seen (seen_now new (moment old) seen sees.later leaves (same ∙ spoke))).store;
+              (sees.each seen (seen_now new (frame.moment old) seen sees.later leaves (same ∙ spoke))).store;
         }
 
 -- ---- which entries a store may gain

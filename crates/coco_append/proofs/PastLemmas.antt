@@ -4,6 +4,7 @@ use Rattle.std.specs.Prelude.{OnOk}
 use Rattle.coco_entry.specs.Layouts.{is_named}
 use Rattle.coco_host.specs.Files.{Files}
 use Rattle.coco_host.specs.Moments.{Observation, SeesOnly}
+use Rattle.coco_host.specs.declared.host.Host.{Ghosts as HostGhosts}
 use Rattle.coco_log.specs.Changes.{ChangesNamed, ChangesOnly, SameBesides}
 use Rattle.coco_log.specs.Grammar.{IsLog}
 use Rattle.coco_log.proofs.Appends.{told_on}
@@ -26,13 +27,13 @@ pub store_besides : (named : List ℕ) (c : Contents) (old new : Files) → ((n 
 store_besides named c old new free same good = store_kept old new c (logs_besides named (files_of c.setting.entry) old new free same) good
 
 -- where a host rests on such files, and a change of those named leaves them such
-module _ {H : Type 0} (moment : H → ℕ) (observed : H → ℕ → Observation → Type 0) (said : H → Option (List ℕ)) (reads : H → Option Files) (may_leave : H → Files → Type 0)
+module _ {H : Type 0} (frame : HostGhosts H)
     (named : List ℕ) (Such : Files → Type 0) (still : (old new : Files) → SameBesides named old new → Such old → Such new)
-    (first mid : H) (rests : RestsAs Such (reads first) (may_leave first)) (changes : ChangesOnly moment observed said reads may_leave named first mid) where
+    (first mid : H) (rests : RestsAs Such (frame.reads first) (frame.may_leave first)) (changes : ChangesOnly frame named first mid) where
   -- it rests on such ones after a call that changed no others
-  pub rests_past : RestsAs Such (reads mid) (may_leave mid)
+  pub rests_past : RestsAs Such (frame.reads mid) (frame.may_leave mid)
   rests_past =
-      let later = told_on (SameBesides named) (reads first) (reads mid) rests.files rests.are changes.files in
+      let later = told_on (SameBesides named) (frame.reads first) (frame.reads mid) rests.files rests.are changes.files in
       record {
         files = later.0;
         are = later.1;
@@ -41,36 +42,36 @@ module _ {H : Type 0} (moment : H → ℕ) (observed : H → ℕ → Observation
       }
 
   -- and such ones are seen meanwhile
-  pub sees_past : (Now : Files → Type 0) → SeesOnly moment observed first mid (ShowsAs Such Now (said first))
+  pub sees_past : (Now : Files → Type 0) → SeesOnly frame.moment frame.observed first mid (ShowsAs Such Now (frame.said first))
   sees_past Now =
-      sees_weaker moment observed first mid (ChangesNamed named (may_leave first) (said first)) (ShowsAs Such Now (said first))
+      sees_weaker frame.moment frame.observed first mid (ChangesNamed named (frame.may_leave first) (frame.said first)) (ShowsAs Such Now (frame.said first))
       (λ seen shows. record { store = inl (still shows.before seen.image shows.others (rests.left shows.before shows.was_left)); said = shows.said }) (changes.moments rests.files rests.are)
 
   -- the last step failed before it began
-  pub nothing_gained_past : {T E : Type 0} (result : Result T E) (Now : Files → Type 0) (fault : E) → result ≡ Err fault → GainsAs moment observed said reads may_leave result Such Now first mid
+  pub nothing_gained_past : {T E : Type 0} (result : Result T E) (Now : Files → Type 0) (fault : E) → result ≡ Err fault → GainsAs frame result Such Now first mid
   nothing_gained_past result Now fault is = record {
-    ok = subst (λ (r : Result _ _). OnOk r (RestsAs Now (reads mid) (may_leave mid))) (sym is) tt;
+    ok = subst (λ (r : Result _ _). OnOk r (RestsAs Now (frame.reads mid) (frame.may_leave mid))) (sym is) tt;
     moments = sees_past Now;
     left = λ bytes spoke image left. inl (rests_past.left image left);
   }
 
   -- the last step
-  pub gained_past : {T E : Type 0} (result : Result T E) (Now : Files → Type 0) (new : H) → GainsAs moment observed said reads may_leave result Such Now mid new
-      → GainsAs moment observed said reads may_leave result Such Now first new
+  pub gained_past : {T E : Type 0} (result : Result T E) (Now : Files → Type 0) (new : H) → GainsAs frame result Such Now mid new
+      → GainsAs frame result Such Now first new
   gained_past result Now new gains = record {
     ok = gains.ok;
-    moments = sees_then moment observed first mid new (ShowsAs Such Now (said first)) (ShowsAs Such Now (said mid)) (sees_past Now) gains.moments
+    moments = sees_then frame.moment frame.observed first mid new (ShowsAs Such Now (frame.said first)) (ShowsAs Such Now (frame.said mid)) (sees_past Now) gains.moments
         (λ seen shows. record { store = shows.store; said = sym changes.quiet ∙ shows.said });
     left = λ bytes spoke image left. gains.left bytes (changes.quiet ∙ spoke) image left;
   }
 
 -- what is gained, in fewer words
-pub gains_weaker : {T E H : Type 0} (moment : H → ℕ) (observed : H → ℕ → Observation → Type 0) (said : H → Option (List ℕ)) (reads : H → Option Files) (may_leave : H → Files → Type 0)
+pub gains_weaker : {T E H : Type 0} (frame : HostGhosts H)
     (result : Result T E) (Was Now Such Then : Files → Type 0) (old new : H) → ((files : Files) → Was files → Such files) → ((files : Files) → Now files → Then files)
-    → GainsAs moment observed said reads may_leave result Was Now old new → GainsAs moment observed said reads may_leave result Such Then old new
-gains_weaker moment observed said reads may_leave result Was Now Such Then old new such then gains = record {
+    → GainsAs frame result Was Now old new → GainsAs frame result Such Then old new
+gains_weaker frame result Was Now Such Then old new such then gains = record {
   ok = on_ok result _ _ (λ rests. record { files = rests.files; are = rests.are; good = then rests.files rests.good; left = λ image left. then image (rests.left image left) }) gains.ok;
-  moments = sees_weaker moment observed old new (ShowsAs Was Now (said old)) (ShowsAs Such Then (said old))
+  moments = sees_weaker frame.moment frame.observed old new (ShowsAs Was Now (frame.said old)) (ShowsAs Such Then (frame.said old))
       (λ seen shows. record { store = ⊎_elim (λ was. inl (such seen.image was)) (λ now. inr (then seen.image now)) shows.store; said = shows.said }) gains.moments;
   left = λ bytes spoke image left. ⊎_elim (λ was. inl (such image was)) (λ now. inr (then image now)) (gains.left bytes spoke image left);
 }

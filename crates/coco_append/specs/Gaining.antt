@@ -2,6 +2,7 @@
 use Rattle.std.specs.Prelude.{◌≡◌, ◌⊎◌, ℕ, List, Option, Some, Result, OnOk, IfSome}
 use Rattle.coco_host.specs.Files.{Files}
 use Rattle.coco_host.specs.Moments.{Observation, SeesOnly}
+use Rattle.coco_host.specs.declared.host.Host.{Ghosts as HostGhosts}
 use Rattle.coco_log.specs.LogState.{LogState, IsOpened}
 use Rattle.coco_store.specs.Contents.{Contents, IsGoodStore, chief_of, file_of}
 use Rattle.coco_store.specs.Entries.{commits_kind, prepared_kind}
@@ -67,13 +68,13 @@ Grows before after = GrowsAs (HasStore before) (HasStore after)
 
 -- a host that rested on such files rests on such ones, where the call succeeded. At each moment of it, and behind it whatever it answered,
 -- all that a crash may leave is the one or the other
-pub record GainsAs {T E H : Type 0} (moment : H → ℕ) (observed : H → ℕ → Observation → Type 0) (said : H → Option (List ℕ)) (reads : H → Option Files) (may_leave : H → Files → Type 0)
+pub record GainsAs {T E H : Type 0} (frame : HostGhosts H)
     (result : Result T E) (Was Now : Files → Type 0) (old new : H) : Type 0 where
-  pub ok : OnOk result (RestsAs Now (reads new) (may_leave new))
-  pub moments : SeesOnly moment observed old new (ShowsAs Was Now (said old))
+  pub ok : OnOk result (RestsAs Now (frame.reads new) (frame.may_leave new))
+  pub moments : SeesOnly frame.moment frame.observed old new (ShowsAs Was Now (frame.said old))
   -- where the host tells what it said
-  pub left : (bytes : List ℕ) → said old ≡ Some bytes → (image : Files) → may_leave new image → Was image ⊎ Now image
+  pub left : (bytes : List ℕ) → frame.said old ≡ Some bytes → (image : Files) → frame.may_leave new image → Was image ⊎ Now image
 
 -- one that rested on the contents of before rests on those of after
-abbrev pub Gains : {T E H : Type 0} → (H → ℕ) → (H → ℕ → Observation → Type 0) → (H → Option (List ℕ)) → (H → Option Files) → (H → Files → Type 0) → Result T E → Contents → Contents → H → H → Type 0
-Gains moment observed said reads may_leave result before after = GainsAs moment observed said reads may_leave result (HasStore before) (HasStore after)
+abbrev pub Gains : {T E H : Type 0} → HostGhosts H → Result T E → Contents → Contents → H → H → Type 0
+Gains frame result before after = GainsAs frame result (HasStore before) (HasStore after)

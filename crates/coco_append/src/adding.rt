@@ -37,7 +37,7 @@ pub fn add_prepared<H: Host>(
     requires rise { FitInTurn RowRises None rows.now }
     ensures gains { (c : Contents) (n : ℕ) → let entry : Prepared = record { epoch = epoch; rows = rows.now } in
         RestsOn c (H.reads host.old) (H.may_leave host.old) → IsNodeLog c n log.old → (IsPrepared entry → MayPrepare c n entry)
-        → Gains H.moment H.observed H.said H.reads H.may_leave result c (with_prepared n entry c) host.old host.new }
+        → Gains H.Host result c (with_prepared n entry c) host.old host.new }
     ensures long { RefusesLong result (length (prepared_bytes (record { epoch = epoch; rows = rows.now }))) ((host.new ≡ host.old) × (log.new ≡ log.old)) }
     ensures log { OnOk result (log.new ≡ with_entry log.old (prepared_bytes (record { epoch = epoch; rows = rows.now }))) }
     ensures stands { OnOk result (Stands log.new (H.reads host.new) (H.may_leave host.new)) }
@@ -69,7 +69,7 @@ pub fn add_commit<H: Host>(
     requires epochs { AreOf epoch dones.now }
     ensures gains { (c : Contents) → let commit : Commit = record { epoch = epoch; dones = dones.now } in
         RestsOn c (H.reads host.old) (H.may_leave host.old) → IsChiefLog c log.old → (IsCommit commit → MayCommit c commit)
-        → Gains H.moment H.observed H.said H.reads H.may_leave result c (with_commit commit c) host.old host.new }
+        → Gains H.Host result c (with_commit commit c) host.old host.new }
     ensures long { RefusesLong result (length (commit_bytes (record { epoch = epoch; dones = dones.now }))) ((host.new ≡ host.old) × (log.new ≡ log.old)) }
     ensures log { OnOk result (log.new ≡ with_entry log.old (commit_bytes (record { epoch = epoch; dones = dones.now }))) }
     ensures stands { OnOk result (Stands log.new (H.reads host.new) (H.may_leave host.new)) }
@@ -91,7 +91,7 @@ fn add<H: Host>(host: &mut H, log: &mut Log, body: &[u8]) -> Result<(), AddFault
     requires unspent { log.old.spent ≡ false }
     requires stands { Stands log.old (H.reads host.old) (H.may_leave host.old) }
     ensures gains { (c d : Contents) → RestsOn c (H.reads host.old) (H.may_leave host.old) → Grows c d log.old.file log.old.kind body.now
-        → Gains H.moment H.observed H.said H.reads H.may_leave result c d host.old host.new }
+        → Gains H.Host result c d host.old host.new }
     ensures long { RefusesLong result (length body.now) ((host.new ≡ host.old) × (log.new ≡ log.old)) }
     ensures log { OnOk result (log.new ≡ with_entry log.old body.now) }
     ensures stands { OnOk result (Stands log.new (H.reads host.new) (H.may_leave host.new)) }

@@ -35,7 +35,7 @@ pub fn add_layout<H: Host>(
     requires text { length layout.now.text ≤ most_procedure_bytes }
     ensures gains { (c d : Contents) → let entry : LayoutEntry = record { layout = layout.now; keep = keep; base_file = base_file } in
         Switches c d → d.setting.entry ≡ entry → RestsAs (IsReadyFor c d) (H.reads host.old) (H.may_leave host.old)
-        → GainsAs H.moment H.observed H.said H.reads H.may_leave result (HasLogsOf (H.may_leave host.old)) (HasStore d) host.old host.new }
+        → GainsAs H.Host result (HasLogsOf (H.may_leave host.old)) (HasStore d) host.old host.new }
     ensures log { OnOk result (log.new ≡ with_entry log.old (layout_bytes (record { layout = layout.now; keep = keep; base_file = base_file }))) }
     ensures stands { OnOk result (Stands log.new (H.reads host.new) (H.may_leave host.new)) }
     ensures err { OnErr result (((host.new ≡ host.old) × (log.new ≡ log.old)) ⊎ (log.new ≡ record log.old { spent = true })) }

@@ -2,6 +2,7 @@
 use Rattle.std.proofs.Common.{◌≡◌, ◌∙◌, refl, sym, ap, ℕ, Bool, true, false, if◌then◌else◌, ◌&&◌, nat_le, nat_lt, arith, List, [], ◌∷◌, ◌++◌, length, Option, None, Some}
 use Rattle.std.proofs.lemmas.Bool.Decides.{nat_tests}
 use Rattle.std.specs.Option.{is_none, option_map, unwrap_or}
+use Rattle.std.proofs.lemmas.Bool.{and_right}
 use Rattle.coco_types.specs.declared.limits.TheConstants.{MOST_LINE_BYTES}
 use Rattle.coco_types.specs.declared.call.Request.{Request}
 use Rattle.coco_ast.specs.Fitting.{Fits, any_writes}
@@ -37,12 +38,8 @@ pub writes_are : (o : Option Procedure) → unwrap_or (option_map (λ (p : Proce
 writes_are None = refl
 writes_are (Some p) = refl
 
-never : (a b : Bool) → b ≡ false → (a && b) ≡ false
-never true b h = h
-never false b h = refl
-
 pub reads_fit : (procs : Procedures) (line : Line) (r : Request) → request_on procs line ≡ Some r → has_writes (procedure_at procs.procs r.call.proc_no) ≡ false → Fits procs r.call
-reads_fit procs line r is reads = line_fits procs line r is (never r.call.snapshot (has_writes (procedure_at procs.procs r.call.proc_no)) reads)
+reads_fit procs line r is reads = line_fits procs line r is (and_right r.call.snapshot (has_writes (procedure_at procs.procs r.call.proc_no)) reads)
 
 -- where a line that is a request has an error as a request, it is that of a snapshot call
 snapshot_alone : (procs : Procedures) (line : Line) (r : Request) → request_on procs line ≡ Some r → (e : LineError) → asking_error procs line ≡ Some e → e ≡ error.Snapshot
@@ -87,7 +84,7 @@ module _ (procs : Procedures) (line : Line) (body : Body) (is : body ≡ body_of
         by : (o : Option LineError) → asking_error procs line ≡ o → ask_error procs line ≡ None
         by None none = last_is none r asks None (rw reads)
         by (Some e) some =
-            let e : ◌≡◌ {A = Option LineError} (Some e) None = sym (asking_first procs line e some) ∙ reading_none procs line r asks (never r.call.snapshot (has_writes (procedure_at procs.procs r.call.proc_no)) reads) in
+            let e : ◌≡◌ {A = Option LineError} (Some e) None = sym (asking_first procs line e some) ∙ reading_none procs line r asks (and_right r.call.snapshot (has_writes (procedure_at procs.procs r.call.proc_no)) reads) in
             absurd (cc)
 
 -- ---- a line without an error

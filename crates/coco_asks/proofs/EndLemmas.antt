@@ -11,6 +11,7 @@ use Rattle.coco_batches.proofs.BatchLemmas.{takes_both, takes_none}
 use Rattle.coco_batches.proofs.GivenLemmas.{numbered-length}
 use Rattle.coco_host.specs.Files.{Files}
 use Rattle.coco_host.specs.Moments.{Begins, Observation}
+use Rattle.coco_host.specs.declared.host.Host.{Ghosts as HostGhosts}
 use Rattle.coco_lines.specs.Lines.{Line, lines_of}
 use Rattle.coco_lines.specs.ReaderState.{ReaderState}
 use Rattle.coco_lines.specs.Reads.{Gives, HasNoFeed, SourceMoment}
@@ -55,7 +56,7 @@ new_reader = record { pending = []; ended = false; taken = 0; given = 0 }
 abbrev pub past_of : Procedures → ℕ → Rows → Past
 past_of procs epoch m = record { procs = procs; rows = m; epoch = epoch }
 
-module _ {H : Type 0} (moment : H → ℕ) (observed : H → ℕ → Observation → Type 0) (said : H → Option (List ℕ)) (reads : H → Option Files) (may_leave : H → Files → Type 0)
+module _ {H : Type 0} (frame : HostGhosts H)
     (procs : Procedures) (tables : List Frozen) (epoch : ℕ) where
   -- this text is the answers of lines, on every map that the tables hold
   abbrev pub AreTexts : ℕ → List Line → List ℕ → Type 0
@@ -69,18 +70,18 @@ module _ {H : Type 0} (moment : H → ℕ) (observed : H → ℕ → Observation
     pub whole : AreWhole lines
     pub text : List ℕ
     pub texts : AreTexts 1 lines text
-    pub only : OnlySays moment observed said reads may_leave first host text
+    pub only : OnlySays frame first host text
 
   -- what is known at the end, by the bytes that the source gave
   pub record AsksTo (reader : ReaderState) (before now : SourceMoment) (how : Asked) (first host : H) : Type 0 where
     pub bytes : List ℕ
     pub gives : Gives before now bytes
     pub count : reader.taken ≡ length bytes
-    pub says : (m : Rows) → HoldsFrozen m tables → SaysAnswers (answers_from (past_of procs epoch m) 1) bytes (said first) (said host) how
+    pub says : (m : Rows) → HoldsFrozen m tables → SaysAnswers (answers_from (past_of procs epoch m) 1) bytes (frame.said first) (frame.said host) how
     pub text : List ℕ
-    pub only : OnlySays moment observed said reads may_leave first host text
+    pub only : OnlySays frame first host text
 
-  pub asking_new : ((host : H) (seen : Observation) → observed host (moment host) seen → may_leave host seen.image × (said host ≡ Some seen.said)) → (s : ReaderState) (m : SourceMoment) (host : H) → s ≡ new_reader
+  pub asking_new : ((host : H) (seen : Observation) → frame.observed host (frame.moment host) seen → frame.may_leave host seen.image × (frame.said host ≡ Some seen.said)) → (s : ReaderState) (m : SourceMoment) (host : H) → s ≡ new_reader
       → IsAsking s m m host host
   asking_new only_now s m host fresh = subst (λ r. IsAsking r m m host host) (sym fresh) (record {
     lines = [];
@@ -89,12 +90,12 @@ module _ {H : Type 0} (moment : H → ℕ) (observed : H → ℕ → Observation
     whole = (0, refl);
     text = [];
     texts = λ rows holds. refl;
-    only = says_nothing moment observed said reads may_leave only_now host;
+    only = says_nothing frame only_now host;
   })
 
   -- the end of a call
   pub answers_so : (reader : ReaderState) (before after : Streams) (how : Asked) (first host : H) → (to : AsksTo reader before.source after.source how first host) → HasCause to.bytes before after how
-      → Answers moment observed said reads may_leave procs tables epoch before after how first host
+      → Answers frame procs tables epoch before after how first host
   answers_so reader before after how first host to cause =
       record { bytes = to.bytes; gives = to.gives; cause = cause; says = to.says; same = to.only.same; crash = to.only.crash; sees = to.only.sees }
 
@@ -106,8 +107,8 @@ module _ {H : Type 0} (moment : H → ℕ) (observed : H → ℕ → Observation
     lines_so : (more : List Line) (behind : List ℕ) → (takes : TakesLines reader reader' m n more behind) → lines_of (takes_on more behind takes).bytes ≡ (a.lines ++ more) ++ lines_of behind
     lines_so more behind takes = let t = takes_on more behind takes in lines_of-first (a.lines ++ more) t.bytes behind reader'.ended t.text
 
-    ends_by : (how : Asked) (more : List Line) (behind : List ℕ) → (takes : TakesLines reader reader' m n more behind) → (host : H) (text : List ℕ) → OnlySays moment observed said reads may_leave first host text
-        → ((m : Rows) → HoldsFrozen m tables → SaysAnswers (answers_from (past_of procs epoch m) 1) (takes_on more behind takes).bytes (said first) (said host) how)
+    ends_by : (how : Asked) (more : List Line) (behind : List ℕ) → (takes : TakesLines reader reader' m n more behind) → (host : H) (text : List ℕ) → OnlySays frame first host text
+        → ((m : Rows) → HoldsFrozen m tables → SaysAnswers (answers_from (past_of procs epoch m) 1) (takes_on more behind takes).bytes (frame.said first) (frame.said host) how)
         → AsksTo reader' before n how first host
     ends_by how more behind takes host text only says =
         let t = takes_on more behind takes in
@@ -135,7 +136,7 @@ module _ {H : Type 0} (moment : H → ℕ) (observed : H → ℕ → Observation
     memory_ran_out more behind takes = ends_by ending.NoMemory more behind takes mid a.text a.only (λ rows holds.
         let whole = answers_from (past_of procs epoch rows) 1 in
         let all = takes_on more behind takes in
-        front_of (said first) (said mid) a.text (whole (lines_of all.bytes)) a.only.says
+        front_of (frame.said first) (frame.said mid) a.text (whole (lines_of all.bytes)) a.only.says
         (subst (λ front. Begins front (whole (lines_of all.bytes))) (append-nil a.text)
         (subst (λ ls. Begins (a.text ++ []) (whole ls)) (sym (lines_so more behind takes))
         (begins_all more (lines_of behind) [] rows holds (none_begins (answers_from (past_of procs epoch rows) (1 + length a.lines) more))))))
@@ -148,7 +149,7 @@ module _ {H : Type 0} (moment : H → ℕ) (observed : H → ℕ → Observation
         let t = takes_on b.lines b.rest b.takes in (
           a.lines,
           record { whole = a.whole; others = b.lines; ended = ended-first (a.lines ++ b.lines) t.bytes b.rest reader'.ended t.text cut.2 cut.1; few = cut.0 },
-          a.only.says ∙ ap (append_known (said first)) (a.texts rows holds),
+          a.only.says ∙ ap (append_known (frame.said first)) (a.texts rows holds),
         ))
 
     pub broken_failed : (f : LineFault) → BreaksOff reader reader' m n most_batch_lines f → f ≡ line.Failed → AsksTo reader' before n ending.ReadFault first mid
@@ -179,19 +180,19 @@ module _ {H : Type 0} (moment : H → ℕ) (observed : H → ℕ → Observation
         all_texts rows holds = (λ i. a.texts rows holds i ++ are_texts rows holds i) ∙ sym (answers-append (past_of procs epoch rows) 1 a.lines more)
 
         -- the saying broke off
-        pub said_in_part : (how : Asked) (k : ℕ) (host : H) → OnlySays moment observed said reads may_leave first host (a.text ++ take k text) → (how ≡ ending.SayFault) ⊎ (how ≡ ending.NoMemory)
+        pub said_in_part : (how : Asked) (k : ℕ) (host : H) → OnlySays frame first host (a.text ++ take k text) → (how ≡ ending.SayFault) ⊎ (how ≡ ending.NoMemory)
             → AsksTo reader' before n how first host
-        said_in_part how k host only is = ends_by how more reader'.pending r.reading.takes host (a.text ++ take k text) only (λ rows holds. by how is (answers_from (past_of procs epoch rows) 1) (takes_on more reader'.pending r.reading.takes).bytes (said first) (front rows holds))
+        said_in_part how k host only is = ends_by how more reader'.pending r.reading.takes host (a.text ++ take k text) only (λ rows holds. by how is (answers_from (past_of procs epoch rows) 1) (takes_on more reader'.pending r.reading.takes).bytes (frame.said first) (front rows holds))
           where
-            front : (rows : Rows) → HoldsFrozen rows tables → (j : ℕ) × (said host ≡ append_known (said first) (take j (answers_from (past_of procs epoch rows) 1 (lines_of (takes_on more reader'.pending r.reading.takes).bytes))))
+            front : (rows : Rows) → HoldsFrozen rows tables → (j : ℕ) × (frame.said host ≡ append_known (frame.said first) (take j (answers_from (past_of procs epoch rows) 1 (lines_of (takes_on more reader'.pending r.reading.takes).bytes))))
             front rows holds =
                 let whole = answers_from (past_of procs epoch rows) 1 in
-                front_of (said first) (said host) (a.text ++ take k text) (whole (lines_of (takes_on more reader'.pending r.reading.takes).bytes)) only.says
+                front_of (frame.said first) (frame.said host) (a.text ++ take k text) (whole (lines_of (takes_on more reader'.pending r.reading.takes).bytes)) only.says
                 (subst (λ ls. Begins (a.text ++ take k text) (whole ls)) (sym (lines_so more reader'.pending r.reading.takes))
                 (begins_all more (lines_of reader'.pending) (take k text) rows holds (drop k text, sym (are_texts rows holds) ∙ sym (take-append-drop k text))))
 
             by : (how : Asked) → (how ≡ ending.SayFault) ⊎ (how ≡ ending.NoMemory) → (answers : List Line → List ℕ) (bytes : List ℕ) (was : Option (List ℕ))
-                → (j : ℕ) × (said host ≡ append_known was (take j (answers (lines_of bytes)))) → SaysAnswers answers bytes was (said host) how
+                → (j : ℕ) × (frame.said host ≡ append_known was (take j (answers (lines_of bytes)))) → SaysAnswers answers bytes was (frame.said host) how
             by ending.SayFault is answers bytes was j = j
             by ending.NoMemory is answers bytes was j = j
             by ending.Finished (inl is) answers bytes was j = (let e : ending.Finished ≡ ending.SayFault = is in absurd (cc))
@@ -200,14 +201,14 @@ module _ {H : Type 0} (moment : H → ℕ) (observed : H → ℕ → Observation
             by ending.ReadFault (inr is) answers bytes was j = (let e : ending.ReadFault ≡ ending.NoMemory = is in absurd (cc))
 
         -- it is said, and the input has ended
-        pub finished : length given < most_batch_lines → (host : H) → OnlySays moment observed said reads may_leave first host (a.text ++ text) → AsksTo reader' before n ending.Finished first host
+        pub finished : length given < most_batch_lines → (host : H) → OnlySays frame first host (a.text ++ text) → AsksTo reader' before n ending.Finished first host
         finished short host only = ends_by ending.Finished more reader'.pending r.reading.takes host (a.text ++ text) only (λ rows holds.
             let all : lines_of (takes_on more reader'.pending r.reading.takes).bytes ≡ a.lines ++ more =
             lines_so more reader'.pending r.reading.takes ∙ ap (λ rest. (a.lines ++ more) ++ lines_of rest) (r.ends short).1 ∙ ap (λ ls. (a.lines ++ more) ++ ls) lines_of-nil ∙ append-nil (a.lines ++ more) in
-            only.says ∙ ap (append_known (said first)) (all_texts rows holds ∙ sym (ap (answers_from (past_of procs epoch rows) 1) all)))
+            only.says ∙ ap (append_known (frame.said first)) (all_texts rows holds ∙ sym (ap (answers_from (past_of procs epoch rows) 1) all)))
 
         -- it is said, and the next one is to be read
-        pub asking_more : most_batch_lines ≤ length given → reader'.given ≡ reader.given + length given → (host : H) → OnlySays moment observed said reads may_leave first host (a.text ++ text)
+        pub asking_more : most_batch_lines ≤ length given → reader'.given ≡ reader.given + length given → (host : H) → OnlySays frame first host (a.text ++ text)
             → IsAsking reader' before n first host
         asking_more full counted host only = record {
           lines = a.lines ++ more;

@@ -4,6 +4,7 @@ use Rattle.std.specs.Io.KnownBytes.{append_known}
 use Rattle.coco_host.specs.Files.{Files, NoMore}
 use Rattle.coco_host.specs.Moments.{IsNew, IsSaidBetween, Observation, SeesOnly}
 use Rattle.coco_host.proofs.Sees.{goes_on, started}
+use Rattle.coco_host.specs.declared.host.Host.{Ghosts as HostGhosts}
 use Rattle.coco_io.proofs.KnownLemmas.{append_known-append, append_known-nil}
 
 -- what is said between two moments is said between the first and a later one, or an earlier one and the second
@@ -31,20 +32,20 @@ said_sooner (Some from) mid after more said grown h =
       ended = h.ended;
     }
 
-module _ {H : Type 0} (moment : H → ℕ) (observed : H → ℕ → Observation → Type 0) (said : H → Option (List ℕ)) (reads : H → Option Files) (may_leave : H → Files → Type 0) where
+module _ {H : Type 0} (frame : HostGhosts H) where
   -- this text was said and nothing else happened
   pub record OnlySays (first host : H) (text : List ℕ) : Type 0 where
-    pub says : said host ≡ append_known (said first) text
-    pub same : reads host ≡ reads first
-    pub crash : NoMore (may_leave first) (may_leave host)
-    pub sees : SeesOnly moment observed first host (IsNew (may_leave first) (said first) (said host))
+    pub says : frame.said host ≡ append_known (frame.said first) text
+    pub same : frame.reads host ≡ frame.reads first
+    pub crash : NoMore (frame.may_leave first) (frame.may_leave host)
+    pub sees : SeesOnly frame.moment frame.observed first host (IsNew (frame.may_leave first) (frame.said first) (frame.said host))
 
-  pub says_nothing : ((host : H) (seen : Observation) → observed host (moment host) seen → may_leave host seen.image × (said host ≡ Some seen.said)) → (host : H) → OnlySays host host []
+  pub says_nothing : ((host : H) (seen : Observation) → frame.observed host (frame.moment host) seen → frame.may_leave host seen.image × (frame.said host ≡ Some seen.said)) → (host : H) → OnlySays host host []
   says_nothing only_now host = record {
-    says = sym (append_known-nil (said host));
+    says = sym (append_known-nil (frame.said host));
     same = refl;
     crash = λ files left. left;
-    sees = started moment observed host (IsNew (may_leave host) (said host) (said host)) (λ seen since. record {
+    sees = started frame.moment frame.observed host (IsNew (frame.may_leave host) (frame.said host) (frame.said host)) (λ seen since. record {
       image = (only_now host seen since).0;
       said = record {
         from = seen.said;
@@ -58,22 +59,22 @@ module _ {H : Type 0} (moment : H → ℕ) (observed : H → ℕ → Observation
   }
 
   -- a text more
-  pub says_more : (first mid new : H) (text part : List ℕ) → OnlySays first mid text → said new ≡ append_known (said mid) part → reads new ≡ reads mid → NoMore (may_leave mid) (may_leave new)
-      → SeesOnly moment observed mid new (IsNew (may_leave mid) (said mid) (said new)) → OnlySays first new (text ++ part)
+  pub says_more : (first mid new : H) (text part : List ℕ) → OnlySays first mid text → frame.said new ≡ append_known (frame.said mid) part → frame.reads new ≡ frame.reads mid → NoMore (frame.may_leave mid) (frame.may_leave new)
+      → SeesOnly frame.moment frame.observed mid new (IsNew (frame.may_leave mid) (frame.said mid) (frame.said new)) → OnlySays first new (text ++ part)
   says_more first mid new text part so_far says same crash sees = record {
-    says = says ∙ ap (λ (o : Option (List ℕ)). append_known o part) so_far.says ∙ append_known-append (said first) text part;
+    says = says ∙ ap (λ (o : Option (List ℕ)). append_known o part) so_far.says ∙ append_known-append (frame.said first) text part;
     same = same ∙ so_far.same;
     crash = λ files left. so_far.crash files (crash files left);
-    sees = goes_on moment observed first mid new (IsNew (may_leave first) (said first) (said new)) (IsNew (may_leave mid) (said mid) (said new)) (record {
+    sees = goes_on frame.moment frame.observed first mid new (IsNew (frame.may_leave first) (frame.said first) (frame.said new)) (IsNew (frame.may_leave mid) (frame.said mid) (frame.said new)) (record {
       later = so_far.sees.later;
       each = λ seen since. wider seen (so_far.sees.each seen since);
       before = λ t seen le since. ⊎_elim inl (λ new_one. inr (wider seen new_one)) (so_far.sees.before t seen le since);
       keeps = so_far.sees.keeps;
     }) (record { later = sees.later; nothing_else = sees.before; keeps = sees.keeps }) (λ seen h. record {
       image = so_far.crash seen.image h.image;
-      said = said_sooner (said first) (said mid) (said new) text seen.said so_far.says h.said;
+      said = said_sooner (frame.said first) (frame.said mid) (frame.said new) text seen.said so_far.says h.said;
     });
   }
     where
-      wider : (seen : Observation) → IsNew (may_leave first) (said first) (said mid) seen → IsNew (may_leave first) (said first) (said new) seen
-      wider seen h = record { image = h.image; said = said_later (said first) (said mid) (said new) part seen.said says h.said }
+      wider : (seen : Observation) → IsNew (frame.may_leave first) (frame.said first) (frame.said mid) seen → IsNew (frame.may_leave first) (frame.said first) (frame.said new) seen
+      wider seen h = record { image = h.image; said = said_later (frame.said first) (frame.said mid) (frame.said new) part seen.said says h.said }

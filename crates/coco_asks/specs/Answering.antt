@@ -6,6 +6,7 @@ use Rattle.coco_ast.specs.Keyed.{Rows}
 use Rattle.coco_ast.specs.Tree.{Procedures}
 use Rattle.coco_host.specs.Files.{Files, NoMore}
 use Rattle.coco_host.specs.Moments.{IsNew, Observation, SeesOnly}
+use Rattle.coco_host.specs.declared.host.Host.{Ghosts as HostGhosts}
 use Rattle.coco_io.specs.Counts.{Rose}
 use Rattle.coco_lines.specs.Lines.{Line, ended_lines_of, lines_of}
 use Rattle.coco_lines.specs.Reads.{Gives, IsSpent, SourceMoment}
@@ -54,12 +55,12 @@ SaysAnswers answers bytes before now NoMemory = (k : ℕ) × (now ≡ append_kno
 
 -- the bytes that the source gave, why it ended so, and what it said of every map that the tables hold. No file changes, and what is seen is what a crash
 -- might have left at entry
-pub record Answers {H : Type 0} (moment : H → ℕ) (observed : H → ℕ → Observation → Type 0) (said : H → Option (List ℕ)) (reads : H → Option Files) (may_leave : H → Files → Type 0)
+pub record Answers {H : Type 0} (frame : HostGhosts H)
     (procs : Procedures) (tables : List Frozen) (epoch : ℕ) (before after : Streams) (how : Asked) (old new : H) : Type 0 where
   pub bytes : List ℕ
   pub gives : Gives before.source after.source bytes
   pub cause : HasCause bytes before after how
-  pub says : (m : Rows) → HoldsFrozen m tables → SaysAnswers (answers_from (record { procs = procs; rows = m; epoch = epoch }) 1) bytes (said old) (said new) how
-  pub same : reads new ≡ reads old
-  pub crash : NoMore (may_leave old) (may_leave new)
-  pub sees : SeesOnly moment observed old new (IsNew (may_leave old) (said old) (said new))
+  pub says : (m : Rows) → HoldsFrozen m tables → SaysAnswers (answers_from (record { procs = procs; rows = m; epoch = epoch }) 1) bytes (frame.said old) (frame.said new) how
+  pub same : frame.reads new ≡ frame.reads old
+  pub crash : NoMore (frame.may_leave old) (frame.may_leave new)
+  pub sees : SeesOnly frame.moment frame.observed old new (IsNew (frame.may_leave old) (frame.said old) (frame.said new))

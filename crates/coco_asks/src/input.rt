@@ -39,7 +39,7 @@ pub fn answer_asks<R: Threads + Wait + Sync, H: Host, S: Source, G: Gate + Sync>
 ) -> Asked
     requires some { 0 < length tables.items }
     requires readers { 0 < bounds.readers }
-    ensures answers { Answers H.moment H.observed H.said H.reads H.may_leave procs.now tables.items bounds.epoch
+    ensures answers { Answers H.Host procs.now tables.items bounds.epoch
         (record { source = record { given = S.given input.old; left = S.remaining input.old; at_end = S.at_end input.old }; source_faults = S.faults input.old; say_faults = H.say_faults host.old })
         (record { source = record { given = S.given input.new; left = S.remaining input.new; at_end = S.at_end input.new }; source_faults = S.faults input.new; say_faults = H.say_faults host.new })
         result host.old host.new }

@@ -3,6 +3,7 @@ use Rattle.std.proofs.Common.{◌≡◌, ℕ, suc, ◌+◌, List, ◌∷◌, ◌
 use Rattle.std.specs.List.{slice_get}
 use Rattle.std.proofs.Math.Seq.{drop-cons}
 use Rattle.std.proofs.lemmas.Option.{slice_get_within, get_or_from_slice_get}
+use Rattle.coco_lines.proofs.TextLemmas.{on_ok}
 use Rattle.json.specs.Token.{Token}
 use Rattle.json.specs.Tree.{json_tokens, items_tokens}
 use Rattle.serde_json.specs.Written.{outline, items_outline}
@@ -25,7 +26,3 @@ put_argument args i a old new all at is before =
 -- what was put behind the tokens, and what is to come, is all
 pub behind : {X : Type 0} (t next x rest all : List X) → next ≡ t ++ x → t ++ (x ++ rest) ≡ all → next ++ rest ≡ all
 behind t next x rest all is h = ap (λ s. s ++ rest) is ∙ append_assoc t x rest ∙ h
-
-pub on_ok : {A E P Q : Type 0} (r : Result A E) → OnOk r P → (P → Q) → OnOk r Q
-on_ok (Ok a) p f = f p
-on_ok (Err e) p f = tt

@@ -1,5 +1,5 @@
 -- The lines of a dump that are still to come.
-use Rattle.std.specs.Prelude.{◌≡◌, ℕ, ◌%◌, ◌<◌, Bool, true, false, List, [], ◌∷◌, ◌++◌, flat_map, length, map, Option, None, Some, IsSome, slice_get}
+use Rattle.std.specs.Prelude.{◌≡◌, ◌⊎◌, ℕ, ◌%◌, ◌<◌, ◌≤◌, Bool, true, false, List, [], ◌∷◌, ◌++◌, flat_map, length, map, Option, None, Some, IsSome, slice_get}
 use Rattle.std.specs.BTreeMap.{is_at}
 use Rattle.std.specs.FinMap.{empty}
 use Rattle.std.specs.List.{list_any}
@@ -54,3 +54,17 @@ text_of = flat_map (λ line. line)
 abbrev pub PutsLine : Bool → List (List ℕ) → List (List ℕ) → List ℕ → List ℕ → Type 0
 PutsLine true before after old new = (line : List ℕ) × (before ≡ line ∷ after) × (new ≡ old ++ line)
 PutsLine false before after old new = (before ≡ []) × (after ≡ []) × (new ≡ old)
+
+-- ---- pieces
+
+-- from how many bytes on a piece is long enough
+abbrev pub piece_bytes : ℕ
+piece_bytes = 65536
+
+-- as many of the lines to come as make a piece long enough, or all of them: without the last of them it is too short
+pub record IsPiece (before after : List (List ℕ)) (piece : List ℕ) : Type 0 where
+  pub lines : List (List ℕ)
+  pub are : before ≡ lines ++ after
+  pub text : piece ≡ text_of lines
+  pub short : (lines ≡ []) ⊎ ((front : List (List ℕ)) × (last : List ℕ) × (lines ≡ front ++ last ∷ []) × (length (text_of front) < piece_bytes))
+  pub long : (after ≡ []) ⊎ (piece_bytes ≤ length piece)

@@ -1,9 +1,8 @@
 //! The dump of a store, piece by piece.
 
 ghost use Rattle.std.specs.Prelude.{◌≡◌, ◌++◌, [], length, IfOk, OnOk};
-ghost use Rattle.std.specs.Map.{keys_of};
 ghost use Rattle.coco_ast.specs.Keyed.{Rows};
-ghost use Rattle.coco_audit.specs.Dumping.{AreKeys, HasKeys, HaveValues, PutsLine, key_line, stable_in, text_of};
+ghost use Rattle.coco_audit.specs.Dumping.{AreKeys, HasKeys, HaveValues, IsPiece, PutsLine, key_line, stable_in, text_of};
 ghost use Rattle.coco_audit.specs.Texts.{dump_text};
 
 use crate::dump::{write_dump_done, write_dump_row};
@@ -60,11 +59,13 @@ impl<'a> Dump<'a> {
         })
     }
 
-    /// Gives the next piece, in place of what the buffer holds: whole lines, of which there are none only at the end.
+    /// Gives the next piece, in place of what the buffer holds: whole lines, as many as make `PIECE_BYTES` or more, or all
+    /// that are left. There are none only at the end.
     /// Out of memory the dump is given up.
     pub fn next(&mut self, piece: &mut Vec<u8>) -> Result<(), NoMemory>
         ensures given { OnOk result (text_of self.old ≡ piece.new.items ++ text_of self.new) }
         ensures end { OnOk result (piece.new.items ≡ [] → self.new ≡ []) }
+        ensures piece { OnOk result (IsPiece self.old self.new piece.new.items) }
     {
         piece.clear();
         while piece.len() < PIECE_BYTES {
@@ -134,18 +135,7 @@ fn gathered(alloc: Global, shards: &[Shard]) -> Result<Vec<Key>, NoMemory>
 {
     let mut keys = Vec::new(alloc);
     for shard in shards {
-        let rows = shard.rows(true)?;
-        add_keys(&mut keys, rows.as_slice())?;
+        shard.add_keys(&mut keys)?;
     }
     Ok(keys)
-}
-
-// Puts the keys of rows at the end of a list.
-fn add_keys(keys: &mut Vec<Key>, rows: &[(Key, Value)]) -> Result<(), NoMemory>
-    ensures { OnOk result (keys.new.items ≡ keys.old.items ++ keys_of rows.now) }
-{
-    for (key, _) in rows {
-        keys.push(*key)?;
-    }
-    Ok(())
 }

@@ -13,8 +13,9 @@ ghost use Rattle.coco_audit.specs.Texts.{reply_object, not_serial_json, not_seri
 use crate::writing::{ended, put_count, put_reply, writer_over};
 use coco_ast::Checked;
 use coco_kept::Kept;
+use coco_load::{PackedRow, PackedRows};
 use coco_serial::Executor;
-use coco_types::{Done, KeptReply, Key, MapRows, NoMemory, Reply, Value};
+use coco_types::{Done, KeptReply, NoMemory, Reply};
 use json::Writer;
 use std::alloc::{AllocError, Global};
 
@@ -32,7 +33,7 @@ pub struct NotSerial {
 pub fn verify_of(
     alloc: Global,
     procs: &Checked,
-    base: &[MapRows],
+    base: &[PackedRows],
     kept: &Kept,
     first: u64,
 ) -> Result<Option<NotSerial>, NoMemory>
@@ -83,7 +84,7 @@ pub fn write_serial(out: &mut Vec<u8>, count: u64) -> Result<(), NoMemory>
 }
 
 // An executor on the map that these lists of rows make together.
-fn executor_on(alloc: Global, lists: &[MapRows]) -> Result<Executor, NoMemory>
+fn executor_on(alloc: Global, lists: &[PackedRows]) -> Result<Executor, NoMemory>
     ensures { IfOk result (λ executor. executor.rows ≡ map_with (joined lists.now)) }
 {
     let mut executor = Executor::new(alloc);
@@ -94,11 +95,11 @@ fn executor_on(alloc: Global, lists: &[MapRows]) -> Result<Executor, NoMemory>
 }
 
 // Puts rows over those that the executor has.
-fn load_rows(executor: &mut Executor, rows: &[(Key, Value)]) -> Result<(), NoMemory>
+fn load_rows(executor: &mut Executor, rows: &[PackedRow]) -> Result<(), NoMemory>
     ensures { OnOk result (executor.new.rows ≡ put_over executor.old.rows (map as_write rows.now)) }
 {
-    for (key, value) in rows {
-        executor.load(*key, *value)?;
+    for row in rows {
+        executor.load(row.key(), row.value())?;
     }
     Ok(())
 }

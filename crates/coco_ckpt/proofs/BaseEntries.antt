@@ -2,6 +2,7 @@
 use Rattle.std.proofs.Common.{◌≡◌, ℕ, ◌≤◌, List, [], ◌∷◌, ◌++◌, length, map, Option, None, Some, refl, sym, ap, subst, ◌∙◌, append-nil}
 use Rattle.std.specs.List.{flat_map}
 use Rattle.std.proofs.lemmas.List.Concat.{flat_map-append}
+use Rattle.coco_bytes.proofs.ListLemmas.{last_item-push}
 use Rattle.coco_types.specs.RowKey.{RowKey}
 use Rattle.coco_types.specs.declared.call.Done.{Done}
 use Rattle.coco_types.specs.declared.value.Value.{Value}
@@ -19,11 +20,6 @@ Row = RowKey × Value
 
 abbrev joined : {A : Type 0} → List (List A) → List A
 joined = flat_map (λ xs. xs)
-
-last_push : {A : Type 0} (xs : List A) (x : A) → last_item (xs ++ x ∷ []) ≡ Some x
-last_push [] x = refl
-last_push (y ∷ []) x = refl
-last_push (y ∷ z ∷ xs) x = last_push (z ∷ xs) x
 
 -- ---- the items of entries
 
@@ -65,7 +61,7 @@ module _ (s : Setting) where
   dones_each before last is may (xs ∷ ys ∷ lists) full each =
       let parts = each_split (IsKeptDone s) (kept_dones before) xs (joined (ys ∷ lists)) each in (
         record { order = subst (λ (o : Option BaseEntry). MayFollow epoch o (Dones xs)) (sym is) (may xs); dones = parts.0; values = tt },
-        dones_each (before ++ Dones xs ∷ []) (Dones xs) (last_push before (Dones xs)) (λ zs. full.0) (ys ∷ lists) full.1
+        dones_each (before ++ Dones xs ∷ []) (Dones xs) (last_item-push before (Dones xs)) (λ zs. full.0) (ys ∷ lists) full.1
             (subst (λ (l : List Done). EachBehind (IsKeptDone s) l (joined (ys ∷ lists))) (sym (more_kept before (Dones xs))) parts.1),
       )
 
@@ -77,7 +73,7 @@ module _ (s : Setting) where
   values_each before last is may (xs ∷ ys ∷ lists) full each =
       let parts = each_split (IsNextValue s) (base_values before) xs (joined (ys ∷ lists)) each in (
         record { order = subst (λ (o : Option BaseEntry). MayFollow epoch o (Values xs)) (sym is) (may xs); dones = tt; values = parts.0 },
-        values_each (before ++ Values xs ∷ []) (Values xs) (last_push before (Values xs)) (λ zs. full.0) (ys ∷ lists) full.1
+        values_each (before ++ Values xs ∷ []) (Values xs) (last_item-push before (Values xs)) (λ zs. full.0) (ys ∷ lists) full.1
             (subst (λ (l : List Row). EachBehind (IsNextValue s) l (joined (ys ∷ lists))) (sym (more_values before (Values xs))) parts.1),
       )
 

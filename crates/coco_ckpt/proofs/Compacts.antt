@@ -30,7 +30,7 @@ use Rattle.coco_load.specs.Epochs.{IsNextOf}
 use Rattle.coco_ckpt.specs.Compacting.{HasCompacted, IsBaseWith, IsCompactBase, IsCompactLayout, IsCompaction, compacted_with}
 use Rattle.coco_ckpt.specs.Laws.{CompactedIsGood, IsCompactedFrom}
 use Rattle.coco_ckpt.specs.Writing.{HasBase, HasEmptyLogs}
-use Rattle.coco_ckpt.proofs.Steps.{told}
+use Rattle.coco_make.proofs.Besides.{told}
 
 module _ (c : Contents) (entry : LayoutEntry) (es : List BaseEntry) (file : ℕ) (is_file : entry.base_file ≡ Some file) where
   abbrev d : Contents

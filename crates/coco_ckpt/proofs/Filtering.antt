@@ -3,6 +3,7 @@ use Rattle.std.proofs.Common.{◌≡◌, ℕ, ◌+◌, ◌<◌, ◌≤◌, Bool,
 use Rattle.std.specs.List.{AllByRecursion, IsDistinct}
 use Rattle.std.specs.Set.{is_member}
 use Rattle.std.proofs.lemmas.List.Elements.{filter-append}
+use Rattle.std.proofs.lemmas.Bool.{or_from, or_parts}
 use Rattle.coco_types.specs.declared.call.Done.{Done}
 use Rattle.coco_ast.specs.History.{ids_of}
 use Rattle.coco_store.specs.Rules.{EachBehind}
@@ -44,21 +45,13 @@ module _ {A : Type 0} (Rule : List A → A → Type 0) where
 
 -- ---- what filtered Dones keep
 
-or_none : (a b : Bool) → a || b ≡ false → (a ≡ false) × (b ≡ false)
-or_none true b e = let no : true ≡ false = e in cc
-or_none false b e = (refl, e)
-
-neither : (a b : Bool) → a ≡ false → b ≡ false → a || b ≡ false
-neither true b e f = e
-neither false b e f = f
-
 module _ (p : Done → Bool) where
   pub new_still : (ds : List Done) (id : ℕ) → is_member nat_eq (ids_of ds) id ≡ false → is_member nat_eq (ids_of (filter p ds)) id ≡ false
   new_still [] id new = new
   new_still (d ∷ ds) id new =
-      let parts = or_none (nat_eq id d.id) (is_member nat_eq (ids_of ds) id) new in
+      let parts = or_parts (nat_eq id d.id) (is_member nat_eq (ids_of ds) id) new in
       elim (p d) as (λ b. is_member nat_eq (ids_of (cond b (d ∷ filter p ds) (filter p ds))) id ≡ false) [
-        | true ↦ neither (nat_eq id d.id) (is_member nat_eq (ids_of (filter p ds)) id) parts.0 (new_still ds id parts.1)
+        | true ↦ or_from (nat_eq id d.id) (is_member nat_eq (ids_of (filter p ds)) id) parts.0 (new_still ds id parts.1)
         | false ↦ new_still ds id parts.1
       ]
 

@@ -3,7 +3,7 @@ use Rattle.std.proofs.Common.{◌≡◌, inl, inr, ⊎_elim, ℕ, zero, suc, ◌
 use Rattle.std.specs.Prelude.{slice_index_or}
 use Rattle.std.specs.List.{remove}
 use Rattle.std.specs.Option.{option_to_list}
-use Rattle.std.proofs.lemmas.Bool.{eq-eqb}
+use Rattle.std.proofs.lemmas.Bool.{eq-eqb, or_from, or_left, or_parts, or_right}
 use Rattle.std.proofs.lemmas.List.Folds.{list_any-append}
 use Rattle.coco_types.specs.Limits.{epochs_end}
 use Rattle.coco_entry.specs.declared.layout.Layout.{Layout}
@@ -18,25 +18,9 @@ use Rattle.coco_ckpt.specs.Compacting.{IsCompactLayout, compact_files}
 
 -- ---- names
 
-or_left : (a b : Bool) → a ≡ true → a || b ≡ true
-or_left true b e = refl
-or_left false b e = let no : false ≡ true = e in cc
-
-or_right : (a b : Bool) → b ≡ true → a || b ≡ true
-or_right true b h = refl
-or_right false b h = h
-
 or_either : (a b : Bool) (P : Type 0) → (a ≡ true → P) → (b ≡ true → P) → a || b ≡ true → P
 or_either true b P here there is = here refl
 or_either false b P here there is = there is
-
-neither : (a b : Bool) → a ≡ false → b ≡ false → a || b ≡ false
-neither true b e f = e
-neither false b e f = f
-
-either_false : (a b : Bool) → a || b ≡ false → (a ≡ false) × (b ≡ false)
-either_false true b e = let no : true ≡ false = e in cc
-either_false false b e = (refl, e)
 
 named_last : (named : List ℕ) (file : ℕ) → is_named (named ++ file ∷ []) file ≡ true
 named_last named file = list_any-append (λ n. n == file) named (file ∷ []) ∙ or_right (is_named named file) (is_named (file ∷ []) file) (or_left (file == file) false (eq-eqb file file refl))
@@ -135,7 +119,7 @@ module _ (old : LayoutEntry) (is : IsLayout old) (limits : IsWithinLimits old) w
     base_apart = unnamed_new (files_of old ++ base ∷ []) (chief ∷ nodes) base are_new.1 (named_last (files_of old) base)
 
     own_first : (0 == base) ≡ false
-    own_first = (either_false (0 == base) _ are_new.0.1).0
+    own_first = (or_parts (0 == base) _ are_new.0.1).0
 
     fields : HasFields new.layout
     fields =
@@ -159,7 +143,7 @@ module _ (old : LayoutEntry) (is : IsLayout old) (limits : IsWithinLimits old) w
     later keep (Some file) is_keep of_base =
         let same : base ≡ file = cc in
         let number = keep_beside keep is_keep in
-        (number.0, number.1, subst (λ (f : ℕ). IsNew (named_by new.layout) f) same (are_new.0.0, neither (0 == base) (is_named (chief ∷ nodes) base) own_first base_apart))
+        (number.0, number.1, subst (λ (f : ℕ). IsNew (named_by new.layout) f) same (are_new.0.0, or_from (0 == base) (is_named (chief ∷ nodes) base) own_first base_apart))
 
     pub is_layout : IsLayout new
     is_layout = record { fields = fields; later = later new.keep new.base_file (subst IsKeep (sym compact.keep) limits.keep) compact.base_file }
@@ -189,4 +173,4 @@ module _ (old : LayoutEntry) (is : IsLayout old) (limits : IsWithinLimits old) w
       free = free_of_old (file ∷ chief ∷ nodes) files_are
 
       pub wider : (n : ℕ) → is_named (compact_files old) n ≡ false → is_named (file ∷ chief ∷ nodes) n ≡ false
-      wider n out = subst (λ (files : List ℕ). is_named files n ≡ false) (sym files_are) (either_false (0 == n) (is_named (free_files (files_of old) (old.layout.nodes + 2)) n) out).1
+      wider n out = subst (λ (files : List ℕ). is_named files n ≡ false) (sym files_are) (or_parts (0 == n) (is_named (free_files (files_of old) (old.layout.nodes + 2)) n) out).1

@@ -34,7 +34,7 @@ pub fn write_base<H: Host>(
 ) -> Result<(), LogFault>
     requires { IsRising kept.now.dones }
     ensures base { OnOk result (HasBase epoch kept.now.floor kept.now.dones (entries (lent_map rows.now)) file (H.reads host.new) (H.may_leave host.new)) }
-    ensures changes { ChangesOnly H.moment H.observed H.said H.reads H.may_leave (file ∷ []) host.old host.new }
+    ensures changes { ChangesOnly H.Host (file ∷ []) host.old host.new }
     ensures counts { CountsFault result (H.disk_faults host.old) (H.disk_faults host.new) }
 {
     let mut draft = Draft::make(alloc, file, BASE)?;
@@ -55,7 +55,7 @@ fn fill<H: Host>(
     requires drafts { Drafts draft.old [] (H.reads host.old) }
     ensures drafts { OnOk result (DraftsBase epoch kept.now.floor kept.now.dones (entries (lent_map rows.now)) draft.new (H.reads host.new)) }
     ensures of { OnOk result ((draft.new.file ≡ draft.old.file) × (draft.new.kind ≡ draft.old.kind)) }
-    ensures changes { ChangesOnly H.moment H.observed H.said H.reads H.may_leave (draft.old.file ∷ []) host.old host.new }
+    ensures changes { ChangesOnly H.Host (draft.old.file ∷ []) host.old host.new }
     ensures counts { CountsFault result (H.disk_faults host.old) (H.disk_faults host.new) }
 {
     let head = BaseHead {
@@ -79,7 +79,7 @@ fn add_head<H: Host>(
     ensures drafts { OnOk result ((bodies : List (List ℕ)) → Drafts draft.old bodies (H.reads host.old) → Drafts draft.new (bodies ++ base_bytes (Head head.now) ∷ []) (H.reads host.new)) }
     ensures is { OnOk result (IsBaseEntry (Head head.now)) }
     ensures of { OnOk result ((draft.new.file ≡ draft.old.file) × (draft.new.kind ≡ draft.old.kind)) }
-    ensures changes { ChangesOnly H.moment H.observed H.said H.reads H.may_leave (draft.old.file ∷ []) host.old host.new }
+    ensures changes { ChangesOnly H.Host (draft.old.file ∷ []) host.old host.new }
     ensures counts { CountsFault result (H.disk_faults host.old) (H.disk_faults host.new) }
 {
     let mut body = Vec::new(alloc);
@@ -99,7 +99,7 @@ fn add_items<H: Host>(
     requires drafts { (bodies : List (List ℕ)) × Drafts draft.old bodies (H.reads host.old) }
     ensures items { OnOk result ((bodies : List (List ℕ)) → Drafts draft.old bodies (H.reads host.old) → HasItems kept.now.dones (entries (lent_map rows.now)) bodies draft.new (H.reads host.new)) }
     ensures of { OnOk result ((draft.new.file ≡ draft.old.file) × (draft.new.kind ≡ draft.old.kind)) }
-    ensures changes { ChangesOnly H.moment H.observed H.said H.reads H.may_leave (draft.old.file ∷ []) host.old host.new }
+    ensures changes { ChangesOnly H.Host (draft.old.file ∷ []) host.old host.new }
     ensures counts { CountsFault result (H.disk_faults host.old) (H.disk_faults host.new) }
 {
     let mut body = Vec::new(alloc);
@@ -112,7 +112,7 @@ pub fn add_entry<H: Host>(host: &mut H, draft: &mut Draft, body: &[u8]) -> Resul
     requires { (bodies : List (List ℕ)) × Drafts draft.old bodies (H.reads host.old) }
     ensures drafts { OnOk result ((bodies : List (List ℕ)) → Drafts draft.old bodies (H.reads host.old) → Drafts draft.new (bodies ++ body.now ∷ []) (H.reads host.new)) }
     ensures of { OnOk result ((draft.new.file ≡ draft.old.file) × (draft.new.kind ≡ draft.old.kind)) }
-    ensures changes { ChangesOnly H.moment H.observed H.said H.reads H.may_leave (draft.old.file ∷ []) host.old host.new }
+    ensures changes { ChangesOnly H.Host (draft.old.file ∷ []) host.old host.new }
     ensures counts { CountsFault result (H.disk_faults host.old) (H.disk_faults host.new) }
 {
     if body.len() > MOST_BYTES {

@@ -28,7 +28,7 @@ pub fn compact_store<H: Host>(alloc: Global, host: &mut H, store: Opened) -> Res
     requires stands { Stands store.logs.root (H.reads host.old) (H.may_leave host.old) }
     // At each moment, and whatever the answer is, there is the store of before or the compacted one; after Ok there is no other than this.
     ensures gains { (c : Contents) → Has (its_keep c) c store → RestsOn c (H.reads host.old) (H.may_leave host.old)
-        → GainsAs H.moment H.observed H.said H.reads H.may_leave result (HasStore c) (HasCompacted c) host.old host.new }
+        → GainsAs H.Host result (HasStore c) (HasCompacted c) host.old host.new }
     ensures files { Become (SameBesides (compact_files (entry_in store))) (H.reads host.old) (H.reads host.new) }
     ensures crash { Follows (SameBesides (compact_files (entry_in store))) (H.may_leave host.old) (H.may_leave host.new) }
     ensures said { H.said host.new ≡ H.said host.old }

@@ -35,7 +35,7 @@ pub fn write_dones<H: Host>(
     requires drafts { (bodies : List (List ℕ)) × Drafts draft.old bodies (H.reads host.old) }
     ensures dones { OnOk result ((bodies : List (List ℕ)) → Drafts draft.old bodies (H.reads host.old) → HasAdded Dones kept.now.dones bodies draft.new (H.reads host.new)) }
     ensures of { OnOk result ((draft.new.file ≡ draft.old.file) × (draft.new.kind ≡ draft.old.kind)) }
-    ensures changes { ChangesOnly H.moment H.observed H.said H.reads H.may_leave (draft.old.file ∷ []) host.old host.new }
+    ensures changes { ChangesOnly H.Host (draft.old.file ∷ []) host.old host.new }
     ensures counts { CountsFault result (H.disk_faults host.old) (H.disk_faults host.new) }
 {
     let mut batch = Vec::new(alloc);
@@ -60,7 +60,7 @@ fn put_done<H: Host>(
     ensures put { OnOk result ((items rest : List Done) (bodies : List (List ℕ)) → HasPut Dones items (batch.old.items ++ done.now ∷ rest) bodies draft.old (H.reads host.old)
         → HasPut Dones items (batch.new.items ++ rest) bodies draft.new (H.reads host.new)) }
     ensures of { OnOk result ((draft.new.file ≡ draft.old.file) × (draft.new.kind ≡ draft.old.kind)) }
-    ensures changes { ChangesOnly H.moment H.observed H.said H.reads H.may_leave (draft.old.file ∷ []) host.old host.new }
+    ensures changes { ChangesOnly H.Host (draft.old.file ∷ []) host.old host.new }
     ensures counts { CountsFault result (H.disk_faults host.old) (H.disk_faults host.new) }
 {
     batch.push(done.try_clone()?)?;
@@ -84,7 +84,7 @@ fn end_dones<H: Host>(
     requires drafts { (bodies : List (List ℕ)) × Drafts draft.old bodies (H.reads host.old) }
     ensures added { OnOk result ((items : List Done) (bodies : List (List ℕ)) → HasPut Dones items dones.now bodies draft.old (H.reads host.old) → HasAdded Dones items bodies draft.new (H.reads host.new)) }
     ensures of { OnOk result ((draft.new.file ≡ draft.old.file) × (draft.new.kind ≡ draft.old.kind)) }
-    ensures changes { ChangesOnly H.moment H.observed H.said H.reads H.may_leave (draft.old.file ∷ []) host.old host.new }
+    ensures changes { ChangesOnly H.Host (draft.old.file ∷ []) host.old host.new }
     ensures counts { CountsFault result (H.disk_faults host.old) (H.disk_faults host.new) }
 {
     if dones.is_empty() {
@@ -106,7 +106,7 @@ fn add_dones<H: Host>(
     ensures drafts { OnOk result ((bodies : List (List ℕ)) → Drafts draft.old bodies (H.reads host.old) → Drafts draft.new (bodies ++ base_bytes (Dones dones.now) ∷ []) (H.reads host.new)) }
     ensures is { OnOk result (IsBaseEntry (Dones dones.now)) }
     ensures of { OnOk result ((draft.new.file ≡ draft.old.file) × (draft.new.kind ≡ draft.old.kind)) }
-    ensures changes { ChangesOnly H.moment H.observed H.said H.reads H.may_leave (draft.old.file ∷ []) host.old host.new }
+    ensures changes { ChangesOnly H.Host (draft.old.file ∷ []) host.old host.new }
     ensures counts { CountsFault result (H.disk_faults host.old) (H.disk_faults host.new) }
 {
     body.clear();

@@ -37,7 +37,7 @@ pub fn write_files<H: Host>(
     ensures base { OnOk result ((m : Rows) → ShardsHold m shards.now → 0 < length shards.now
         → HasBase layout.now.base_epoch kept.now.floor kept.now.dones (entries m) base (H.reads host.new) (H.may_leave host.new)) }
     ensures empty { OnOk result (HasEmptyLogs layout.now (H.reads host.new) (H.may_leave host.new)) }
-    ensures changes { ChangesOnly H.moment H.observed H.said H.reads H.may_leave (base ∷ layout.now.chief_file ∷ layout.now.node_files) host.old host.new }
+    ensures changes { ChangesOnly H.Host (base ∷ layout.now.chief_file ∷ layout.now.node_files) host.old host.new }
     ensures counts { CountsFault result (H.disk_faults host.old) (H.disk_faults host.new) }
 {
     let lists = rows_of(alloc, shards)?;
@@ -59,7 +59,7 @@ fn write_logs<H: Host>(
     requires rising { IsRising kept.now.dones }
     ensures base { OnOk result (HasBase layout.now.base_epoch kept.now.floor kept.now.dones (entries (lent_map rows.now)) base (H.reads host.new) (H.may_leave host.new)) }
     ensures empty { OnOk result (HasEmptyLogs layout.now (H.reads host.new) (H.may_leave host.new)) }
-    ensures changes { ChangesOnly H.moment H.observed H.said H.reads H.may_leave (base ∷ layout.now.chief_file ∷ layout.now.node_files) host.old host.new }
+    ensures changes { ChangesOnly H.Host (base ∷ layout.now.chief_file ∷ layout.now.node_files) host.old host.new }
     ensures counts { CountsFault result (H.disk_faults host.old) (H.disk_faults host.new) }
 {
     write_base(alloc, host, base, layout.base_epoch, kept, rows)?;

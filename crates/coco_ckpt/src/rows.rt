@@ -36,7 +36,7 @@ pub fn write_rows<H: Host>(
     requires drafts { (bodies : List (List ℕ)) × Drafts draft.old bodies (H.reads host.old) }
     ensures rows { OnOk result ((bodies : List (List ℕ)) → Drafts draft.old bodies (H.reads host.old) → HasAdded Values (entries (lent_map rows.now)) bodies draft.new (H.reads host.new)) }
     ensures of { OnOk result ((draft.new.file ≡ draft.old.file) × (draft.new.kind ≡ draft.old.kind)) }
-    ensures changes { ChangesOnly H.moment H.observed H.said H.reads H.may_leave (draft.old.file ∷ []) host.old host.new }
+    ensures changes { ChangesOnly H.Host (draft.old.file ∷ []) host.old host.new }
     ensures counts { CountsFault result (H.disk_faults host.old) (H.disk_faults host.new) }
 {
     let mut batch = Vec::new(alloc);
@@ -61,7 +61,7 @@ fn put_row<H: Host>(
     ensures put { OnOk result ((items rest : List (RowKey × Value)) (bodies : List (List ℕ)) → HasPut Values items (batch.old.items ++ row ∷ rest) bodies draft.old (H.reads host.old)
         → HasPut Values items (batch.new.items ++ rest) bodies draft.new (H.reads host.new)) }
     ensures of { OnOk result ((draft.new.file ≡ draft.old.file) × (draft.new.kind ≡ draft.old.kind)) }
-    ensures changes { ChangesOnly H.moment H.observed H.said H.reads H.may_leave (draft.old.file ∷ []) host.old host.new }
+    ensures changes { ChangesOnly H.Host (draft.old.file ∷ []) host.old host.new }
     ensures counts { CountsFault result (H.disk_faults host.old) (H.disk_faults host.new) }
 {
     batch.push(row)?;
@@ -85,7 +85,7 @@ fn end_rows<H: Host>(
     requires drafts { (bodies : List (List ℕ)) × Drafts draft.old bodies (H.reads host.old) }
     ensures added { OnOk result ((items : List (RowKey × Value)) (bodies : List (List ℕ)) → HasPut Values items rows.now bodies draft.old (H.reads host.old) → HasAdded Values items bodies draft.new (H.reads host.new)) }
     ensures of { OnOk result ((draft.new.file ≡ draft.old.file) × (draft.new.kind ≡ draft.old.kind)) }
-    ensures changes { ChangesOnly H.moment H.observed H.said H.reads H.may_leave (draft.old.file ∷ []) host.old host.new }
+    ensures changes { ChangesOnly H.Host (draft.old.file ∷ []) host.old host.new }
     ensures counts { CountsFault result (H.disk_faults host.old) (H.disk_faults host.new) }
 {
     if rows.is_empty() {
@@ -107,7 +107,7 @@ fn add_rows<H: Host>(
     ensures drafts { OnOk result ((bodies : List (List ℕ)) → Drafts draft.old bodies (H.reads host.old) → Drafts draft.new (bodies ++ base_bytes (Values rows.now) ∷ []) (H.reads host.new)) }
     ensures is { OnOk result (IsBaseEntry (Values rows.now)) }
     ensures of { OnOk result ((draft.new.file ≡ draft.old.file) × (draft.new.kind ≡ draft.old.kind)) }
-    ensures changes { ChangesOnly H.moment H.observed H.said H.reads H.may_leave (draft.old.file ∷ []) host.old host.new }
+    ensures changes { ChangesOnly H.Host (draft.old.file ∷ []) host.old host.new }
     ensures counts { CountsFault result (H.disk_faults host.old) (H.disk_faults host.new) }
 {
     body.clear();

@@ -1,7 +1,5 @@
 -- Moments one after another.
-use Rattle.std.proofs.Common.{◌≡◌, inl, inr, ⊎_elim, ℕ, zero, suc, ◌+◌, ◌<◌, ◌≤◌, Bool, true, false, List, [], ◌++◌, append-nil, Result, sym, ◌∙◌, arith}
-use Rattle.std.specs.Prelude.{IfOk}
-use Rattle.std.proofs.lemmas.Result.{IfOk-weaker}
+use Rattle.std.proofs.Common.{◌≡◌, inl, inr, ⊎_elim, ℕ, zero, suc, ◌+◌, ◌<◌, ◌≤◌, Bool, true, false, List, [], ◌++◌, append-nil, sym, ◌∙◌, arith}
 use Rattle.coco_letters.specs.Around.{Around, IsLater, spare}
 use Rattle.coco_letters.specs.GivingUp.{since, AreGivenUp, Awaits, IsGivenUp}
 use Rattle.coco_net.specs.declared.letter.Posted.{Posted}
@@ -66,16 +64,10 @@ gives_stopped a b later rose = record { from = a; later = later_same a; given_up
 pub gives_silent : (a b : Around) → IsLater a b → a.faults + 16 ≤ b.faults → Awaits (since a.sent b.sent) (since a.given b.given) → GivesUp a b
 gives_silent a b later lost awaits = record { from = a; later = later_same a; given_up = inr (b, later, lost, awaits, later_same b) }
 
-pub causes_from : {E : Type 0} (r : Result Bool E) (a b c : Around) → IsLater a b → IfOk r (λ all. GivenUpIfNot all b c) → IfOk r (λ all. GivenUpIfNot all a c)
-causes_from r a b c later cause = IfOk-weaker r (λ all. GivenUpIfNot all b c) (λ all. GivenUpIfNot all a c) (cause_from a b c later) cause
-  where
-    cause_from : (a b c : Around) → IsLater a b → (all : Bool) → GivenUpIfNot all b c → GivenUpIfNot all a c
-    cause_from a b c later true cause = tt
-    cause_from a b c later false cause = gives_from a b c later cause
+pub cause_from : (a b c : Around) → IsLater a b → (all : Bool) → GivenUpIfNot all b c → GivenUpIfNot all a c
+cause_from a b c later true cause = tt
+cause_from a b c later false cause = gives_from a b c later cause
 
-pub tried_from : {E : Type 0} (r : Result Tried E) (a b c : Around) → IsLater a b → IfOk r (λ tried. IsGivenUpIf tried b c) → IfOk r (λ tried. IsGivenUpIf tried a c)
-tried_from r a b c later cause = IfOk-weaker r (λ tried. IsGivenUpIf tried b c) (λ tried. IsGivenUpIf tried a c) (cause_from a b c later) cause
-  where
-    cause_from : (a b c : Around) → IsLater a b → (tried : Tried) → IsGivenUpIf tried b c → IsGivenUpIf tried a c
-    cause_from a b c later (Voted dones trace) cause = tt
-    cause_from a b c later (GivenUp again) cause = gives_from a b c later cause
+pub tried_from : (a b c : Around) → IsLater a b → (tried : Tried) → IsGivenUpIf tried b c → IsGivenUpIf tried a c
+tried_from a b c later (Voted dones trace) cause = tt
+tried_from a b c later (GivenUp again) cause = gives_from a b c later cause

@@ -94,10 +94,10 @@ pub voted_before : (all : Bool) (layout : Layout) (epoch first : ℕ) (a m b : A
 voted_before true layout epoch first a m b few six one two same stay asked voted = point_before layout epoch first 5 a m b few six one two same stay asked voted
 voted_before false layout epoch first a m b few six one two same stay asked voted = tt
 
-pub tried_before : (tried : Tried) (layout : Layout) (epoch first : ℕ) (a m b : Around) → layout.nodes ≤ 8 → first ≤ 6 → IsLater a m → IsLater m b → m.early ≡ a.early → Stay m b
+pub voted_by_before : (tried : Tried) (layout : Layout) (epoch first : ℕ) (a m b : Around) → layout.nodes ≤ 8 → first ≤ 6 → IsLater a m → IsLater m b → m.early ≡ a.early → Stay m b
     → ((n : ℕ) → n < layout.nodes → m.asked n first ≡ true) → VotedForBy tried layout epoch (first + 1) m b → VotedForBy tried layout epoch first a b
-tried_before (Voted dones trace) layout epoch first a m b few six one two same stay asked voted = point_before layout epoch first 5 a m b few six one two same stay asked voted
-tried_before (GivenUp again) layout epoch first a m b few six one two same stay asked voted = tt
+voted_by_before (Voted dones trace) layout epoch first a m b few six one two same stay asked voted = point_before layout epoch first 5 a m b few six one two same stay asked voted
+voted_by_before (GivenUp again) layout epoch first a m b few six one two same stay asked voted = tt
 
 -- and the last point, from an earlier moment on at which the power was the same
 pub voted_whole : (layout : Layout) (epoch : ℕ) (a r t b : Around) → layout.nodes ≤ 8 → IsLater a r → IsLater r t → IsLater t b → r.early ≡ a.early → b.early ≡ t.early → Stay t b

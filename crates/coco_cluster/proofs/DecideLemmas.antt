@@ -10,6 +10,7 @@ use Rattle.coco_ast.specs.Keyed.{Rows}
 use Rattle.coco_chief.specs.Shown.{chief_of}
 use Rattle.coco_host.specs.Files.{Files, Become, Follows}
 use Rattle.coco_host.specs.Moments.{Observation}
+use Rattle.coco_host.specs.declared.host.Host.{Ghosts as HostGhosts}
 use Rattle.coco_letters.specs.Around.{Around, IsLater}
 use Rattle.coco_members.specs.AtRest.{primaries_of, AreMembers}
 use Rattle.coco_members.specs.declared.members.Members.{Members}
@@ -82,13 +83,13 @@ rests_decided true c b sent old new after x y reads may_leave behind nodes gives
 rests_decided false c b sent old new after x y reads may_leave behind nodes gives decides comes rests = rests_without c b behind (have_durable b.epoch new.cores.items) reads may_leave rests
 
 -- where nothing was written meanwhile
-module _ {H : Type 0} (moment : H → ℕ) (observed : H → ℕ → Observation → Type 0) (said : H → Option (List ℕ)) (reads : H → Option Files) (may_leave : H → Files → Type 0)
-    (only_now : OnlyNow moment observed said reads may_leave) where
-  pub idle_keeps : (c : Contents) (epoch : ℕ) (host : H) → RestsOn c (reads host) (may_leave host) → IsBehindAll c epoch → Keeps moment observed said reads may_leave c (epoch + 1) host host
-  idle_keeps c epoch host rests behind = keeps_same moment observed said reads may_leave only_now c (epoch + 1) host rests (behind_later c epoch (epoch + 1) (omega arith) behind)
+module _ {H : Type 0} (frame : HostGhosts H)
+    (only_now : OnlyNow frame) where
+  pub idle_keeps : (c : Contents) (epoch : ℕ) (host : H) → RestsOn c (frame.reads host) (frame.may_leave host) → IsBehindAll c epoch → Keeps frame c (epoch + 1) host host
+  idle_keeps c epoch host rests behind = keeps_same frame only_now c (epoch + 1) host rests (behind_later c epoch (epoch + 1) (omega arith) behind)
 
-  pub failed_files : {E : Type 0} (r : Result Bool E) (epoch : ℕ) (pieces : List Piece) (k : Members) (host : H) → IsErr r → DecidesFiles moment observed said reads may_leave r epoch pieces k host host
-  failed_files r epoch pieces k host failed c hold after gives held may nodes logs rests behind = (idle_keeps c epoch host rests behind, IfOk-from_err r (λ all. RestsDecided all c (ballot_on epoch pieces hold) (reads host) (may_leave host)) failed)
+  pub failed_files : {E : Type 0} (r : Result Bool E) (epoch : ℕ) (pieces : List Piece) (k : Members) (host : H) → IsErr r → DecidesFiles frame r epoch pieces k host host
+  failed_files r epoch pieces k host failed c hold after gives held may nodes logs rests behind = (idle_keeps c epoch host rests behind, IfOk-from_err r (λ all. RestsDecided all c (ballot_on epoch pieces hold) (frame.reads host) (frame.may_leave host)) failed)
 
 -- a good store has a file for each node
 files_count : (files : Files) (c : Contents) → IsGoodStore files c → length c.setting.entry.layout.node_files ≡ c.setting.entry.layout.nodes

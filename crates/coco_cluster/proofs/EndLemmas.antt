@@ -13,6 +13,7 @@ use Rattle.coco_epoch.specs.Shards.{SettleOn}
 use Rattle.coco_finish.specs.Finishing.{is_behind, AreWhole}
 use Rattle.coco_host.specs.Files.{Files}
 use Rattle.coco_host.specs.Moments.{Observation}
+use Rattle.coco_host.specs.declared.host.Host.{Ghosts as HostGhosts}
 use Rattle.coco_letters.specs.declared.voter.Voter.{Voter}
 use Rattle.coco_log.specs.Faults.{CountsFault}
 use Rattle.coco_log.specs.declared.fault.LogFault.{LogFault}
@@ -126,20 +127,20 @@ many_voters old new are are_now layout = are_now.voters ∙ sym are_now.layout �
 
 -- ---- the store
 
-module _ {H : Type 0} (moment : H → ℕ) (observed : H → ℕ → Observation → Type 0) (said : H → Option (List ℕ)) (reads : H → Option Files) (may_leave : H → Files → Type 0) where
+module _ {H : Type 0} (frame : HostGhosts H) where
   pub commits_failed : (r : Result (Unit {0}) LogFault) (turned : Result (Unit {0}) TurnFault) (f : TurnFault) (c : Contents) (commit : Commit) (old new : H) → turned ≡ Err f
-      → Gains moment observed said reads may_leave r c (with_commit commit c) old new → WritesLogs c.setting (reads old) (reads new) (may_leave old) (may_leave new) → Commits moment observed said reads may_leave turned c commit old new
+      → Gains frame r c (with_commit commit c) old new → WritesLogs c.setting (frame.reads old) (frame.reads new) (frame.may_leave old) (frame.may_leave new) → Commits frame turned c commit old new
   commits_failed r turned f c commit old new failed gains writes = record {
-    ok = subst (λ (q : Result _ _). OnOk q (RestsOn (with_commit commit c) (reads new) (may_leave new))) (sym failed) tt;
+    ok = subst (λ (q : Result _ _). OnOk q (RestsOn (with_commit commit c) (frame.reads new) (frame.may_leave new))) (sym failed) tt;
     moments = gains.moments;
     left = gains.left;
     others = writes;
   }
 
   pub commits_done : (r : Result (Unit {0}) LogFault) (turned : Result (Unit {0}) TurnFault) (c : Contents) (commit : Commit) (old new : H) → r ≡ Ok tt → turned ≡ Ok tt
-      → Gains moment observed said reads may_leave r c (with_commit commit c) old new → WritesLogs c.setting (reads old) (reads new) (may_leave old) (may_leave new) → Commits moment observed said reads may_leave turned c commit old new
+      → Gains frame r c (with_commit commit c) old new → WritesLogs c.setting (frame.reads old) (frame.reads new) (frame.may_leave old) (frame.may_leave new) → Commits frame turned c commit old new
   commits_done r turned c commit old new done ok gains writes = record {
-    ok = subst (λ (q : Result _ _). OnOk q (RestsOn (with_commit commit c) (reads new) (may_leave new))) (sym ok) (subst (λ (q : Result _ _). OnOk q (RestsOn (with_commit commit c) (reads new) (may_leave new))) done gains.ok);
+    ok = subst (λ (q : Result _ _). OnOk q (RestsOn (with_commit commit c) (frame.reads new) (frame.may_leave new))) (sym ok) (subst (λ (q : Result _ _). OnOk q (RestsOn (with_commit commit c) (frame.reads new) (frame.may_leave new))) done gains.ok);
     moments = gains.moments;
     left = gains.left;
     others = writes;

@@ -1,7 +1,6 @@
 -- The entries that files and the worlds of nodes and coordinator have, from call to call.
 use Rattle.std.proofs.Common.{append-nil, ◌≡◌, ◌≢◌, ⊎_elim, ℕ, ◌+◌, ◌<◌, ◌≤◌, max, Bool, true, false, ◌||◌, eqb, nat_eq, List, [], ◌∷◌, ◌++◌, length, Option, Some, None, Result, Ok, Err, refl, sym, ap, ◌∙◌, subst, arith}
 use Rattle.std.specs.Global.{Vec}
-use Rattle.std.specs.Prelude.{OnOk}
 use Rattle.std.specs.Set.{is_member}
 use Rattle.std.proofs.lemmas.Bool.{eq-eqb, ne_eqb}
 use Rattle.std.proofs.lemmas.List.{append_assoc, map-append}
@@ -210,20 +209,18 @@ on_rests c d e i j n m cs a b reads may_leave one two steps w is above entries =
 
 -- ---- where no node has stopped before an epoch
 
-module _ {H T E : Type 0} (reads : H → Option Files) (may_leave : H → Files → Type 0) (old new : H) (i j l : ℕ → ℕ) (s s_new : List Posted) where
-  pub decides_on : (r : Result T E) (epoch : ℕ) (pieces : List Piece) (k m n : Members) → m ≡ k → length m.cores.items ≡ length k.cores.items → GoesBetween i j SameEntries (scene_of k s) (scene_of m s)
-      → OnOk r (DecidesEntries reads may_leave epoch pieces j l m n s s_new old new) → OnOk r (DecidesEntries reads may_leave epoch pieces i l k n s s_new old new)
-  decides_on (Ok x) epoch pieces k m n is same goes entries = λ c d hold held may nodes logs on behind.
+module _ {H : Type 0} (reads : H → Option Files) (may_leave : H → Files → Type 0) (old new : H) (i j l : ℕ → ℕ) (s s_new : List Posted) where
+  pub decides_on : (epoch : ℕ) (pieces : List Piece) (k m n : Members) → m ≡ k → length m.cores.items ≡ length k.cores.items → GoesBetween i j SameEntries (scene_of k s) (scene_of m s)
+      → DecidesEntries reads may_leave epoch pieces j l m n s s_new old new → DecidesEntries reads may_leave epoch pieces i l k n s s_new old new
+  decides_on epoch pieces k m n is same goes entries = λ c d hold held may nodes logs on behind.
       on_after c c d i j l epoch epoch (epoch + 1) [] (scene_of k s) (scene_of m s) (scene_of n s_new) (on_same c i j epoch (scene_of k s) (scene_of m s) same goes)
       (entries c d hold (subst (λ (y : Members). AreHeld hold y.voters.items) (sym is) held) may (nodes ∙ sym same) (subst (λ (y : Members). HaveLogs c y.voters.items) (sym is) logs) on behind)
-  decides_on (Err e) epoch pieces k m n is same goes entries = tt
 
-  pub tries_on : (r : Result T E) (requests : List Request) (k : Cluster) (m : Members) (n : Cluster) → m ≡ k.members → length m.cores.items ≡ length k.members.cores.items → GoesBetween i j SameEntries (scene_of k.members s) (scene_of m s)
-      → OnOk r (TriesEntries reads may_leave requests j l (record k { members = m }) n s s_new old new) → OnOk r (TriesEntries reads may_leave requests i l k n s s_new old new)
-  tries_on (Ok x) requests k m n is same goes entries = λ c d on stands room behind.
+  pub tries_on : (requests : List Request) (k : Cluster) (m : Members) (n : Cluster) → m ≡ k.members → length m.cores.items ≡ length k.members.cores.items → GoesBetween i j SameEntries (scene_of k.members s) (scene_of m s)
+      → TriesEntries reads may_leave requests j l (record k { members = m }) n s s_new old new → TriesEntries reads may_leave requests i l k n s s_new old new
+  tries_on requests k m n is same goes entries = λ c d on stands room behind.
       on_after c c d i j l k.next_epoch k.next_epoch (k.next_epoch + 1) [] (scene_of k.members s) (scene_of m s) (scene_of n.members s_new) (on_same c i j k.next_epoch (scene_of k.members s) (scene_of m s) same goes)
       (entries c d on (subst (λ (y : Members). StandsAt c (record k { members = y })) (sym is) stands) room behind)
-  tries_on (Err e) requests k m n is same goes entries = tt
 
 -- ---- an attempt
 

@@ -6,6 +6,7 @@ use Rattle.std.proofs.lemmas.List.{map-append}
 use Rattle.std.proofs.lemmas.List.Elements.{All-from_recursion, recursion_from_All}
 use Rattle.std.proofs.lemmas.List.Sorted.{All-permutation, IsPermutation-map, length_permutation}
 use Rattle.std.proofs.lemmas.Map.Keys.{IsDistinct-IsPermutation}
+use Rattle.coco_recover.proofs.Few.{filter_keeps}
 use Rattle.coco_types.specs.declared.call.Done.{Done}
 use Rattle.coco_types.specs.declared.call.Request.{Request}
 use Rattle.coco_ast.specs.Growth.{IsEpochOf}
@@ -20,17 +21,10 @@ use Rattle.coco_cluster.specs.Standing.{KeepsBelow}
 
 -- ---- what holds of Dones holds of some of them
 
-all_filter : (P : Done → Type 0) (p : Done → Bool) (xs : List Done) → AllByRecursion P xs → AllByRecursion P (filter p xs)
-all_filter P p [] all = tt
-all_filter P p (x ∷ xs) all = elim (p x) as (λ b. AllByRecursion P (cond b (x ∷ filter p xs) (filter p xs))) [
-  | true ↦ (all.0, all_filter P p xs all.1)
-  | false ↦ all_filter P p xs all.1
-]
-
 never_fall-filter : (p : Done → Bool) (xs : List Done) → NeverFall xs → NeverFall (filter p xs)
 never_fall-filter p [] rising = tt
 never_fall-filter p (x ∷ xs) rising = elim (p x) as (λ b. NeverFall (cond b (x ∷ filter p xs) (filter p xs))) [
-  | true ↦ (all_filter (λ e. x.epoch ≤ e.epoch) p xs rising.0, never_fall-filter p xs rising.1)
+  | true ↦ (filter_keeps (λ e. x.epoch ≤ e.epoch) p xs rising.0, never_fall-filter p xs rising.1)
   | false ↦ never_fall-filter p xs rising.1
 ]
 
@@ -47,7 +41,7 @@ once-filter p [] once = once
 once-filter p (x ∷ xs) once = (
     let parts = parted x xs once in
     elim (p x) as (λ b. HasDistinctIds (cond b (x ∷ filter p xs) (filter p xs))) [
-      | true ↦ joined x (filter p xs) (all_filter (λ (d : Done). nat_eq x.id d.id ≡ false) p xs parts.0) (once-filter p xs parts.1)
+      | true ↦ joined x (filter p xs) (filter_keeps (λ (d : Done). nat_eq x.id d.id ≡ false) p xs parts.0) (once-filter p xs parts.1)
       | false ↦ once-filter p xs parts.1
     ])
 
@@ -98,7 +92,7 @@ module _ (requests : List Request) (epoch : ℕ) (dones : List Done) (is_epoch :
     rising = never_fall-append epoch keeps.added dones keeps.rising keeps.below is_epoch.numbered
 
     kept_below : AllByRecursion (λ (d : Done). d.epoch < epoch) k.dones
-    kept_below = subst (AllByRecursion (λ (d : Done). d.epoch < epoch)) (sym keeps.holds.kept) (all_filter (λ (d : Done). d.epoch < epoch) (is_held k.keep keeps.added) keeps.added keeps.below)
+    kept_below = subst (AllByRecursion (λ (d : Done). d.epoch < epoch)) (sym keeps.holds.kept) (filter_keeps (λ (d : Done). d.epoch < epoch) (is_held k.keep keeps.added) keeps.added keeps.below)
 
     kept_rise : NeverFall k.dones
     kept_rise = subst NeverFall (sym keeps.holds.kept) (never_fall-filter (is_held k.keep keeps.added) keeps.added keeps.rising)

@@ -2,7 +2,9 @@ pub mod AroundLemmas
 pub mod AskLemmas
 pub mod AttemptLemmas
 pub mod BehindLemmas
+pub mod CommitLemmas
 pub mod DecideLemmas
+pub mod DecidedLemmas
 pub mod EndLemmas
 pub mod EntryLemmas
 pub mod KeepLemmas

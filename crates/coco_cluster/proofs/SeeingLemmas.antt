@@ -8,6 +8,7 @@ use Rattle.coco_entry.specs.declared.prepared.Prepared.{Prepared}
 use Rattle.coco_host.specs.Files.{Files}
 use Rattle.coco_host.specs.Moments.{Observation}
 use Rattle.coco_host.proofs.Sees.{started}
+use Rattle.coco_host.specs.declared.host.Host.{Ghosts as HostGhosts}
 use Rattle.coco_log.proofs.OnlyRead.{sees_then, sees_weaker}
 use Rattle.coco_log.specs.LogState.{IsAsBefore, IsOnlyRead}
 use Rattle.coco_store.specs.Contents.{Contents, history_of, map_in}
@@ -67,36 +68,36 @@ store_later c end later files le store = record {
   below = behind_later store.contents end later le store.below;
 }
 
-module _ {H : Type 0} (moment : H → ℕ) (observed : H → ℕ → Observation → Type 0) (said : H → Option (List ℕ)) (reads : H → Option Files) (may_leave : H → Files → Type 0) where
+module _ {H : Type 0} (frame : HostGhosts H) where
   abbrev KeepsIt : Contents → ℕ → H → H → Type 0
-  KeepsIt c end old new = Keeps moment observed said reads may_leave c end old new
+  KeepsIt c end old new = Keeps frame c end old new
 
   abbrev pub OnlyNow : Type 0
-  OnlyNow = (host : H) (seen : Observation) → observed host (moment host) seen → may_leave host seen.image × (said host ≡ Some seen.said)
+  OnlyNow = (host : H) (seen : Observation) → frame.observed host (frame.moment host) seen → frame.may_leave host seen.image × (frame.said host ≡ Some seen.said)
 
   -- where the host wasn't touched
-  pub keeps_same : OnlyNow → (c : Contents) (end : ℕ) (host : H) → RestsOn c (reads host) (may_leave host) → IsBehindAll c end → KeepsIt c end host host
+  pub keeps_same : OnlyNow → (c : Contents) (end : ℕ) (host : H) → RestsOn c (frame.reads host) (frame.may_leave host) → IsBehindAll c end → KeepsIt c end host host
   keeps_same only_now c end host rests below = record {
-    moments = started moment observed host (ShowsHistory c.setting (history_of c) end (said host)) (λ seen since.
+    moments = started frame.moment frame.observed host (ShowsHistory c.setting (history_of c) end (frame.said host)) (λ seen since.
         let now = only_now host seen since in
         (record { contents = c; setting = refl; good = rests.left seen.image now.0; history = refl; below = below }, now.1));
     left = λ bytes spoke image leaves. record { contents = c; setting = refl; good = rests.left image leaves; history = refl; below = below };
-    others = writes_none c.setting (reads host) (reads host) (may_leave host) (may_leave host) refl (λ image leaves. leaves);
+    others = writes_none c.setting (frame.reads host) (frame.reads host) (frame.may_leave host) (frame.may_leave host) refl (λ image leaves. leaves);
     quiet = refl;
   }
 
   pub keeps_then : (c : Contents) (end : ℕ) (first mid last : H) → KeepsIt c end first mid → KeepsIt c end mid last → KeepsIt c end first last
   keeps_then c end first mid last one two = record {
-    moments = sees_then moment observed first mid last (ShowsHistory c.setting (history_of c) end (said first)) (ShowsHistory c.setting (history_of c) end (said mid)) one.moments two.moments
+    moments = sees_then frame.moment frame.observed first mid last (ShowsHistory c.setting (history_of c) end (frame.said first)) (ShowsHistory c.setting (history_of c) end (frame.said mid)) one.moments two.moments
         (λ seen shows. (shows.0, sym one.quiet ∙ shows.1));
     left = λ bytes spoke image leaves. two.left bytes (one.quiet ∙ spoke) image leaves;
-    others = writes_then c.setting (reads first) (reads mid) (reads last) (may_leave first) (may_leave mid) (may_leave last) one.others two.others;
+    others = writes_then c.setting (frame.reads first) (frame.reads mid) (frame.reads last) (frame.may_leave first) (frame.may_leave mid) (frame.may_leave last) one.others two.others;
     quiet = two.quiet ∙ one.quiet;
   }
 
   pub keeps_later : (c : Contents) (end later : ℕ) (old new : H) → end ≤ later → KeepsIt c end old new → KeepsIt c later old new
   keeps_later c end later old new le keeps = record {
-    moments = sees_weaker moment observed old new (ShowsHistory c.setting (history_of c) end (said old)) (ShowsHistory c.setting (history_of c) later (said old))
+    moments = sees_weaker frame.moment frame.observed old new (ShowsHistory c.setting (history_of c) end (frame.said old)) (ShowsHistory c.setting (history_of c) later (frame.said old))
         (λ seen shows. (store_later c end later seen.image le shows.0, shows.1)) keeps.moments;
     left = λ bytes spoke image leaves. store_later c end later image le (keeps.left bytes spoke image leaves);
     others = keeps.others;
@@ -106,25 +107,25 @@ module _ {H : Type 0} (moment : H → ℕ) (observed : H → ℕ → Observation
   -- of contents with the same history
   pub keeps_as : (c d : Contents) (end : ℕ) (old new : H) → d.setting ≡ c.setting → history_of d ≡ history_of c → KeepsIt d end old new → KeepsIt c end old new
   keeps_as c d end old new setting history keeps = record {
-    moments = sees_weaker moment observed old new (ShowsHistory d.setting (history_of d) end (said old)) (ShowsHistory c.setting (history_of c) end (said old))
+    moments = sees_weaker frame.moment frame.observed old new (ShowsHistory d.setting (history_of d) end (frame.said old)) (ShowsHistory c.setting (history_of c) end (frame.said old))
         (λ seen shows. (as_before c d end seen.image setting history shows.0, shows.1)) keeps.moments;
     left = λ bytes spoke image leaves. as_before c d end image setting history (keeps.left bytes spoke image leaves);
-    others = subst (λ s. WritesLogs s (reads old) (reads new) (may_leave old) (may_leave new)) setting keeps.others;
+    others = subst (λ s. WritesLogs s (frame.reads old) (frame.reads new) (frame.may_leave old) (frame.may_leave new)) setting keeps.others;
     quiet = keeps.quiet;
   }
 
   -- where the host was only read
-  pub keeps_read : (c : Contents) (end : ℕ) (old new : H) → RestsOn c (reads old) (may_leave old) → IsBehindAll c end → IsOnlyRead moment observed said reads may_leave old new → KeepsIt c end old new
+  pub keeps_read : (c : Contents) (end : ℕ) (old new : H) → RestsOn c (frame.reads old) (frame.may_leave old) → IsBehindAll c end → IsOnlyRead frame old new → KeepsIt c end old new
   keeps_read c end old new rests below read = record {
-    moments = sees_weaker moment observed old new (IsAsBefore (may_leave old) (said old)) (ShowsHistory c.setting (history_of c) end (said old))
+    moments = sees_weaker frame.moment frame.observed old new (IsAsBefore (frame.may_leave old) (frame.said old)) (ShowsHistory c.setting (history_of c) end (frame.said old))
         (λ seen before. (record { contents = c; setting = refl; good = rests.left seen.image before.image; history = refl; below = below }, before.said)) read.moments;
     left = λ bytes spoke image leaves. record { contents = c; setting = refl; good = rests.left image (read.crash image leaves); history = refl; below = below };
-    others = writes_none c.setting (reads old) (reads new) (may_leave old) (may_leave new) read.same read.crash;
+    others = writes_none c.setting (frame.reads old) (frame.reads new) (frame.may_leave old) (frame.may_leave new) read.same read.crash;
     quiet = read.quiet;
   }
 
   -- and then the host rests on what it rested on
-  pub rests_read : (c : Contents) (old new : H) → IsOnlyRead moment observed said reads may_leave old new → RestsOn c (reads old) (may_leave old) → RestsOn c (reads new) (may_leave new)
+  pub rests_read : (c : Contents) (old new : H) → IsOnlyRead frame old new → RestsOn c (frame.reads old) (frame.may_leave old) → RestsOn c (frame.reads new) (frame.may_leave new)
   rests_read c old new read rests = record {
     files = rests.files;
     are = read.same ∙ rests.are;
@@ -170,15 +171,15 @@ module _ (c : Contents) (b : Ballot) (below : IsBehindAll c b.epoch) where
     below = voted_below store.has store.contents store.voted;
   }
 
-  module _ {H : Type 0} (moment : H → ℕ) (observed : H → ℕ → Observation → Type 0) (said : H → Option (List ℕ)) (reads : H → Option Files) (may_leave : H → Files → Type 0) where
-    pub keeps_voted : (old new : H) → KeepsVoted moment observed said may_leave c b old new → WritesLogs c.setting (reads old) (reads new) (may_leave old) (may_leave new)
-        → Keeps moment observed said reads may_leave c (b.epoch + 1) old new
+  module _ {H : Type 0} (frame : HostGhosts H) where
+    pub keeps_voted : (old new : H) → KeepsVoted frame c b old new → WritesLogs c.setting (frame.reads old) (frame.reads new) (frame.may_leave old) (frame.may_leave new)
+        → Keeps frame c (b.epoch + 1) old new
     keeps_voted old new keeps writes = record {
-      moments = sees_weaker moment observed old new (ShowsVoted c b (said old)) (ShowsHistory c.setting (history_of c) (b.epoch + 1) (said old)) (λ seen shows. (voted_store seen.image shows.store, shows.said)) keeps.moments;
+      moments = sees_weaker frame.moment frame.observed old new (ShowsVoted c b (frame.said old)) (ShowsHistory c.setting (history_of c) (b.epoch + 1) (frame.said old)) (λ seen shows. (voted_store seen.image shows.store, shows.said)) keeps.moments;
       left = λ bytes spoke image leaves. voted_store image (keeps.left bytes spoke image leaves);
       others = writes;
       quiet = keeps.quiet;
     }
 
-  pub rests_without : (has : ℕ → Bool) (reads : Option Files) (may_leave : Files → Type 0) → RestsVoted c b has reads may_leave → RestsWithout c (b.epoch + 1) reads may_leave
-  rests_without has reads may_leave voted = (voted.contents, voted_adds has voted.contents voted.voted, voted_below has voted.contents voted.voted, voted.rests)
+  pub rests_without : (has : ℕ → Bool) (now : Option Files) (leaves : Files → Type 0) → RestsVoted c b has now leaves → RestsWithout c (b.epoch + 1) now leaves
+  rests_without has now leaves voted = (voted.contents, voted_adds has voted.contents voted.voted, voted_below has voted.contents voted.voted, voted.rests)

@@ -1,7 +1,6 @@
 -- The steps of nodes and coordinator from call to call, and what a power was asked for.
 use Rattle.std.proofs.Common.{append-nil, ◌≡◌, ◌⊎◌, inl, inr, ⊎_elim, ℕ, ◌+◌, ◌<◌, ◌≤◌, true, List, [], ◌∷◌, ◌++◌, length, min, Option, Some, None, Result, Ok, Err, refl, sym, ap, ◌∙◌, subst, arith}
 use Rattle.std.specs.Global.{Vec}
-use Rattle.std.specs.Prelude.{OnOk}
 use Rattle.std.proofs.lemmas.Bool.{cases_lt}
 use Rattle.std.proofs.lemmas.List.{append_assoc}
 use Rattle.coco_chief.specs.Chief.{has}
@@ -93,10 +92,6 @@ steps_then i j k n m o cs ds a b c first next w is above =
 -- behind steps that committed nothing, or before such
 pub steps_after : (i j k : ℕ → ℕ) (n m o : ℕ) (ds : List ℕ) (a b c : Scene) → StepsTo i j n m [] a b → StepsTo j k m o ds b c → StepsTo i k n o ds a c
 steps_after i j k n m o ds a b c first next = subst (λ xs. StepsTo i k n o xs a c) (append-nil ds) (steps_then i j k n m o [] ds a b c first next)
-
-pub steps_ended : {T E : Type 0} (r : Result T E) (i j k : ℕ → ℕ) (n m o : ℕ) (a b c : Scene) → StepsTo i j n m [] a b → OnOk r (StepsTo j k m o [] b c) → OnOk r (StepsTo i k n o [] a c)
-steps_ended (Ok x) i j k n m o a b c first next = steps_after i j k n m o [] a b c first next
-steps_ended (Err e) i j k n m o a b c first next = tt
 
 pub steps_later : (i j : ℕ → ℕ) (n m o : ℕ) (cs : List ℕ) (a b : Scene) → m ≤ o → StepsTo i j n m cs a b → StepsTo i j n o cs a b
 steps_later i j n m o cs a b le steps w is above =

@@ -162,10 +162,6 @@ lose_then s t u a b c one two = record {
   whole = all_whole_then s t u a b c one.rises two.rises one.whole two.whole;
 }
 
-pub lose_on : {T E : Type 0} (r : Result T E) (s t u : ℕ) (a b c : List Voter) → LoseIfTold s t a b → OnOk r (LoseIfTold t u b c) → OnOk r (LoseIfTold s u a c)
-lose_on (Ok x) s t u a b c one two = lose_then s t u a b c one two
-lose_on (Err e) s t u a b c one two = tt
-
 -- where no stop was told none has lost its tables
 pub none_lost : (seen seen_new : ℕ) (a b : List Voter) → LoseIfTold seen seen_new a b → seen_new ≡ seen → NoneLost a → NoneLost b
 none_lost seen seen_new a b lose is none n voter there = let was = lose.whole is n voter there in was.2 ∙ none n was.0 was.1

@@ -7,6 +7,7 @@ use Rattle.coco_ast.specs.Growth.{GrowsBy}
 use Rattle.coco_ast.specs.History.{followed_by}
 use Rattle.coco_host.specs.Files.{Files}
 use Rattle.coco_host.specs.Moments.{Observation, SeesOnly}
+use Rattle.coco_host.specs.declared.host.Host.{Ghosts as HostGhosts}
 use Rattle.coco_log.proofs.OnlyRead.{sees_then, sees_weaker}
 use Rattle.coco_log.specs.LogState.{IsAsBefore, IsOnlyRead}
 use Rattle.coco_finish.specs.declared.tables.NodeTables.{NodeTables}
@@ -50,19 +51,19 @@ counts_wider result f first disk disk_new failed same counts = counts_later resu
 pub failed_none : {X : Type 0} (result : Result (Option (Vec Request)) TurnFault) (f : TurnFault) → result ≡ Err f → (x : Option (Vec Request)) → result ≡ Ok x → X
 failed_none result f failed x is = (let never_so : Err f ≡ Ok x = sym failed ∙ is in absurd (cc))
 
-module _ {H : Type 0} (moment : H → ℕ) (observed : H → ℕ → Observation → Type 0) (said : H → Option (List ℕ)) (reads : H → Option Files) (may_leave : H → Files → Type 0) where
+module _ {H : Type 0} (frame : HostGhosts H) where
   abbrev KeepsIt : Contents → ℕ → H → H → Type 0
-  KeepsIt c end old new = Keeps moment observed said reads may_leave c end old new
+  KeepsIt c end old new = Keeps frame c end old new
 
   abbrev KeepsAttempt : Result (Option (Vec Request)) TurnFault → Contents → Cluster → Cluster → H → H → Type 0
-  KeepsAttempt result c old new first last = KeepsOn moment observed said reads may_leave result c old new first last
+  KeepsAttempt result c old new first last = KeepsOn frame result c old new first last
 
   -- an attempt that failed before the commit entry
   pub keeps_failed : (result : Result (Option (Vec Request)) TurnFault) (f : TurnFault) (c : Contents) (old new : Cluster) (first last : H) → result ≡ Err f → KeepsIt c (old.next_epoch + 1) first last → KeepsAttempt result c old new first last
   keeps_failed result f c old new first last failed keeps = record { keeps = keeps; again = λ x is. failed_none result f failed x is }
 
   -- one that was given up
-  pub keeps_given : (result : Result (Option (Vec Request)) TurnFault) (rs : Vec Request) (c : Contents) (old new : Cluster) (first last : H) → result ≡ Ok (Some rs) → KeepsIt c (old.next_epoch + 1) first last → StandsOn c new (reads last) (may_leave last)
+  pub keeps_given : (result : Result (Option (Vec Request)) TurnFault) (rs : Vec Request) (c : Contents) (old new : Cluster) (first last : H) → result ≡ Ok (Some rs) → KeepsIt c (old.next_epoch + 1) first last → StandsOn c new (frame.reads last) (frame.may_leave last)
       → KeepsAttempt result c old new first last
   keeps_given result rs c old new first last given keeps stands = record {
     keeps = keeps;
@@ -70,16 +71,16 @@ module _ {H : Type 0} (moment : H → ℕ) (observed : H → ℕ → Observation
   }
 
   -- an epoch that was given up, and then nodes were read anew
-  pub keeps_reading : (c d : Contents) (end : ℕ) (first mid last : H) → AddsOnlyPrepared c d → IsBehindAll d end → RestsOn d (reads mid) (may_leave mid) → KeepsIt c end first mid
-      → IsOnlyRead moment observed said reads may_leave mid last → KeepsIt c end first last
+  pub keeps_reading : (c d : Contents) (end : ℕ) (first mid last : H) → AddsOnlyPrepared c d → IsBehindAll d end → RestsOn d (frame.reads mid) (frame.may_leave mid) → KeepsIt c end first mid
+      → IsOnlyRead frame mid last → KeepsIt c end first last
   keeps_reading c d end first mid last only behind rests keeps read =
-      keeps_then moment observed said reads may_leave c end first mid last keeps
-      (keeps_as moment observed said reads may_leave c d end mid last only.setting (same_history c d only) (keeps_read moment observed said reads may_leave d end mid last rests behind read))
+      keeps_then frame c end first mid last keeps
+      (keeps_as frame c d end mid last only.setting (same_history c d only) (keeps_read frame d end mid last rests behind read))
 
   -- ---- an epoch that was committed
 
   module _ (c : Contents) (requests : List Request) (workers attempts epoch : ℕ) (dones : List Done) (trace : Traced) (tables : NodeTables) (first mid : H) (keeps : KeepsIt c (epoch + 1) first mid)
-      (may : MayCommitOn c requests workers attempts epoch dones trace tables (reads mid) (may_leave mid)) where
+      (may : MayCommitOn c requests workers attempts epoch dones trace tables (frame.reads mid) (frame.may_leave mid)) where
     abbrev pub after : Contents
     after = with_commit (commit_of epoch dones) may.d
 
@@ -110,45 +111,45 @@ module _ {H : Type 0} (moment : H → ℕ) (observed : H → ℕ → Observation
     one_of : (files : Files) → HasOneOf may.d (commit_of epoch dones) files → IsStoreOf c.setting (history_of c) (epoch + 1) files ⊎ IsStoreOf c.setting (history_of after) (epoch + 1) files
     one_of files one = ⊎_elim (λ was. inl (was_store files was)) (λ now. inr (now_store files now)) one
 
-    pub moments_first : SeesOnly moment observed first mid (Shows (said first))
-    moments_first = sees_weaker moment observed first mid (ShowsHistory c.setting (history_of c) (epoch + 1) (said first)) (Shows (said first)) (λ seen shows. record { store = inl shows.0; said = shows.1 }) keeps.moments
+    pub moments_first : SeesOnly frame.moment frame.observed first mid (Shows (frame.said first))
+    moments_first = sees_weaker frame.moment frame.observed first mid (ShowsHistory c.setting (history_of c) (epoch + 1) (frame.said first)) (Shows (frame.said first)) (λ seen shows. record { store = inl shows.0; said = shows.1 }) keeps.moments
 
-    module _ {T E : Type 0} (stored : Result T E) (late : H) (commits : Commits moment observed said reads may_leave stored may.d (commit_of epoch dones) mid late) where
-      moments_late : SeesOnly moment observed first late (Shows (said first))
-      moments_late = sees_then moment observed first mid late (Shows (said first)) (ShowsEither may.d after (said mid)) moments_first commits.moments
+    module _ {T E : Type 0} (stored : Result T E) (late : H) (commits : Commits frame stored may.d (commit_of epoch dones) mid late) where
+      moments_late : SeesOnly frame.moment frame.observed first late (Shows (frame.said first))
+      moments_late = sees_then frame.moment frame.observed first mid late (Shows (frame.said first)) (ShowsEither may.d after (frame.said mid)) moments_first commits.moments
           (λ seen shows. record { store = one_of seen.image shows.store; said = sym keeps.quiet ∙ shows.said })
 
-      writes_late : WritesLogs c.setting (reads first) (reads late) (may_leave first) (may_leave late)
-      writes_late = writes_then c.setting (reads first) (reads mid) (reads late) (may_leave first) (may_leave mid) (may_leave late) keeps.others
-          (subst (λ s. WritesLogs s (reads mid) (reads late) (may_leave mid) (may_leave late)) may.only.setting commits.others)
+      writes_late : WritesLogs c.setting (frame.reads first) (frame.reads late) (frame.may_leave first) (frame.may_leave late)
+      writes_late = writes_then c.setting (frame.reads first) (frame.reads mid) (frame.reads late) (frame.may_leave first) (frame.may_leave mid) (frame.may_leave late) keeps.others
+          (subst (λ s. WritesLogs s (frame.reads mid) (frame.reads late) (frame.may_leave mid) (frame.may_leave late)) may.only.setting commits.others)
 
       -- where the entry may not be there
       pub commit_failed : (result : Result (Option (Vec Request)) TurnFault) (f : TurnFault) (old new : Cluster) → result ≡ Err f → old.next_epoch ≡ epoch
-          → CommitsOn moment observed said reads may_leave result requests workers attempts c old new first late
+          → CommitsOn frame result requests workers attempts c old new first late
       commit_failed result f old new failed next = record {
         d = after;
         trace = trace;
         grown = subst (λ n. Grown requests workers attempts n trace c after) (sym next) grown;
         ok = λ x is. failed_none result f failed x is;
-        moments = subst (λ n. SeesOnly moment observed first late (ShowsStore c.setting (history_of c) (history_of after) (n + 1) (said first))) (sym next) moments_late;
+        moments = subst (λ n. SeesOnly frame.moment frame.observed first late (ShowsStore c.setting (history_of c) (history_of after) (n + 1) (frame.said first))) (sym next) moments_late;
         left = λ bytes spoke image leaves. subst (λ n. IsStoreOf c.setting (history_of c) (n + 1) image ⊎ IsStoreOf c.setting (history_of after) (n + 1) image) (sym next) (one_of image (commits.left bytes (keeps.quiet ∙ spoke) image leaves));
         others = writes_late;
       }
 
       -- where it is there, and then nodes were read anew
-      module _ (rests : RestsOn after (reads late) (may_leave late)) (quiet : said late ≡ said mid) (last : H) (read : IsOnlyRead moment observed said reads may_leave late last) where
+      module _ (rests : RestsOn after (frame.reads late) (frame.may_leave late)) (quiet : frame.said late ≡ frame.said mid) (last : H) (read : IsOnlyRead frame late last) where
         pub committed_then : (result : Result (Option (Vec Request)) TurnFault) (old new : Cluster) → old.next_epoch ≡ epoch
             → ((x : Option (Vec Request)) → result ≡ Ok x → (x ≡ None) × StandsAt after new × (option_map traced new.trace ≡ Some trace) × (new.next_epoch ≡ epoch + 1))
-            → CommitsOn moment observed said reads may_leave result requests workers attempts c old new first last
+            → CommitsOn frame result requests workers attempts c old new first last
         committed_then result old new next ok = record {
           d = after;
           trace = trace;
           grown = subst (λ n. Grown requests workers attempts n trace c after) (sym next) grown;
-          ok = λ x is. (let o = ok x is in (o.0, rests_read moment observed said reads may_leave after late last read rests, o.1, o.2, o.3 ∙ ap (λ n. n + 1) (sym next)));
-          moments = subst (λ n. SeesOnly moment observed first last (ShowsStore c.setting (history_of c) (history_of after) (n + 1) (said first))) (sym next)
-              (sees_then moment observed first late last (Shows (said first)) (IsAsBefore (may_leave late) (said late)) moments_late read.moments
+          ok = λ x is. (let o = ok x is in (o.0, rests_read frame after late last read rests, o.1, o.2, o.3 ∙ ap (λ n. n + 1) (sym next)));
+          moments = subst (λ n. SeesOnly frame.moment frame.observed first last (ShowsStore c.setting (history_of c) (history_of after) (n + 1) (frame.said first))) (sym next)
+              (sees_then frame.moment frame.observed first late last (Shows (frame.said first)) (IsAsBefore (frame.may_leave late) (frame.said late)) moments_late read.moments
               (λ seen before. record { store = inr (now_store seen.image (rests.left seen.image before.image)); said = sym (quiet ∙ keeps.quiet) ∙ before.said }));
           left = λ bytes spoke image leaves. inr (subst (λ n. IsStoreOf c.setting (history_of after) (n + 1) image) (sym next) (now_store image (rests.left image (read.crash image leaves))));
-          others = writes_then c.setting (reads first) (reads late) (reads last) (may_leave first) (may_leave late) (may_leave last) writes_late
-              (writes_none c.setting (reads late) (reads last) (may_leave late) (may_leave last) read.same read.crash);
+          others = writes_then c.setting (frame.reads first) (frame.reads late) (frame.reads last) (frame.may_leave first) (frame.may_leave late) (frame.may_leave last) writes_late
+              (writes_none c.setting (frame.reads late) (frame.reads last) (frame.may_leave late) (frame.may_leave last) read.same read.crash);
         }

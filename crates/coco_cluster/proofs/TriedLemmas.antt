@@ -11,6 +11,7 @@ use Rattle.coco_finish.specs.Finishing.{AreWhole}
 use Rattle.coco_finish.specs.declared.tables.NodeTables.{NodeTables}
 use Rattle.coco_host.specs.Files.{Files}
 use Rattle.coco_host.specs.Moments.{Observation}
+use Rattle.coco_host.specs.declared.host.Host.{Ghosts as HostGhosts}
 use Rattle.coco_lost.specs.Requests.{AreRequestsOf}
 use Rattle.coco_members.proofs.TableLemmas.{primaries_stand}
 use Rattle.coco_members.specs.AtRest.{primaries_of, scene_of, NoneBehind, ShardsHaveMap}
@@ -78,11 +79,11 @@ been_run k sent requests workers attempts config carries t dones pieces slice tr
 })
 
 -- where nothing was written, and the epoch failed
-pub tried_in_vain : {H E : Type 0} (moment : H → ℕ) (observed : H → ℕ → Observation → Type 0) (said : H → Option (List ℕ)) (reads : H → Option Files) (may_leave : H → Files → Type 0) → OnlyNow moment observed said reads may_leave
-    → (r : Result Tried E) (requests : List Request) (workers attempts : ℕ) (old new : Cluster) (host : H) → IsErr r → TriesFiles moment observed said reads may_leave r requests workers attempts old new host host
-tried_in_vain moment observed said reads may_leave only_now r requests workers attempts old new host failed c rests stands room = (
-  idle_keeps moment observed said reads may_leave only_now c old.next_epoch host rests stands.next,
-  IfOk-from_err r (λ tried. ComesOn tried c requests workers attempts old.next_epoch new.members.tables (reads host) (may_leave host)) failed,
+pub tried_in_vain : {H E : Type 0} (frame : HostGhosts H) → OnlyNow frame
+    → (r : Result Tried E) (requests : List Request) (workers attempts : ℕ) (old new : Cluster) (host : H) → IsErr r → TriesFiles frame r requests workers attempts old new host host
+tried_in_vain frame only_now r requests workers attempts old new host failed c rests stands room = (
+  idle_keeps frame only_now c old.next_epoch host rests stands.next,
+  IfOk-from_err r (λ tried. ComesOn tried c requests workers attempts old.next_epoch new.members.tables (frame.reads host) (frame.may_leave host)) failed,
 )
 
 -- ---- where a node stops before the run
@@ -190,9 +191,9 @@ module _ {k : Cluster} {sent : List Posted} {requests : List Request} {workers a
 
   -- ---- where files are told
 
-  module _ {H E : Type 0} (moment : H → ℕ) (observed : H → ℕ → Observation → Type 0) (said : H → Option (List ℕ)) (reads : H → Option Files) (may_leave : H → Files → Type 0) (r : Result Bool E) (host host_new : H)
-      (decided : DecidesFiles moment observed said reads may_leave r k.next_epoch pieces mid host host_new) (commits : RunsAreCommits) (prepares : RunsArePrepared) (some : 0 < length requests) (below : k.next_epoch < epochs_end)
-      (c : Contents) (rests : RestsOn c (reads host) (may_leave host)) (stands : StandsAt c k) (room : HasRoom c requests) where
+  module _ {H E : Type 0} (frame : HostGhosts H) (r : Result Bool E) (host host_new : H)
+      (decided : DecidesFiles frame r k.next_epoch pieces mid host host_new) (commits : RunsAreCommits) (prepares : RunsArePrepared) (some : 0 < length requests) (below : k.next_epoch < epochs_end)
+      (c : Contents) (rests : RestsOn c (frame.reads host) (frame.may_leave host)) (stands : StandsAt c k) (room : HasRoom c requests) where
     abbrev m1 : Rows
     m1 = map_in c
 
@@ -214,20 +215,20 @@ module _ {k : Cluster} {sent : List Posted} {requests : List Request} {workers a
     force : MayForce c (ballot_on k.next_epoch pieces (held_at k.members.voters.items))
     force = may_force commits prepares k requests c rests.files rests.good stands room run.may some below (start m1) t.shards.items dones pieces trace run1 refl refl refl refl run.sound.rests.rest.are.whole.shard_count nodes_voters
 
-    pub decided_files : Keeps moment observed said reads may_leave c (k.next_epoch + 1) host host_new
-        × IfOk r (λ all. RestsDecided all c (ballot_on k.next_epoch pieces (held_at k.members.voters.items)) (reads host_new) (may_leave host_new))
+    pub decided_files : Keeps frame c (k.next_epoch + 1) host host_new
+        × IfOk r (λ all. RestsDecided all c (ballot_on k.next_epoch pieces (held_at k.members.voters.items)) (frame.reads host_new) (frame.may_leave host_new))
     decided_files = decided c (held_at k.members.voters.items) (rows_after k.procs m1 dones) (gives m1 run1) (are_held k.members.voters.items) force nodes stands.belongs.logs rests stands.next
 
-    pub may_commit : (tables : NodeTables) → RestsDecided true c (ballot_on k.next_epoch pieces (held_at k.members.voters.items)) (reads host_new) (may_leave host_new) → GiveIf true k.next_epoch pieces t tables
-        → MayCommitOn c requests workers attempts k.next_epoch dones trace tables (reads host_new) (may_leave host_new)
+    pub may_commit : (tables : NodeTables) → RestsDecided true c (ballot_on k.next_epoch pieces (held_at k.members.voters.items)) (frame.reads host_new) (frame.may_leave host_new) → GiveIf true k.next_epoch pieces t tables
+        → MayCommitOn c requests workers attempts k.next_epoch dones trace tables (frame.reads host_new) (frame.may_leave host_new)
     may_commit tables ready give = may_commit_on commits prepares k requests c rests.files rests.good stands room run.may some below (start m1) t.shards.items dones pieces trace run1 refl refl refl refl run.sound.rests.rest.are.whole.shard_count nodes_voters
-        (reads host_new) (may_leave host_new) ready workers attempts tables refl refl (give refl (start m1) dones trace refl run1 keep1)
+        (frame.reads host_new) (frame.may_leave host_new) ready workers attempts tables refl refl (give refl (start m1) dones trace refl run1 keep1)
 
-    pub may_go_on : (tables : NodeTables) → RestsDecided false c (ballot_on k.next_epoch pieces (held_at k.members.voters.items)) (reads host_new) (may_leave host_new) → ((m : Rows) → KeepAll m t → KeepAll m tables)
-        → MayGoOn c k.next_epoch tables (reads host_new) (may_leave host_new)
+    pub may_go_on : (tables : NodeTables) → RestsDecided false c (ballot_on k.next_epoch pieces (held_at k.members.voters.items)) (frame.reads host_new) (frame.may_leave host_new) → ((m : Rows) → KeepAll m t → KeepAll m tables)
+        → MayGoOn c k.next_epoch tables (frame.reads host_new) (frame.may_leave host_new)
     may_go_on tables ready keep = record { rests = ready; keeps = keep m1 keep1 }
 
     -- the steps of nodes and coordinator, where they gain the entries that the files gain
-    pub entered : (d : Contents) (i j : ℕ → ℕ) (new : Members) (sent_new : List Posted) → DecidesEntries reads may_leave k.next_epoch pieces i j mid new sent sent_new host host_new → RestsOn d (reads host_new) (may_leave host_new)
+    pub entered : (d : Contents) (i j : ℕ → ℕ) (new : Members) (sent_new : List Posted) → DecidesEntries frame.reads frame.may_leave k.next_epoch pieces i j mid new sent sent_new host host_new → RestsOn d (frame.reads host_new) (frame.may_leave host_new)
         → StepsOn c d i j k.next_epoch (k.next_epoch + 1) [] (scene_of k.members sent) (scene_of new sent_new)
     entered d i j new sent_new entries behind = entries c d (held_at k.members.voters.items) (are_held k.members.voters.items) force nodes stands.belongs.logs rests behind

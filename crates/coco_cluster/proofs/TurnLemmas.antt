@@ -14,6 +14,7 @@ use Rattle.coco_commits.specs.EpochEntries.{HasRoomFor}
 use Rattle.coco_entry.specs.declared.layout.Layout.{Layout}
 use Rattle.coco_host.specs.Files.{Files}
 use Rattle.coco_host.specs.Moments.{Observation}
+use Rattle.coco_host.specs.declared.host.Host.{Ghosts as HostGhosts}
 use Rattle.coco_letters.specs.Around.{Around, IsLater, IsTaken, SkipsFew, spare}
 use Rattle.coco_letters.specs.GivingUp.{AreGivenUp}
 use Rattle.coco_log.proofs.OnlyRead.{sees_then, sees_weaker}
@@ -194,18 +195,18 @@ turned_first first k after requests left workers attempts m same procs layout ke
 
 -- ---- what is told of the store
 
-module _ {H : Type 0} (moment : H → ℕ) (observed : H → ℕ → Observation → Type 0) (said : H → Option (List ℕ)) (reads : H → Option Files) (may_leave : H → Files → Type 0) where
+module _ {H : Type 0} (frame : HostGhosts H) where
   -- so far all attempts were given up: the cluster stands at contents with prepared entries more
   pub record GoesOn (c : Contents) (k : Cluster) (first now : H) : Type 0 where
-    pub on : StandsOn c k (reads now) (may_leave now)
-    pub keeps : Keeps moment observed said reads may_leave c (k.next_epoch + 1) first now
+    pub on : StandsOn c k (frame.reads now) (frame.may_leave now)
+    pub keeps : Keeps frame c (k.next_epoch + 1) first now
 
-  pub goes_first : OnlyNow moment observed said reads may_leave → (c : Contents) (old k : Cluster) (host : H) → SameStore old k → RestsOn c (reads host) (may_leave host) → StandsAt c old → GoesOn c k host host
+  pub goes_first : OnlyNow frame → (c : Contents) (old k : Cluster) (host : H) → SameStore old k → RestsOn c (frame.reads host) (frame.may_leave host) → StandsAt c old → GoesOn c k host host
   goes_first only_now c old k host same rests stands =
       let now = same_stands c old k same stands in
       record {
         on = record { d = c; only = adds_none c; rests = rests; stands = now };
-        keeps = keeps_same moment observed said reads may_leave only_now c (k.next_epoch + 1) host rests (behind_later c k.next_epoch (k.next_epoch + 1) (omega arith) now.next);
+        keeps = keeps_same frame only_now c (k.next_epoch + 1) host rests (behind_later c k.next_epoch (k.next_epoch + 1) (omega arith) now.next);
       }
 
   -- what is told of contents with prepared entries more is told of those before
@@ -236,18 +237,18 @@ module _ {H : Type 0} (moment : H → ℕ) (observed : H → ℕ → Observation
     same : history_of d ≡ history_of c
     same = same_history c d goes.on.only
 
-    keeps_more : KeepsOn moment observed said reads may_leave result d k after mid last → Keeps moment observed said reads may_leave c (k.next_epoch + 1) first last
-    keeps_more keeps = keeps_then moment observed said reads may_leave c (k.next_epoch + 1) first mid last goes.keeps
-        (keeps_as moment observed said reads may_leave c d (k.next_epoch + 1) mid last goes.on.only.setting same keeps.keeps)
+    keeps_more : KeepsOn frame result d k after mid last → Keeps frame c (k.next_epoch + 1) first last
+    keeps_more keeps = keeps_then frame c (k.next_epoch + 1) first mid last goes.keeps
+        (keeps_as frame c d (k.next_epoch + 1) mid last goes.on.only.setting same keeps.keeps)
 
     -- one more was given up
-    pub goes_more : (rs : Vec Request) → result ≡ Ok (Some rs) → k.next_epoch ≤ after.next_epoch → AttemptsOn moment observed said reads may_leave result requests workers attempts d k after mid last → GoesOn c after first last
+    pub goes_more : (rs : Vec Request) → result ≡ Ok (Some rs) → k.next_epoch ≤ after.next_epoch → AttemptsOn frame result requests workers attempts d k after mid last → GoesOn c after first last
     goes_more rs is low attempts_on = ⊎_elim
         (λ keeps.
         let more = (keeps.again (Some rs) is).1 in
         record {
           on = record { d = more.d; only = adds_then c d more.d goes.on.only more.only; rests = more.rests; stands = more.stands };
-          keeps = keeps_later moment observed said reads may_leave c (k.next_epoch + 1) (after.next_epoch + 1) first last (omega (arith, low)) (keeps_more keeps);
+          keeps = keeps_later frame c (k.next_epoch + 1) (after.next_epoch + 1) first last (omega (arith, low)) (keeps_more keeps);
         })
         (λ commits. let never_so : Some rs ≡ None = (commits.ok (Some rs) is).0 in absurd (cc)) attempts_on
 
@@ -257,8 +258,8 @@ module _ {H : Type 0} (moment : H → ℕ) (observed : H → ℕ → Observation
       taken : IsTaken old.next_epoch k.next_epoch spare
       taken = record { low = low; few = omega (arith, few) }
 
-      kept_history : (turned : Result (Unit {0}) TurnFault) → ((x : Unit {0}) → turned ≡ Ok x → ⊥) → EndsWithout c k.next_epoch (reads last) (may_leave last) turned → Keeps moment observed said reads may_leave c (k.next_epoch + 1) first last
-          → KeepsHistory moment observed said reads may_leave turned requests old.next_epoch spare c first last
+      kept_history : (turned : Result (Unit {0}) TurnFault) → ((x : Unit {0}) → turned ≡ Ok x → ⊥) → EndsWithout c k.next_epoch (frame.reads last) (frame.may_leave last) turned → Keeps frame c (k.next_epoch + 1) first last
+          → KeepsHistory frame turned requests old.next_epoch spare c first last
       kept_history turned failed ends keeps = record {
         number = k.next_epoch;
         taken = taken;
@@ -273,9 +274,9 @@ module _ {H : Type 0} (moment : H → ℕ) (observed : H → ℕ → Observation
           never (Ok x) fails = absurd (fails x refl)
           never (Err e) fails = tt
 
-      turns_so : (turned : Result (Unit {0}) TurnFault) → MayHaveCommitted turned → (commits : CommitsOn moment observed said reads may_leave result requests workers attempts d k after mid last)
-          → OnOk turned (RestsOn commits.d (reads last) (may_leave last) × StandsAt commits.d after × (option_map traced after.trace ≡ Some commits.trace) × (after.next_epoch ≡ k.next_epoch + 1))
-          → Turns moment observed said reads may_leave turned requests workers attempts spare c old after first last
+      turns_so : (turned : Result (Unit {0}) TurnFault) → MayHaveCommitted turned → (commits : CommitsOn frame result requests workers attempts d k after mid last)
+          → OnOk turned (RestsOn commits.d (frame.reads last) (frame.may_leave last) × StandsAt commits.d after × (option_map traced after.trace ≡ Some commits.trace) × (after.next_epoch ≡ k.next_epoch + 1))
+          → Turns frame turned requests workers attempts spare c old after first last
       turns_so turned may commits ok = record {
         may = may;
         d = commits.d;
@@ -284,14 +285,14 @@ module _ {H : Type 0} (moment : H → ℕ) (observed : H → ℕ → Observation
         taken = taken;
         grown = grown_as c d commits.d requests workers attempts k.next_epoch commits.trace goes.on.only commits.grown;
         ok = ok;
-        moments = sees_then moment observed first mid last (ShowsStore c.setting (history_of c) (history_of commits.d) (k.next_epoch + 1) (said first)) (ShowsStore d.setting (history_of d) (history_of commits.d) (k.next_epoch + 1) (said mid))
-            (sees_weaker moment observed first mid (ShowsHistory c.setting (history_of c) (k.next_epoch + 1) (said first)) (ShowsStore c.setting (history_of c) (history_of commits.d) (k.next_epoch + 1) (said first))
+        moments = sees_then frame.moment frame.observed first mid last (ShowsStore c.setting (history_of c) (history_of commits.d) (k.next_epoch + 1) (frame.said first)) (ShowsStore d.setting (history_of d) (history_of commits.d) (k.next_epoch + 1) (frame.said mid))
+            (sees_weaker frame.moment frame.observed first mid (ShowsHistory c.setting (history_of c) (k.next_epoch + 1) (frame.said first)) (ShowsStore c.setting (history_of c) (history_of commits.d) (k.next_epoch + 1) (frame.said first))
             (λ seen shows. record { store = inl shows.0; said = shows.1 }) goes.keeps.moments)
             commits.moments
             (λ seen shows. record { store = one_of seen.image shows.store; said = sym goes.keeps.quiet ∙ shows.said });
         left = λ bytes spoke image leaves. one_of image (commits.left bytes (goes.keeps.quiet ∙ spoke) image leaves);
-        others = writes_then c.setting (reads first) (reads mid) (reads last) (may_leave first) (may_leave mid) (may_leave last) goes.keeps.others
-            (subst (λ s. WritesLogs s (reads mid) (reads last) (may_leave mid) (may_leave last)) goes.on.only.setting commits.others);
+        others = writes_then c.setting (frame.reads first) (frame.reads mid) (frame.reads last) (frame.may_leave first) (frame.may_leave mid) (frame.may_leave last) goes.keeps.others
+            (subst (λ s. WritesLogs s (frame.reads mid) (frame.reads last) (frame.may_leave mid) (frame.may_leave last)) goes.on.only.setting commits.others);
       }
         where
           one_of : (files : Files) → IsStoreOf d.setting (history_of d) (k.next_epoch + 1) files ⊎ IsStoreOf d.setting (history_of commits.d) (k.next_epoch + 1) files
@@ -299,25 +300,25 @@ module _ {H : Type 0} (moment : H → ℕ) (observed : H → ℕ → Observation
           one_of files one = ⊎_elim (λ was. inl (as_before c d (k.next_epoch + 1) files goes.on.only.setting same was)) (λ now. inr (store_as c d (history_of commits.d) (k.next_epoch + 1) files goes.on.only.setting now)) one
 
       -- since the epoch was committed
-      pub ends_committed : result ≡ Ok None → AttemptsOn moment observed said reads may_leave result requests workers attempts d k after mid last
-          → KeepsHistory moment observed said reads may_leave (Ok tt) requests old.next_epoch spare c first last ⊎ Turns moment observed said reads may_leave (Ok tt) requests workers attempts spare c old after first last
+      pub ends_committed : result ≡ Ok None → AttemptsOn frame result requests workers attempts d k after mid last
+          → KeepsHistory frame (Ok tt) requests old.next_epoch spare c first last ⊎ Turns frame (Ok tt) requests workers attempts spare c old after first last
       ends_committed is attempts_on = ⊎_elim
           (λ keeps. let some = (keeps.again None is).0 in let never_so : None ≡ Some some.0 = some.1 in absurd (cc))
           (λ commits. let o = commits.ok None is in inr (turns_so (Ok tt) tt commits (o.1, o.2, o.3, o.4))) attempts_on
 
       -- since an attempt failed
-      pub ends_failed : (turned : Result (Unit {0}) TurnFault) (f : TurnFault) (disk disk_new : ℕ) → turned ≡ Err f → CountsAttempt {T = Unit {0}} (Err f) disk disk_new → AttemptsOn moment observed said reads may_leave result requests workers attempts d k after mid last
-          → KeepsHistory moment observed said reads may_leave turned requests old.next_epoch spare c first last ⊎ Turns moment observed said reads may_leave turned requests workers attempts spare c old after first last
+      pub ends_failed : (turned : Result (Unit {0}) TurnFault) (f : TurnFault) (disk disk_new : ℕ) → turned ≡ Err f → CountsAttempt {T = Unit {0}} (Err f) disk disk_new → AttemptsOn frame result requests workers attempts d k after mid last
+          → KeepsHistory frame turned requests old.next_epoch spare c first last ⊎ Turns frame turned requests workers attempts spare c old after first last
       ends_failed turned f disk disk_new failed counts attempts_on =
-          subst (λ (r : Result (Unit {0}) TurnFault). KeepsHistory moment observed said reads may_leave r requests old.next_epoch spare c first last ⊎ Turns moment observed said reads may_leave r requests workers attempts spare c old after first last) (sym failed)
+          subst (λ (r : Result (Unit {0}) TurnFault). KeepsHistory frame r requests old.next_epoch spare c first last ⊎ Turns frame r requests workers attempts spare c old after first last) (sym failed)
           (⊎_elim
-          (λ keeps. inl (kept_history (Err f) (λ x is. let never_so : Err f ≡ Ok x = is in absurd (cc)) (ends_nothing f disk disk_new c k.next_epoch (reads last) (may_leave last) counts) (keeps_more keeps)))
+          (λ keeps. inl (kept_history (Err f) (λ x is. let never_so : Err f ≡ Ok x = is in absurd (cc)) (ends_nothing f disk disk_new c k.next_epoch (frame.reads last) (frame.may_leave last) counts) (keeps_more keeps)))
           (λ commits. inr (turns_so (Err f) (may_have f disk disk_new counts) commits tt)) attempts_on)
 
   -- since there was nothing to do, the nodes are unreachable, or no number is left
   pub ends_without : (c : Contents) (k old : Cluster) (first now : H) (spare : ℕ) (requests : List Request) → GoesOn c k first now → old.next_epoch ≤ k.next_epoch → 16 * k.next_epoch ≤ 16 * old.next_epoch + spare
-      → (turned : Result (Unit {0}) TurnFault) → OnOk turned (requests ≡ []) → (RestsWithout c k.next_epoch (reads now) (may_leave now) → EndsWithout c k.next_epoch (reads now) (may_leave now) turned)
-      → KeepsHistory moment observed said reads may_leave turned requests old.next_epoch spare c first now
+      → (turned : Result (Unit {0}) TurnFault) → OnOk turned (requests ≡ []) → (RestsWithout c k.next_epoch (frame.reads now) (frame.may_leave now) → EndsWithout c k.next_epoch (frame.reads now) (frame.may_leave now) turned)
+      → KeepsHistory frame turned requests old.next_epoch spare c first now
   ends_without c k old first now spare requests goes low few turned nothing ends = record {
     number = k.next_epoch;
     taken = record { low = low; few = omega (arith, few) };

@@ -4,6 +4,7 @@ use Rattle.std.specs.List.{list_any, slice_get}
 use Rattle.std.proofs.lemmas.List.Folds.{list_any_at}
 use Rattle.std.proofs.lemmas.Option.{slice_get_within}
 use Rattle.std.proofs.lemmas.Bool.Decides.{nat_tests}
+use Rattle.std.proofs.lemmas.Bool.{or_left, or_right}
 use Rattle.coco_host.specs.Files.{Files, Become, Follows, NoMore}
 use Rattle.coco_log.specs.Changes.{SameBesides}
 use Rattle.coco_log.specs.LogState.{SameBut}
@@ -27,23 +28,15 @@ become_same named (Some files) b same = (files, same, λ n out. refl)
 is_itself : (n : ℕ) → (n == n) ≡ true
 is_itself n = grind (arith, nat_tests)
 
-first_true : (a b : Bool) → a ≡ true → (a || b) ≡ true
-first_true true b h = refl
-first_true false b h = let e : false ≡ true = h in absurd (cc)
-
-then_true : (a b : Bool) → b ≡ true → (a || b) ≡ true
-then_true true b h = refl
-then_true false b h = h
-
 module _ (s : Setting) where
   abbrev named : List ℕ
   named = written_files s
 
   chief_named : (file : ℕ) → file ≡ chief_of s → list_any (λ n. n == file) named ≡ true
-  chief_named file is = subst (λ (f : ℕ). list_any (λ n. n == f) named ≡ true) (sym is) (first_true (chief_of s == chief_of s) _ (is_itself (chief_of s)))
+  chief_named file is = subst (λ (f : ℕ). list_any (λ n. n == f) named ≡ true) (sym is) (or_left (chief_of s == chief_of s) _ (is_itself (chief_of s)))
 
   node_named : (n : ℕ) → n < length s.entry.layout.node_files → list_any (λ f. f == file_of s n) named ≡ true
-  node_named n less = then_true (chief_of s == file_of s n) _ (list_any_at (λ f. f == file_of s n) s.entry.layout.node_files n 0 less (is_itself (file_of s n)))
+  node_named n less = or_right (chief_of s == file_of s n) _ (list_any_at (λ f. f == file_of s n) s.entry.layout.node_files n 0 less (is_itself (file_of s n)))
 
   -- a call that writes one of them
   writes_one : (file : ℕ) (was reads : Option Files) (might leaves : Files → Type 0) → list_any (λ n. n == file) named ≡ true → Become (SameBut file) was reads → Follows (SameBut file) might leaves → WritesLogs s was reads might leaves

@@ -6,6 +6,7 @@ use Rattle.coco_append.specs.Gaining.{RestsOn}
 use Rattle.coco_ast.specs.Keyed.{Rows}
 use Rattle.coco_host.specs.Files.{Files}
 use Rattle.coco_host.specs.Moments.{Observation, SeesOnly}
+use Rattle.coco_host.specs.declared.host.Host.{Ghosts as HostGhosts}
 use Rattle.coco_letters.specs.Around.{Around}
 use Rattle.coco_members.specs.AtRest.{ShardsHaveMap}
 use Rattle.coco_parallel.specs.Traces.{Traced, traced}
@@ -62,25 +63,25 @@ pub record StandsOn (c : Contents) (k : Cluster) (reads : Option Files) (may_lea
   pub stands : StandsAt d k
 
 -- the epoch was given up, or failed before its commit entry: the history is the same
-pub record KeepsOn {H : Type 0} (moment : H → ℕ) (observed : H → ℕ → Observation → Type 0) (said : H → Option (List ℕ)) (reads : H → Option Files) (may_leave : H → Files → Type 0)
+pub record KeepsOn {H : Type 0} (frame : HostGhosts H)
     (result : Result (Option (Vec Request)) TurnFault) (c : Contents) (old new : Cluster) (host host_new : H) : Type 0 where
-  pub keeps : Keeps moment observed said reads may_leave c (old.next_epoch + 1) host host_new
-  pub again : (x : Option (Vec Request)) → result ≡ Ok x → ((rs : Vec Request) × (x ≡ Some rs)) × StandsOn c new (reads host_new) (may_leave host_new)
+  pub keeps : Keeps frame c (old.next_epoch + 1) host host_new
+  pub again : (x : Option (Vec Request)) → result ≡ Ok x → ((rs : Vec Request) × (x ≡ Some rs)) × StandsOn c new (frame.reads host_new) (frame.may_leave host_new)
 
 -- it was committed, or a fault leaves that open
-pub record CommitsOn {H : Type 0} (moment : H → ℕ) (observed : H → ℕ → Observation → Type 0) (said : H → Option (List ℕ)) (reads : H → Option Files) (may_leave : H → Files → Type 0)
+pub record CommitsOn {H : Type 0} (frame : HostGhosts H)
     (result : Result (Option (Vec Request)) TurnFault) (requests : List Request) (workers attempts : ℕ) (c : Contents) (old new : Cluster) (host host_new : H) : Type 0 where
   pub d : Contents
   pub trace : Traced
   pub grown : Grown requests workers attempts old.next_epoch trace c d
-  pub ok : (x : Option (Vec Request)) → result ≡ Ok x → (x ≡ None) × RestsOn d (reads host_new) (may_leave host_new) × StandsAt d new × (option_map traced new.trace ≡ Some trace) × (new.next_epoch ≡ old.next_epoch + 1)
-  pub moments : SeesOnly moment observed host host_new (ShowsStore c.setting (history_of c) (history_of d) (old.next_epoch + 1) (said host))
-  pub left : (bytes : List ℕ) → said host ≡ Some bytes → (image : Files) → may_leave host_new image
+  pub ok : (x : Option (Vec Request)) → result ≡ Ok x → (x ≡ None) × RestsOn d (frame.reads host_new) (frame.may_leave host_new) × StandsAt d new × (option_map traced new.trace ≡ Some trace) × (new.next_epoch ≡ old.next_epoch + 1)
+  pub moments : SeesOnly frame.moment frame.observed host host_new (ShowsStore c.setting (history_of c) (history_of d) (old.next_epoch + 1) (frame.said host))
+  pub left : (bytes : List ℕ) → frame.said host ≡ Some bytes → (image : Files) → frame.may_leave host_new image
       → IsStoreOf c.setting (history_of c) (old.next_epoch + 1) image ⊎ IsStoreOf c.setting (history_of d) (old.next_epoch + 1) image
-  pub others : WritesLogs c.setting (reads host) (reads host_new) (may_leave host) (may_leave host_new)
+  pub others : WritesLogs c.setting (frame.reads host) (frame.reads host_new) (frame.may_leave host) (frame.may_leave host_new)
 
-abbrev pub AttemptsOn : {H : Type 0} → (H → ℕ) → (H → ℕ → Observation → Type 0) → (H → Option (List ℕ)) → (H → Option Files) → (H → Files → Type 0)
+abbrev pub AttemptsOn : {H : Type 0} → HostGhosts H
     → Result (Option (Vec Request)) TurnFault → List Request → ℕ → ℕ → Contents → Cluster → Cluster → H → H → Type 0
-AttemptsOn moment observed said reads may_leave result requests workers attempts c old new host host_new =
-    KeepsOn moment observed said reads may_leave result c old new host host_new
-    ⊎ CommitsOn moment observed said reads may_leave result requests workers attempts c old new host host_new
+AttemptsOn frame result requests workers attempts c old new host host_new =
+    KeepsOn frame result c old new host host_new
+    ⊎ CommitsOn frame result requests workers attempts c old new host host_new

@@ -7,6 +7,7 @@ use Rattle.coco_entry.specs.declared.commit.Commit.{Commit}
 use Rattle.coco_finish.specs.declared.tables.NodeTables.{NodeTables}
 use Rattle.coco_host.specs.Files.{Files}
 use Rattle.coco_host.specs.Moments.{Observation, SeesOnly}
+use Rattle.coco_host.specs.declared.host.Host.{Ghosts as HostGhosts}
 use Rattle.coco_parallel.specs.Traces.{Traced, traced}
 use Rattle.coco_settle.specs.Settling.{HasCommitted}
 use Rattle.coco_store.specs.Contents.{Contents, IsGoodStore}
@@ -44,9 +45,9 @@ HasOneOf c commit files = IsGoodStore files c ⊎ IsGoodStore files (with_commit
 
 -- The host rests on the contents with the commit entry, where the call succeeded. At each moment of it, and behind it whatever it answered, all that a crash may leave has the contents
 -- of before or those; and the other files are as they were.
-pub record Commits {T E H : Type 0} (moment : H → ℕ) (observed : H → ℕ → Observation → Type 0) (said : H → Option (List ℕ)) (reads : H → Option Files) (may_leave : H → Files → Type 0)
+pub record Commits {T E H : Type 0} (frame : HostGhosts H)
     (result : Result T E) (c : Contents) (commit : Commit) (old new : H) : Type 0 where
-  pub ok : OnOk result (RestsOn (with_commit commit c) (reads new) (may_leave new))
-  pub moments : SeesOnly moment observed old new (ShowsEither c (with_commit commit c) (said old))
-  pub left : (bytes : List ℕ) → said old ≡ Some bytes → (image : Files) → may_leave new image → HasOneOf c commit image
-  pub others : WritesLogs c.setting (reads old) (reads new) (may_leave old) (may_leave new)
+  pub ok : OnOk result (RestsOn (with_commit commit c) (frame.reads new) (frame.may_leave new))
+  pub moments : SeesOnly frame.moment frame.observed old new (ShowsEither c (with_commit commit c) (frame.said old))
+  pub left : (bytes : List ℕ) → frame.said old ≡ Some bytes → (image : Files) → frame.may_leave new image → HasOneOf c commit image
+  pub others : WritesLogs c.setting (frame.reads old) (frame.reads new) (frame.may_leave old) (frame.may_leave new)

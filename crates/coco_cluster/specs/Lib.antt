@@ -1,6 +1,7 @@
 pub mod Attempts
 pub mod Around
 pub mod GivingUp
+pub mod Deciding
 pub mod Ending
 pub mod Entries
 pub mod Faults

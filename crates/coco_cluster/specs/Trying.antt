@@ -12,6 +12,7 @@ use Rattle.coco_entry.specs.declared.commit.Commit.{Commit}
 use Rattle.coco_finish.specs.declared.tables.NodeTables.{NodeTables}
 use Rattle.coco_host.specs.Files.{Files}
 use Rattle.coco_host.specs.Moments.{Observation, SeesOnly}
+use Rattle.coco_host.specs.declared.host.Host.{Ghosts as HostGhosts}
 use Rattle.coco_letters.specs.Around.{Around, IsLater}
 use Rattle.coco_letters.specs.GivingUp.{since, Awaits, IsGivenUp}
 use Rattle.coco_letters.specs.declared.voter.Voter.{Voter}
@@ -42,12 +43,12 @@ use Rattle.coco_cluster.specs.declared.trying.Tried.TheVariants.{Voted, GivenUp}
 
 -- At each moment between two, and behind the second, all that a crash may leave is a good store with the history of these contents, in which no entry is of
 -- this epoch or a later one; no more is said, and the other files are as they were.
-pub record Keeps {H : Type 0} (moment : H → ℕ) (observed : H → ℕ → Observation → Type 0) (said : H → Option (List ℕ)) (reads : H → Option Files) (may_leave : H → Files → Type 0)
+pub record Keeps {H : Type 0} (frame : HostGhosts H)
     (c : Contents) (end : ℕ) (old new : H) : Type 0 where
-  pub moments : SeesOnly moment observed old new (ShowsHistory c.setting (history_of c) end (said old))
-  pub left : (bytes : List ℕ) → said old ≡ Some bytes → (image : Files) → may_leave new image → IsStoreOf c.setting (history_of c) end image
-  pub others : WritesLogs c.setting (reads old) (reads new) (may_leave old) (may_leave new)
-  pub quiet : said new ≡ said old
+  pub moments : SeesOnly frame.moment frame.observed old new (ShowsHistory c.setting (history_of c) end (frame.said old))
+  pub left : (bytes : List ℕ) → frame.said old ≡ Some bytes → (image : Files) → frame.may_leave new image → IsStoreOf c.setting (history_of c) end image
+  pub others : WritesLogs c.setting (frame.reads old) (frame.reads new) (frame.may_leave old) (frame.may_leave new)
+  pub quiet : frame.said new ≡ frame.said old
 
 -- ---- nodes and coordinator
 
@@ -123,13 +124,13 @@ abbrev pub ballot_on : ℕ → List Piece → (ℕ → List Bool) → Ballot
 ballot_on epoch pieces hold = record { epoch = epoch; pieces = pieces; held = hold }
 
 -- On a store of these nodes, on which each may prepare an epoch that was run, the history stays up to the decision; and behind it the host rests by what was decided.
-abbrev pub DecidesFiles : {H E : Type 0} → (H → ℕ) → (H → ℕ → Observation → Type 0) → (H → Option (List ℕ)) → (H → Option Files) → (H → Files → Type 0)
+abbrev pub DecidesFiles : {H E : Type 0} → HostGhosts H
     → Result Bool E → ℕ → List Piece → Members → H → H → Type 0
-DecidesFiles moment observed said reads may_leave result epoch pieces k old new = (c : Contents) (hold : ℕ → List Bool) (after : Rows) → GiveShards after k.tables
+DecidesFiles frame result epoch pieces k old new = (c : Contents) (hold : ℕ → List Bool) (after : Rows) → GiveShards after k.tables
     → AreHeld hold k.voters.items → MayForce c (ballot_on epoch pieces hold) → c.setting.entry.layout.nodes ≡ length k.cores.items → HaveLogs c k.voters.items
-    → RestsOn c (reads old) (may_leave old) → IsBehindAll c epoch
-    → Keeps moment observed said reads may_leave c (epoch + 1) old new
-    × IfOk result (λ all. RestsDecided all c (ballot_on epoch pieces hold) (reads new) (may_leave new))
+    → RestsOn c (frame.reads old) (frame.may_leave old) → IsBehindAll c epoch
+    → Keeps frame c (epoch + 1) old new
+    × IfOk result (λ all. RestsDecided all c (ballot_on epoch pieces hold) (frame.reads new) (frame.may_leave new))
 
 -- where this is true, to promote all tables gives the map that the Dones leave of whichever run of the epoch left these pieces
 abbrev pub GiveIf : Bool → ℕ → List Piece → NodeTables → NodeTables → Type 0
@@ -196,8 +197,8 @@ ComesOn (Voted dones trace) c requests workers attempts epoch tables reads may_l
 ComesOn (GivenUp again) c requests workers attempts epoch tables reads may_leave = MayGoOn c epoch tables reads may_leave
 
 -- Where files are told, the history stays while the epoch is tried; and behind it the host rests by what came of that.
-abbrev pub TriesFiles : {H E : Type 0} → (H → ℕ) → (H → ℕ → Observation → Type 0) → (H → Option (List ℕ)) → (H → Option Files) → (H → Files → Type 0)
+abbrev pub TriesFiles : {H E : Type 0} → HostGhosts H
     → Result Tried E → List Request → ℕ → ℕ → Cluster → Cluster → H → H → Type 0
-TriesFiles moment observed said reads may_leave result requests workers attempts old new host host_new = (c : Contents) → RestsOn c (reads host) (may_leave host) → StandsAt c old → HasRoom c requests
-    → Keeps moment observed said reads may_leave c (old.next_epoch + 1) host host_new
-    × IfOk result (λ tried. ComesOn tried c requests workers attempts old.next_epoch new.members.tables (reads host_new) (may_leave host_new))
+TriesFiles frame result requests workers attempts old new host host_new = (c : Contents) → RestsOn c (frame.reads host) (frame.may_leave host) → StandsAt c old → HasRoom c requests
+    → Keeps frame c (old.next_epoch + 1) host host_new
+    × IfOk result (λ tried. ComesOn tried c requests workers attempts old.next_epoch new.members.tables (frame.reads host_new) (frame.may_leave host_new))

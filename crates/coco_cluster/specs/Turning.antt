@@ -7,6 +7,7 @@ use Rattle.coco_types.specs.declared.call.Done.{Done}
 use Rattle.coco_types.specs.declared.call.Request.{Request}
 use Rattle.coco_host.specs.Files.{Files}
 use Rattle.coco_host.specs.Moments.{Observation, SeesOnly}
+use Rattle.coco_host.specs.declared.host.Host.{Ghosts as HostGhosts}
 use Rattle.coco_append.specs.Gaining.{RestsOn}
 use Rattle.coco_ast.specs.Fitting.{Fits}
 use Rattle.coco_ast.specs.Growth.{GrowsBy}
@@ -74,7 +75,7 @@ pub record ShowsStore (s : Setting) (before after : History) (end : ℕ) (bytes 
 
 -- the store has grown by an epoch, where the turn succeeded, and the cluster has the trace of it; few numbers before the epoch's were skipped. At each moment, and behind the turn whatever it
 -- answered, all that a crash may leave is a good store with the history of before or the grown one, in which no entry is of a later epoch; and behind it the other files are as they were
-pub record Turns {H : Type 0} (moment : H → ℕ) (observed : H → ℕ → Observation → Type 0) (said : H → Option (List ℕ)) (reads : H → Option Files) (may_leave : H → Files → Type 0)
+pub record Turns {H : Type 0} (frame : HostGhosts H)
     (result : Result (Unit {0}) TurnFault) (requests : List Request) (workers attempts spare : ℕ) (c : Contents) (before after : Cluster) (old new : H) : Type 0 where
   pub may : MayHaveCommitted result
   pub d : Contents
@@ -82,11 +83,11 @@ pub record Turns {H : Type 0} (moment : H → ℕ) (observed : H → ℕ → Obs
   pub number : ℕ
   pub taken : IsTaken before.next_epoch number spare
   pub grown : Grown requests workers attempts number trace c d
-  pub ok : OnOk result (RestsOn d (reads new) (may_leave new) × StandsAt d after × (option_map traced after.trace ≡ Some trace) × (after.next_epoch ≡ number + 1))
-  pub moments : SeesOnly moment observed old new (ShowsStore c.setting (history_of c) (history_of d) (number + 1) (said old))
-  pub left : (bytes : List ℕ) → said old ≡ Some bytes → (image : Files) → may_leave new image
+  pub ok : OnOk result (RestsOn d (frame.reads new) (frame.may_leave new) × StandsAt d after × (option_map traced after.trace ≡ Some trace) × (after.next_epoch ≡ number + 1))
+  pub moments : SeesOnly frame.moment frame.observed old new (ShowsStore c.setting (history_of c) (history_of d) (number + 1) (frame.said old))
+  pub left : (bytes : List ℕ) → frame.said old ≡ Some bytes → (image : Files) → frame.may_leave new image
       → IsStoreOf c.setting (history_of c) (number + 1) image ⊎ IsStoreOf c.setting (history_of d) (number + 1) image
-  pub others : WritesLogs c.setting (reads old) (reads new) (may_leave old) (may_leave new)
+  pub others : WritesLogs c.setting (frame.reads old) (frame.reads new) (frame.may_leave old) (frame.may_leave new)
 
 -- the cluster is as it was, and its last turn committed no epoch
 pub record IsUntraced (before after : Cluster) : Type 0 where
@@ -126,15 +127,15 @@ ShowsHistory s h end bytes seen = IsStoreOf s h end seen.image × (bytes ≡ Som
 
 -- the turn committed nothing: there was nothing to do, or it failed before that. At each moment, and behind it, all that a crash may leave is a good store with the history of before, in which
 -- no entry is of a later epoch than the one tried last, or of that one where it was given up; and behind it the other files are as they were
-pub record KeepsHistory {H : Type 0} (moment : H → ℕ) (observed : H → ℕ → Observation → Type 0) (said : H → Option (List ℕ)) (reads : H → Option Files) (may_leave : H → Files → Type 0)
+pub record KeepsHistory {H : Type 0} (frame : HostGhosts H)
     (result : Result (Unit {0}) TurnFault) (requests : List Request) (next spare : ℕ) (c : Contents) (old new : H) : Type 0 where
   pub number : ℕ
   pub taken : IsTaken next number spare
   pub ok : OnOk result (requests ≡ [])
-  pub moments : SeesOnly moment observed old new (ShowsHistory c.setting (history_of c) (number + 1) (said old))
-  pub left : (bytes : List ℕ) → said old ≡ Some bytes → (image : Files) → may_leave new image → IsStoreOf c.setting (history_of c) (number + 1) image
-  pub others : WritesLogs c.setting (reads old) (reads new) (may_leave old) (may_leave new)
-  pub ends : EndsWithout c number (reads new) (may_leave new) result
+  pub moments : SeesOnly frame.moment frame.observed old new (ShowsHistory c.setting (history_of c) (number + 1) (frame.said old))
+  pub left : (bytes : List ℕ) → frame.said old ≡ Some bytes → (image : Files) → frame.may_leave new image → IsStoreOf c.setting (history_of c) (number + 1) image
+  pub others : WritesLogs c.setting (frame.reads old) (frame.reads new) (frame.may_leave old) (frame.may_leave new)
+  pub ends : EndsWithout c number (frame.reads new) (frame.may_leave new) result
 
 -- ---- on every host
 

@@ -58,11 +58,11 @@ impl Cluster {
         ensures sound { OnOk result (IsSound self.new (N.sent net.new)) }
         ensures attempts { IfOk result (λ again. Attempts again requests.items workers attempts self.old self.new) }
         ensures cause { IfOk result (λ again. HasCause again
-            (around N.sent N.given N.faults N.last_seed P.stops_seen P.early_stops P.stopped P.begun P.asked net.old power.old)
-            (around N.sent N.given N.faults N.last_seed P.stops_seen P.early_stops P.stopped P.begun P.asked net.new power.new)) }
+            (around N.Net P.Power net.old power.old)
+            (around N.Net P.Power net.new power.new)) }
         ensures asks { IfOk result (λ again. AsksBy again self.old.members.tables.layout self.old.next_epoch self.new.next_epoch
-            (around N.sent N.given N.faults N.last_seed P.stops_seen P.early_stops P.stopped P.begun P.asked net.old power.old)
-            (around N.sent N.given N.faults N.last_seed P.stops_seen P.early_stops P.stopped P.begun P.asked net.new power.new)) }
+            (around N.Net P.Power net.old power.old)
+            (around N.Net P.Power net.new power.new)) }
         ensures world { OnEnd result ((commits : List ℕ) × HaveCommitted result self.new.next_epoch commits
             × StepsTo (P.stopped power.old) (P.stopped power.new) self.old.next_epoch self.new.next_epoch commits (scene_of self.old.members (N.sent net.old)) (scene_of self.new.members (N.sent net.new))) }
         ensures entries { (c d : Contents) → RestsOn c (H.reads host.old) (H.may_leave host.old) → StandsAt c self.old → HasRoom c requests.items → RestsOn d (H.reads host.new) (H.may_leave host.new)
@@ -73,7 +73,7 @@ impl Cluster {
         ensures trace { OnErr result (self.old.trace ≡ None → self.new.trace ≡ None) }
         // The files.
         ensures files { (c : Contents) → RestsOn c (H.reads host.old) (H.may_leave host.old) → StandsAt c self.old → HasRoom c requests.items
-            → AttemptsOn H.moment H.observed H.said H.reads H.may_leave result requests.items workers attempts c self.old self.new host.old host.new }
+            → AttemptsOn H.Host result requests.items workers attempts c self.old self.new host.old host.new }
         ensures never { (file at : ℕ) (c : Contents) → RestsOn c (H.reads host.old) (H.may_leave host.old) → StandsAt c self.old → HasRoom c requests.items → result ≢ Err (fault.NotAStore file at) }
         ensures stand { OnOk result (AllStand self.new (H.reads host.new) (H.may_leave host.new)) }
         ensures said { H.said host.new ≡ H.said host.old }
@@ -84,8 +84,8 @@ impl Cluster {
         ensures seen { OnOk result (P.stops_seen power.old ≤ P.stops_seen power.new) }
         // The counts, whatever the answer.
         ensures later { IsLater
-            (around N.sent N.given N.faults N.last_seed P.stops_seen P.early_stops P.stopped P.begun P.asked net.old power.old)
-            (around N.sent N.given N.faults N.last_seed P.stops_seen P.early_stops P.stopped P.begun P.asked net.new power.new) }
+            (around N.Net P.Power net.old power.old)
+            (around N.Net P.Power net.new power.new) }
     {
         // The law by which no node is behind where all have finished; the call does nothing.
         finished_nodes_are_not_behind();

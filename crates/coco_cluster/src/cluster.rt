@@ -19,12 +19,13 @@ use coco_ast::Checked;
 use coco_gate::Gate;
 use coco_host::Host;
 use coco_kept::Kept;
+use coco_load::PackedRows;
 use coco_members::{Members, Reopened};
 use coco_net::Net;
 use coco_parallel::trace::Trace;
 use coco_power::Power;
+use coco_types::Request;
 use coco_types::limits::EPOCHS_END;
-use coco_types::{MapRows, Request};
 use coco_work::EpochRoom;
 use std::alloc::Global;
 use std::sync::Wait;
@@ -41,7 +42,7 @@ pub struct Cluster {
     pub procs: Checked,
     pub kept: Kept,
     pub members: Members,
-    pub base: Vec<MapRows>,
+    pub base: Vec<PackedRows>,
     pub next_epoch: u64,
     pub trace: Option<Trace>,
     pub(crate) body: Vec<u8>,
@@ -95,14 +96,14 @@ impl Cluster {
         requires may { MayTurn self.old requests.items }
         requires stand { AllStand self.old (H.reads host.old) (H.may_leave host.old) }
         ensures turns { (c : Contents) → RestsOn c (H.reads host.old) (H.may_leave host.old) → StandsAt c self.old → HasRoom c requests.items
-            → KeepsHistory H.moment H.observed H.said H.reads H.may_leave result requests.items self.old.next_epoch (spare (around N.sent N.given N.faults N.last_seed P.stops_seen P.early_stops P.stopped P.begun P.asked net.old power.old) (around N.sent N.given N.faults N.last_seed P.stops_seen P.early_stops P.stopped P.begun P.asked net.new power.new)) c host.old host.new
-            ⊎ Turns H.moment H.observed H.said H.reads H.may_leave result requests.items workers attempts (spare (around N.sent N.given N.faults N.last_seed P.stops_seen P.early_stops P.stopped P.begun P.asked net.old power.old) (around N.sent N.given N.faults N.last_seed P.stops_seen P.early_stops P.stopped P.begun P.asked net.new power.new)) c self.old self.new host.old host.new }
+            → KeepsHistory H.Host result requests.items self.old.next_epoch (spare (around N.Net P.Power net.old power.old) (around N.Net P.Power net.new power.new)) c host.old host.new
+            ⊎ Turns H.Host result requests.items workers attempts (spare (around N.Net P.Power net.old power.old) (around N.Net P.Power net.new power.new)) c self.old self.new host.old host.new }
         ensures never { (file at : ℕ) (c : Contents) → RestsOn c (H.reads host.old) (H.may_leave host.old) → StandsAt c self.old → HasRoom c requests.items → result ≢ Err (fault.NotAStore file at) }
         ensures nothing { requests.items ≡ [] → IsOk result × (host.new ≡ host.old) × (net.new ≡ net.old) × IsUntraced self.old self.new × (power.new ≡ power.old) }
         ensures sound { OnOk result (IsSound self.new (N.sent net.new)) }
         ensures stand { OnOk result (AllStand self.new (H.reads host.new) (H.may_leave host.new)) }
         ensures next { OnOk result (0 < length requests.items → self.old.next_epoch < self.new.next_epoch) }
-        ensures few { OnOk result (SkipsFew self.old.next_epoch self.new.next_epoch (epochs_of requests.items) (spare (around N.sent N.given N.faults N.last_seed P.stops_seen P.early_stops P.stopped P.begun P.asked net.old power.old) (around N.sent N.given N.faults N.last_seed P.stops_seen P.early_stops P.stopped P.begun P.asked net.new power.new))) }
+        ensures few { OnOk result (SkipsFew self.old.next_epoch self.new.next_epoch (epochs_of requests.items) (spare (around N.Net P.Power net.old power.old) (around N.Net P.Power net.new power.new))) }
         ensures turned { OnOk result (0 < length requests.items → (m : Rows) × HasTurned requests.items workers attempts m self.old self.new) }
         ensures from { OnOk result (0 < length requests.items → P.stops_seen power.new ≡ P.stops_seen power.old → (m : Rows) → ShardsHaveMap m self.old.members.tables → HasTurned requests.items workers attempts m self.old self.new) }
         ensures world { OnEnd result ((commits : List ℕ) × HasCommittedBy result requests.items self.new.next_epoch commits
@@ -111,19 +112,19 @@ impl Cluster {
             → OnEnd result ((commits : List ℕ) × HasCommittedBy result requests.items self.new.next_epoch commits
             × StepsOn c d (P.stopped power.old) (P.stopped power.new) self.old.next_epoch self.new.next_epoch commits (scene_of self.old.members (N.sent net.old)) (scene_of self.new.members (N.sent net.new))) }
         ensures asks { OnOk result (0 < length requests.items → HasAsked self.old.members.tables.layout self.old.next_epoch self.new.next_epoch
-            (around N.sent N.given N.faults N.last_seed P.stops_seen P.early_stops P.stopped P.begun P.asked net.old power.old)
-            (around N.sent N.given N.faults N.last_seed P.stops_seen P.early_stops P.stopped P.begun P.asked net.new power.new)) }
+            (around N.Net P.Power net.old power.old)
+            (around N.Net P.Power net.new power.new)) }
         ensures begins { P.begun power.new ≤ P.begun power.old + 4 }
-        ensures given_up { OnOk result ((n : ℕ) × (n < 4) × (self.new.next_epoch ≤ self.old.next_epoch + n + 1) × AreGivenUp n (around N.sent N.given N.faults N.last_seed P.stops_seen P.early_stops P.stopped P.begun P.asked net.old power.old) (around N.sent N.given N.faults N.last_seed P.stops_seen P.early_stops P.stopped P.begun P.asked net.new power.new)) }
+        ensures given_up { OnOk result ((n : ℕ) × (n < 4) × (self.new.next_epoch ≤ self.old.next_epoch + n + 1) × AreGivenUp n (around N.Net P.Power net.old power.old) (around N.Net P.Power net.new power.new)) }
         ensures refused { (file at : ℕ) → result ≡ Err (fault.NotAStore file at) → P.stops_seen power.old < P.stops_seen power.new }
-        ensures ended { result ≡ Err fault.EpochsUsedUp → (EPOCHS_END ≤ self.new.next_epoch) × ((n : ℕ) × (n < 4) × (self.new.next_epoch ≤ self.old.next_epoch + n) × AreGivenUp n (around N.sent N.given N.faults N.last_seed P.stops_seen P.early_stops P.stopped P.begun P.asked net.old power.old) (around N.sent N.given N.faults N.last_seed P.stops_seen P.early_stops P.stopped P.begun P.asked net.new power.new)) }
+        ensures ended { result ≡ Err fault.EpochsUsedUp → (EPOCHS_END ≤ self.new.next_epoch) × ((n : ℕ) × (n < 4) × (self.new.next_epoch ≤ self.old.next_epoch + n) × AreGivenUp n (around N.Net P.Power net.old power.old) (around N.Net P.Power net.new power.new)) }
         ensures untraced { OnErr result (self.new.trace ≡ None) }
         ensures used_up { 0 < length requests.items → EPOCHS_END ≤ self.old.next_epoch → result ≡ Err fault.EpochsUsedUp }
         ensures procs { self.new.procs ≡ self.old.procs }
         ensures said { H.said host.new ≡ H.said host.old }
-        ensures counts { CountsTurn result self.old.next_epoch (around N.sent N.given N.faults N.last_seed P.stops_seen P.early_stops P.stopped P.begun P.asked net.old power.old) (around N.sent N.given N.faults N.last_seed P.stops_seen P.early_stops P.stopped P.begun P.asked net.new power.new) (H.disk_faults host.old) (H.disk_faults host.new) }
+        ensures counts { CountsTurn result self.old.next_epoch (around N.Net P.Power net.old power.old) (around N.Net P.Power net.new power.new) (H.disk_faults host.old) (H.disk_faults host.new) }
         ensures stream { H.say_faults host.new ≡ H.say_faults host.old }
-        ensures later { IsLater (around N.sent N.given N.faults N.last_seed P.stops_seen P.early_stops P.stopped P.begun P.asked net.old power.old) (around N.sent N.given N.faults N.last_seed P.stops_seen P.early_stops P.stopped P.begun P.asked net.new power.new) }
+        ensures later { IsLater (around N.Net P.Power net.old power.old) (around N.Net P.Power net.new power.new) }
         ensures unused { result ≡ Err fault.EpochsUsedUp → EPOCHS_END ≤ self.old.next_epoch → host.new ≡ host.old }
         ensures kept { OnOk result (length self.new.kept.dones ≤ length self.old.kept.dones + length requests.items) }
     {

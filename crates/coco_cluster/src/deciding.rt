@@ -1,11 +1,8 @@
 //! The decision on an epoch that was run: it is shipped and voted on, or given up.
-ghost use Rattle.std.specs.Prelude.{◌≡◌, ◌+◌, ◌<◌, ◌≤◌, true, false, List, [], ◌++◌, length, IfOk, OnOk};
-ghost use Rattle.coco_append.specs.Gaining.{Stands};
+ghost use Rattle.std.specs.Prelude.{◌≡◌, ◌<◌, ◌≤◌, true, false, List, ◌++◌, length, IfOk, OnOk};
 ghost use Rattle.coco_ast.specs.Keyed.{Rows};
-ghost use Rattle.coco_letters.specs.Around.{IsLater, around};
 ghost use Rattle.coco_letters.specs.GivingUp.{since};
 ghost use Rattle.coco_letters.specs.Worlds.{GoesBetween, GoesOn, SameEntries};
-ghost use Rattle.coco_log.specs.LogState.{LogState};
 ghost use Rattle.coco_lost.specs.Stopping.{AsksFirst, CountsRise};
 ghost use Rattle.coco_members.specs.AtRest.{scene_of};
 ghost use Rattle.coco_net.specs.declared.letter.Posted.{Posted as Sent};
@@ -17,11 +14,10 @@ ghost use Rattle.coco_trial.specs.Running.{KeepAll, SamePlaces, ring_of};
 ghost use Rattle.coco_trial.specs.Voting.{MayVote};
 ghost use Rattle.coco_vote.specs.Asking.{RisesIf, IsLater as StaysAsked};
 ghost use Rattle.coco_vote.specs.Counting.{GivesOn};
-ghost use Rattle.coco_vote.specs.Taking.{AreReady, IsElsewhere};
-ghost use Rattle.coco_cluster.specs.Entries.{DecidesEntries};
+ghost use Rattle.coco_vote.specs.Taking.{AreReady};
+ghost use Rattle.coco_cluster.specs.Deciding.{HasDecided, StaysDeciding};
 ghost use Rattle.coco_cluster.specs.Faults.{CountsPart};
-ghost use Rattle.coco_cluster.specs.Stepping.{StepsTo, VotedForIf};
-ghost use Rattle.coco_cluster.specs.Trying.{next_if, AreQuiet, DecidesFiles, DecidesOn, GiveIf, GivenUpIfNot, IsSilentSince, LoseIfTold, SameLogs, StayInPlace};
+ghost use Rattle.coco_cluster.specs.Trying.{next_if, AreQuiet, DecidesFiles, GiveIf, IsSilentSince, LoseIfTold, SameLogs};
 
 use crate::TurnFault;
 use coco_host::Host;
@@ -58,7 +54,7 @@ pub(crate) fn one_stops<P: Power>(
     ensures told { IfOk result (λ stops. RisesIf stops (P.early_stops power.old) (P.early_stops power.new)) }
     ensures asked { IfOk result (λ stops. AsksFirst stops point (length members.old.cores.items) (P.stopped power.old) (P.stopped power.new) (P.asked power.old) (P.asked power.new)) }
     ensures begun { P.begun power.new ≡ begun_after (P.begun power.old) 0 point }
-    ensures power { 1 < point → StaysAsked P.stops_seen P.early_stops P.stopped P.begun P.asked power.old power.new }
+    ensures power { 1 < point → StaysAsked P.Power power.old power.new }
 {
     stop_early(
         alloc,
@@ -119,33 +115,14 @@ pub(crate) fn decide<H: Host, N: Net, P: Power>(
     requires pieces { AreShippable (ring_of members.old.tables.layout) pieces.now }
     requires begun { AreBegun (ring_of members.old.tables.layout) epoch pieces.now members.old.tables.copies.items }
     requires ready { AreReady members.old.voters.items (H.reads host.old) (H.may_leave host.old) }
-    ensures decides { IfOk result (λ all. DecidesOn all epoch (N.sent net.new) members.old members.new) }
-    ensures cause { IfOk result (λ all. GivenUpIfNot all
-        (around N.sent N.given N.faults N.last_seed P.stops_seen P.early_stops P.stopped P.begun P.asked net.old power.old)
-        (around N.sent N.given N.faults N.last_seed P.stops_seen P.early_stops P.stopped P.begun P.asked net.new power.new)) }
-    ensures voted { IfOk result (λ all. VotedForIf all members.old.tables.layout epoch 2
-        (around N.sent N.given N.faults N.last_seed P.stops_seen P.early_stops P.stopped P.begun P.asked net.old power.old)
-        (around N.sent N.given N.faults N.last_seed P.stops_seen P.early_stops P.stopped P.begun P.asked net.new power.new)) }
-    ensures steps { OnOk result (StepsTo (P.stopped power.old) (P.stopped power.new) epoch (epoch + 1) [] (scene_of members.old (N.sent net.old)) (scene_of members.new (N.sent net.new))) }
-    ensures entries { OnOk result (DecidesEntries H.reads H.may_leave epoch pieces.now (P.stopped power.old) (P.stopped power.new) members.old members.new (N.sent net.old) (N.sent net.new) host.old host.new) }
-    ensures places { OnOk result (StayInPlace members.old members.new) }
-    ensures whole { OnOk result (LoseIfTold (P.stops_seen power.old) (P.stops_seen power.new) members.old.voters.items members.new.voters.items) }
-    // The tables.
-    ensures shards { members.new.tables.shards ≡ members.old.tables.shards }
-    ensures keep { (m : Rows) → KeepAll m members.old.tables → KeepAll m members.new.tables }
-    ensures give { IfOk result (λ all. GiveIf all epoch pieces.now members.old.tables members.new.tables) }
+    ensures decided { IfOk result (λ all. HasDecided H.Host N.Net P.Power all 2 epoch pieces.now
+        members.old members.new host.old host.new net.old net.new power.old power.new) }
     // The files.
-    ensures files { DecidesFiles H.moment H.observed H.said H.reads H.may_leave result epoch pieces.now members.old host.old host.new }
-    ensures ready { OnOk result (AreReady members.new.voters.items (H.reads host.new) (H.may_leave host.new)) }
-    ensures others { (other : LogState) → IsElsewhere other members.old.voters.items → Stands other (H.reads host.old) (H.may_leave host.old) → Stands other (H.reads host.new) (H.may_leave host.new) }
-    ensures said { H.said host.new ≡ H.said host.old }
+    ensures files { DecidesFiles H.Host result epoch pieces.now members.old host.old host.new }
     ensures disk { CountsPart result (H.disk_faults host.old) (H.disk_faults host.new) }
-    ensures stream { H.say_faults host.new ≡ H.say_faults host.old }
-    // The counts, whatever the answer.
-    ensures later { IsLater
-        (around N.sent N.given N.faults N.last_seed P.stops_seen P.early_stops P.stopped P.begun P.asked net.old power.old)
-        (around N.sent N.given N.faults N.last_seed P.stops_seen P.early_stops P.stopped P.begun P.asked net.new power.new) }
-    ensures power { StaysAsked P.stops_seen P.early_stops P.stopped P.begun P.asked power.old power.new }
+    // What stays, whatever the answer.
+    ensures rest { StaysDeciding H.Host N.Net P.Power
+        members.old members.new host.old host.new net.old net.new power.old power.new }
 {
     let alloc = *body.allocator();
     if one_stops(alloc, power, members, 2, epoch)? {
@@ -170,33 +147,14 @@ fn ship_and_vote<H: Host, N: Net, P: Power>(
     requires pieces { AreShippable (ring_of members.old.tables.layout) pieces.now }
     requires begun { AreBegun (ring_of members.old.tables.layout) epoch pieces.now members.old.tables.copies.items }
     requires ready { AreReady members.old.voters.items (H.reads host.old) (H.may_leave host.old) }
-    ensures decides { IfOk result (λ all. DecidesOn all epoch (N.sent net.new) members.old members.new) }
-    ensures cause { IfOk result (λ all. GivenUpIfNot all
-        (around N.sent N.given N.faults N.last_seed P.stops_seen P.early_stops P.stopped P.begun P.asked net.old power.old)
-        (around N.sent N.given N.faults N.last_seed P.stops_seen P.early_stops P.stopped P.begun P.asked net.new power.new)) }
-    ensures voted { IfOk result (λ all. VotedForIf all members.old.tables.layout epoch 3
-        (around N.sent N.given N.faults N.last_seed P.stops_seen P.early_stops P.stopped P.begun P.asked net.old power.old)
-        (around N.sent N.given N.faults N.last_seed P.stops_seen P.early_stops P.stopped P.begun P.asked net.new power.new)) }
-    ensures steps { OnOk result (StepsTo (P.stopped power.old) (P.stopped power.new) epoch (epoch + 1) [] (scene_of members.old (N.sent net.old)) (scene_of members.new (N.sent net.new))) }
-    ensures entries { OnOk result (DecidesEntries H.reads H.may_leave epoch pieces.now (P.stopped power.old) (P.stopped power.new) members.old members.new (N.sent net.old) (N.sent net.new) host.old host.new) }
-    ensures places { OnOk result (StayInPlace members.old members.new) }
-    ensures whole { OnOk result (LoseIfTold (P.stops_seen power.old) (P.stops_seen power.new) members.old.voters.items members.new.voters.items) }
-    // The tables.
-    ensures shards { members.new.tables.shards ≡ members.old.tables.shards }
-    ensures keep { (m : Rows) → KeepAll m members.old.tables → KeepAll m members.new.tables }
-    ensures give { IfOk result (λ all. GiveIf all epoch pieces.now members.old.tables members.new.tables) }
+    ensures decided { IfOk result (λ all. HasDecided H.Host N.Net P.Power all 3 epoch pieces.now
+        members.old members.new host.old host.new net.old net.new power.old power.new) }
     // The files.
-    ensures files { DecidesFiles H.moment H.observed H.said H.reads H.may_leave result epoch pieces.now members.old host.old host.new }
-    ensures ready { OnOk result (AreReady members.new.voters.items (H.reads host.new) (H.may_leave host.new)) }
-    ensures others { (other : LogState) → IsElsewhere other members.old.voters.items → Stands other (H.reads host.old) (H.may_leave host.old) → Stands other (H.reads host.new) (H.may_leave host.new) }
-    ensures said { H.said host.new ≡ H.said host.old }
+    ensures files { DecidesFiles H.Host result epoch pieces.now members.old host.old host.new }
     ensures disk { CountsPart result (H.disk_faults host.old) (H.disk_faults host.new) }
-    ensures stream { H.say_faults host.new ≡ H.say_faults host.old }
-    // The counts, whatever the answer.
-    ensures later { IsLater
-        (around N.sent N.given N.faults N.last_seed P.stops_seen P.early_stops P.stopped P.begun P.asked net.old power.old)
-        (around N.sent N.given N.faults N.last_seed P.stops_seen P.early_stops P.stopped P.begun P.asked net.new power.new) }
-    ensures power { StaysAsked P.stops_seen P.early_stops P.stopped P.begun P.asked power.old power.new }
+    // What stays, whatever the answer.
+    ensures rest { StaysDeciding H.Host N.Net P.Power
+        members.old members.new host.old host.new net.old net.new power.old power.new }
 {
     let alloc = *body.allocator();
     if !are_shipped(alloc, net, members, epoch, pieces)? {

@@ -82,7 +82,7 @@ impl Cluster {
         ensures world { OnOk result (GoesBetween (P.stopped power.old) (P.stopped power.new) (CommitsOne self.old.next_epoch) (scene_of self.old.members (N.sent net.old)) (scene_of self.new.members (N.sent net.new))) }
         // The files.
         ensures files { (c : Contents) → RestsOn c (H.reads host.old) (H.may_leave host.old) → BelongsTo c self.old → (IsCommit (commit_of self.old.next_epoch dones) → MayCommit c (commit_of self.old.next_epoch dones))
-            → Commits H.moment H.observed H.said H.reads H.may_leave result c (commit_of self.old.next_epoch dones) host.old host.new }
+            → Commits H.Host result c (commit_of self.old.next_epoch dones) host.old host.new }
         ensures stand { OnOk result (AreReady self.old.members.voters.items (H.reads host.old) (H.may_leave host.old) → AllStand self.new (H.reads host.new) (H.may_leave host.new)) }
         ensures said { H.said host.new ≡ H.said host.old }
         ensures disk { CountsPart result (H.disk_faults host.old) (H.disk_faults host.new) }
@@ -91,10 +91,10 @@ impl Cluster {
         ensures seen { P.stops_seen power.old ≤ P.stops_seen power.new }
         ensures whole { OnOk result (LoseIfTold (P.stops_seen power.old) (P.stops_seen power.new) self.old.members.voters.items self.new.members.voters.items) }
         ensures early { P.early_stops power.new ≡ P.early_stops power.old }
-        ensures power { StaysAsked P.stops_seen P.early_stops P.stopped P.begun P.asked power.old power.new }
+        ensures power { StaysAsked P.Power power.old power.new }
         ensures later { IsLater
-            (around N.sent N.given N.faults N.last_seed P.stops_seen P.early_stops P.stopped P.begun P.asked net.old power.old)
-            (around N.sent N.given N.faults N.last_seed P.stops_seen P.early_stops P.stopped P.begun P.asked net.new power.new) }
+            (around N.Net P.Power net.old power.old)
+            (around N.Net P.Power net.new power.new) }
     {
         settle(
             host,
@@ -134,9 +134,8 @@ impl Cluster {
         ensures files { OnOk result ((c : Contents) → RestsOn c (H.reads host.old) (H.may_leave host.old) → StandsAt c self.old → StandsAt c self.new) }
         ensures never { (file at : ℕ) (c : Contents) → RestsOn c (H.reads host.old) (H.may_leave host.old) → StandsAt c self.old → result ≢ Err (fault.NotAStore file at) }
         ensures stand { OnOk result (AllStand self.old (H.reads host.old) (H.may_leave host.old) → AllStand self.new (H.reads host.new) (H.may_leave host.new)) }
-        ensures read { IsOnlyRead H.moment H.observed H.said H.reads H.may_leave host.old host.new }
+        ensures read { IsOnlyRead H.Host host.old host.new }
         ensures disk { CountsAttempt result (H.disk_faults host.old) (H.disk_faults host.new) }
-        ensures stream { H.say_faults host.new ≡ H.say_faults host.old }
     {
         // Where a file can't be read, no trace is left.
         let trace = self.trace.take();

@@ -1,18 +1,13 @@
 //! The next epoch is tried: it is run, and then shipped and voted on.
-ghost use Rattle.std.specs.Prelude.{◌≡◌, ◌+◌, ◌<◌, [], length, IfOk, OnOk};
-ghost use Rattle.coco_append.specs.Gaining.{Stands};
-ghost use Rattle.coco_ast.specs.Keyed.{Rows};
-ghost use Rattle.coco_letters.specs.Around.{IsLater, around};
-ghost use Rattle.coco_log.specs.LogState.{LogState};
-ghost use Rattle.coco_members.specs.AtRest.{NoneBehind, ShardsHaveMap, scene_of};
+ghost use Rattle.std.specs.Prelude.{◌≡◌, ◌<◌, length, IfOk};
+ghost use Rattle.coco_members.specs.AtRest.{NoneBehind};
 ghost use Rattle.coco_power.specs.Counting.{begun_after};
 ghost use Rattle.coco_vote.specs.Asking.{IsLater as StaysAsked};
-ghost use Rattle.coco_vote.specs.Taking.{AreReady, IsElsewhere};
-ghost use Rattle.coco_cluster.specs.Entries.{TriesEntries};
+ghost use Rattle.coco_vote.specs.Taking.{AreReady};
+ghost use Rattle.coco_cluster.specs.Deciding.{HasTried, StaysTrying};
 ghost use Rattle.coco_cluster.specs.Faults.{CountsPart};
 ghost use Rattle.coco_cluster.specs.Standing.{IsSound};
-ghost use Rattle.coco_cluster.specs.Stepping.{StepsTo, VotedForBy};
-ghost use Rattle.coco_cluster.specs.Trying.{ComesOf, IsGivenUpIf, LoseIfTold, StaysInPlace, TriesFiles};
+ghost use Rattle.coco_cluster.specs.Trying.{TriesFiles};
 ghost use Rattle.coco_cluster.specs.Turning.{MayTurn};
 
 use crate::deciding::{decide, one_stops};
@@ -71,30 +66,14 @@ impl Cluster {
         requires some { 0 < length requests.items }
         requires may { MayTurn self.old requests.items }
         requires ready { AreReady self.old.members.voters.items (H.reads host.old) (H.may_leave host.old) }
-        ensures comes { IfOk result (λ tried. (m : Rows) → ShardsHaveMap m self.old.members.tables → ComesOf tried requests.items workers attempts m (N.sent net.new) self.old self.new) }
-        ensures cause { IfOk result (λ tried. IsGivenUpIf tried
-            (around N.sent N.given N.faults N.last_seed P.stops_seen P.early_stops P.stopped P.begun P.asked net.old power.old)
-            (around N.sent N.given N.faults N.last_seed P.stops_seen P.early_stops P.stopped P.begun P.asked net.new power.new)) }
-        ensures voted { IfOk result (λ tried. VotedForBy tried self.old.members.tables.layout self.old.next_epoch 1
-            (around N.sent N.given N.faults N.last_seed P.stops_seen P.early_stops P.stopped P.begun P.asked net.old power.old)
-            (around N.sent N.given N.faults N.last_seed P.stops_seen P.early_stops P.stopped P.begun P.asked net.new power.new)) }
-        ensures steps { OnOk result (StepsTo (P.stopped power.old) (P.stopped power.new) self.old.next_epoch (self.old.next_epoch + 1) [] (scene_of self.old.members (N.sent net.old)) (scene_of self.new.members (N.sent net.new))) }
-        ensures entries { OnOk result (TriesEntries H.reads H.may_leave requests.items (P.stopped power.old) (P.stopped power.new) self.old self.new (N.sent net.old) (N.sent net.new) host.old host.new) }
-        ensures stays { OnOk result (StaysInPlace self.old self.new) }
-        ensures whole { OnOk result (LoseIfTold (P.stops_seen power.old) (P.stops_seen power.new) self.old.members.voters.items self.new.members.voters.items) }
-        ensures procs { self.new.procs ≡ self.old.procs }
-        ensures trace { self.new.trace ≡ self.old.trace }
+        ensures tried { IfOk result (λ tried. HasTried H.Host N.Net P.Power tried 1 requests.items workers attempts
+            self.old self.new host.old host.new net.old net.new power.old power.new) }
         // The files.
-        ensures files { TriesFiles H.moment H.observed H.said H.reads H.may_leave result requests.items workers attempts self.old self.new host.old host.new }
-        ensures ready { OnOk result (AreReady self.new.members.voters.items (H.reads host.new) (H.may_leave host.new)) }
-        ensures others { (other : LogState) → IsElsewhere other self.old.members.voters.items → Stands other (H.reads host.old) (H.may_leave host.old) → Stands other (H.reads host.new) (H.may_leave host.new) }
-        ensures said { H.said host.new ≡ H.said host.old }
+        ensures files { TriesFiles H.Host result requests.items workers attempts self.old self.new host.old host.new }
         ensures disk { CountsPart result (H.disk_faults host.old) (H.disk_faults host.new) }
-        ensures stream { H.say_faults host.new ≡ H.say_faults host.old }
-        // The counts, whatever the answer.
-        ensures later { IsLater
-            (around N.sent N.given N.faults N.last_seed P.stops_seen P.early_stops P.stopped P.begun P.asked net.old power.old)
-            (around N.sent N.given N.faults N.last_seed P.stops_seen P.early_stops P.stopped P.begun P.asked net.new power.new) }
+        // What stays, and what is begun, whatever the answer.
+        ensures rest { StaysTrying H.Host N.Net P.Power
+            self.old self.new host.old host.new net.old net.new power.old power.new }
         ensures begun { P.begun power.new ≡ begun_after (P.begun power.old) 0 1 }
     {
         let epoch = self.next_epoch;
@@ -133,31 +112,15 @@ impl Cluster {
         requires some { 0 < length requests.items }
         requires may { MayTurn self.old requests.items }
         requires ready { AreReady self.old.members.voters.items (H.reads host.old) (H.may_leave host.old) }
-        ensures comes { IfOk result (λ tried. (m : Rows) → ShardsHaveMap m self.old.members.tables → ComesOf tried requests.items workers attempts m (N.sent net.new) self.old self.new) }
-        ensures cause { IfOk result (λ tried. IsGivenUpIf tried
-            (around N.sent N.given N.faults N.last_seed P.stops_seen P.early_stops P.stopped P.begun P.asked net.old power.old)
-            (around N.sent N.given N.faults N.last_seed P.stops_seen P.early_stops P.stopped P.begun P.asked net.new power.new)) }
-        ensures voted { IfOk result (λ tried. VotedForBy tried self.old.members.tables.layout self.old.next_epoch 2
-            (around N.sent N.given N.faults N.last_seed P.stops_seen P.early_stops P.stopped P.begun P.asked net.old power.old)
-            (around N.sent N.given N.faults N.last_seed P.stops_seen P.early_stops P.stopped P.begun P.asked net.new power.new)) }
-        ensures steps { OnOk result (StepsTo (P.stopped power.old) (P.stopped power.new) self.old.next_epoch (self.old.next_epoch + 1) [] (scene_of self.old.members (N.sent net.old)) (scene_of self.new.members (N.sent net.new))) }
-        ensures entries { OnOk result (TriesEntries H.reads H.may_leave requests.items (P.stopped power.old) (P.stopped power.new) self.old self.new (N.sent net.old) (N.sent net.new) host.old host.new) }
-        ensures stays { OnOk result (StaysInPlace self.old self.new) }
-        ensures whole { OnOk result (LoseIfTold (P.stops_seen power.old) (P.stops_seen power.new) self.old.members.voters.items self.new.members.voters.items) }
-        ensures procs { self.new.procs ≡ self.old.procs }
-        ensures trace { self.new.trace ≡ self.old.trace }
+        ensures tried { IfOk result (λ tried. HasTried H.Host N.Net P.Power tried 2 requests.items workers attempts
+            self.old self.new host.old host.new net.old net.new power.old power.new) }
         // The files.
-        ensures files { TriesFiles H.moment H.observed H.said H.reads H.may_leave result requests.items workers attempts self.old self.new host.old host.new }
-        ensures ready { OnOk result (AreReady self.new.members.voters.items (H.reads host.new) (H.may_leave host.new)) }
-        ensures others { (other : LogState) → IsElsewhere other self.old.members.voters.items → Stands other (H.reads host.old) (H.may_leave host.old) → Stands other (H.reads host.new) (H.may_leave host.new) }
-        ensures said { H.said host.new ≡ H.said host.old }
+        ensures files { TriesFiles H.Host result requests.items workers attempts self.old self.new host.old host.new }
         ensures disk { CountsPart result (H.disk_faults host.old) (H.disk_faults host.new) }
-        ensures stream { H.say_faults host.new ≡ H.say_faults host.old }
-        // The counts, whatever the answer.
-        ensures later { IsLater
-            (around N.sent N.given N.faults N.last_seed P.stops_seen P.early_stops P.stopped P.begun P.asked net.old power.old)
-            (around N.sent N.given N.faults N.last_seed P.stops_seen P.early_stops P.stopped P.begun P.asked net.new power.new) }
-        ensures power { StaysAsked P.stops_seen P.early_stops P.stopped P.begun P.asked power.old power.new }
+        // What stays, and what is begun, whatever the answer.
+        ensures rest { StaysTrying H.Host N.Net P.Power
+            self.old self.new host.old host.new net.old net.new power.old power.new }
+        ensures power { StaysAsked P.Power power.old power.new }
     {
         let epoch = self.next_epoch;
         let ids = ids_of(alloc, requests.as_slice())?;

@@ -2,6 +2,7 @@
 use Rattle.std.proofs.Common.{◌≡◌, ℕ, List, Option, Some, subst, ◌∙◌}
 use Rattle.coco_host.specs.Files.{Files, NoMore}
 use Rattle.coco_host.specs.Moments.{IsNew, Observation, SeesOnly}
+use Rattle.coco_host.specs.declared.host.Host.{Ghosts as HostGhosts}
 use Rattle.coco_log.specs.LogState.{IsOnlyRead}
 use Rattle.coco_ending.specs.declared.ending.Ending.{Ending}
 use Rattle.coco_serve.specs.Faults.{Counts}
@@ -16,17 +17,17 @@ says_since text own how before mid now say disk mid_say mid_disk new quiet same_
     (subst (λ (n : ℕ). SaysText text own how mid now (record { say = n; disk = disk }) new) same_say
     (subst (λ (n : ℕ). SaysText text own how mid now (record { say = mid_say; disk = n }) new) same_disk says))
 
-module _ {H : Type 0} (moment : H → ℕ) (observed : H → ℕ → Observation → Type 0) (said : H → Option (List ℕ)) (reads : H → Option Files) (may_leave : H → Files → Type 0)
+module _ {H : Type 0} (frame : HostGhosts H)
     (say_faults disk_faults : H → ℕ) (May : Contents → Type 0) (IsText : Contents → List ℕ → Ending → Type 0) (MayEnd : Ending → Type 0) where
   abbrev counts : H → Counts
   counts host = record { say = say_faults host; disk = disk_faults host }
 
-  module _ (old opened : H) (opening : IsOnlyRead moment observed said reads may_leave old opened) (stream : say_faults opened ≡ say_faults old) (disk : disk_faults opened ≡ disk_faults old)
-      (holds : (files : Files) → reads old ≡ Some files → (c : Contents) × Holds files c) (text : List ℕ) (own : Ending) (ends : MayEnd own) (of_store : (files : Files) (c : Contents) → reads old ≡ Some files → Holds files c → May c → IsText c text own) where
+  module _ (old opened : H) (opening : IsOnlyRead frame old opened) (stream : say_faults opened ≡ say_faults old) (disk : disk_faults opened ≡ disk_faults old)
+      (holds : (files : Files) → frame.reads old ≡ Some files → (c : Contents) × Holds files c) (text : List ℕ) (own : Ending) (ends : MayEnd own) (of_store : (files : Files) (c : Contents) → frame.reads old ≡ Some files → Holds files c → May c → IsText c text own) where
     -- a text of the opened store is said
-    pub tells : (how : Ending) (new : H) → SaysText text own how (said opened) (said new) (counts opened) (counts new) → reads new ≡ reads opened → NoMore (may_leave opened) (may_leave new)
-        → SeesOnly moment observed opened new (IsNew (may_leave opened) (said opened) (said new)) → disk_faults new ≡ disk_faults opened
-        → Tells moment observed said reads may_leave May IsText MayEnd how (counts old) (counts new) old new
+    pub tells : (how : Ending) (new : H) → SaysText text own how (frame.said opened) (frame.said new) (counts opened) (counts new) → frame.reads new ≡ frame.reads opened → NoMore (frame.may_leave opened) (frame.may_leave new)
+        → SeesOnly frame.moment frame.observed opened new (IsNew (frame.may_leave opened) (frame.said opened) (frame.said new)) → disk_faults new ≡ disk_faults opened
+        → Tells frame May IsText MayEnd how (counts old) (counts new) old new
     tells how new says same crash sees still = record {
       opened = opened;
       opening = opening;
@@ -38,6 +39,6 @@ module _ {H : Type 0} (moment : H → ℕ) (observed : H → ℕ → Observation
       text = text;
       own = own;
       ends = ends;
-      says = says_since text own how (said old) (said opened) (said new) (say_faults old) (disk_faults old) (say_faults opened) (disk_faults opened) (counts new) opening.quiet stream disk says;
+      says = says_since text own how (frame.said old) (frame.said opened) (frame.said new) (say_faults old) (disk_faults old) (say_faults opened) (disk_faults opened) (counts new) opening.quiet stream disk says;
       of_store = of_store;
     }

@@ -2,6 +2,7 @@
 use Rattle.std.specs.Prelude.{◌≡◌, ◌⊎◌, ℕ, List, Option, Some, Result}
 use Rattle.coco_host.specs.Files.{Become, Files, Follows}
 use Rattle.coco_host.specs.Moments.{Observation}
+use Rattle.coco_host.specs.declared.host.Host.{Ghosts as HostGhosts}
 use Rattle.coco_append.specs.Gaining.{GainsAs, HasStore}
 use Rattle.coco_ckpt.specs.Compacting.{HasCompacted, compact_files}
 use Rattle.coco_ending.specs.declared.ending.Ending.{Ending}
@@ -13,26 +14,26 @@ use Rattle.coco_serve.specs.Faults.{Counts}
 use Rattle.coco_store.specs.Contents.{Contents, Holds, IsGoodStore}
 use Rattle.coco_commands.specs.Migrating.{IsLeftAlone, ending_of_adding}
 
-module _ {H : Type 0} (moment : H → ℕ) (observed : H → ℕ → Observation → Type 0) (said : H → Option (List ℕ)) (reads : H → Option Files) (may_leave : H → Files → Type 0) where
+module _ {H : Type 0} (frame : HostGhosts H) where
   -- the store is opened, and made small. Only files that are a store are opened, and such files are never refused. Until it is opened, all that a crash may
   -- leave it might have left at entry; from then on no file changes but that of the layouts and new ones, which the last layout doesn't name. Where the files
   -- read at entry as a good store, each moment since the opening shows it as it was or compacted, and so does what is left. Where the ending is `Finished`,
   -- the files read as the compacted store, and a crash leaves no other
   pub record MakesSmall (how : Ending) (before after : Counts) (old new : H) : Type 0 where
     pub opened : H
-    pub opening : IsOnlyRead moment observed said reads may_leave old opened
-    pub holds : (files : Files) → reads old ≡ Some files → (c : Contents) × Holds files c
+    pub opening : IsOnlyRead frame old opened
+    pub holds : (files : Files) → frame.reads old ≡ Some files → (c : Contents) × Holds files c
     pub added : Result (Unit {0}) LogFault
     pub ends : how ≡ ending_of_adding added
     pub cause : CountsFault added before.disk after.disk
-    pub quiet : said new ≡ said old
+    pub quiet : frame.said new ≡ frame.said old
     pub named : List ℕ
-    pub are_new : (files : Files) (c : Contents) → reads old ≡ Some files → Holds files c → named ≡ compact_files c.setting.entry
-    pub files : Become (SameBesides named) (reads opened) (reads new)
-    pub crash : Follows (SameBesides named) (may_leave opened) (may_leave new)
-    pub gains : (files : Files) (c : Contents) → reads old ≡ Some files → IsGoodStore files c
-        → GainsAs moment observed said reads may_leave added (HasStore c) (HasCompacted c) opened new
+    pub are_new : (files : Files) (c : Contents) → frame.reads old ≡ Some files → Holds files c → named ≡ compact_files c.setting.entry
+    pub files : Become (SameBesides named) (frame.reads opened) (frame.reads new)
+    pub crash : Follows (SameBesides named) (frame.may_leave opened) (frame.may_leave new)
+    pub gains : (files : Files) (c : Contents) → frame.reads old ≡ Some files → IsGoodStore files c
+        → GainsAs frame added (HasStore c) (HasCompacted c) opened new
 
   -- the one, or the store isn't opened; nothing is said
   abbrev pub Compacts : Ending → Counts → Counts → H → H → Type 0
-  Compacts how before after old new = IsLeftAlone moment observed said reads may_leave how before after old new ⊎ MakesSmall how before after old new
+  Compacts how before after old new = IsLeftAlone frame how before after old new ⊎ MakesSmall how before after old new

@@ -2,6 +2,7 @@
 use Rattle.std.specs.Prelude.{◌≡◌, ◌⊎◌, ℕ, List, Option, Some, Result, Ok, Err}
 use Rattle.coco_host.specs.Files.{Become, Files, Follows}
 use Rattle.coco_host.specs.Moments.{Observation}
+use Rattle.coco_host.specs.declared.host.Host.{Ghosts as HostGhosts}
 use Rattle.coco_append.specs.Gaining.{Gains}
 use Rattle.coco_ending.specs.declared.ending.Ending.{Ending}
 use Rattle.coco_ending.specs.declared.ending.Ending.TheVariants as ending
@@ -23,12 +24,12 @@ ending_of_adding (Err fault.NoMemory) = ending.NoMemory
 ending_of_adding (Err (fault.NotALog at)) = ending.DiskFault
 ending_of_adding (Err fault.TooLong) = ending.DiskFault
 
-module _ {H : Type 0} (moment : H → ℕ) (observed : H → ℕ → Observation → Type 0) (said : H → Option (List ℕ)) (reads : H → Option Files) (may_leave : H → Files → Type 0) where
+module _ {H : Type 0} (frame : HostGhosts H) where
   -- the store isn't opened: no file changes
   pub record IsLeftAlone (how : Ending) (before after : Counts) (old new : H) : Type 0 where
-    pub read : IsOnlyRead moment observed said reads may_leave old new
+    pub read : IsOnlyRead frame old new
     pub stream : after.say ≡ before.say
-    pub cause : FailsToOpen how (reads old) before.disk after.disk
+    pub cause : FailsToOpen how (frame.reads old) before.disk after.disk
 
   -- the store is opened, and its layout is added once more, with the keep number. Only files that are a store are opened, and such files are never refused
   -- (`a_refused_store_is_none`): so `NotAStore` comes exactly where the files are none, at the first place, and neither a fault of the disk nor want of
@@ -37,17 +38,17 @@ module _ {H : Type 0} (moment : H → ℕ) (observed : H → ℕ → Observation
   -- left. Where the ending is `Finished`, the files read as that store with the keep number, and a crash leaves no other
   pub record SetsKeep (keep : ℕ) (how : Ending) (before after : Counts) (old new : H) : Type 0 where
     pub opened : H
-    pub opening : IsOnlyRead moment observed said reads may_leave old opened
-    pub holds : (files : Files) → reads old ≡ Some files → (c : Contents) × Holds files c
+    pub opening : IsOnlyRead frame old opened
+    pub holds : (files : Files) → frame.reads old ≡ Some files → (c : Contents) × Holds files c
     pub added : Result (Unit {0}) LogFault
     pub ends : how ≡ ending_of_adding added
     pub cause : CountsFault added before.disk after.disk
     pub stream : after.say ≡ before.say
-    pub quiet : said new ≡ said old
-    pub files : Become (SameBut layouts_file) (reads opened) (reads new)
-    pub crash : Follows (SameBut layouts_file) (may_leave opened) (may_leave new)
-    pub gains : (files : Files) (c : Contents) → reads old ≡ Some files → IsGoodStore files c
-        → Gains moment observed said reads may_leave added c (contents_keeping keep c) opened new
+    pub quiet : frame.said new ≡ frame.said old
+    pub files : Become (SameBut layouts_file) (frame.reads opened) (frame.reads new)
+    pub crash : Follows (SameBut layouts_file) (frame.may_leave opened) (frame.may_leave new)
+    pub gains : (files : Files) (c : Contents) → frame.reads old ≡ Some files → IsGoodStore files c
+        → Gains frame added c (contents_keeping keep c) opened new
 
   -- the one or the other; nothing is said
   abbrev pub Migrates : ℕ → Ending → Counts → Counts → H → H → Type 0

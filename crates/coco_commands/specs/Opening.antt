@@ -2,6 +2,7 @@
 use Rattle.std.specs.Prelude.{◌≡◌, ℕ, List, Option, IfSome}
 use Rattle.coco_host.specs.Files.{Files}
 use Rattle.coco_host.specs.Moments.{Observation}
+use Rattle.coco_host.specs.declared.host.Host.{Ghosts as HostGhosts}
 use Rattle.coco_io.specs.Counts.{Rose}
 use Rattle.coco_ending.specs.declared.ending.Ending.{Ending}
 use Rattle.coco_ending.specs.declared.ending.Ending.TheVariants as ending
@@ -24,11 +25,11 @@ FailsToOpen ending.NoMemory reads old new = new ≡ old
 FailsToOpen _ reads old new = ⊥
 
 -- a command whose store isn't opened only reads, says nothing, takes nothing of its input, and leaves net and power as they are
-pub record IsUnopened {H : Type 0} (moment : H → ℕ) (observed : H → ℕ → Observation → Type 0) (said : H → Option (List ℕ)) (reads : H → Option Files) (may_leave : H → Files → Type 0)
+pub record IsUnopened {H : Type 0} (frame : HostGhosts H)
     (ending : Ending) (before after : Outside) (old new : H) : Type 0 where
-  pub read : IsOnlyRead moment observed said reads may_leave old new
+  pub read : IsOnlyRead frame old new
   pub source : after.source ≡ before.source
   pub reading : after.source_faults ≡ before.source_faults
   pub stream : after.say_faults ≡ before.say_faults
   pub around : after.around ≡ before.around
-  pub cause : FailsToOpen ending (reads old) before.disk_faults after.disk_faults
+  pub cause : FailsToOpen ending (frame.reads old) before.disk_faults after.disk_faults

@@ -7,6 +7,7 @@ use Rattle.coco_asks.specs.declared.ending.Asked.TheVariants as asked
 use Rattle.coco_ast.specs.History.{History, last_epoch, map_of, up_to}
 use Rattle.coco_host.specs.Files.{Files, NoMore}
 use Rattle.coco_host.specs.Moments.{IsNew, Observation, SeesOnly}
+use Rattle.coco_host.specs.declared.host.Host.{Ghosts as HostGhosts}
 use Rattle.coco_ending.specs.declared.ending.Ending.{Ending}
 use Rattle.coco_ending.specs.declared.ending.Ending.TheVariants as ending
 use Rattle.coco_lines.specs.Reads.{Gives}
@@ -48,25 +49,25 @@ IsNotAsked epoch (ending.NotWithin e first last) reads = (e ≡ epoch) × ¬ ((f
 IsNotAsked epoch ending.NoMemory reads = ⊤
 IsNotAsked epoch _ reads = ⊥
 
-module _ {H : Type 0} (moment : H → ℕ) (observed : H → ℕ → Observation → Type 0) (said : H → Option (List ℕ)) (reads : H → Option Files) (may_leave : H → Files → Type 0) where
+module _ {H : Type 0} (frame : HostGhosts H) where
   -- the store is opened and not asked: nothing is said, nothing is taken of the input, and no count of faults moves
   pub record LeavesUnasked (epoch : ℕ) (how : Ending) (before after : Outside) (old new : H) : Type 0 where
-    pub read : IsOnlyRead moment observed said reads may_leave old new
-    pub holds : (files : Files) → reads old ≡ Some files → (c : Contents) × Holds files c
+    pub read : IsOnlyRead frame old new
+    pub holds : (files : Files) → frame.reads old ≡ Some files → (c : Contents) × Holds files c
     pub source : after.source ≡ before.source
     pub reading : after.source_faults ≡ before.source_faults
     pub stream : after.say_faults ≡ before.say_faults
     pub disk : after.disk_faults ≡ before.disk_faults
     pub around : after.around ≡ before.around
-    pub cause : IsNotAsked epoch how (reads old)
+    pub cause : IsNotAsked epoch how (frame.reads old)
 
   -- the store is opened, and lines are answered. Only files that are a store are opened, and such files are never refused. Of a good store the answers are
   -- those by its rows at the end of the epoch. No file changes, and what is seen is what a crash might have left at entry, with a front of what is said
   pub record Asks (epoch : ℕ) (how : Ending) (before after : Outside) (old new : H) : Type 0 where
     pub opened : H
-    pub opening : IsOnlyRead moment observed said reads may_leave old opened
-    pub holds : (files : Files) → reads old ≡ Some files → (c : Contents) × Holds files c
-    pub may : (files : Files) (c : Contents) → reads old ≡ Some files → Holds files c → MayBeAsked (history_of c) epoch
+    pub opening : IsOnlyRead frame old opened
+    pub holds : (files : Files) → frame.reads old ≡ Some files → (c : Contents) × Holds files c
+    pub may : (files : Files) (c : Contents) → frame.reads old ≡ Some files → Holds files c → MayBeAsked (history_of c) epoch
     pub bytes : List ℕ
     pub gives : Gives before.source after.source bytes
     pub asked : Asked
@@ -74,12 +75,12 @@ module _ {H : Type 0} (moment : H → ℕ) (observed : H → ℕ → Observation
     pub cause : HasCause bytes (streams_of before) (streams_of after) asked
     pub disk : after.disk_faults ≡ before.disk_faults
     pub around : after.around ≡ before.around
-    pub same : reads new ≡ reads old
-    pub crash : NoMore (may_leave opened) (may_leave new)
-    pub sees : SeesOnly moment observed opened new (IsNew (may_leave opened) (said opened) (said new))
-    pub says : (files : Files) (c : Contents) → reads old ≡ Some files → IsGoodStore files c → SaysAnswers (answers_from (past_at c epoch) 1) bytes (said old) (said new) asked
+    pub same : frame.reads new ≡ frame.reads old
+    pub crash : NoMore (frame.may_leave opened) (frame.may_leave new)
+    pub sees : SeesOnly frame.moment frame.observed opened new (IsNew (frame.may_leave opened) (frame.said opened) (frame.said new))
+    pub says : (files : Files) (c : Contents) → frame.reads old ≡ Some files → IsGoodStore files c → SaysAnswers (answers_from (past_at c epoch) 1) bytes (frame.said old) (frame.said new) asked
 
   -- the store isn't opened, or it isn't asked, or it is
   abbrev pub Queries : ℕ → Ending → Outside → Outside → H → H → Type 0
   Queries epoch how before after old new =
-      IsUnopened moment observed said reads may_leave how before after old new ⊎ (LeavesUnasked epoch how before after old new ⊎ Asks epoch how before after old new)
+      IsUnopened frame how before after old new ⊎ (LeavesUnasked epoch how before after old new ⊎ Asks epoch how before after old new)

@@ -2,6 +2,7 @@
 use Rattle.std.specs.Prelude.{◌≡◌, ℕ, List, Option, Some, Result, Ok, Err}
 use Rattle.coco_host.specs.Files.{Files}
 use Rattle.coco_host.specs.Moments.{Observation}
+use Rattle.coco_host.specs.declared.host.Host.{Ghosts as HostGhosts}
 use Rattle.coco_ending.specs.declared.ending.Ending.{Ending}
 use Rattle.coco_ending.specs.declared.ending.Ending.TheVariants as ending
 use Rattle.coco_rebuild.specs.Answers.{AnswersFor, CountsRebuild, NeedsStore, Rebuilds as IsSeen}
@@ -20,7 +21,7 @@ ending_of_rebuilding node (Err (fault.NoNode nodes)) = ending.NoNode node nodes
 ending_of_rebuilding node (Err (fault.NoHolder partition)) = ending.NoHolder partition
 ending_of_rebuilding node (Err fault.NoMemory) = ending.NoMemory
 
-module _ {H : Type 0} (moment : H → ℕ) (observed : H → ℕ → Observation → Type 0) (said : H → Option (List ℕ)) (reads : H → Option Files) (may_leave : H → Files → Type 0) where
+module _ {H : Type 0} (frame : HostGhosts H) where
   -- the node's file is made again, or nothing changes. Where the files hold a store but for that file, the answer is that of such a store: `NoNode` and
   -- `NoHolder` come exactly where there is no such node, or a partition that it holds alone, and the files aren't refused; where they hold none, one of
   -- them is, at the first place, if neither a fault of the disk nor want of memory came first. What is seen meanwhile, and what is left, is as
@@ -28,10 +29,10 @@ module _ {H : Type 0} (moment : H → ℕ) (observed : H → ℕ → Observation
   pub record Rebuilds (node : ℕ) (how : Ending) (before after : Counts) (old new : H) : Type 0 where
     pub result : Result (Unit {0}) RebuildFault
     pub ends : how ≡ ending_of_rebuilding node result
-    pub refused : (file at : ℕ) (files : Files) → result ≡ Err (fault.NotAStore file at) → reads old ≡ Some files → IsFirstRefusalBut node files file at
-    pub holds : (files : Files) → reads old ≡ Some files → NeedsStore result ((c : Contents) × HoldsBut node files c)
-    pub answers : (files : Files) (c : Contents) → reads old ≡ Some files → HoldsBut node files c → AnswersFor node c.setting.entry.layout result
-    pub seen : IsSeen moment observed said reads may_leave node result old new
-    pub quiet : said new ≡ said old
+    pub refused : (file at : ℕ) (files : Files) → result ≡ Err (fault.NotAStore file at) → frame.reads old ≡ Some files → IsFirstRefusalBut node files file at
+    pub holds : (files : Files) → frame.reads old ≡ Some files → NeedsStore result ((c : Contents) × HoldsBut node files c)
+    pub answers : (files : Files) (c : Contents) → frame.reads old ≡ Some files → HoldsBut node files c → AnswersFor node c.setting.entry.layout result
+    pub seen : IsSeen frame node result old new
+    pub quiet : frame.said new ≡ frame.said old
     pub cause : CountsRebuild result before.disk after.disk
     pub stream : after.say ≡ before.say

@@ -3,6 +3,7 @@ use Rattle.std.specs.Prelude.{◌≡◌, ◌⊎◌, ℕ, List, Option, Some}
 use Rattle.coco_cluster.specs.Around.{IsLater}
 use Rattle.coco_host.specs.Files.{Files}
 use Rattle.coco_host.specs.Moments.{Observation}
+use Rattle.coco_host.specs.declared.host.Host.{Ghosts as HostGhosts}
 use Rattle.coco_ending.specs.declared.ending.Ending.{Ending}
 use Rattle.coco_ending.specs.declared.ending.Ending.TheVariants as ending
 use Rattle.coco_lines.specs.Reads.{Gives}
@@ -31,25 +32,25 @@ ending_of_run served.NoMemory = ending.NoMemory
 -- exactly where the files are none, at the first place, and neither a fault of the disk nor want of memory ended it. After it, where the files read at entry
 -- as a good store, of however many nodes, each moment shows a good store whose history is that of entry grown by first batches of the bytes that the source
 -- gave, its new epochs numbered from `next` on with few numbers skipped, with a front of their answers said; and no file of it is refused any more
-pub record Opens {H : Type 0} (moment : H → ℕ) (observed : H → ℕ → Observation → Type 0) (said : H → Option (List ℕ)) (reads : H → Option Files) (may_leave : H → Files → Type 0)
+pub record Opens {H : Type 0} (frame : HostGhosts H)
     (bounds : RunBounds) (ending : Ending) (before after : Outside) (old new : H) : Type 0 where
   pub opened : H
-  pub opening : IsOnlyRead moment observed said reads may_leave old opened
-  pub holds : (files : Files) → reads old ≡ Some files → (c : Contents) × Holds files c
+  pub opening : IsOnlyRead frame old opened
+  pub holds : (files : Files) → frame.reads old ≡ Some files → (c : Contents) × Holds files c
   pub bytes : List ℕ
   pub gives : Gives before.source after.source bytes
   pub next : ℕ
-  pub is_next : (files : Files) (c : Contents) → reads old ≡ Some files → Holds files c → IsNextOf c next
+  pub is_next : (files : Files) (c : Contents) → frame.reads old ≡ Some files → Holds files c → IsNextOf c next
   pub served : Served
   pub ends : ending ≡ ending_of_run served
   pub later : IsLater before.around after.around
   pub cause : HasCause next bytes before after served
-  pub serves : (files : Files) (c : Contents) → reads old ≡ Some files → IsGoodStore files c
-      → Serves moment observed said reads may_leave c next (spare_of before after) bounds bytes served opened new
+  pub serves : (files : Files) (c : Contents) → frame.reads old ≡ Some files → IsGoodStore files c
+      → Serves frame c next (spare_of before after) bounds bytes served opened new
 
 -- the store isn't opened, or it is
-abbrev pub RunsOn : {H : Type 0} (moment : H → ℕ) (observed : H → ℕ → Observation → Type 0) (said : H → Option (List ℕ)) (reads : H → Option Files) (may_leave : H → Files → Type 0)
+abbrev pub RunsOn : {H : Type 0} (frame : HostGhosts H)
     → RunBounds → Ending → Outside → Outside → H → H → Type 0
-RunsOn moment observed said reads may_leave bounds ending before after old new =
-    IsUnopened moment observed said reads may_leave ending before after old new
-    ⊎ Opens moment observed said reads may_leave bounds ending before after old new
+RunsOn frame bounds ending before after old new =
+    IsUnopened frame ending before after old new
+    ⊎ Opens frame bounds ending before after old new

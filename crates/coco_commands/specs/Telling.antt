@@ -3,6 +3,7 @@ use Rattle.std.specs.Prelude.{◌≡◌, ◌⊎◌, ⊤, ℕ, ◌≤◌, List, l
 use Rattle.std.specs.Io.KnownBytes.{append_known}
 use Rattle.coco_host.specs.Files.{Files, NoMore}
 use Rattle.coco_host.specs.Moments.{IsNew, Observation, SeesOnly}
+use Rattle.coco_host.specs.declared.host.Host.{Ghosts as HostGhosts}
 use Rattle.coco_io.specs.Counts.{Rose}
 use Rattle.coco_ast.specs.History.{IsSerial, all_dones, epoch_dones}
 use Rattle.coco_audit.specs.Differing.{IsFirstUnlike}
@@ -49,37 +50,37 @@ EndsVerdict ending.Finished = ⊤
 EndsVerdict (ending.NotSerial place) = ⊤
 EndsVerdict _ = ⊥
 
-module _ {H : Type 0} (moment : H → ℕ) (observed : H → ℕ → Observation → Type 0) (said : H → Option (List ℕ)) (reads : H → Option Files) (may_leave : H → Files → Type 0) where
+module _ {H : Type 0} (frame : HostGhosts H) where
   -- a text is said whole, or its front, and no file changes
   pub record Says (text : List ℕ) (own ending : Ending) (before after : Counts) (old new : H) : Type 0 where
-    pub says : SaysText text own ending (said old) (said new) before after
-    pub same : reads new ≡ reads old
-    pub crash : NoMore (may_leave old) (may_leave new)
-    pub sees : SeesOnly moment observed old new (IsNew (may_leave old) (said old) (said new))
+    pub says : SaysText text own ending (frame.said old) (frame.said new) before after
+    pub same : frame.reads new ≡ frame.reads old
+    pub crash : NoMore (frame.may_leave old) (frame.may_leave new)
+    pub sees : SeesOnly frame.moment frame.observed old new (IsNew (frame.may_leave old) (frame.said old) (frame.said new))
     pub disk : after.disk ≡ before.disk
 
   -- the store isn't opened: nothing is said and no file changes
   pub record IsUntold (ending : Ending) (before after : Counts) (old new : H) : Type 0 where
-    pub read : IsOnlyRead moment observed said reads may_leave old new
+    pub read : IsOnlyRead frame old new
     pub stream : after.say ≡ before.say
-    pub cause : FailsToOpen ending (reads old) before.disk after.disk
+    pub cause : FailsToOpen ending (frame.reads old) before.disk after.disk
 
   -- the store is opened, and then this text is said of it. Only files that are a store are opened, and such files are never refused
   -- (`a_refused_store_is_none`): so `NotAStore` comes exactly where the files are none, at the first place, and neither a fault of the disk nor want of
   -- memory ended the opening. No file changes, and what is seen is what a crash might have left at entry, with a front of the text said
   pub record Tells (May : Contents → Type 0) (IsText : Contents → List ℕ → Ending → Type 0) (MayEnd : Ending → Type 0) (ending : Ending) (before after : Counts) (old new : H) : Type 0 where
     pub opened : H
-    pub opening : IsOnlyRead moment observed said reads may_leave old opened
-    pub holds : (files : Files) → reads old ≡ Some files → (c : Contents) × Holds files c
-    pub same : reads new ≡ reads old
-    pub crash : NoMore (may_leave opened) (may_leave new)
-    pub sees : SeesOnly moment observed opened new (IsNew (may_leave opened) (said opened) (said new))
+    pub opening : IsOnlyRead frame old opened
+    pub holds : (files : Files) → frame.reads old ≡ Some files → (c : Contents) × Holds files c
+    pub same : frame.reads new ≡ frame.reads old
+    pub crash : NoMore (frame.may_leave opened) (frame.may_leave new)
+    pub sees : SeesOnly frame.moment frame.observed opened new (IsNew (frame.may_leave opened) (frame.said opened) (frame.said new))
     pub disk : after.disk ≡ before.disk
     pub text : List ℕ
     pub own : Ending
     pub ends : MayEnd own
-    pub says : SaysText text own ending (said old) (said new) before after
-    pub of_store : (files : Files) (c : Contents) → reads old ≡ Some files → Holds files c → May c → IsText c text own
+    pub says : SaysText text own ending (frame.said old) (frame.said new) before after
+    pub of_store : (files : Files) (c : Contents) → frame.reads old ≡ Some files → Holds files c → May c → IsText c text own
 
   -- `dump`, of a store whose nodes have the history's rows
   abbrev pub Dumps : Ending → Counts → Counts → H → H → Type 0

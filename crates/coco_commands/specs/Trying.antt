@@ -6,6 +6,7 @@ use Rattle.coco_ending.specs.declared.ending.Ending.{Ending}
 use Rattle.coco_ending.specs.declared.ending.Ending.TheVariants as ending
 use Rattle.coco_host.specs.Files.{Files}
 use Rattle.coco_host.specs.Moments.{Observation}
+use Rattle.coco_host.specs.declared.host.Host.{Ghosts as HostGhosts}
 use Rattle.coco_load.specs.Epochs.{IsNextOf}
 use Rattle.coco_log.specs.LogState.{IsOnlyRead}
 use Rattle.coco_serve.specs.Faults.{Counts}
@@ -26,10 +27,10 @@ ending_of_trying (Err fault.Unreachable) = ending.Unreachable
 ending_of_trying (Err fault.EpochsUsedUp) = ending.EpochsUsedUp
 ending_of_trying (Err fault.NoMemory) = ending.NoMemory
 
-module _ {H : Type 0} (moment : H → ℕ) (observed : H → ℕ → Observation → Type 0) (said : H → Option (List ℕ)) (reads : H → Option Files) (may_leave : H → Files → Type 0) where
+module _ {H : Type 0} (frame : HostGhosts H) where
   -- the store isn't opened: nothing is said, no file changes, and net and power are as they were
   pub record IsUntried (how : Ending) (was now : Around) (before after : Counts) (old new : H) : Type 0 where
-    pub untold : IsUntold moment observed said reads may_leave how before after old new
+    pub untold : IsUntold frame how before after old new
     pub around : now ≡ was
 
   -- the store is opened, and then these requests are worked off on it. Until the opening has ended nothing is said, and all that a crash may leave it might have left at entry. Only files that
@@ -38,16 +39,16 @@ module _ {H : Type 0} (moment : H → ℕ) (observed : H → ℕ → Observation
   -- worked off; and no file of it is refused any more
   pub record OpensToTry (bounds : RunBounds) (requests : List Request) (how : Ending) (was now : Around) (before after : Counts) (old new : H) : Type 0 where
     pub opened : H
-    pub opening : IsOnlyRead moment observed said reads may_leave old opened
-    pub holds : (files : Files) → reads old ≡ Some files → (c : Contents) × Holds files c
+    pub opening : IsOnlyRead frame old opened
+    pub holds : (files : Files) → frame.reads old ≡ Some files → (c : Contents) × Holds files c
     pub next : ℕ
-    pub is_next : (files : Files) (c : Contents) → reads old ≡ Some files → Holds files c → IsNextOf c next
+    pub is_next : (files : Files) (c : Contents) → frame.reads old ≡ Some files → Holds files c → IsNextOf c next
     pub result : Result (Unit {0}) BatchFault
     pub ends : how ≡ ending_of_trying result
     pub later : IsLater was now
     pub cause : HasCause next (length requests) was now before after result
-    pub tries : (files : Files) (c : Contents) → reads old ≡ Some files → IsGoodStore files c
-        → Tries moment observed said reads may_leave c next (spare was now) bounds requests result opened new
+    pub tries : (files : Files) (c : Contents) → frame.reads old ≡ Some files → IsGoodStore files c
+        → Tries frame c next (spare was now) bounds requests result opened new
 
   -- the store isn't opened, or it is
   abbrev pub TriesOn : RunBounds → List Request → Ending → Around → Around → Counts → Counts → H → H → Type 0

@@ -13,7 +13,7 @@ use std::alloc::Global;
 /// Makes the host's store small: its map, its kept Dones and its floor become the base of new files, to which one
 /// layout more switches. It says nothing, and the files of before stay.
 pub fn compact<H: Host>(alloc: Global, host: &mut H) -> Ending
-    ensures { Compacts H.moment H.observed H.said H.reads H.may_leave result (record { say = H.say_faults host.old; disk = H.disk_faults host.old })
+    ensures { Compacts H.Host result (record { say = H.say_faults host.old; disk = H.disk_faults host.old })
         (record { say = H.say_faults host.new; disk = H.disk_faults host.new }) host.old host.new }
 {
     let store = match recover(alloc, host) {

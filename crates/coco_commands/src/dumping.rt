@@ -14,7 +14,7 @@ use std::alloc::Global;
 
 /// Says what the store has kept, and its rows, piece by piece.
 pub fn dump<H: Host>(alloc: Global, host: &mut H) -> Ending
-    ensures { Dumps H.moment H.observed H.said H.reads H.may_leave result (record { say = H.say_faults host.old; disk = H.disk_faults host.old })
+    ensures { Dumps H.Host result (record { say = H.say_faults host.old; disk = H.disk_faults host.old })
         (record { say = H.say_faults host.new; disk = H.disk_faults host.new }) host.old host.new }
 {
     let store = match recover_whole(alloc, host) {
@@ -30,7 +30,7 @@ pub fn dump<H: Host>(alloc: Global, host: &mut H) -> Ending
 
 // Says a dump, each piece before the next one is made.
 fn say_pieces<H: Host>(alloc: Global, host: &mut H, mut dump: Dump<'_>) -> Ending
-    ensures { Says H.moment H.observed H.said H.reads H.may_leave (text_of dump.entry) Ending.Finished result (record { say = H.say_faults host.old; disk = H.disk_faults host.old })
+    ensures { Says H.Host (text_of dump.entry) Ending.Finished result (record { say = H.say_faults host.old; disk = H.disk_faults host.old })
         (record { say = H.say_faults host.new; disk = H.disk_faults host.new }) host.old host.new }
 {
     let mut piece = Vec::new(alloc);

@@ -16,7 +16,7 @@ use std::alloc::Global;
 /// It says nothing, and changes no file but that of the layouts, which gains one entry.
 pub fn migrate<H: Host>(alloc: Global, host: &mut H, keep: u16) -> Ending
     requires { IsKeep (Some keep) }
-    ensures { Migrates H.moment H.observed H.said H.reads H.may_leave keep result (record { say = H.say_faults host.old; disk = H.disk_faults host.old })
+    ensures { Migrates H.Host keep result (record { say = H.say_faults host.old; disk = H.disk_faults host.old })
         (record { say = H.say_faults host.new; disk = H.disk_faults host.new }) host.old host.new }
 {
     let mut store = match recover(alloc, host) {

@@ -34,8 +34,7 @@ pub fn ending_of_opening(fault: OpenFault) -> Ending
 
 /// The host's store, opened to be run. Its nodes' and its coordinator's cores are the restarted ones.
 pub fn open_cluster<H: Host>(alloc: Global, host: &mut H) -> Result<Cluster, Ending>
-    ensures read { IsOnlyRead H.moment H.observed H.said H.reads H.may_leave host.old host.new }
-    ensures stream { H.say_faults host.new ≡ H.say_faults host.old }
+    ensures read { IsOnlyRead H.Host host.old host.new }
     ensures holds { IfOk result (λ _. (files : Files) → H.reads host.old ≡ Some files → (c : Contents) × Holds files c) }
     ensures sound { IfOk result (λ cluster. IsSound cluster []) }
     ensures stands { IfOk result (λ cluster. (files : Files) (c : Contents) → H.reads host.old ≡ Some files → IsGoodStore files c

@@ -27,7 +27,7 @@ pub fn query<R: Threads + Wait + Sync, H: Host, S: Source, G: Gate + Sync>(
     gate: &G,
 ) -> Ending
     requires { 0 < bounds.readers }
-    ensures { (around : Around) → Queries H.moment H.observed H.said H.reads H.may_leave bounds.epoch result
+    ensures { (around : Around) → Queries H.Host bounds.epoch result
         (record { source = record { given = S.given input.old; left = S.remaining input.old; at_end = S.at_end input.old }; source_faults = S.faults input.old; say_faults = H.say_faults host.old; disk_faults = H.disk_faults host.old; around = around })
         (record { source = record { given = S.given input.new; left = S.remaining input.new; at_end = S.at_end input.new }; source_faults = S.faults input.new; say_faults = H.say_faults host.new; disk_faults = H.disk_faults host.new; around = around })
         host.old host.new }

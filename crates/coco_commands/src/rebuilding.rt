@@ -11,7 +11,7 @@ use std::alloc::Global;
 /// Makes the file of a node again, out of those of the other holders of its partitions, under a new number that one
 /// layout more names. It says nothing, and the node's old file isn't read.
 pub fn rebuild<H: Host>(alloc: Global, host: &mut H, node: u8) -> Ending
-    ensures { Rebuilds H.moment H.observed H.said H.reads H.may_leave node result (record { say = H.say_faults host.old; disk = H.disk_faults host.old })
+    ensures { Rebuilds H.Host node result (record { say = H.say_faults host.old; disk = H.disk_faults host.old })
         (record { say = H.say_faults host.new; disk = H.disk_faults host.new }) host.old host.new }
 {
     ending_of_rebuilding(node, coco_rebuild::rebuild(alloc, host, node))

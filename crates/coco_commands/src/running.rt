@@ -42,9 +42,9 @@ pub fn run<
     requires workers { 0 < bounds.workers }
     requires attempts { 0 < bounds.attempts }
     requires unsent { N.sent net.old ≡ [] }
-    ensures { RunsOn H.moment H.observed H.said H.reads H.may_leave bounds result
-        (record { source = record { given = S.given input.old; left = S.remaining input.old; at_end = S.at_end input.old }; source_faults = S.faults input.old; say_faults = H.say_faults host.old; disk_faults = H.disk_faults host.old; around = around N.sent N.given N.faults N.last_seed P.stops_seen P.early_stops P.stopped P.begun P.asked net.old power.old })
-        (record { source = record { given = S.given input.new; left = S.remaining input.new; at_end = S.at_end input.new }; source_faults = S.faults input.new; say_faults = H.say_faults host.new; disk_faults = H.disk_faults host.new; around = around N.sent N.given N.faults N.last_seed P.stops_seen P.early_stops P.stopped P.begun P.asked net.new power.new })
+    ensures { RunsOn H.Host bounds result
+        (record { source = record { given = S.given input.old; left = S.remaining input.old; at_end = S.at_end input.old }; source_faults = S.faults input.old; say_faults = H.say_faults host.old; disk_faults = H.disk_faults host.old; around = around N.Net P.Power net.old power.old })
+        (record { source = record { given = S.given input.new; left = S.remaining input.new; at_end = S.at_end input.new }; source_faults = S.faults input.new; say_faults = H.say_faults host.new; disk_faults = H.disk_faults host.new; around = around N.Net P.Power net.new power.new })
         host.old host.new }
 {
     match open_cluster(alloc, host) {

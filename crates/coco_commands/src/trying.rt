@@ -38,9 +38,9 @@ pub fn try_out<R: Threads + Wait + Clock + Sync, H: Host, N: Net + Sync, P: Powe
     requires workers { 0 < bounds.workers }
     requires attempts { 0 < bounds.attempts }
     requires unsent { N.sent net.old ≡ [] }
-    ensures { TriesOn H.moment H.observed H.said H.reads H.may_leave bounds (workload_of load.calls load.seed) result
-        (around N.sent N.given N.faults N.last_seed P.stops_seen P.early_stops P.stopped P.begun P.asked net.old power.old)
-        (around N.sent N.given N.faults N.last_seed P.stops_seen P.early_stops P.stopped P.begun P.asked net.new power.new)
+    ensures { TriesOn H.Host bounds (workload_of load.calls load.seed) result
+        (around N.Net P.Power net.old power.old)
+        (around N.Net P.Power net.new power.new)
         (record { say = H.say_faults host.old; disk = H.disk_faults host.old }) (record { say = H.say_faults host.new; disk = H.disk_faults host.new })
         host.old host.new }
 {

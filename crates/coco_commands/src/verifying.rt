@@ -25,7 +25,7 @@ struct Verdict {
 
 /// Says whether the replies of the store's epochs are those of a serial run, or which one isn't.
 pub fn verify<H: Host>(alloc: Global, host: &mut H) -> Ending
-    ensures { Verifies H.moment H.observed H.said H.reads H.may_leave result (record { say = H.say_faults host.old; disk = H.disk_faults host.old })
+    ensures { Verifies H.Host result (record { say = H.say_faults host.old; disk = H.disk_faults host.old })
         (record { say = H.say_faults host.new; disk = H.disk_faults host.new }) host.old host.new }
 {
     let store = match recover_whole(alloc, host) {

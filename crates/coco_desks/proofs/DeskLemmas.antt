@@ -4,7 +4,7 @@ use Rattle.std.specs.Global.{Vec}
 use Rattle.std.specs.List.{AllByRecursion, cons_option, slice_get}
 use Rattle.std.specs.Option.{option_map}
 use Rattle.std.proofs.lemmas.List.{append-nil, length-map}
-use Rattle.std.proofs.lemmas.List.Elements.{All-from_recursion, All-head, recursion_from_All}
+use Rattle.std.proofs.lemmas.List.Elements.{All-from_recursion, All-head, All-push, recursion_from_All}
 use Rattle.std.proofs.lemmas.Option.{same_Some, slice_get-get_or, slice_get-map}
 use Rattle.coco_journaled.specs.declared.entry.Entry.{Entry}
 use Rattle.coco_journaled.specs.Passes.{HasPasses, Passing, new_pass}
@@ -25,6 +25,12 @@ pub number_at : (first count n : ℕ) → n < count → slice_get (numbers first
 number_at first zero n lt = absurd (omega arith)
 number_at first (suc count) zero lt = ap Some (let h : first ≡ first + 0 = omega arith in h)
 number_at first (suc count) (suc n) lt = number_at (suc first) count n (omega arith) ∙ ap Some (let h : suc first + n ≡ first + suc n = omega arith in h)
+
+-- a row more that has no items and as much room
+pub row_more : {X : Type 0} (room : ℕ) (rows after : List (Vec X)) (row : Vec X) → All (λ (r : Vec X). (r.items ≡ []) × (vec_capacity r ≡ room)) rows → after ≡ rows ++ row ∷ []
+    → row.items ≡ [] → vec_capacity row ≡ room → All (λ (r : Vec X). (r.items ≡ []) × (vec_capacity r ≡ room)) after
+row_more {X} room rows after row all is empty kept =
+    let P : Vec X → Type 0 = λ r. (r.items ≡ []) × (vec_capacity r ≡ room) in subst (All P) (sym is) (All-push P rows row all (empty, kept))
 
 take_front : {X : Type 0} (xs rest : List X) → take (length xs) (xs ++ rest) ≡ xs
 take_front [] rest = refl

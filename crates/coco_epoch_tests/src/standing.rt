@@ -6,10 +6,10 @@ ghost use Rattle.coco_standing.specs.Standing.{AreCounted};
 
 use coco_copy::{CopyAsk, CopyTable};
 use coco_entry::Layout;
-use coco_load::Tables;
+use coco_load::{Tables, packed_rows};
 use coco_shard::{Ask, Op, Shard};
 use coco_standing::{promote_node, revert_all, take_tables};
-use coco_types::{AttemptId, Key, Machine, NoMemory, Sequence, Value, Write};
+use coco_types::{AttemptId, Key, Machine, MapRows, NoMemory, Sequence, Value, Write};
 use std::alloc::Global;
 use std::test::Fail;
 
@@ -51,8 +51,9 @@ fn loaded(alloc: Global, layout: &Layout, number: i64) -> Result<Tables, NoMemor
     ensures { IfOk result (λ tables. AreCounted layout.now tables.shards.items tables.copies.items) }
 {
     let mut tables = Tables::new(alloc, layout)?;
-    let rows = [(key(0), Value::Int(number)), (key(1), Value::Int(number))];
-    tables.load_base(layout, &rows)?;
+    let rows = vec![in alloc; (key(0), Value::Int(number)), (key(1), Value::Int(number))]?;
+    let rows = packed_rows(alloc, MapRows::from_vec(rows))?;
+    tables.load_base(layout, rows.as_slice())?;
     Ok(tables)
 }
 

@@ -5,6 +5,7 @@ use Rattle.std.proofs.Math.ListN.{set}
 use Rattle.std.proofs.lemmas.Bool.{eqb-true, eqb-false}
 use Rattle.std.proofs.lemmas.List.Elements.{All-append, All-cons, All-nil, Contains-append_cases, Contains-append_left, Contains-append_right}
 use Rattle.std.proofs.lemmas.Option.{same_Some}
+use Rattle.coco_vote.proofs.StepLemmas.{max_none}
 use Rattle.coco_chief.specs.Chief.{Chief}
 use Rattle.coco_msg.specs.declared.message.Message.{Message}
 use Rattle.coco_msg.specs.declared.message.Message.TheVariants.{Finished, Query}
@@ -22,9 +23,6 @@ use Rattle.coco_finish.specs.Finishing.{finished_of, is_behind, AllCanFinish, Ar
 use Rattle.coco_finish.specs.Stopping.{query_of, AllHaveNewest, StopSome, StopsHere, StopsOrNot}
 use Rattle.coco_finish.proofs.FinishLemmas.{get_set_other, get_set_same}
 use Rattle.coco_finish.proofs.HearLemmas.{none_in}
-
-max_none : (e : ℕ) → max e 0 ≡ e
-max_none e = omega arith
 
 unknown_not : ◌≡◌ {A = Decision} Unknown Aborted → ⊥
 unknown_not is = absurd cc

@@ -49,7 +49,7 @@ pub fn commit<H: Host, N: Net>(
     // The files.
     ensures files { (c : Contents) → let entry : Commit = record { epoch = epoch; dones = dones.now } in
         RestsOn c (H.reads host.old) (H.may_leave host.old) → IsChiefLog c log.old → (IsCommit entry → MayCommit c entry)
-        → Gains H.moment H.observed H.said H.reads H.may_leave result c (with_commit entry c) host.old host.new }
+        → Gains H.Host result c (with_commit entry c) host.old host.new }
     ensures log { OnOk result (log.new ≡ with_entry log.old (commit_bytes (record { epoch = epoch; dones = dones.now }))) }
     ensures stands { OnOk result (Stands log.new (H.reads host.new) (H.may_leave host.new)) }
     ensures others { (other : LogState) → other.file ≢ log.old.file → Stands other (H.reads host.old) (H.may_leave host.old) → Stands other (H.reads host.new) (H.may_leave host.new) }

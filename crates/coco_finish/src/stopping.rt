@@ -39,7 +39,7 @@ fn stop_here<N: Net, P: Power>(
     ensures log { voter.new.log ≡ voter.old.log }
     ensures held { voter.new.held ≡ voter.old.held }
     ensures early { P.early_stops power.new ≡ P.early_stops power.old }
-    ensures later { IsLater P.stops_seen P.early_stops P.stopped P.begun P.asked power.old power.new }
+    ensures later { IsLater P.Power power.old power.new }
     ensures asked { P.asked power.new node 6 ≡ true }
     ensures world { OnOk result ((chief : ChiefState) → GoesBetween (P.stopped power.old) (P.stopped power.new) SameEntries (record { cores = cores.old; chief = chief; sent = N.sent net.old }) (record { cores = cores.new; chief = chief; sent = N.sent net.new })) }
     ensures fresh { AreFresh (N.sent net.old) (N.fresh net.old) (N.sent net.new) (N.fresh net.new) }
@@ -73,7 +73,7 @@ pub fn stop_last<N: Net, P: Power>(
     ensures can { OnOk result (AllCanFinish epoch cores.old → AllCanFinish epoch cores.new) }
     ensures in_step { OnOk result ((chief : ChiefState) (marks : List Bool) → AreInStep epoch cores.old chief (N.sent net.old) marks → AreInStep epoch cores.new chief (N.sent net.new) marks) }
     ensures early { P.early_stops power.new ≡ P.early_stops power.old }
-    ensures later { IsLater P.stops_seen P.early_stops P.stopped P.begun P.asked power.old power.new }
+    ensures later { IsLater P.Power power.old power.new }
     ensures asked { OnOk result ((n : ℕ) → n < length cores.old → P.asked power.new n 6 ≡ true) }
     ensures world { OnOk result ((chief : ChiefState) → GoesBetween (P.stopped power.old) (P.stopped power.new) SameEntries (record { cores = cores.old; chief = chief; sent = N.sent net.old }) (record { cores = cores.new; chief = chief; sent = N.sent net.new })) }
     ensures fresh { AreFresh (N.sent net.old) (N.fresh net.old) (N.sent net.new) (N.fresh net.new) }

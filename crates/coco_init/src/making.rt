@@ -33,7 +33,7 @@ pub fn init<H: Host, S: Source>(
     requires { IsWithinLimits (entry_of (new_layout nodes partitions copies [])) }
     ensures initiates { (text : List ℕ) × Gives (record { given = S.given input.old; left = S.remaining input.old; at_end = S.at_end input.old })
         (record { given = S.given input.new; left = S.remaining input.new; at_end = S.at_end input.new }) text
-        × Initiates H.moment H.observed H.said H.reads H.may_leave result (new_layout nodes partitions copies text) text
+        × Initiates H.Host result (new_layout nodes partitions copies text) text
         (record { given = S.given input.new; left = S.remaining input.new; at_end = S.at_end input.new }) host.old host.new }
 
     ensures quiet { H.said host.new ≡ H.said host.old }
@@ -55,7 +55,7 @@ pub fn init<H: Host, S: Source>(
 // File 0 has no byte.
 fn expect_no_store<H: Host>(host: &mut H) -> Result<(), Ending>
     ensures finds { FindsNone result (H.reads host.old) }
-    ensures read { IsOnlyRead H.moment H.observed H.said H.reads H.may_leave host.old host.new }
+    ensures read { IsOnlyRead H.Host host.old host.new }
     ensures disk { CountsDisk result (H.disk_faults host.old) (H.disk_faults host.new) }
 {
     match host.len(0) {
@@ -78,7 +78,7 @@ fn make<H: Host>(
     requires accepted { (tree : Procedures) × IsAcceptedText text tree }
     requires empty { IfSome (H.reads host.old) (λ files. files 0 ≡ []) }
     ensures makes { (tree : Procedures) → IsAcceptedText text tree
-        → MakesStore H.moment H.observed H.said H.reads H.may_leave result (new_layout nodes partitions copies text) tree host.old host.new }
+        → MakesStore H.Host result (new_layout nodes partitions copies text) tree host.old host.new }
     ensures quiet { H.said host.new ≡ H.said host.old }
     ensures disk { CountsDisk result (H.disk_faults host.old) (H.disk_faults host.new) }
 {

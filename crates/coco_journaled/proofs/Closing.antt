@@ -54,7 +54,6 @@ module _ {M Q A : Type 0} where
   pub begins : (note : Known (Entry Q A) M) (own : List ℕ) → (note.calls ≡ []) × (note.holds ≡ false) → own ≡ [] → IsPassOf note.number note own
   begins note own is none = record {
     number_is = refl;
-    free = is.1;
     calls_are = is.0 ∙ ap (λ cs. map (noted note.number) (called cs)) (sym is.0);
     places_are = none ∙ ap (λ cs. places (called cs)) (sym is.0);
     before = subst (λ cs. All (λ (c : Placed Q A). c.place < length note.list) (called cs)) (sym is.0) (All-nil (λ (c : Placed Q A). c.place < length note.list));

@@ -1,3 +1,4 @@
 pub mod Closing
+pub mod Holding
 pub mod Stepping
 pub mod Picking

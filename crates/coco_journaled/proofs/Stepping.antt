@@ -1,5 +1,5 @@
 -- One more entry in a journal, and one more call of a pass.
-use Rattle.std.proofs.Common.{◌≡◌, ℕ, zero, suc, ◌+◌, ◌<◌, ◌≤◌, ◌⊎◌, inl, inr, ⊎_elim, List, [], ◌∷◌, ◌++◌, map, length, take, true, false, All, Some, refl, sym, ap, ◌∙◌, subst, arith, length-append}
+use Rattle.std.proofs.Common.{◌≡◌, ℕ, zero, suc, ◌+◌, ◌<◌, ◌≤◌, ◌⊎◌, inl, inr, ⊎_elim, List, [], ◌∷◌, ◌++◌, map, length, take, Bool, true, All, Some, refl, sym, ap, ◌∙◌, subst, arith, length-append}
 use Rattle.std.specs.Prelude.{slice_get}
 use mathlib.Core.List.{IsPrefix}
 use Rattle.std.proofs.lemmas.List.{take-append-le, map_push}
@@ -44,16 +44,16 @@ module _ {M Q A : Type 0} (answer_to : M → Q → A) (state_after : M → Q →
       }
 
 module _ {M Q A : Type 0} where
-  -- a pass whose note took the value, entered a call, and gave the value back
-  pub pass_entered : (number : ℕ) (old taken gave : Known (Entry Q A) M) (own kept now : List ℕ) (found : List (Entry Q A)) (ask : Q) (answer : A) → IsPassOf number old own → taken ≡ record old { list = found; holds = true } → IsPrefix old.list found
-      → gave ≡ record taken { list = taken.list ++ entry number ask answer ∷ []; calls = taken.calls ++ (length taken.list, entry number ask answer) ∷ []; holds = false } → kept ≡ own → now ≡ kept ++ length taken.list ∷ []
+  -- a pass whose note took the value, entered a call, and let the value go or kept it
+  pub pass_entered : (b : Bool) (number : ℕ) (old taken gave : Known (Entry Q A) M) (own kept now : List ℕ) (found : List (Entry Q A)) (ask : Q) (answer : A) → IsPassOf number old own → taken ≡ record old { list = found; holds = true } → IsPrefix old.list found
+      → gave ≡ record taken { list = taken.list ++ entry number ask answer ∷ []; calls = taken.calls ++ (length taken.list, entry number ask answer) ∷ []; holds = b } → kept ≡ own → now ≡ kept ++ length taken.list ∷ []
       → IsPassOf number gave now
-  pass_entered number old taken gave own kept now found ask answer is takes begins gives same more =
+  pass_entered b number old taken gave own kept now found ask answer is takes begins gives same more =
       let e : Entry Q A = entry number ask answer in
       let c : Placed Q A = placed (length found) ask answer in
       let calls : List (Placed Q A) = called old.calls in
-      let go : Known (Entry Q A) M → Known (Entry Q A) M = λ k. record k { list = k.list ++ e ∷ []; calls = k.calls ++ (length k.list, e) ∷ []; holds = false } in
-      let note : record old { list = found ++ e ∷ []; calls = old.calls ++ (length found, e) ∷ []; holds = false } ≡ gave = ap go (sym takes) ∙ sym gives in
+      let go : Known (Entry Q A) M → Known (Entry Q A) M = λ k. record k { list = k.list ++ e ∷ []; calls = k.calls ++ (length k.list, e) ∷ []; holds = b } in
+      let note : record old { list = found ++ e ∷ []; calls = old.calls ++ (length found, e) ∷ []; holds = b } ≡ gave = ap go (sym takes) ∙ sym gives in
       let size : length taken.list ≡ length found = ap (λ (k : Known (Entry Q A) M). length k.list) takes in
       let grown : own ++ length found ∷ [] ≡ now = ap (λ l. l ++ length found ∷ []) (sym same) ∙ (ap (λ n. kept ++ n ∷ []) (sym size) ∙ sym more) in
       let longer : length old.list ≤ length found = omega (arith, length-append old.list begins.0, ap length begins.1) in
@@ -63,7 +63,6 @@ module _ {M Q A : Type 0} where
       let below : All (λ (x : Placed Q A). x.place < length (found ++ e ∷ [])) (calls ++ c ∷ []) = All-push (λ (x : Placed Q A). x.place < length (found ++ e ∷ [])) calls c (λ k d below. omega (arith, is.before k d below, longer, all)) (omega (arith, all)) in
       subst (λ (p : Known (Entry Q A) M × List ℕ). IsPassOf number p.0 p.1) (λ i. (note i, grown i)) record {
         number_is = is.number_is;
-        free = refl;
         calls_are = ap (λ l. l ++ (length found, e) ∷ []) is.calls_are ∙ (sym (map_push (noted number) calls c) ∙ ap (map (noted number)) (sym one_more));
         places_are = ap (λ l. l ++ length found ∷ []) is.places_are ∙ (sym (map_push (λ (x : Placed Q A). x.place) calls c) ∙ ap places (sym one_more));
         before = subst (All (λ (x : Placed Q A). x.place < length (found ++ e ∷ []))) (sym one_more) below;
@@ -71,15 +70,15 @@ module _ {M Q A : Type 0} where
       }
 
   -- what it tells of the step
-  pub pass_steps : (answer_to : M → Q → A) (state_after : M → Q → M) (number : ℕ) (old taken gave : Known (Entry Q A) M) (root machine : M) (found : List (Entry Q A)) (ask : Q) (answer : A) → taken ≡ record old { list = found; holds = true } → IsPrefix old.list found
+  pub pass_steps : (answer_to : M → Q → A) (state_after : M → Q → M) (b : Bool) (number : ℕ) (old taken gave : Known (Entry Q A) M) (root machine : M) (found : List (Entry Q A)) (ask : Q) (answer : A) → taken ≡ record old { list = found; holds = true } → IsPrefix old.list found
       → old.root ≡ Some root → Replays answer_to state_after root found machine → answer ≡ answer_to machine ask
-      → gave ≡ record taken { list = taken.list ++ entry number ask answer ∷ []; calls = taken.calls ++ (length taken.list, entry number ask answer) ∷ []; holds = false }
+      → gave ≡ record taken { list = taken.list ++ entry number ask answer ∷ []; calls = taken.calls ++ (length taken.list, entry number ask answer) ∷ []; holds = b }
       → Steps answer_to state_after (passing number old) ask answer (passing number gave)
-  pass_steps answer_to state_after number old taken gave root machine found ask answer takes begins rooted run says gives =
+  pass_steps answer_to state_after b number old taken gave root machine found ask answer takes begins rooted run says gives =
       let e : Entry Q A = entry number ask answer in
       let seen : List (Entry Q A) = old.list ++ begins.0 in
-      let from : List (Entry Q A) → Known (Entry Q A) M = λ l. record old { list = l ++ e ∷ []; calls = old.calls ++ (length l, e) ∷ []; holds = false } in
-      let go : Known (Entry Q A) M → Known (Entry Q A) M = λ k. record k { list = k.list ++ e ∷ []; calls = k.calls ++ (length k.list, e) ∷ []; holds = false } in
+      let from : List (Entry Q A) → Known (Entry Q A) M = λ l. record old { list = l ++ e ∷ []; calls = old.calls ++ (length l, e) ∷ []; holds = b } in
+      let go : Known (Entry Q A) M → Known (Entry Q A) M = λ k. record k { list = k.list ++ e ∷ []; calls = k.calls ++ (length k.list, e) ∷ []; holds = b } in
       let note : gave ≡ from seen = gives ∙ (ap go takes ∙ ap from (sym begins.1)) in
       let one_more : called (old.calls ++ (length seen, e) ∷ []) ≡ called old.calls ++ placed (length seen) ask answer ∷ [] = map_push (λ (x : ℕ × Entry Q A). placed x.0 x.1.ask x.1.answer) old.calls (length seen, e) in (
         root,

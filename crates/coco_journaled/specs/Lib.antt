@@ -1,3 +1,4 @@
+pub mod Holding
 pub mod Packing
 pub mod Passes
 pub mod Replay

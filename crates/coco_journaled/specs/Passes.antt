@@ -64,7 +64,6 @@ module _ {M Q A : Type 0} where
   -- what is true of every pass: its note's calls are entered under its number and rise, and it has their places
   pub record IsPassOf (number : ℕ) (note : Known (Entry Q A) M) (own : List ℕ) : Type 0 where
     pub number_is : note.number ≡ number
-    pub free : note.holds ≡ false
     pub calls_are : note.calls ≡ map (noted number) (called note.calls)
     pub places_are : own ≡ places (called note.calls)
     pub before : All (λ (c : Placed Q A). c.place < length note.list) (called note.calls)

@@ -1,16 +1,15 @@
 //! The journaled lock: steps of a machine under a lock, each entered once and at its place.
 
 ghost use Rattle.std.specs.Prelude.{◌≡◌, ℕ, ◌<◌, ◌≤◌, List, [], ◌∷◌, ◌++◌, map, length, true, false, All, Some, slice_get, IfOk, IfErr, OnOk, OnErr, sum_by, vec_len, vec_capacity};
-ghost use mathlib.Core.List.{IsPrefix};
 ghost use Rattle.coco_seen.specs.Rules.{numbers, how_often, once_below};
-ghost use Rattle.coco_journaled.specs.Packing.{unpacked, unpacked_entry};
+ghost use Rattle.coco_journaled.specs.Holding.{HasRoom, HasStepped, Holds, IsHeld, SeesMore};
 ghost use Rattle.coco_journaled.specs.declared.entry.Entry.{Entry as Logged};
 ghost use Rattle.coco_journaled.specs.Passes.{HasPasses, placed, entry, entry_of, places, Rises, new_pass, pass_at, Steps, Looks};
 ghost use Rattle.coco_journaled.specs.Replay.{Replays};
 
 use crate::entry::Entry;
-use crate::guarded::Guarded;
-use crate::journal::{Journal, KeptEntry};
+use crate::guarded::{Guarded, make_room};
+use crate::journal::Journal;
 use crate::pass::Pass;
 use crate::room::{Closed, Room};
 use coco_packs::{AnswersInPlace, Packs};
@@ -18,6 +17,7 @@ use coco_seen::{Note, Seen};
 use coco_types::NoMemory;
 use std::alloc::Global;
 use std::marker::Model;
+use std::mem;
 use std::sync::Wait;
 
 /// A machine behind a lock that keeps a journal of its calls. To a contract it is its identity and the number of its passes.
@@ -26,6 +26,8 @@ pub struct Journaled<M: Packs> {
     seen: Seen<Guarded<M>>,
     /// Takes the lists of the passes in at the end, for which it has room.
     lists: Vec<Vec<u64>>,
+    /// It has one pass. Nobody else waits for the machine, so that pass keeps it between its steps.
+    alone: bool,
 }
 
 impl<M: Packs> Model for Journaled<M> {
@@ -58,6 +60,7 @@ impl<M: Packs> Journaled<M> {
         let Ok(list) = Vec::with_capacity(alloc, passes as usize) else {
             return Err((machine, NoMemory));
         };
+        let alone = passes == 1;
         let guarded = Guarded {
             machine,
             journal: journal.into_room(),
@@ -65,9 +68,10 @@ impl<M: Packs> Journaled<M> {
         match Seen::make(alloc, guarded, passes) {
             Ok((seen, notes)) => {
                 let list = passes_of(alloc, notes, list, &mut lists);
-                Ok((Journaled { seen, lists }, list))
+                Ok((Journaled { seen, lists, alone }, list))
             }
             Err((guarded, NoMemory)) => {
+                list.destroy_empty();
                 let Guarded {
                     machine,
                     journal: _,
@@ -89,19 +93,20 @@ impl<M: Packs> Journaled<M> {
         ensures err { IfErr result (λ _. Looks pass.old pass.new) }
     {
         let (packed, spare) = prepared::<M>(&mut pass.places, &mut pass.spare, &ask)?;
-        let mut guarded = self.taken(rt, &mut pass.note)?;
-        let Ok(answer) = guarded.machine.apply(ask) else {
-            self.seen.give(&mut pass.note, guarded);
+        self.hold(rt, &mut pass.note, &mut pass.held)?;
+        let Some(guarded) = &mut pass.held else {
+            unreachable!()
+        };
+        let Ok(answer) = guarded.apply(pass.number, ask, packed, spare, &mut pass.spare) else {
+            self.let_go(&mut pass.note, &mut pass.held);
             return Err(NoMemory);
         };
-        let (kept, spare) = kept_of::<M>(pass.number, packed, &answer, spare);
-        pass.spare = spare;
         let entry = Entry {
             pass: pass.number,
             ask,
             answer,
         };
-        self.enter(&mut pass.note, &mut pass.places, guarded, kept, entry);
+        self.enter(&mut pass.note, &mut pass.places, &mut pass.held, entry);
         Ok(answer)
     }
 
@@ -116,7 +121,11 @@ impl<M: Packs> Journaled<M> {
         ensures passes { map (λ pass. pass.number) passes.items ≡ numbers 0 (length passes.items) → HasPasses passes.items result.journal }
         ensures sized { length result.journal ≡ sum_by (λ pass. length pass.calls) passes.items }
     {
-        let Journaled { seen, mut lists } = self;
+        let Journaled {
+            seen,
+            mut lists,
+            alone: _,
+        } = self;
         let Guarded { machine, journal } = seen.close_of(passes, &mut lists);
         Closed {
             machine,
@@ -125,48 +134,81 @@ impl<M: Packs> Journaled<M> {
         }
     }
 
-    // Waits for the machine, and takes it with room in its journal for one more entry.
+    // Has the note hold the machine, with room in its journal for one more entry.
     #[inline(always)]
-    fn taken(&self, rt: &impl Wait, note: &mut Note<Guarded<M>>) -> Result<Guarded<M>, NoMemory>
+    fn hold(
+        &self,
+        rt: &impl Wait,
+        note: &mut Note<Guarded<M>>,
+        held: &mut Option<Guarded<M>>,
+    ) -> Result<(), NoMemory>
         requires lock { note.old.lock ≡ self.now.id }
-        requires free { note.old.holds ≡ false }
-        ensures note { IfOk result (λ g. note.new ≡ record note.old { list = unpacked M.ask_of M.answer_of g.journal.items; holds = true }) }
-        ensures seen { IfOk result (λ g. IsPrefix note.old.list (unpacked M.ask_of M.answer_of g.journal.items)) }
-        ensures from { IfOk result (λ g. (root : M) × (note.old.root ≡ Some root) × Replays M.answer_to M.state_after root (unpacked M.ask_of M.answer_of g.journal.items) g.machine) }
-        ensures room { IfOk result (λ g. vec_len g.journal < vec_capacity g.journal) }
-        ensures err { IfErr result (λ _. (between : List (Logged M.Ask M.Answer)) × (note.new ≡ record note.old { list = note.old.list ++ between })) }
+        requires held { IsHeld M.ask_of M.answer_of M.answer_to M.state_after note.old held.old }
+        ensures holds { OnOk result (Holds M.ask_of M.answer_of M.answer_to M.state_after note.old note.new held.new) }
+        ensures room { OnOk result (HasRoom held.new) }
+        ensures sees { OnErr result (SeesMore note.old note.new) }
+        ensures held { OnErr result (IsHeld M.ask_of M.answer_of M.answer_to M.state_after note.new held.new) }
     {
-        let mut guarded = self.seen.take(rt, note);
-        let Ok(()) = make_room(&mut guarded.journal) else {
-            self.seen.give(note, guarded);
+        self.reach(rt, note, held);
+        let Some(guarded) = held else { unreachable!() };
+        let Ok(()) = guarded.make_room() else {
+            self.let_go(note, held);
             return Err(NoMemory);
         };
-        Ok(guarded)
+        Ok(())
     }
 
-    // Enters the entry, gives the machine back, and notes the entry's place. There is room for both. Inlined, it doesn't build the entry, which proofs alone want.
+    // Waits for the machine, unless the note holds it.
+    #[inline(always)]
+    fn reach(&self, rt: &impl Wait, note: &mut Note<Guarded<M>>, held: &mut Option<Guarded<M>>)
+        requires lock { note.old.lock ≡ self.now.id }
+        requires held { IsHeld M.ask_of M.answer_of M.answer_to M.state_after note.old held.old }
+        ensures { Holds M.ask_of M.answer_of M.answer_to M.state_after note.old note.new held.new }
+    {
+        if let Some(_) = held {
+            return;
+        }
+        let guarded = self.seen.take(rt, note);
+        match mem::replace(held, Some(guarded)) {
+            None => {}
+            Some(_) => unreachable!(),
+        }
+    }
+
+    // Gives the machine back, but for the only pass of the lock, which keeps it.
+    #[inline(always)]
+    fn let_go(&self, note: &mut Note<Guarded<M>>, held: &mut Option<Guarded<M>>)
+        requires lock { note.old.lock ≡ self.now.id }
+        requires held { IsHeld M.ask_of M.answer_of M.answer_to M.state_after note.old held.old }
+        ensures note { note.new ≡ record note.old { holds = note.new.holds } }
+        ensures held { IsHeld M.ask_of M.answer_of M.answer_to M.state_after note.new held.new }
+    {
+        if self.alone {
+            return;
+        }
+        if let Some(guarded) = held.take() {
+            self.seen.give(note, guarded);
+        }
+    }
+
+    // Enters the entry that the machine's journal has got, lets the machine go, and notes the entry's place, for which there is room. Inlined, it doesn't build the entry, which proofs alone want.
     #[inline(always)]
     fn enter(
         &self,
         note: &mut Note<Guarded<M>>,
         places: &mut Vec<u64>,
-        mut guarded: Guarded<M>,
-        kept: KeptEntry<M::PackedAsk, M::PackedAnswer>,
+        held: &mut Option<Guarded<M>>,
         entry: Entry<M::Ask, M::Answer>,
     )
         requires lock { note.old.lock ≡ self.now.id }
-        requires holds { note.old.holds ≡ true }
-        requires kept { unpacked_entry M.ask_of M.answer_of kept ≡ entry }
-        requires list { unpacked M.ask_of M.answer_of guarded.journal.items ≡ note.old.list }
-        requires from { (root : M) × (note.old.root ≡ Some root) × Replays M.answer_to M.state_after root (unpacked M.ask_of M.answer_of guarded.journal.items ++ entry ∷ []) guarded.machine }
-        requires room { vec_len guarded.journal < vec_capacity guarded.journal }
+        requires stepped { HasStepped M.ask_of M.answer_of M.answer_to M.state_after entry note.old held.old }
         requires places { vec_len places.old < vec_capacity places.old }
-        ensures note { note.new ≡ record note.old { list = note.old.list ++ entry ∷ []; calls = note.old.calls ++ (length note.old.list, entry) ∷ []; holds = false } }
+        ensures note { note.new ≡ record note.old { list = note.old.list ++ entry ∷ []; calls = note.old.calls ++ (length note.old.list, entry) ∷ []; holds = note.new.holds } }
+        ensures held { IsHeld M.ask_of M.answer_of M.answer_to M.state_after note.new held.new }
         ensures places { places.new.items ≡ places.old.items ++ length note.old.list ∷ [] }
     {
-        guarded.journal.push_reserved(kept);
         let place = self.seen.append(note, entry);
-        self.seen.give(note, guarded);
+        self.let_go(note, held);
         places.push_reserved(place);
     }
 }
@@ -186,19 +228,20 @@ impl<M: AnswersInPlace> Journaled<M> {
         ensures err { OnErr result (Looks pass.old pass.new) }
     {
         let (packed, spare) = prepared::<M>(&mut pass.places, &mut pass.spare, ask)?;
-        let mut guarded = self.taken(rt, &mut pass.note)?;
-        let Ok(()) = guarded.machine.answer(ask, answer) else {
-            self.seen.give(&mut pass.note, guarded);
+        self.hold(rt, &mut pass.note, &mut pass.held)?;
+        let Some(guarded) = &mut pass.held else {
+            unreachable!()
+        };
+        let Ok(()) = guarded.answer(pass.number, ask, answer, packed, spare, &mut pass.spare) else {
+            self.let_go(&mut pass.note, &mut pass.held);
             return Err(NoMemory);
         };
-        let (kept, spare) = kept_of::<M>(pass.number, packed, answer, spare);
-        pass.spare = spare;
         let entry = Entry {
             pass: pass.number,
             ask: *ask,
             answer: *answer,
         };
-        self.enter(&mut pass.note, &mut pass.places, guarded, kept, entry);
+        self.enter(&mut pass.note, &mut pass.places, &mut pass.held, entry);
         Ok(())
     }
 }
@@ -220,41 +263,12 @@ fn prepared<M: Packs>(
     Ok((packed, spare_of::<M>(alloc, spare)?))
 }
 
-// A call as it is kept, and the spare memory where it wasn't needed.
-#[inline(always)]
-fn kept_of<M: Packs>(
-    pass: u32,
-    ask: M::PackedAsk,
-    answer: &M::Answer,
-    spare: M::Spare,
-) -> (KeptEntry<M::PackedAsk, M::PackedAnswer>, Option<M::Spare>)
-    ensures { unpacked_entry M.ask_of M.answer_of result.0 ≡ entry pass (M.ask_of ask) answer.now }
-{
-    let (answer, spare) = M::pack_answer(answer, spare);
-    (KeptEntry { pass, ask, answer }, spare)
-}
-
 // Takes the spare memory, or makes some where there is none.
 fn spare_of<M: Packs>(alloc: Global, spare: &mut Option<M::Spare>) -> Result<M::Spare, NoMemory> {
     match spare.take() {
         Some(spare) => Ok(spare),
         None => M::spare(alloc),
     }
-}
-
-// Takes the room for one more item. Items are copied where a list grows, so a full list becomes four times as long, or one longer where memory is short.
-fn make_room<T>(items: &mut Vec<T>) -> Result<(), NoMemory>
-    ensures items { items.new.items ≡ items.old.items }
-    ensures room { OnOk result (vec_len items.new < vec_capacity items.new) }
-{
-    if items.len() < items.capacity() {
-        return Ok(());
-    }
-    let more = items.len().saturating_mul(3).max(1);
-    if items.reserve(more).is_err() {
-        items.reserve(1)?;
-    }
-    Ok(())
 }
 
 // A pass for each note, in their order. There is room for them.
@@ -287,6 +301,7 @@ fn pass_of<M: Packs>(note: Note<Guarded<M>>, places: Vec<u64>) -> Pass<M>
         note,
         places,
         spare: None,
+        held: None,
     }
 }
 

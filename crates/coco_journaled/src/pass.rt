@@ -5,7 +5,7 @@ ghost use Rattle.coco_journaled.specs.Passes.{places};
 
 use crate::guarded::Guarded;
 use coco_packs::Packs;
-use coco_seen::{HoldsNote, Note};
+use coco_seen::{HoldsNote, Note, Seen};
 use std::marker::Model;
 
 /// What one caller knows of a journaled lock and has done under it. To a contract it is its number, the machine at the start, the entries that it has seen, and its own calls with their places.
@@ -15,25 +15,29 @@ pub struct Pass<M: Packs> {
     pub(crate) places: Vec<u64>,
     /// Memory for the packing of the next answer.
     pub(crate) spare: Option<M::Spare>,
+    /// The machine, which the only pass of a lock keeps from its first step on.
+    pub(crate) held: Option<Guarded<M>>,
 }
 
 impl<M: Packs> Model for Pass<M> {
+    ghost use Rattle.coco_journaled.specs.Holding.{IsHeld};
     ghost use Rattle.coco_journaled.specs.Passes.{Passing, passing, IsPassOf};
 
     ghost Value = { Passing M M.Ask M.Answer };
 
     ghost view = { λ p. passing p.number p.note };
 
-    ghost invariant = { λ p. IsPassOf p.number p.note p.places.items };
+    ghost invariant = { λ p. IsPassOf p.number p.note p.places.items × IsHeld M.ask_of M.answer_of M.answer_to M.state_after p.note p.held };
 }
 
-impl<M: Packs> Drop for Pass<M> {
+impl<M: Packs + Drop> Drop for Pass<M> {
     fn drop(self) {
         let Pass {
             number: _,
             note: _,
             places: _,
             spare: _,
+            held: _,
         } = self;
     }
 }
@@ -57,13 +61,17 @@ impl<M: Packs> HoldsNote<Guarded<M>> for Pass<M> {
     type Rests = Vec<Vec<u64>>;
 
     // The list is kept where there is room for it.
-    fn into_note(self, lists: &mut Vec<Vec<u64>>) -> Note<Guarded<M>> {
+    fn into_note(self, lock: &Seen<Guarded<M>>, lists: &mut Vec<Vec<u64>>) -> Note<Guarded<M>> {
         let Self {
             number: _,
-            note,
+            mut note,
             mut places,
             spare: _,
+            held,
         } = self;
+        if let Some(guarded) = held {
+            lock.give(&mut note, guarded);
+        }
         places.clear();
         if lists.len() < lists.capacity() {
             lists.push_reserved(places);

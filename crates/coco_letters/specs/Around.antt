@@ -1,6 +1,8 @@
 -- What is seen and changed around a store, by the net and the power; and how many numbers of epochs may be skipped for it.
 use Rattle.std.specs.Prelude.{◌≡◌, ℕ, ◌+◌, ◌*◌, ◌-◌, ◌≤◌, Bool, List, ◌++◌, Option}
 use Rattle.coco_net.specs.declared.letter.Posted.{Posted}
+use Rattle.coco_net.specs.declared.net.Net.{Ghosts as NetGhosts}
+use Rattle.coco_power.specs.declared.power.Power.{Ghosts as PowerGhosts}
 
 -- what a net tells at a moment, and what a power does: the letters sent and given, the rounds that lost one and the seed of its disturbances; the stops and
 -- those before an entry, each node's stops, the epochs begun, and what was asked in the last one
@@ -16,9 +18,18 @@ pub record Around : Type 0 where
   pub asked : ℕ → ℕ → Bool
 
 -- what these tell of a net and of a power
-abbrev pub around : {N P : Type 0} → (N → List Posted) → (N → List Posted) → (N → ℕ) → (N → Option ℕ) → (P → ℕ) → (P → ℕ) → (P → ℕ → ℕ) → (P → ℕ) → (P → ℕ → ℕ → Bool) → N → P → Around
-around sent given faults seed stops early stopped begun asked net power =
-    record { sent = sent net; given = given net; faults = faults net; seed = seed net; stops = stops power; early = early power; stopped = stopped power; begun = begun power; asked = asked power }
+abbrev pub around : {N P : Type 0} → NetGhosts N → PowerGhosts P → N → P → Around
+around nets powers net power = record {
+  sent = nets.sent net;
+  given = nets.given net;
+  faults = nets.faults net;
+  seed = nets.last_seed net;
+  stops = powers.stops_seen power;
+  early = powers.early_stops power;
+  stopped = powers.stopped power;
+  begun = powers.begun power;
+  asked = powers.asked power;
+}
 
 -- later in a call: no letter was forgotten, no count fell, and the net was asked for no disturbances
 pub record IsLater (a b : Around) : Type 0 where

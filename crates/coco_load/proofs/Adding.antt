@@ -2,7 +2,7 @@
 use Rattle.std.proofs.Common.{◌≡◌, inl, inr, ℕ, ◌+◌, ◌<◌, ◌≤◌, Bool, true, false, cond, ◌||◌, max, nat_eq, nat_lt, List, [], ◌∷◌, ◌++◌, append-nil, append_assoc, filter, length, map, Option, None, Some, refl, sym, ap, ◌∙◌, subst, arith}
 use Rattle.std.specs.List.{AllByRecursion, IsDistinct, flat_map}
 use Rattle.std.specs.Set.{is_member}
-use Rattle.std.proofs.lemmas.Bool.{ltb-true, ltb-false, eq-eqb}
+use Rattle.std.proofs.lemmas.Bool.{eq-eqb, ltb-false, ltb-true, or_left, or_parts, or_right}
 use Rattle.std.proofs.lemmas.Bool.Decides.{nat_tests}
 use Rattle.std.proofs.lemmas.List.Concat.{flat_map-append}
 use Rattle.std.proofs.lemmas.List.Folds.{list_any-append}
@@ -141,14 +141,10 @@ never_fall-push : (ds : List Done) (d : Done) → NeverFall ds → AreUpTo d.epo
 never_fall-push [] d rising up = (tt, tt)
 never_fall-push (x ∷ xs) d rising up = (all_append (λ (e : Done). x.epoch ≤ e.epoch) xs (d ∷ []) rising.0 (up.0, tt), never_fall-push xs d rising.1 up.1)
 
-either_no : (a b : Bool) → a || b ≡ false → (a ≡ false) × (b ≡ false)
-either_no true b none = absurd (let h : true ≡ false = none in cc)
-either_no false b none = (refl, none)
-
 new_id : (ds : List Done) (id : ℕ) → is_member nat_eq (ids_of ds) id ≡ false → done_of id ds ≡ None
 new_id [] id absent = refl
 new_id (d ∷ ds) id absent = (
-    let both = either_no (nat_eq id d.id) (is_member nat_eq (ids_of ds) id) absent in
+    let both = or_parts (nat_eq id d.id) (is_member nat_eq (ids_of ds) id) absent in
     ap (λ (b : Bool). cond b (Some d) (done_of id ds)) both.0 ∙ new_id ds id both.1)
 
 not_later : (d e : Done) → IsBefore d e → d.epoch ≤ e.epoch
@@ -244,14 +240,6 @@ kept_are_the_history c k keep is holds = (
 )
 
 -- ---- epochs
-
-or_left : (a b : Bool) → a ≡ true → a || b ≡ true
-or_left true b e = refl
-or_left false b e = absurd (let h : false ≡ true = e in cc)
-
-or_right : (a b : Bool) → b ≡ true → a || b ≡ true
-or_right true b e = refl
-or_right false b e = e
 
 last_in : (x : ℕ) → is_member nat_eq (x ∷ []) x ≡ true
 last_in x = or_left (nat_eq x x) false (eq-eqb x x refl)

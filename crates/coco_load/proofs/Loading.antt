@@ -2,6 +2,7 @@
 use Rattle.std.proofs.Common.{◌≡◌, ℕ, ◌%◌, Bool, true, false, cond, Option, None, Some, IsSome, refl, sym, ap, ◌∙◌, subst}
 use Rattle.std.specs.FinMap.{empty, get-empty}
 use Rattle.std.specs.Option.{is_some, option_map, unwrap_or}
+use Rattle.coco_shard.proofs.Steps.{holds_settled, loads_settle}
 use Rattle.coco_types.specs.RowKey.{RowKey, key_cmp}
 use Rattle.coco_types.specs.declared.value.Value.{Value}
 use Rattle.coco_types.proofs.Keys.{is_key, key_swap, one_key}
@@ -37,15 +38,8 @@ stable_held f s holds k = ap (λ (o : Option RowState). (unwrap_or o (resting No
     choose None = refl
     choose (Some v) = refl
 
--- one that holds a map isn't touched
-settled_held : (f : RowKey → Option Value) (s : ShardState) → Holds f s → IsSettled s
-settled_held f s holds k = holds k ∙ ap rested (sym (stable_held f s holds k))
-
-pub settled_loaded : (s : ShardState) (key : RowKey) (value : Option Value) → IsSettled s → IsSettled (loaded s key value)
-settled_loaded s key value settled = settled_held (λ k. cond (is_key key k) value (stable_at s k)) (loaded s key value) (held_loaded (stable_at s) s key value settled)
-
 pub settled_of : (count p : ℕ) (m : Rows) (s : ShardState) → IsShardOf count p m s → IsSettled s
-settled_of count p m s of = settled_held (value_at m) s of.holds
+settled_of count p m s of = holds_settled (value_at m) s of.holds
 
 pub shard_loaded : (count p : ℕ) (m : Rows) (s : ShardState) (key : RowKey) (value : Option Value) → key.row % count ≡ p → IsShardOf count p m s → IsShardOf count p (write_at m key value) (loaded s key value)
 shard_loaded count p m s key value here of = record {

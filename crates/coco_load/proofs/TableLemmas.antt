@@ -4,6 +4,7 @@ use Rattle.std.specs.FinMap.{empty, get-empty}
 use Rattle.std.proofs.lemmas.Bool.{eqb-true, eq-eqb}
 use Rattle.std.proofs.lemmas.List.{get_or-set_same, get_or-set_other, take_at}
 use Rattle.std.proofs.Math.ListN.{length-set}
+use Rattle.coco_shard.proofs.Steps.{loads_settle}
 use Rattle.coco_types.specs.RowKey.{RowKey, key_cmp}
 use Rattle.coco_types.specs.declared.value.Value.{Value}
 use Rattle.coco_types.proofs.KeyMaps.{same_keyed}
@@ -15,7 +16,7 @@ use Rattle.coco_shard.specs.RowState.{IsSettled, ShardState, loaded}
 use Rattle.coco_store.specs.Placement.{partition_of}
 use Rattle.coco_load.specs.Reading.{with_row}
 use Rattle.coco_load.specs.Tables.{AreTables, HoldMap, HoldMaps, IsCopyOf, IsRing, IsShardOf, Maps, copy_at, shard_at}
-use Rattle.coco_load.proofs.Loading.{copy_loaded, no_copy, no_shard, settled_loaded, settled_of, shard_loaded}
+use Rattle.coco_load.proofs.Loading.{copy_loaded, no_copy, no_shard, settled_of, shard_loaded}
 use Rattle.coco_load.proofs.Ring.{one_place, place_within}
 
 two_sides : true ≡ false → ⊥
@@ -95,7 +96,7 @@ module _ (layout : Layout) (key : RowKey) (value : Option Value) (shards : List 
     shard_count = length-set shards here shard ∙ are.shard_count;
     copy_count = are.copy_count;
     settled = λ p. subst IsSettled (sym (shard_then are p)) (elim (nat_eq p here) as (λ b. IsSettled (cond b shard (shard_at shards p))) [
-      | true ↦ settled_loaded (shard_at shards here) key value (are.settled here)
+      | true ↦ loads_settle (shard_at shards here) key value (are.settled here)
       | false ↦ are.settled p
     ]);
   }

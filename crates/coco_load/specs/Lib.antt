@@ -1,6 +1,7 @@
 pub mod Epochs
 pub mod Keeping
 pub mod Laws
+pub mod Packing
 pub mod Reading
 pub mod RowMaps
 pub mod Tables

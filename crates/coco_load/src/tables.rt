@@ -10,6 +10,7 @@ ghost use Rattle.coco_store.specs.Rules.{Setting};
 ghost use Rattle.coco_load.specs.Reading.{puts, with_row, with_rows};
 ghost use Rattle.coco_load.specs.Tables.{AreTables, HoldMap, HoldMaps, IsRing, Maps, shard_at};
 
+use crate::packed::PackedRow;
 use coco_copy::CopyTable;
 use coco_entry::{Layout, Row};
 use coco_shard::Shard;
@@ -36,14 +37,14 @@ impl Tables {
     }
 
     /// Loads rows of a base into the shard and each copy of their partition. Out of memory the tables are given up.
-    pub fn load_base(&mut self, layout: &Layout, rows: &[(Key, Value)]) -> Result<(), NoMemory>
+    pub fn load_base(&mut self, layout: &Layout, rows: &[PackedRow]) -> Result<(), NoMemory>
         requires { AreTables layout.now self.old.shards.items self.old.copies.items }
         ensures tables { OnOk result (AreTables layout.now self.new.shards.items self.new.copies.items) }
         ensures ok { OnOk result ((m : Rows) → HoldMap layout.now m self.old.shards.items self.old.copies.items →
             HoldMap layout.now (put_over m (puts rows.now)) self.new.shards.items self.new.copies.items) }
     {
-        for (key, value) in rows {
-            self.load_everywhere(layout, *key, &Some(*value))?;
+        for row in rows {
+            self.load_everywhere(layout, row.key(), &Some(row.value()))?;
         }
         Ok(())
     }

@@ -7,9 +7,10 @@ use Rattle.coco_bytes.specs.Fields.{u32_bytes}
 use Rattle.coco_host.specs.Files.{Files, put, put_into, TornIn, Become, Follows, IsDurable}
 use Rattle.coco_host.specs.Moments.{Observation, IsNew, Elapses, SeesOnly}
 use Rattle.coco_host.proofs.Sees.{started, goes_on, said_still}
+use Rattle.coco_host.specs.declared.host.Host.{Ghosts as HostGhosts}
 use Rattle.coco_log.specs.Grammar.{header, counted, entry, front, IsShort, IsPiece, IsLog}
 use Rattle.coco_log.specs.LogState.{LogState, without_entries, with_entry, places_from, IsAtRest, IsReady, IsBeforeOrAfter, ChangesOne, IsWritten, IsAppended, IsMade}
-use Rattle.coco_log.specs.Making.{MakesLog, made_count}
+use Rattle.coco_log.specs.Making.{TearsOne}
 use Rattle.coco_log.proofs.Steps.{Image, image_first, image_behind, image_gate, opened_is, written_is, front-push}
 
 -- one file of those that something was put into
@@ -23,44 +24,55 @@ put_elsewhere file at bytes files n other = let off : (n == file) ≡ false = gr
 pub told_on : (goes : Files → Files → Type 0) (before after : Option Files) (files : Files) → before ≡ Some files → Become goes before after → (later : Files) × (after ≡ Some later) × goes files later
 told_on goes before after files told become = subst (λ (o : Option Files). Become goes o after) told become
 
-module _ {H : Type 0} (moment : H → ℕ) (observed : H → ℕ → Observation → Type 0) (said : H → Option (List ℕ)) (may_leave : H → Files → Type 0)
-    (only_now : (host : H) (seen : Observation) → observed host (moment host) seen → may_leave host seen.image × (said host ≡ Some seen.said))
-    (file kind gate : ℕ) (bodies : List (List ℕ)) (body piece : List ℕ) (files : Files) (first : H) (ready : IsReady file kind gate bodies files (may_leave first)) (is : IsPiece body piece) where
+-- files that a crash might have left, with some bytes of one torn
+abbrev pub TornFrom : ℕ → ℕ → ℕ → (Files → Type 0) → Files → Type 0
+TornFrom file at count old c = (d : Files) × old d × TornIn file at count d c
+
+untorn : (file at count : ℕ) (c : Files) → TornIn file at count c c
+untorn file at count c = record { inside = record { before = refl; after = refl; no_shorter = omega arith; no_longer = omega arith }; elsewhere = λ n other. refl }
+
+module _ {H : Type 0} (frame : HostGhosts H)
+    (only_now : (host : H) (seen : Observation) → frame.observed host (frame.moment host) seen → frame.may_leave host seen.image × (frame.said host ≡ Some seen.said))
+    (file kind gate : ℕ) (bodies : List (List ℕ)) (body piece : List ℕ) (files : Files) (first : H) (ready : IsReady file kind gate bodies files (frame.may_leave first)) (is : IsPiece body piece) where
   abbrev pub Left : Files → Type 0
-  Left = Image file kind gate bodies body piece files (may_leave first) ready.log ready.at ready.durable is
+  Left = Image file kind gate bodies body piece files (frame.may_leave first) ready.log ready.at ready.durable is
 
   abbrev pub Seen : Observation → Type 0
-  Seen = ChangesOne file (IsBeforeOrAfter kind bodies body) (may_leave first) (said first)
+  Seen = ChangesOne file (IsBeforeOrAfter kind bodies body) (frame.may_leave first) (frame.said first)
 
-  seen_by : (seen : Observation) → Left seen.image → said first ≡ Some seen.said → Seen seen
+  seen_by : (seen : Observation) → Left seen.image → frame.said first ≡ Some seen.said → Seen seen
   seen_by seen image bytes = record { such = image.0; before = image.1.0; was_left = image.1.1; others = image.1.2; said = bytes }
 
-  pub at_first : SeesOnly moment observed first first Seen
-  at_first = started moment observed first Seen (λ seen since. let now = only_now first seen since in seen_by seen (image_first file kind gate bodies body piece files (may_leave first) ready.log ready.at ready.durable is seen.image now.0) now.1)
+  pub at_first : SeesOnly frame.moment frame.observed first first Seen
+  at_first = started frame.moment frame.observed first Seen (λ seen since. let now = only_now first seen since in seen_by seen (image_first file kind gate bodies body piece files (frame.may_leave first) ready.log ready.at ready.durable is seen.image now.0) now.1)
 
-  pub then_on : (mid new : H) → SeesOnly moment observed first mid Seen → said mid ≡ said first → said new ≡ said mid → Elapses (moment mid) (moment new) (observed mid) (observed new) (IsNew (may_leave new) (said mid) (said new))
-      → ((c : Files) → may_leave new c → Left c) → SeesOnly moment observed first new Seen
-  then_on mid new so_far same still time images =
-      goes_on moment observed first mid new Seen (IsNew (may_leave new) (said mid) (said new)) so_far time (λ seen is_new. seen_by seen (images seen.image is_new.image) (sym (still ∙ same) ∙ said_still (said mid) (said new) seen.said still is_new.said))
+  pub left_behind : (wrote : H) → Follows (TornIn file (gate + 1) (length piece)) (frame.may_leave first) (frame.may_leave wrote) → (c : Files) → frame.may_leave wrote c → Left c
+  left_behind wrote follows = image_behind file kind gate bodies body piece files (frame.may_leave first) ready.log ready.at ready.durable is (frame.may_leave wrote) follows
 
-  pub left_behind : (wrote : H) → Follows (TornIn file (gate + 1) (length piece)) (may_leave first) (may_leave wrote) → (c : Files) → may_leave wrote c → Left c
-  left_behind wrote follows = image_behind file kind gate bodies body piece files (may_leave first) ready.log ready.at ready.durable is (may_leave wrote) follows
+  -- while the piece is written
+  pub seen_behind : (seen : Observation) → TearsOne file (gate + 1) (length piece) (frame.may_leave first) (frame.said first) seen → Seen seen
+  seen_behind seen tears = seen_by seen (image_behind file kind gate bodies body piece files (frame.may_leave first) ready.log ready.at ready.durable is
+      (TornFrom file (gate + 1) (length piece) (frame.may_leave first)) (λ c torn. torn) seen.image (tears.before, tears.was_left, tears.torn)) tears.said
 
-  pub left_gate : (synced wrote : H) → ((c : Files) → may_leave synced c → Left c) → ((c : Files) → may_leave synced c → c file ≡ put (gate + 1) piece (files file)) → Follows (TornIn file gate 1) (may_leave synced) (may_leave wrote) → (c : Files) → may_leave wrote c → Left c
-  left_gate synced wrote images stands follows = image_gate file kind gate bodies body piece files (may_leave first) ready.log ready.at ready.durable is (may_leave synced) (may_leave wrote) images stands follows
+  -- while the gate is opened, over a piece that stands
+  pub seen_gate : (synced : H) → Follows (TornIn file (gate + 1) (length piece)) (frame.may_leave first) (frame.may_leave synced)
+      → ((c : Files) → frame.may_leave synced c → c file ≡ put (gate + 1) piece (files file)) → frame.said synced ≡ frame.said first
+      → (seen : Observation) → TearsOne file gate 1 (frame.may_leave synced) (frame.said synced) seen → Seen seen
+  seen_gate synced follows stands same seen tears = seen_by seen (image_gate file kind gate bodies body piece files (frame.may_leave first) ready.log ready.at ready.durable is
+      (frame.may_leave synced) (TornFrom file gate 1 (frame.may_leave synced)) (left_behind synced follows) stands (λ c torn. torn) seen.image (tears.before, tears.was_left, tears.torn)) (sym same ∙ tears.said)
 
   -- the piece stands behind the gate in all that a crash leaves after the first sync
-  pub staged : (reads : Option Files) (synced : H) → reads ≡ Some (put_into file (gate + 1) piece files) → IsDurable file reads (may_leave synced) → (c : Files) → may_leave synced c → c file ≡ put (gate + 1) piece (files file)
+  pub staged : (reads : Option Files) (synced : H) → reads ≡ Some (put_into file (gate + 1) piece files) → IsDurable file reads (frame.may_leave synced) → (c : Files) → frame.may_leave synced c → c file ≡ put (gate + 1) piece (files file)
   staged reads synced are durable c left = durable (put_into file (gate + 1) piece files) are c left ∙ put_here file (gate + 1) piece files
 
   -- after the second sync
-  pub stands : (reads : Option Files) (last : H) → reads ≡ Some (put_into file gate (1 ∷ []) (put_into file (gate + 1) piece files)) → IsDurable file reads (may_leave last) → (now : Option Files) → now ≡ reads → IsWritten file kind gate bodies body files now (may_leave last)
+  pub stands : (reads : Option Files) (last : H) → reads ≡ Some (put_into file gate (1 ∷ []) (put_into file (gate + 1) piece files)) → IsDurable file reads (frame.may_leave last) → (now : Option Files) → now ≡ reads → IsWritten file kind gate bodies body files now (frame.may_leave last)
   stands reads last are durable now same = record {
     files = put_into file gate (1 ∷ []) (put_into file (gate + 1) piece files);
     are = same ∙ are;
-    log = subst (IsLog kind (bodies ++ body ∷ [])) (sym (put_here file gate (1 ∷ []) (put_into file (gate + 1) piece files) ∙ ap (λ (l : List ℕ). put gate (1 ∷ []) l) (put_here file (gate + 1) piece files))) (opened_is file kind gate bodies body piece files (may_leave first) ready.log ready.at ready.durable is);
+    log = subst (IsLog kind (bodies ++ body ∷ [])) (sym (put_here file gate (1 ∷ []) (put_into file (gate + 1) piece files) ∙ ap (λ (l : List ℕ). put gate (1 ∷ []) l) (put_here file (gate + 1) piece files))) (opened_is file kind gate bodies body piece files (frame.may_leave first) ready.log ready.at ready.durable is);
     bytes = put_here file gate (1 ∷ []) (put_into file (gate + 1) piece files) ∙ ap (λ (l : List ℕ). put gate (1 ∷ []) l) (put_here file (gate + 1) piece files)
-        ∙ written_is file kind gate bodies body piece files (may_leave first) ready.log ready.at ready.durable is;
+        ∙ written_is file kind gate bodies body piece files (frame.may_leave first) ready.log ready.at ready.durable is;
     durable = λ c left. durable (put_into file gate (1 ∷ []) (put_into file (gate + 1) piece files)) are c left;
     others = λ n other. put_elsewhere file gate (1 ∷ []) (put_into file (gate + 1) piece files) n other ∙ put_elsewhere file (gate + 1) piece files n other;
   }
@@ -145,26 +157,19 @@ made log file kind files reads wrote may_leave is are same durable = subst (λ (
   others = λ n other. put_elsewhere file 0 (header kind ++ 0 ∷ []) files n other;
 })
 
--- files that a crash might have left, with the first bytes of one torn
-abbrev pub TornFrom : ℕ → (Files → Type 0) → Files → Type 0
-TornFrom file old c = (d : Files) × old d × TornIn file 0 made_count d c
+-- bytes are written into one file: they are torn, and the others are as they were
+module _ {H : Type 0} (frame : HostGhosts H)
+    (only_now : (host : H) (seen : Observation) → frame.observed host (frame.moment host) seen → frame.may_leave host seen.image × (frame.said host ≡ Some seen.said)) (file at count : ℕ) (first : H) where
+  abbrev pub Tears : Observation → Type 0
+  Tears = TearsOne file at count (frame.may_leave first) (frame.said first)
 
-untorn : (file : ℕ) (c : Files) → TornIn file 0 made_count c c
-untorn file c = record { inside = record { before = refl; after = refl; no_shorter = omega arith; no_longer = omega arith }; elsewhere = λ n other. refl }
+  tears_by : (seen : Observation) → TornFrom file at count (frame.may_leave first) seen.image → frame.said first ≡ Some seen.said → Tears seen
+  tears_by seen torn bytes = record { before = torn.0; was_left = torn.1; torn = torn.2; said = bytes }
 
--- one file is made anew: its first bytes are torn, and the others are as they were
-module _ {H : Type 0} (moment : H → ℕ) (observed : H → ℕ → Observation → Type 0) (said : H → Option (List ℕ)) (may_leave : H → Files → Type 0)
-    (only_now : (host : H) (seen : Observation) → observed host (moment host) seen → may_leave host seen.image × (said host ≡ Some seen.said)) (file : ℕ) (first : H) where
-  abbrev pub Anew : Observation → Type 0
-  Anew = MakesLog file (may_leave first) (said first)
+  pub tears_first : SeesOnly frame.moment frame.observed first first Tears
+  tears_first = started frame.moment frame.observed first Tears (λ seen since. let now = only_now first seen since in tears_by seen (seen.image, now.0, untorn file at count seen.image) now.1)
 
-  anew_by : (seen : Observation) → TornFrom file (may_leave first) seen.image → said first ≡ Some seen.said → Anew seen
-  anew_by seen torn bytes = record { before = torn.0; was_left = torn.1; torn = torn.2; said = bytes }
-
-  pub anew_first : SeesOnly moment observed first first Anew
-  anew_first = started moment observed first Anew (λ seen since. let now = only_now first seen since in anew_by seen (seen.image, now.0, untorn file seen.image) now.1)
-
-  pub anew_on : (mid new : H) → SeesOnly moment observed first mid Anew → said mid ≡ said first → said new ≡ said mid → Elapses (moment mid) (moment new) (observed mid) (observed new) (IsNew (may_leave new) (said mid) (said new))
-      → Follows (TornIn file 0 made_count) (may_leave first) (may_leave new) → SeesOnly moment observed first new Anew
-  anew_on mid new so_far same still time images =
-      goes_on moment observed first mid new Anew (IsNew (may_leave new) (said mid) (said new)) so_far time (λ seen is_new. anew_by seen (images seen.image is_new.image) (sym (still ∙ same) ∙ said_still (said mid) (said new) seen.said still is_new.said))
+  pub tears_on : (mid new : H) → SeesOnly frame.moment frame.observed first mid Tears → frame.said mid ≡ frame.said first → frame.said new ≡ frame.said mid → Elapses (frame.moment mid) (frame.moment new) (frame.observed mid) (frame.observed new) (IsNew (frame.may_leave new) (frame.said mid) (frame.said new))
+      → Follows (TornIn file at count) (frame.may_leave first) (frame.may_leave new) → SeesOnly frame.moment frame.observed first new Tears
+  tears_on mid new so_far same still time images =
+      goes_on frame.moment frame.observed first mid new Tears (IsNew (frame.may_leave new) (frame.said mid) (frame.said new)) so_far time (λ seen is_new. tears_by seen (images seen.image is_new.image) (sym (still ∙ same) ∙ said_still (frame.said mid) (frame.said new) seen.said still is_new.said))

@@ -4,6 +4,7 @@ use Rattle.std.specs.List.{list_any}
 use Rattle.coco_host.specs.Files.{Files, Become, Follows}
 use Rattle.coco_host.specs.Moments.{Observation, SeesOnly}
 use Rattle.coco_host.proofs.Sees.{started}
+use Rattle.coco_host.specs.declared.host.Host.{Ghosts as HostGhosts}
 use Rattle.coco_log.specs.Changes.{ChangesNamed, ChangesOnly, SameBesides}
 use Rattle.coco_log.specs.LogState.{SameBut}
 use Rattle.coco_log.specs.Making.{MakesLog}
@@ -37,30 +38,30 @@ become_same named (Some files) = (files, refl, λ n out. refl)
 pub besides_one : (named : List ℕ) (file : ℕ) → is_named named file ≡ true → (old new : Files) → SameBut file old new → SameBesides named old new
 besides_one named file is old new same n out = same n (λ e. apart named file n is out (sym e))
 
-module _ {H : Type 0} (moment : H → ℕ) (observed : H → ℕ → Observation → Type 0) (said : H → Option (List ℕ)) (reads : H → Option Files) (may_leave : H → Files → Type 0) where
+module _ {H : Type 0} (frame : HostGhosts H) where
   abbrev pub Changes : List ℕ → H → H → Type 0
-  Changes named old new = ChangesOnly moment observed said reads may_leave named old new
+  Changes named old new = ChangesOnly frame named old new
 
   -- where more files may change
   pub changes_wider : (some named : List ℕ) (old new : H) → ((n : ℕ) → is_named named n ≡ false → is_named some n ≡ false) → Changes some old new → Changes named old new
   changes_wider some named old new wider changes = record {
-    moments = λ files told. sees_weaker moment observed old new (ChangesNamed some (may_leave old) (said old)) (ChangesNamed named (may_leave old) (said old))
+    moments = λ files told. sees_weaker frame.moment frame.observed old new (ChangesNamed some (frame.may_leave old) (frame.said old)) (ChangesNamed named (frame.may_leave old) (frame.said old))
         (λ seen shows. record { before = shows.before; was_left = shows.was_left; others = λ n out. shows.others n (wider n out); said = shows.said }) (changes.moments files told);
-    files = become_wider (SameBesides some) named (reads old) (reads new) (λ a b same n out. same n (wider n out)) changes.files;
+    files = become_wider (SameBesides some) named (frame.reads old) (frame.reads new) (λ a b same n out. same n (wider n out)) changes.files;
     crash = λ c left. let from = changes.crash c left in (from.0, from.1, λ n out. from.2 n (wider n out));
     quiet = changes.quiet;
   }
 
   -- a call more
   pub changes_on : (named : List ℕ) (first mid new : H) → Changes named first mid
-      → ((files : Files) → reads first ≡ Some files → SeesOnly moment observed mid new (ChangesNamed named (may_leave mid) (said mid)))
-      → Become (SameBesides named) (reads mid) (reads new) → Follows (SameBesides named) (may_leave mid) (may_leave new) → said new ≡ said mid → Changes named first new
+      → ((files : Files) → frame.reads first ≡ Some files → SeesOnly frame.moment frame.observed mid new (ChangesNamed named (frame.may_leave mid) (frame.said mid)))
+      → Become (SameBesides named) (frame.reads mid) (frame.reads new) → Follows (SameBesides named) (frame.may_leave mid) (frame.may_leave new) → frame.said new ≡ frame.said mid → Changes named first new
   changes_on named first mid new one moments files crash quiet = record {
-    moments = λ fs told. sees_then moment observed first mid new (ChangesNamed named (may_leave first) (said first)) (ChangesNamed named (may_leave mid) (said mid)) (one.moments fs told) (moments fs told)
+    moments = λ fs told. sees_then frame.moment frame.observed first mid new (ChangesNamed named (frame.may_leave first) (frame.said first)) (ChangesNamed named (frame.may_leave mid) (frame.said mid)) (one.moments fs told) (moments fs told)
         (λ seen shows.
         let from = one.crash shows.before shows.was_left in
         record { before = from.0; was_left = from.1; others = λ n out. shows.others n out ∙ from.2 n out; said = sym one.quiet ∙ shows.said });
-    files = become_then named (reads first) (reads mid) (reads new) one.files files;
+    files = become_then named (frame.reads first) (frame.reads mid) (frame.reads new) one.files files;
     crash = λ c left.
         let later = crash c left in
         let from = one.crash later.0 later.1 in
@@ -70,25 +71,25 @@ module _ {H : Type 0} (moment : H → ℕ) (observed : H → ℕ → Observation
 
   pub changes_then : (named : List ℕ) (first mid new : H) → Changes named first mid → Changes named mid new → Changes named first new
   changes_then named first mid new one two = changes_on named first mid new one
-      (λ files told. let later = told_on (SameBesides named) (reads first) (reads mid) files told one.files in two.moments later.0 later.1)
+      (λ files told. let later = told_on (SameBesides named) (frame.reads first) (frame.reads mid) files told one.files in two.moments later.0 later.1)
       two.files two.crash two.quiet
 
-  pub changes_none : ((host : H) (seen : Observation) → observed host (moment host) seen → may_leave host seen.image × (said host ≡ Some seen.said)) → (named : List ℕ) (host : H) → Changes named host host
+  pub changes_none : ((host : H) (seen : Observation) → frame.observed host (frame.moment host) seen → frame.may_leave host seen.image × (frame.said host ≡ Some seen.said)) → (named : List ℕ) (host : H) → Changes named host host
   changes_none only_now named host = record {
-    moments = λ files told. started moment observed host (ChangesNamed named (may_leave host) (said host)) (λ seen since. let now = only_now host seen since in
+    moments = λ files told. started frame.moment frame.observed host (ChangesNamed named (frame.may_leave host) (frame.said host)) (λ seen since. let now = only_now host seen since in
         record { before = seen.image; was_left = now.0; others = λ n out. refl; said = now.1 });
-    files = become_same named (reads host);
+    files = become_same named (frame.reads host);
     crash = λ c left. (c, left, λ n out. refl);
     quiet = refl;
   }
 
   -- a log was made in one of the files
-  pub changes_made : (named : List ℕ) (file : ℕ) (old new : H) → is_named named file ≡ true → SeesOnly moment observed old new (MakesLog file (may_leave old) (said old))
-      → Become (SameBut file) (reads old) (reads new) → Follows (SameBut file) (may_leave old) (may_leave new) → said new ≡ said old → Changes named old new
+  pub changes_made : (named : List ℕ) (file : ℕ) (old new : H) → is_named named file ≡ true → SeesOnly frame.moment frame.observed old new (MakesLog file (frame.may_leave old) (frame.said old))
+      → Become (SameBut file) (frame.reads old) (frame.reads new) → Follows (SameBut file) (frame.may_leave old) (frame.may_leave new) → frame.said new ≡ frame.said old → Changes named old new
   changes_made named file old new is moments files crash quiet = record {
-    moments = λ fs told. sees_weaker moment observed old new (MakesLog file (may_leave old) (said old)) (ChangesNamed named (may_leave old) (said old))
+    moments = λ fs told. sees_weaker frame.moment frame.observed old new (MakesLog file (frame.may_leave old) (frame.said old)) (ChangesNamed named (frame.may_leave old) (frame.said old))
         (λ seen shows. record { before = shows.before; was_left = shows.was_left; others = besides_one named file is shows.before seen.image shows.torn.elsewhere; said = shows.said }) moments;
-    files = become_wider (SameBut file) named (reads old) (reads new) (besides_one named file is) files;
+    files = become_wider (SameBut file) named (frame.reads old) (frame.reads new) (besides_one named file is) files;
     crash = λ c left. let from = crash c left in (from.0, from.1, besides_one named file is from.0 c from.2);
     quiet = quiet;
   }

@@ -7,6 +7,7 @@ use Rattle.std.proofs.lemmas.List.Elements.{All-nil, All-push}
 use Rattle.coco_host.specs.Files.{Files, put, put_into, Become, Follows, IsDurable}
 use Rattle.coco_host.specs.Moments.{Observation, IsNew, Elapses}
 use Rattle.coco_host.proofs.Sees.{goes_on, said_still}
+use Rattle.coco_host.specs.declared.host.Host.{Ghosts as HostGhosts}
 use Rattle.coco_log.specs.Changes.{ChangesNamed, ChangesOnly}
 use Rattle.coco_log.specs.Grammar.{entry, IsShort}
 use Rattle.coco_log.specs.LogState.{SameBut}
@@ -15,20 +16,20 @@ use Rattle.coco_log.proofs.Appends.{put_here}
 use Rattle.coco_log.proofs.Changing.{become_wider, besides_one, changes_none}
 use Rattle.coco_log.proofs.Steps.{front-push}
 
-module _ {H : Type 0} (moment : H → ℕ) (observed : H → ℕ → Observation → Type 0) (said : H → Option (List ℕ)) (reads : H → Option Files) (may_leave : H → Files → Type 0)
-    (only_now : (host : H) (seen : Observation) → observed host (moment host) seen → may_leave host seen.image × (said host ≡ Some seen.said)) (file : ℕ) where
+module _ {H : Type 0} (frame : HostGhosts H)
+    (only_now : (host : H) (seen : Observation) → frame.observed host (frame.moment host) seen → frame.may_leave host seen.image × (frame.said host ≡ Some seen.said)) (file : ℕ) where
   -- a call on the file
-  pub changed : (old new : H) → Become (SameBut file) (reads old) (reads new) → Follows (SameBut file) (may_leave old) (may_leave new) → said new ≡ said old
-      → Elapses (moment old) (moment new) (observed old) (observed new) (IsNew (may_leave new) (said old) (said new)) → ChangesOnly moment observed said reads may_leave (file ∷ []) old new
+  pub changed : (old new : H) → Become (SameBut file) (frame.reads old) (frame.reads new) → Follows (SameBut file) (frame.may_leave old) (frame.may_leave new) → frame.said new ≡ frame.said old
+      → Elapses (frame.moment old) (frame.moment new) (frame.observed old) (frame.observed new) (IsNew (frame.may_leave new) (frame.said old) (frame.said new)) → ChangesOnly frame (file ∷ []) old new
   changed old new files crash still time =
       let here : list_any (λ n. n == file) (file ∷ []) ≡ true = grind (arith, nat_tests) in
       let besides = besides_one (file ∷ []) file here in
-      let none = changes_none moment observed said reads may_leave only_now (file ∷ []) old in
+      let none = changes_none frame only_now (file ∷ []) old in
       record {
-        moments = λ fs told. goes_on moment observed old old new (ChangesNamed (file ∷ []) (may_leave old) (said old)) (IsNew (may_leave new) (said old) (said new)) (none.moments fs told) time (λ seen is_new.
+        moments = λ fs told. goes_on frame.moment frame.observed old old new (ChangesNamed (file ∷ []) (frame.may_leave old) (frame.said old)) (IsNew (frame.may_leave new) (frame.said old) (frame.said new)) (none.moments fs told) time (λ seen is_new.
             let from = crash seen.image is_new.image in
-            record { before = from.0; was_left = from.1; others = besides from.0 seen.image from.2; said = sym still ∙ said_still (said old) (said new) seen.said still is_new.said });
-        files = become_wider (SameBut file) (file ∷ []) (reads old) (reads new) besides files;
+            record { before = from.0; was_left = from.1; others = besides from.0 seen.image from.2; said = sym still ∙ said_still (frame.said old) (frame.said new) seen.said still is_new.said });
+        files = become_wider (SameBut file) (file ∷ []) (frame.reads old) (frame.reads new) besides files;
         crash = λ c left. let from = crash c left in (from.0, from.1, besides from.0 c from.2);
         quiet = still;
       }

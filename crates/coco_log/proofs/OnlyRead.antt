@@ -3,6 +3,7 @@ use Rattle.std.proofs.Common.{◌≡◌, inl, inr, ⊎_elim, ℕ, List, Option, 
 use Rattle.coco_host.specs.Files.{Files, NoMore}
 use Rattle.coco_host.specs.Moments.{Observation, IsNew, Elapses, SeesOnly}
 use Rattle.coco_host.proofs.Sees.{started, goes_on, said_still}
+use Rattle.coco_host.specs.declared.host.Host.{Ghosts as HostGhosts}
 use Rattle.coco_log.specs.LogState.{IsAsBefore, IsOnlyRead}
 
 module _ {H : Type 0} (moment : H → ℕ) (observed : H → ℕ → Observation → Type 0) where
@@ -24,37 +25,41 @@ module _ {H : Type 0} (moment : H → ℕ) (observed : H → ℕ → Observation
     keeps = sees.keeps;
   }
 
-module _ {H : Type 0} (moment : H → ℕ) (observed : H → ℕ → Observation → Type 0) (said : H → Option (List ℕ)) (reads : H → Option Files) (may_leave : H → Files → Type 0)
-    (only_now : (host : H) (seen : Observation) → observed host (moment host) seen → may_leave host seen.image × (said host ≡ Some seen.said)) where
+module _ {H : Type 0} (frame : HostGhosts H)
+    (only_now : (host : H) (seen : Observation) → frame.observed host (frame.moment host) seen → frame.may_leave host seen.image × (frame.said host ≡ Some seen.said)) where
   -- before the first call
-  pub read_first : (host : H) → IsOnlyRead moment observed said reads may_leave host host
+  pub read_first : (host : H) → IsOnlyRead frame host host
   read_first host = record {
     same = refl;
     quiet = refl;
     crash = λ c left. left;
-    moments = started moment observed host (IsAsBefore (may_leave host) (said host)) (λ seen since. let now = only_now host seen since in record { image = now.0; said = now.1 });
+    moments = started frame.moment frame.observed host (IsAsBefore (frame.may_leave host) (frame.said host)) (λ seen since. let now = only_now host seen since in record { image = now.0; said = now.1 });
+    stream = refl;
   }
 
   -- one read or sync more
-  pub read_on : (first mid new : H) → IsOnlyRead moment observed said reads may_leave first mid → reads new ≡ reads mid → said new ≡ said mid → NoMore (may_leave mid) (may_leave new)
-      → Elapses (moment mid) (moment new) (observed mid) (observed new) (IsNew (may_leave new) (said mid) (said new)) → IsOnlyRead moment observed said reads may_leave first new
-  read_on first mid new so_far same still crash time = record {
+  pub read_on : (first mid new : H) → IsOnlyRead frame first mid → frame.reads new ≡ frame.reads mid → frame.said new ≡ frame.said mid → NoMore (frame.may_leave mid) (frame.may_leave new)
+      → Elapses (frame.moment mid) (frame.moment new) (frame.observed mid) (frame.observed new) (IsNew (frame.may_leave new) (frame.said mid) (frame.said new))
+      → frame.say_faults new ≡ frame.say_faults mid → IsOnlyRead frame first new
+  read_on first mid new so_far same still crash time stream = record {
     same = same ∙ so_far.same;
     quiet = still ∙ so_far.quiet;
     crash = λ c left. so_far.crash c (crash c left);
-    moments = goes_on moment observed first mid new (IsAsBefore (may_leave first) (said first)) (IsNew (may_leave new) (said mid) (said new)) so_far.moments time
+    moments = goes_on frame.moment frame.observed first mid new (IsAsBefore (frame.may_leave first) (frame.said first)) (IsNew (frame.may_leave new) (frame.said mid) (frame.said new)) so_far.moments time
         (λ seen is_new. record {
           image = so_far.crash seen.image (crash seen.image is_new.image);
-          said = sym (still ∙ so_far.quiet) ∙ said_still (said mid) (said new) seen.said still is_new.said;
+          said = sym (still ∙ so_far.quiet) ∙ said_still (frame.said mid) (frame.said new) seen.said still is_new.said;
         });
+    stream = stream ∙ so_far.stream;
   }
 
   -- a run of such calls more
-  pub read_then : (first mid new : H) → IsOnlyRead moment observed said reads may_leave first mid → IsOnlyRead moment observed said reads may_leave mid new → IsOnlyRead moment observed said reads may_leave first new
+  pub read_then : (first mid new : H) → IsOnlyRead frame first mid → IsOnlyRead frame mid new → IsOnlyRead frame first new
   read_then first mid new one two = record {
     same = two.same ∙ one.same;
     quiet = two.quiet ∙ one.quiet;
     crash = λ c left. one.crash c (two.crash c left);
-    moments = sees_then moment observed first mid new (IsAsBefore (may_leave first) (said first)) (IsAsBefore (may_leave mid) (said mid)) one.moments two.moments
+    moments = sees_then frame.moment frame.observed first mid new (IsAsBefore (frame.may_leave first) (frame.said first)) (IsAsBefore (frame.may_leave mid) (frame.said mid)) one.moments two.moments
         (λ seen before. record { image = one.crash seen.image before.image; said = sym one.quiet ∙ before.said });
+    stream = two.stream ∙ one.stream;
   }

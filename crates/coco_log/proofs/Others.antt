@@ -38,3 +38,6 @@ module _ (file : ℕ) where
 
   pub told_sync : (first old new : Option Files) → Become (SameBut file) first old → new ≡ old → Become (SameBut file) first new
   told_sync first old new so_far same = subst (λ (o : Option Files). Become (SameBut file) first o) (sym same) so_far
+
+  pub told_then : (first old new : Option Files) → Become (SameBut file) first old → Become (SameBut file) old new → Become (SameBut file) first new
+  told_then first old new so_far step = told_goes (SameBut file) (λ a b same. same) first old new so_far step

@@ -3,6 +3,7 @@ use Rattle.std.specs.Prelude.{◌≡◌, ℕ, false, List, Option, Some, ◌==�
 use Rattle.std.specs.List.{list_any}
 use Rattle.coco_host.specs.Files.{Files, Become, Follows}
 use Rattle.coco_host.specs.Moments.{Observation, SeesOnly}
+use Rattle.coco_host.specs.declared.host.Host.{Ghosts as HostGhosts}
 
 -- all files but those named are as they were
 abbrev pub SameBesides : List ℕ → Files → Files → Type 0
@@ -16,9 +17,9 @@ pub record ChangesNamed (named : List ℕ) (may_leave : Files → Type 0) (bytes
   pub said : bytes ≡ Some seen.said
 
 -- no file changes but those named, in what is read, in what a crash may leave and, where the files are told, at each moment; and nothing is said
-pub record ChangesOnly {H : Type 0} (moment : H → ℕ) (observed : H → ℕ → Observation → Type 0) (said : H → Option (List ℕ)) (reads : H → Option Files) (may_leave : H → Files → Type 0)
+pub record ChangesOnly {H : Type 0} (frame : HostGhosts H)
     (named : List ℕ) (old new : H) : Type 0 where
-  pub moments : (files : Files) → reads old ≡ Some files → SeesOnly moment observed old new (ChangesNamed named (may_leave old) (said old))
-  pub files : Become (SameBesides named) (reads old) (reads new)
-  pub crash : Follows (SameBesides named) (may_leave old) (may_leave new)
-  pub quiet : said new ≡ said old
+  pub moments : (files : Files) → frame.reads old ≡ Some files → SeesOnly frame.moment frame.observed old new (ChangesNamed named (frame.may_leave old) (frame.said old))
+  pub files : Become (SameBesides named) (frame.reads old) (frame.reads new)
+  pub crash : Follows (SameBesides named) (frame.may_leave old) (frame.may_leave new)
+  pub quiet : frame.said new ≡ frame.said old

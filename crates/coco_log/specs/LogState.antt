@@ -2,6 +2,7 @@
 use Rattle.std.specs.Prelude.{◌≡◌, ◌≢◌, ◌⊎◌, ℕ, ◌+◌, Bool, false, List, [], ◌∷◌, ◌++◌, length, drop, slice_index, Option, Some}
 use Rattle.coco_host.specs.Files.{Files, put, NoMore}
 use Rattle.coco_host.specs.Moments.{Observation, SeesOnly}
+use Rattle.coco_host.specs.declared.host.Host.{Ghosts as HostGhosts}
 use Rattle.coco_log.specs.Grammar.{header, front, entry, IsLog}
 
 -- a log: its file and kind, the places of its entries' gates and that of the last gate, and whether it may be used no more
@@ -99,12 +100,13 @@ pub record IsAsBefore (may_leave : Files → Type 0) (bytes : Option (List ℕ))
   pub image : may_leave seen.image
   pub said : bytes ≡ Some seen.said
 
--- a host that was only read and synced: its files read as before, nothing is said, and nothing is seen that a crash might not have left before
-pub record IsOnlyRead {H : Type 0} (moment : H → ℕ) (observed : H → ℕ → Observation → Type 0) (said : H → Option (List ℕ)) (reads : H → Option Files) (may_leave : H → Files → Type 0) (old new : H) : Type 0 where
-  pub same : reads new ≡ reads old
-  pub quiet : said new ≡ said old
-  pub crash : NoMore (may_leave old) (may_leave new)
-  pub moments : SeesOnly moment observed old new (IsAsBefore (may_leave old) (said old))
+-- a host that was only read and synced: its files read as before, nothing is said nor failed to be, and nothing is seen that a crash might not have left before
+pub record IsOnlyRead {H : Type 0} (frame : HostGhosts H) (old new : H) : Type 0 where
+  pub same : frame.reads new ≡ frame.reads old
+  pub quiet : frame.said new ≡ frame.said old
+  pub crash : NoMore (frame.may_leave old) (frame.may_leave new)
+  pub moments : SeesOnly frame.moment frame.observed old new (IsAsBefore (frame.may_leave old) (frame.said old))
+  pub stream : frame.say_faults new ≡ frame.say_faults old
 
 -- a log of this kind in this file that may be used
 pub record IsFresh (log : LogState) (file kind : ℕ) : Type 0 where

@@ -61,7 +61,7 @@ impl Draft {
         requires drafts { (bodies : List (List ℕ)) × Drafts self.old bodies (H.reads host.old) }
         ensures drafts { OnOk result ((bodies : List (List ℕ)) → Drafts self.old bodies (H.reads host.old) → Drafts self.new (bodies ++ body.now ∷ []) (H.reads host.new)) }
         ensures of { OnOk result ((self.new.file ≡ self.old.file) × (self.new.kind ≡ self.old.kind)) }
-        ensures changes { ChangesOnly H.moment H.observed H.said H.reads H.may_leave (self.old.file ∷ []) host.old host.new }
+        ensures changes { ChangesOnly H.Host (self.old.file ∷ []) host.old host.new }
         ensures counts { CountsFault result (H.disk_faults host.old) (H.disk_faults host.new) }
         ensures others { H.say_faults host.new ≡ H.say_faults host.old }
     {
@@ -76,7 +76,7 @@ impl Draft {
     pub fn finish<H: Host>(mut self, host: &mut H) -> Result<(), LogFault>
         requires drafts { (bodies : List (List ℕ)) × Drafts self bodies (H.reads host.old) }
         ensures log { OnOk result ((bodies : List (List ℕ)) → Drafts self bodies (H.reads host.old) → HasLog self.kind bodies self.file (H.reads host.new) (H.may_leave host.new)) }
-        ensures changes { ChangesOnly H.moment H.observed H.said H.reads H.may_leave (self.file ∷ []) host.old host.new }
+        ensures changes { ChangesOnly H.Host (self.file ∷ []) host.old host.new }
         ensures counts { CountsFault result (H.disk_faults host.old) (H.disk_faults host.new) }
         ensures others { H.say_faults host.new ≡ H.say_faults host.old }
     {
@@ -91,7 +91,7 @@ impl Draft {
         requires { IfSome (H.reads host.old) (λ files. self.old.written ≤ length (files self.old.file)) }
         ensures written { OnOk result (Become (λ old new. new ≡ put_into self.old.file self.old.written self.old.rest old) (H.reads host.old) (H.reads host.new)) }
         ensures on { OnOk result (self.new ≡ record self.old { written = self.old.written + length self.old.rest; rest = [] }) }
-        ensures changes { ChangesOnly H.moment H.observed H.said H.reads H.may_leave (self.old.file ∷ []) host.old host.new }
+        ensures changes { ChangesOnly H.Host (self.old.file ∷ []) host.old host.new }
         ensures counts { CountsFault result (H.disk_faults host.old) (H.disk_faults host.new) }
         ensures others { H.say_faults host.new ≡ H.say_faults host.old }
     {

@@ -52,9 +52,8 @@ impl Entries {
         ensures ok { IfOk result (λ reading. (files : Files) → H.reads host.old ≡ Some files → IsBegun reading files (H.may_leave host.new)) }
         ensures refused { (at : ℕ) (files : Files) → result ≡ Err (fault.NotALog at) → H.reads host.old ≡ Some files → IsNoHeader kind (files file) at }
         ensures long { (files : Files) → result ≡ Err fault.TooLong → H.reads host.old ≡ Some files → files_end ≤ length (files file) }
-        ensures read { IsOnlyRead H.moment H.observed H.said H.reads H.may_leave host.old host.new }
+        ensures read { IsOnlyRead H.Host host.old host.new }
         ensures counts { CountsOpen result (H.disk_faults host.old) (H.disk_faults host.new) }
-        ensures others { H.say_faults host.new ≡ H.say_faults host.old }
     {
         host.sync(file)?;
         let mut window = Window::new(alloc, file)?;
@@ -82,9 +81,8 @@ impl Entries {
             → IsNext result self.old self.new bodies (files self.old.file) }
         ensures end { self.new.end ≡ self.old.end }
         ensures on { result ≡ Ok true → (self.old.at < self.new.at) × (self.new.at < self.new.end) }
-        ensures read { IsOnlyRead H.moment H.observed H.said H.reads H.may_leave host.old host.new }
+        ensures read { IsOnlyRead H.Host host.old host.new }
         ensures counts { CountsRead result (H.disk_faults host.old) (H.disk_faults host.new) }
-        ensures others { H.say_faults host.new ≡ H.say_faults host.old }
     {
         self.length = 0;
         self.start = 0;

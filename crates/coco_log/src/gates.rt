@@ -52,9 +52,8 @@ fn head_at<H: Host>(host: &mut H, window: &mut Window, at: u64) -> Result<Head, 
         → IsPart window.new.from window.new.count window.new.bytes.items (files window.old.file) }
     ensures head { IfOk result (λ head. (files : Files) → H.reads host.old ≡ Some files → IsPart window.old.from window.old.count window.old.bytes.items (files window.old.file)
         → IsHead (drop at (files window.old.file)) head) }
-    ensures read { IsOnlyRead H.moment H.observed H.said H.reads H.may_leave host.old host.new }
+    ensures read { IsOnlyRead H.Host host.old host.new }
     ensures counts { CountsFault result (H.disk_faults host.old) (H.disk_faults host.new) }
-    ensures others { H.say_faults host.new ≡ H.say_faults host.old }
 {
     let skip = window.reach(host, at, 5)?;
     Ok(head_of(&window.bytes[skip..window.count]))
@@ -74,9 +73,8 @@ pub fn next_gate<H: Host>(
     ensures step { (files : Files) → H.reads host.old ≡ Some files → end ≡ length (files window.old.file) → IsPart window.old.from window.old.count window.old.bytes.items (files window.old.file)
         → IsStep (files window.old.file) at result }
     ensures on { (next : ℕ) → result ≡ Ok (Some next) → (at + 5 ≤ next) × (next < at + 2 ^ 32) × (next < end) }
-    ensures read { IsOnlyRead H.moment H.observed H.said H.reads H.may_leave host.old host.new }
+    ensures read { IsOnlyRead H.Host host.old host.new }
     ensures counts { CountsRead result (H.disk_faults host.old) (H.disk_faults host.new) }
-    ensures others { H.say_faults host.new ≡ H.say_faults host.old }
 {
     match head_at(host, window, at)? {
         Head::Closed => Ok(None),
@@ -108,9 +106,8 @@ pub fn read_header<H: Host>(host: &mut H, window: &mut Window, kind: u8) -> Resu
     ensures ok { OnOk result ((files : Files) → H.reads host.old ≡ Some files → IsPart window.old.from window.old.count window.old.bytes.items (files window.old.file) → take 8 (files window.old.file) ≡ header kind) }
     ensures refused { (at : ℕ) (files : Files) → result ≡ Err (fault.NotALog at) → H.reads host.old ≡ Some files → IsPart window.old.from window.old.count window.old.bytes.items (files window.old.file)
         → IsNoHeader kind (files window.old.file) at }
-    ensures read { IsOnlyRead H.moment H.observed H.said H.reads H.may_leave host.old host.new }
+    ensures read { IsOnlyRead H.Host host.old host.new }
     ensures counts { CountsRead result (H.disk_faults host.old) (H.disk_faults host.new) }
-    ensures others { H.say_faults host.new ≡ H.say_faults host.old }
 {
     let header = [b'C', b'O', b'C', b'O', b'L', b'O', b'G', kind];
     let skip = window.reach(host, 0, 8)?;

@@ -6,11 +6,10 @@ ghost use Rattle.coco_host.specs.Moments.{SeesOnly};
 ghost use Rattle.coco_log.specs.declared.fault.LogFault.TheVariants as fault;
 ghost use Rattle.coco_log.specs.Faults.{CountsFault, CountsOpen, CountsRead};
 ghost use Rattle.coco_log.specs.Grammar.{most_entry_bytes, counted, FitsNoLog};
-ghost use Rattle.coco_log.specs.Making.{MakesLog};
 ghost use Rattle.coco_log.specs.LogState.{without_entries, with_entry, gates, IsAtRest, IsBeforeOrAfter, ChangesOne, SameBut, IsAppended, IsMade, IsOnlyRead, IsFresh, IsOpened, Holds, HasEntry};
 ghost use Rattle.coco_log.specs.Making.{MakesLog};
 
-use crate::writing::write_entry;
+use crate::writing::{write_and_sync, write_entry};
 use crate::{Entries, LogFault};
 use coco_bytes::put_u32;
 use coco_host::Host;
@@ -53,12 +52,12 @@ impl Log {
         ensures counts { CountsFault result (H.disk_faults host.old) (H.disk_faults host.new) }
         ensures others { H.say_faults host.new ≡ H.say_faults host.old }
     {
-        host.write_at(
+        write_and_sync(
+            host,
             file,
             0,
             &[b'C', b'O', b'C', b'O', b'L', b'O', b'G', kind, 0],
         )?;
-        host.sync(file)?;
         Ok(Log {
             file,
             kind,
@@ -81,9 +80,8 @@ impl Log {
         ensures ok { IfOk result (λ log. (files : Files) → H.reads host.old ≡ Some files → IsOpened log files (H.may_leave host.new)) }
         ensures refused { (at : ℕ) (files : Files) → result ≡ Err (fault.NotALog at) → H.reads host.old ≡ Some files → FitsNoLog kind (files file) at }
         ensures long { (files : Files) → result ≡ Err fault.TooLong → H.reads host.old ≡ Some files → files_end ≤ length (files file) }
-        ensures read { IsOnlyRead H.moment H.observed H.said H.reads H.may_leave host.old host.new }
+        ensures read { IsOnlyRead H.Host host.old host.new }
         ensures counts { CountsOpen result (H.disk_faults host.old) (H.disk_faults host.new) }
-        ensures others { H.say_faults host.new ≡ H.say_faults host.old }
     {
         let mut entries = Entries::open(alloc, host, file, kind)?;
         while entries.next(host)? {}
@@ -118,9 +116,8 @@ impl Log {
         ensures refused { (at : ℕ) → result ≡ Err (fault.NotALog at) → (at ≡ slice_index (gates self.old) number)
             × ((files : Files) (body : List ℕ) → H.reads host.old ≡ Some files → HasEntry self.old number body (files self.old.file) → ⊥) }
         ensures same { self.new ≡ self.old }
-        ensures read { IsOnlyRead H.moment H.observed H.said H.reads H.may_leave host.old host.new }
+        ensures read { IsOnlyRead H.Host host.old host.new }
         ensures counts { CountsRead result (H.disk_faults host.old) (H.disk_faults host.new) }
-        ensures others { H.say_faults host.new ≡ H.say_faults host.old }
     {
         let number = number as usize;
         let gate = self.gate(number);

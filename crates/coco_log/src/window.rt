@@ -57,9 +57,8 @@ impl Window {
         ensures within { IfOk result (λ skip. skip ≤ self.new.count) }
         ensures enough { IfOk result (λ skip. (files : Files) → H.reads host.old ≡ Some files
             → (wanted ≤ self.new.count - skip) ⊎ (length (drop at (files self.old.file)) ≤ self.new.count - skip)) }
-        ensures read { IsOnlyRead H.moment H.observed H.said H.reads H.may_leave host.old host.new }
+        ensures read { IsOnlyRead H.Host host.old host.new }
         ensures counts { CountsFault result (H.disk_faults host.old) (H.disk_faults host.new) }
-        ensures others { H.say_faults host.new ≡ H.say_faults host.old }
     {
         if self.from <= at && at - self.from + wanted as u64 <= self.count as u64 {
             return Ok((at - self.from) as usize);

@@ -1,14 +1,38 @@
-//! The two steps of an append.
+//! Bytes that are written and synced, and the two steps of an append.
 ghost use Rattle.std.specs.Prelude.{◌≡◌, ◌≢◌, ℕ, ◌+◌, ◌<◌, ◌≤◌, List, Some, [], ◌∷◌, ◌++◌, length, IfSome, OnOk};
 ghost use Rattle.coco_types.specs.Limits.{files_end};
-ghost use Rattle.coco_host.specs.Files.{Files, Become, Follows};
+ghost use Rattle.coco_host.specs.Files.{Files, Become, Follows, IsDurable, TornIn, put_into};
 ghost use Rattle.coco_host.specs.Moments.{SeesOnly};
 ghost use Rattle.coco_log.specs.Faults.{CountsFault};
 ghost use Rattle.coco_log.specs.Grammar.{IsPiece};
 ghost use Rattle.coco_log.specs.LogState.{IsReady, IsBeforeOrAfter, ChangesOne, SameBut, IsWritten};
+ghost use Rattle.coco_log.specs.Making.{TearsOne};
 
 use crate::LogFault;
 use coco_host::Host;
+
+/// Writes bytes at a place of a file, and syncs it.
+pub fn write_and_sync<H: Host>(
+    host: &mut H,
+    file: u32,
+    at: u64,
+    bytes: &[u8],
+) -> Result<(), LogFault>
+    requires { IfSome (H.reads host.old) (λ files. at ≤ length (files file)) }
+    ensures moments { SeesOnly H.moment H.observed host.old host.new (TearsOne file at (length bytes.now) (H.may_leave host.old) (H.said host.old)) }
+    ensures written { OnOk result (Become (λ old new. new ≡ put_into file at bytes.now old) (H.reads host.old) (H.reads host.new)) }
+    ensures durable { OnOk result (IsDurable file (H.reads host.new) (H.may_leave host.new)) }
+    ensures files { Become (SameBut file) (H.reads host.old) (H.reads host.new) }
+    ensures crash { Follows (TornIn file at (length bytes.now)) (H.may_leave host.old) (H.may_leave host.new) }
+    ensures said { H.said host.new ≡ H.said host.old }
+    ensures small { OnOk result (at + length bytes.now < files_end) }
+    ensures counts { CountsFault result (H.disk_faults host.old) (H.disk_faults host.new) }
+    ensures others { H.say_faults host.new ≡ H.say_faults host.old }
+{
+    host.write_at(file, at, bytes)?;
+    host.sync(file)?;
+    Ok(())
+}
 
 /// Writes what belongs behind a closed gate, syncs it, and then opens the gate.
 pub fn write_entry<H: Host>(
@@ -30,9 +54,7 @@ pub fn write_entry<H: Host>(
     ensures counts { CountsFault result (H.disk_faults host.old) (H.disk_faults host.new) }
     ensures others { H.say_faults host.new ≡ H.say_faults host.old }
 {
-    host.write_at(file, gate + 1, piece)?;
-    host.sync(file)?;
-    host.write_at(file, gate, &[1])?;
-    host.sync(file)?;
+    write_and_sync(host, file, gate + 1, piece)?;
+    write_and_sync(host, file, gate, &[1])?;
     Ok(())
 }

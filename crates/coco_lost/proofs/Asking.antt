@@ -1,11 +1,12 @@
 -- Questions to a power, node after node.
 use Rattle.std.proofs.Common.{◌≡◌, ◌⊎◌, inl, inr, ℕ, ◌+◌, ◌-◌, ◌^◌, ◌<◌, ◌≤◌, min, Bool, true, false, eqb, ltb, refl, sym, ap, subst, ◌∙◌, arith}
 use Rattle.std.specs.Prelude.{◌&&◌, ◌||◌, not, if◌then◌else◌}
-use Rattle.std.proofs.lemmas.Bool.{eqb-true, eqb-false, ne_eqb, lt-ltb, le-ltb, ltb-true, ltb-false}
+use Rattle.std.proofs.lemmas.Bool.{and_left, eqb-false, eqb-true, le-ltb, lt-ltb, ltb-false, ltb-true, ne_eqb}
 use Rattle.coco_power.specs.Counting.{asked_after, begins, begun_after}
 use Rattle.coco_world.proofs.Tools.{or_right}
 use Rattle.coco_vote.specs.Asking.{IsLater}
 use Rattle.coco_lost.specs.Stopping.{AreAsked, CountsRise}
+use Rattle.coco_power.specs.declared.power.Power.{Ghosts as PowerGhosts}
 
 -- the first question, or one more
 one_first : (n : ℕ) → eqb n 0 ≡ ltb n 1
@@ -29,13 +30,9 @@ shuffle true false true x = refl
 shuffle true false false x = refl
 shuffle false q l x = refl
 
-and_none : (a b : Bool) → a ≡ false → (a && b) ≡ false
-and_none true b is = absurd cc
-and_none false b is = refl
-
 -- no epoch begins at a later node
 begins_later : (k point : ℕ) → 0 < k → begins k point ≡ false
-begins_later k point some = and_none (eqb k 0) (eqb point 1) (ne_eqb k 0 (λ same. omega (arith, same, some)))
+begins_later k point some = and_left (eqb k 0) (eqb point 1) (ne_eqb k 0 (λ same. omega (arith, same, some)))
 
 -- what is known of the questions behind some: there was none, or each of these nodes was asked
 unfoldable pub WasAsked : ℕ → ℕ → ℕ → ℕ → (ℕ → ℕ → Bool) → (ℕ → ℕ → Bool) → Type 0
@@ -82,14 +79,14 @@ unfolding WasAsked
 was_all k point begun new_begun asked new some was = elim was [ inl none ↦ absurd (omega (arith, none.0, some)) | inr all ↦ (all.1, all.2) ]
 
 -- behind the first point no epoch begins, and what was asked for stays so
-pub later_from : {P : Type 0} (seen early : P → ℕ) (stopped : P → ℕ → ℕ) (begun : P → ℕ) (asked : P → ℕ → ℕ → Bool) (old new : P) (count point : ℕ) → 1 < point → CountsRise seen early stopped old new
-    → begun new ≡ begun_after (begun old) 0 point → AreAsked count point (asked old) (asked new) → IsLater seen early stopped begun asked old new
-later_from seen early stopped begun asked old new count point behind rise begun_is are =
+pub later_from : {P : Type 0} (powers : PowerGhosts P) (old new : P) (count point : ℕ) → 1 < point → CountsRise powers.stops_seen powers.early_stops powers.stopped old new
+    → powers.begun new ≡ begun_after (powers.begun old) 0 point → AreAsked count point (powers.asked old) (powers.asked new) → IsLater powers old new
+later_from powers old new count point behind rise begun_is are =
     let not_first : eqb point 1 ≡ false = ne_eqb point 1 (λ same. omega (arith, same, behind)) in
     record {
       seen_rises = rise.seen_rises;
       early_rises = rise.early_rises;
       stopped_rise = rise.stopped_rise;
-      begun_stays = begun_is ∙ ap (λ (b : Bool). if b then min (begun old + 1) (2 ^ 64 - 1) else begun old) not_first;
-      asked_stays = λ n p lt le was. are n p lt le ∙ or_right (ltb n count && eqb p point) (not (eqb point 1) && asked old n p) (ap (λ (b : Bool). not b && asked old n p) not_first ∙ was);
+      begun_stays = begun_is ∙ ap (λ (b : Bool). if b then min (powers.begun old + 1) (2 ^ 64 - 1) else powers.begun old) not_first;
+      asked_stays = λ n p lt le was. are n p lt le ∙ or_right (ltb n count && eqb p point) (not (eqb point 1) && powers.asked old n p) (ap (λ (b : Bool). not b && powers.asked old n p) not_first ∙ was);
     }

@@ -3,6 +3,7 @@ use Rattle.std.proofs.Common.{◌≡◌, inl, inr, ℕ, ◌+◌, ◌%◌, ◌<�
 use Rattle.std.specs.FinMap.{empty}
 use Rattle.std.proofs.lemmas.Bool.{ltb-true, ltb-false}
 use Rattle.std.proofs.lemmas.List.{get_or_past}
+use Rattle.std.proofs.lemmas.Nat.{mod_below}
 use Rattle.coco_ast.specs.Keyed.{Rows}
 use Rattle.coco_copy.specs.CopyState.{CopyState}
 use Rattle.coco_entry.specs.declared.layout.Layout.{Layout}
@@ -28,9 +29,6 @@ one_map m t stand = record {
   nodes = λ n lt. let has = stand.nodes n lt in record { primaries = has.primaries; others = has.others };
 }
 
-left_within : (x count : ℕ) → 0 < count → x % count < count
-left_within x count some = omega arith
-
 module _ (maps : Maps) (t : NodeTables) (has : HaveMaps maps t) (none : (n : ℕ) → n < t.layout.nodes → is_behind t.behind.items n ≡ false) where
   some_node : 0 < t.layout.nodes
   some_node = let around : t.layout.copies < t.layout.nodes = has.whole.ring.around in omega arith
@@ -38,7 +36,7 @@ module _ (maps : Maps) (t : NodeTables) (has : HaveMaps maps t) (none : (n : ℕ
   shard_rests : (p : ℕ) → p < t.layout.partitions → IsShardOf t.layout.partitions p (maps p 0) (shard_at t.shards.items p)
   shard_rests p below =
       let node : ℕ = node_of t.layout p 0 in
-      let here : node_of t.layout p 0 < t.layout.nodes = left_within (p + 0) t.layout.nodes some_node in
+      let here : node_of t.layout p 0 < t.layout.nodes = mod_below (p + 0) t.layout.nodes some_node in
       subst (λ (b : Bool). ShardStands b t.layout.partitions p (maps p 0) (shard_at t.shards.items p)) (none node here) ((has.nodes node here).primaries p below refl)
 
   -- so does one that isn't there

@@ -3,6 +3,7 @@ use Rattle.std.proofs.Common.{◌≡◌, ℕ, zero, suc, ◌<◌, ◌||◌, Bool
 use Rattle.std.specs.List.{slice_get, list_any}
 use Rattle.std.specs.List.Sorted.{IsStrictlyIncreasing}
 use Rattle.std.proofs.lemmas.Option.{same_Some, slice_get_within}
+use Rattle.std.proofs.lemmas.Bool.{or_parts}
 use Rattle.coco_types.specs.RowKey.{RowKey}
 use Rattle.coco_types.specs.declared.value.Value.{Value}
 use Rattle.coco_ast.specs.Tree.{Procedures}
@@ -36,14 +37,10 @@ use Rattle.coco_lost.proofs.ReadingLemmas.{apart_after, file_apart_after, in_ste
 two_sides : {X : Type 0} → true ≡ false → X
 two_sides h = absurd cc
 
-none_here : (a b : Bool) → (a || b) ≡ false → (a ≡ false) × (b ≡ false)
-none_here true b is = two_sides is
-none_here false b is = (refl, is)
-
 pub none_lost : (voters : List Voter) → list_any (λ (v : Voter). v.is_lost) voters ≡ false → NoneLost voters
 none_lost [] none n voter at = absurd (let less : n < 0 = slice_get_within [] n voter at in omega (arith, less))
-none_lost (v ∷ vs) none zero voter at = ap (λ (x : Voter). x.is_lost) (sym (same_Some v voter at)) ∙ (none_here v.is_lost (list_any (λ (x : Voter). x.is_lost) vs) none).0
-none_lost (v ∷ vs) none (suc n) voter at = none_lost vs (none_here v.is_lost (list_any (λ (x : Voter). x.is_lost) vs) none).1 n voter at
+none_lost (v ∷ vs) none zero voter at = ap (λ (x : Voter). x.is_lost) (sym (same_Some v voter at)) ∙ (or_parts v.is_lost (list_any (λ (x : Voter). x.is_lost) vs) none).0
+none_lost (v ∷ vs) none (suc n) voter at = none_lost vs (or_parts v.is_lost (list_any (λ (x : Voter). x.is_lost) vs) none).1 n voter at
 
 pub any_lost : (voters : List Voter) → list_any (λ (v : Voter). v.is_lost) voters ≡ true → NoneLost voters → ⊥
 any_lost [] is none = two_sides (sym is)

@@ -6,6 +6,7 @@ use Rattle.std.proofs.Math.ListN.{set}
 use Rattle.std.proofs.lemmas.Bool.{eqb-true, eqb-false}
 use Rattle.std.proofs.lemmas.List.{get_or-set_same, get_or-set_other, length-set}
 use Rattle.std.proofs.lemmas.Option.{same_Some}
+use Rattle.coco_recover.proofs.Resting.{stands_still}
 use Rattle.coco_append.specs.Gaining.{IsNodeLog, Stands}
 use Rattle.coco_ast.specs.Keyed.{Rows, on_partition}
 use Rattle.coco_chief.specs.Chief.{Chief}
@@ -253,11 +254,6 @@ module _ (voters voters_new : List Voter) (t t_new : NodeTables) (reads : ReadsL
   file_apart_after file files apart n voter at is = let one = file_of files n voter at in apart n one.was one.was_there (sym one.same ∙ is)
 
 -- ---- logs that stand
-
-pub stands_read : (log : LogState) (before after : Option Files) (left leaves : Files → Type 0) → after ≡ before → NoMore left leaves → Stands log before left → Stands log after leaves
-stands_read log None after left leaves same fewer stands = subst (λ (o : Option Files). Stands log o leaves) (sym same) tt
-stands_read log (Some files) after left leaves same fewer stands = subst (λ (o : Option Files). Stands log o leaves) (sym same)
-    (record { bodies = stands.bodies; rest = record { holds = stands.rest.holds; durable = λ c may. stands.rest.durable c (fewer c may) } })
 
 -- ---- what is read
 

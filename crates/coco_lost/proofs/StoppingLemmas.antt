@@ -2,6 +2,7 @@
 use Rattle.std.proofs.Common.{◌≡◌, ℕ, ◌+◌, ◌<◌, max, Bool, true, false, List, [], ◌∷◌, length, Some, refl, ◌∙◌, subst, sym, arith}
 use Rattle.std.specs.List.{slice_get}
 use Rattle.std.proofs.Math.ListN.{set}
+use Rattle.coco_vote.proofs.StepLemmas.{max_none}
 use Rattle.coco_chief.specs.Chief.{Chief}
 use Rattle.coco_finish.specs.Exchanges.{AreInStep}
 use Rattle.coco_finish.specs.Finishing.{is_behind, AllCanFinish, CanFinish, HasYetToHear}
@@ -14,9 +15,6 @@ use Rattle.coco_vote.specs.Beginning.{AreNew, IsNew}
 use Rattle.coco_vote.proofs.PowerLemmas.{rises_if}
 use Rattle.coco_lost.specs.Stopping.{CountsRise}
 use Rattle.coco_lost.proofs.Places.{each_set}
-
-max_none : (e : ℕ) → max e 0 ≡ e
-max_none e = omega arith
 
 unknown_not : ◌≡◌ {A = Decision} Unknown Aborted → ⊥
 unknown_not is = absurd cc

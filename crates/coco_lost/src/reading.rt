@@ -26,12 +26,11 @@ use coco_ast::Checked;
 use coco_finish::NodeTables;
 use coco_host::Host;
 use coco_letters::Voter;
-use coco_load::Tables;
+use coco_load::{PackedRows, Tables};
 use coco_members::Members;
 use coco_read::OpenFault;
 use coco_recover::read_node;
 use coco_standing::take_tables;
-use coco_types::MapRows;
 use std::alloc::Global;
 
 /// Each node that lost its tables, in node order, has them read anew from its file: over the rows of the base what it
@@ -41,7 +40,7 @@ pub fn read_lost<H: Host>(
     alloc: Global,
     host: &mut H,
     procs: &Checked,
-    base: &[MapRows],
+    base: &[PackedRows],
     members: &mut Members,
 ) -> Result<(), OpenFault>
     requires are { AreMembers members.old }
@@ -66,9 +65,8 @@ pub fn read_lost<H: Host>(
         → RisesAbove members.old.tables.layout.base_epoch (commit_epochs commits) → KnowsEpochs (commit_epochs commits) (chief_of members.old.chief) → IsLostRefused members.old.tables.layout members.old.voters.items s commits file (files file) at }
     ensures kept { (file at : ℕ) (files : Files) (c : Contents) → H.reads host.old ≡ Some files → Holds files c → AreKnown c members.old.tables.layout procs.now (commit_epochs c.commits) base.now
         → KnowsCommitted c (chief_of members.old.chief) → result ≢ Err (fault.NotAStore file at) }
-    ensures read { IsOnlyRead H.moment H.observed H.said H.reads H.may_leave host.old host.new }
+    ensures read { IsOnlyRead H.Host host.old host.new }
     ensures counts { Counts result (H.disk_faults host.old) (H.disk_faults host.new) }
-    ensures stream { H.say_faults host.new ≡ H.say_faults host.old }
 {
     if !one_is_lost(members.voters.as_slice()) {
         return Ok(());
@@ -98,7 +96,7 @@ fn read_each<H: Host>(
     host: &mut H,
     procs: &Checked,
     epochs: &[u64],
-    base: &[MapRows],
+    base: &[PackedRows],
     voters: &mut [Voter],
     tables: &mut NodeTables,
 ) -> Result<(), OpenFault>
@@ -118,9 +116,8 @@ fn read_each<H: Host>(
         → commit_epochs commits ≡ epochs.now → IsLostRefused tables.old.layout voters.old s commits file (files file) at }
     ensures kept { (file at : ℕ) (files : Files) (c : Contents) → H.reads host.old ≡ Some files → Holds files c → AreKnown c tables.old.layout procs.now epochs.now base.now
         → result ≢ Err (fault.NotAStore file at) }
-    ensures read { IsOnlyRead H.moment H.observed H.said H.reads H.may_leave host.old host.new }
+    ensures read { IsOnlyRead H.Host host.old host.new }
     ensures counts { Counts result (H.disk_faults host.old) (H.disk_faults host.new) }
-    ensures stream { H.say_faults host.new ≡ H.say_faults host.old }
 {
     for node in 0..voters.len() as u8 {
         let voter = &mut voters[node as usize];
@@ -135,7 +132,7 @@ fn read_one<H: Host>(
     host: &mut H,
     procs: &Checked,
     epochs: &[u64],
-    base: &[MapRows],
+    base: &[PackedRows],
     voter: &mut Voter,
     tables: &mut NodeTables,
     node: u8,
@@ -155,9 +152,8 @@ fn read_one<H: Host>(
         → commit_epochs commits ≡ epochs.now → IsFirst (IsNodeRefused s commits node (files file)) at }
     ensures kept { (file at : ℕ) (files : Files) (c : Contents) → H.reads host.old ≡ Some files → Holds files c → AreKnown c tables.old.layout procs.now epochs.now base.now
         → result ≢ Err (fault.NotAStore file at) }
-    ensures read { IsOnlyRead H.moment H.observed H.said H.reads H.may_leave host.old host.new }
+    ensures read { IsOnlyRead H.Host host.old host.new }
     ensures counts { Counts result (H.disk_faults host.old) (H.disk_faults host.new) }
-    ensures stream { H.say_faults host.new ≡ H.say_faults host.old }
 {
     if !voter.is_lost {
         return Ok(());
@@ -171,7 +167,7 @@ fn read_anew<H: Host>(
     host: &mut H,
     procs: &Checked,
     epochs: &[u64],
-    base: &[MapRows],
+    base: &[PackedRows],
     voter: &mut Voter,
     tables: &mut NodeTables,
     node: u8,
@@ -191,9 +187,8 @@ fn read_anew<H: Host>(
         → commit_epochs commits ≡ epochs.now → IsFirst (IsNodeRefused s commits node (files file)) at }
     ensures kept { (file at : ℕ) (files : Files) (c : Contents) → H.reads host.old ≡ Some files → Holds files c → AreKnown c tables.old.layout procs.now epochs.now base.now
         → result ≢ Err (fault.NotAStore file at) }
-    ensures read { IsOnlyRead H.moment H.observed H.said H.reads H.may_leave host.old host.new }
+    ensures read { IsOnlyRead H.Host host.old host.new }
     ensures counts { Counts result (H.disk_faults host.old) (H.disk_faults host.new) }
-    ensures stream { H.say_faults host.new ≡ H.say_faults host.old }
 {
     let (from, log) = read_node(alloc, host, &tables.layout, procs, epochs, base, node)?;
     put_tables(tables, node, from);

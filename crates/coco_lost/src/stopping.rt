@@ -44,7 +44,7 @@ pub fn stop_early<P: Power>(
     // The counts, whatever the answer; and what was asked.
     ensures counts { CountsRise P.stops_seen P.early_stops P.stopped power.old power.new }
     ensures begun { P.begun power.new ≡ begun_after (P.begun power.old) 0 point }
-    ensures later { 1 < point → IsLater P.stops_seen P.early_stops P.stopped P.begun P.asked power.old power.new }
+    ensures later { 1 < point → IsLater P.Power power.old power.new }
     ensures told { IfOk result (λ stops. RisesIf stops (P.stops_seen power.old) (P.stops_seen power.new) × RisesIf stops (P.early_stops power.old) (P.early_stops power.new)) }
     ensures asked { IfOk result (λ stops. AsksFirst stops point (length cores.old) (P.stopped power.old) (P.stopped power.new) (P.asked power.old) (P.asked power.new)) }
 {

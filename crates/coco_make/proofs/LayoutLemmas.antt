@@ -3,6 +3,7 @@ use Rattle.std.proofs.Common.{◌≡◌, inl, inr, ℕ, ◌≤◌, List, [], ◌
 use Rattle.std.specs.List.{flat_map}
 use Rattle.coco_host.specs.Files.{Files, Become, Follows, put, Torn}
 use Rattle.coco_host.specs.Moments.{Observation, SeesOnly}
+use Rattle.coco_host.specs.declared.host.Host.{Ghosts as HostGhosts}
 use Rattle.coco_log.specs.Grammar.{entry, front, header, IsLog}
 use Rattle.coco_log.specs.LogState.{ChangesOne, IsAppended, IsBeforeOrAfter, IsMade, LogState, SameBut, with_entry, without_entries}
 use Rattle.coco_log.specs.Making.{MakesLog, made_count}
@@ -34,15 +35,15 @@ either_one body file (inr one) bodies log = inr ((one_log layouts_kind layouts_k
 
 -- ---- moments
 
-module _ {H : Type 0} (moment : H → ℕ) (observed : H → ℕ → Observation → Type 0) (said : H → Option (List ℕ)) (reads : H → Option Files) (may_leave : H → Files → Type 0)
+module _ {H : Type 0} (frame : HostGhosts H)
     (body : List ℕ) (first mid : H) where
   abbrev pub Shows : Observation → Type 0
-  Shows = ChangesOne 0 (MayHave body) (may_leave first) (said first)
+  Shows = ChangesOne 0 (MayHave body) (frame.may_leave first) (frame.said first)
 
   -- while the log is made
-  pub sees_made : LeavesEmpty 0 (may_leave first) → SeesOnly moment observed first mid (MakesLog 0 (may_leave first) (said first)) → SeesOnly moment observed first mid Shows
+  pub sees_made : LeavesEmpty 0 (frame.may_leave first) → SeesOnly frame.moment frame.observed first mid (MakesLog 0 (frame.may_leave first) (frame.said first)) → SeesOnly frame.moment frame.observed first mid Shows
   sees_made none sees =
-      sees_weaker moment observed first mid (MakesLog 0 (may_leave first) (said first)) Shows
+      sees_weaker frame.moment frame.observed first mid (MakesLog 0 (frame.may_leave first) (frame.said first)) Shows
       (λ seen shows. record {
         such = torn_none body (seen.image 0) (subst (λ (b : List ℕ). Torn 0 made_count b (seen.image 0)) (none shows.before shows.was_left) shows.torn.inside);
         before = shows.before;
@@ -51,17 +52,17 @@ module _ {H : Type 0} (moment : H → ℕ) (observed : H → ℕ → Observation
         said = shows.said;
       }) sees
 
-  module _ (log : LogState) (is : log ≡ without_entries 0 layouts_kind) (quiet : said mid ≡ said first) (crash : Follows (SameBut 0) (may_leave first) (may_leave mid)) (new : H) where
+  module _ (log : LogState) (is : log ≡ without_entries 0 layouts_kind) (quiet : frame.said mid ≡ frame.said first) (crash : Follows (SameBut 0) (frame.may_leave first) (frame.may_leave mid)) (new : H) where
     abbrev Appends : Observation → Type 0
-    Appends = ChangesOne log.file (IsBeforeOrAfter log.kind [] body) (may_leave mid) (said mid)
+    Appends = ChangesOne log.file (IsBeforeOrAfter log.kind [] body) (frame.may_leave mid) (frame.said mid)
 
-    here : (seen : Observation) → Appends seen → ChangesOne 0 (IsBeforeOrAfter layouts_kind [] body) (may_leave mid) (said mid) seen
-    here seen shows = subst (λ (l : LogState). ChangesOne l.file (IsBeforeOrAfter l.kind [] body) (may_leave mid) (said mid) seen) is shows
+    here : (seen : Observation) → Appends seen → ChangesOne 0 (IsBeforeOrAfter layouts_kind [] body) (frame.may_leave mid) (frame.said mid) seen
+    here seen shows = subst (λ (l : LogState). ChangesOne l.file (IsBeforeOrAfter l.kind [] body) (frame.may_leave mid) (frame.said mid) seen) is shows
 
     -- and while the layout is appended
-    pub sees_appended : SeesOnly moment observed first mid Shows → SeesOnly moment observed mid new Appends → SeesOnly moment observed first new Shows
-    sees_appended one two = sees_then moment observed first mid new Shows Appends one two (λ seen shows.
-        let on : ChangesOne 0 (IsBeforeOrAfter layouts_kind [] body) (may_leave mid) (said mid) seen = here seen shows in
+    pub sees_appended : SeesOnly frame.moment frame.observed first mid Shows → SeesOnly frame.moment frame.observed mid new Appends → SeesOnly frame.moment frame.observed first new Shows
+    sees_appended one two = sees_then frame.moment frame.observed first mid new Shows Appends one two (λ seen shows.
+        let on : ChangesOne 0 (IsBeforeOrAfter layouts_kind [] body) (frame.may_leave mid) (frame.said mid) seen = here seen shows in
         let from = crash on.before on.was_left in
         record {
           such = either_one body (seen.image 0) on.such;
@@ -71,20 +72,20 @@ module _ {H : Type 0} (moment : H → ℕ) (observed : H → ℕ → Observation
           said = sym quiet ∙ on.said;
         })
 
-    pub changes_appended : ChangesOnly moment observed said reads may_leave (0 ∷ []) first mid
-        → ((files : Files) → reads first ≡ Some files → SeesOnly moment observed mid new Appends)
-        → Become (SameBut log.file) (reads mid) (reads new) → Follows (SameBut log.file) (may_leave mid) (may_leave new) → said new ≡ said mid
-        → ChangesOnly moment observed said reads may_leave (0 ∷ []) first new
+    pub changes_appended : ChangesOnly frame (0 ∷ []) first mid
+        → ((files : Files) → frame.reads first ≡ Some files → SeesOnly frame.moment frame.observed mid new Appends)
+        → Become (SameBut log.file) (frame.reads mid) (frame.reads new) → Follows (SameBut log.file) (frame.may_leave mid) (frame.may_leave new) → frame.said new ≡ frame.said mid
+        → ChangesOnly frame (0 ∷ []) first new
     changes_appended one two files follows still =
         let of_file : log.file ≡ 0 = ap (λ (l : LogState). l.file) is in
-        let become : Become (SameBut 0) (reads mid) (reads new) = subst (λ (f : ℕ). Become (SameBut f) (reads mid) (reads new)) of_file files in
-        let left : Follows (SameBut 0) (may_leave mid) (may_leave new) = subst (λ (f : ℕ). Follows (SameBut f) (may_leave mid) (may_leave new)) of_file follows in
-        changes_on moment observed said reads may_leave (0 ∷ []) first mid new one
-        (λ fs told. sees_weaker moment observed mid new Appends (ChangesNamed (0 ∷ []) (may_leave mid) (said mid))
+        let become : Become (SameBut 0) (frame.reads mid) (frame.reads new) = subst (λ (f : ℕ). Become (SameBut f) (frame.reads mid) (frame.reads new)) of_file files in
+        let left : Follows (SameBut 0) (frame.may_leave mid) (frame.may_leave new) = subst (λ (f : ℕ). Follows (SameBut f) (frame.may_leave mid) (frame.may_leave new)) of_file follows in
+        changes_on frame (0 ∷ []) first mid new one
+        (λ fs told. sees_weaker frame.moment frame.observed mid new Appends (ChangesNamed (0 ∷ []) (frame.may_leave mid) (frame.said mid))
         (λ seen shows.
-        let on : ChangesOne 0 (IsBeforeOrAfter layouts_kind [] body) (may_leave mid) (said mid) seen = here seen shows in
+        let on : ChangesOne 0 (IsBeforeOrAfter layouts_kind [] body) (frame.may_leave mid) (frame.said mid) seen = here seen shows in
         record { before = on.before; was_left = on.was_left; others = besides_one (0 ∷ []) 0 refl on.before seen.image on.others; said = on.said }) (two fs told))
-        (become_wider (SameBut 0) (0 ∷ []) (reads mid) (reads new) (besides_one (0 ∷ []) 0 refl) become)
+        (become_wider (SameBut 0) (0 ∷ []) (frame.reads mid) (frame.reads new) (besides_one (0 ∷ []) 0 refl) become)
         (λ c leaves. let from = left c leaves in (from.0, from.1, besides_one (0 ∷ []) 0 refl from.0 c from.2))
         still
 

@@ -1,3 +1,4 @@
+pub mod Besides
 pub mod FreeLemmas
 pub mod LayoutLemmas
 pub mod MakeLemmas

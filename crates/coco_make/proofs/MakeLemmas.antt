@@ -6,6 +6,7 @@ use Rattle.std.proofs.lemmas.List.{append-nil, drop_all}
 use Rattle.coco_host.specs.Files.{Files, Follows, put}
 use Rattle.coco_host.specs.Moments.{Observation, SeesOnly}
 use Rattle.coco_host.specs.Record.{known}
+use Rattle.coco_host.specs.declared.host.Host.{Ghosts as HostGhosts}
 use Rattle.coco_ast.specs.Tree.{Procedures}
 use Rattle.coco_entry.specs.declared.layout.Layout.{Layout}
 use Rattle.coco_entry.specs.Layouts.{HasFields, is_named, layout_bytes}
@@ -138,30 +139,30 @@ module _ (layout : Layout) (fields : HasFields layout) where
         good_files from.0 image (empty.left from.0 from.1) from.2 (last.left image leave) in
         record { files = last.files; are = last.are; good = good last.files (reads_left last.files last.are); left = good }
 
-    module _ {H : Type 0} (moment : H → ℕ) (observed : H → ℕ → Observation → Type 0) (said : H → Option (List ℕ)) (reads : H → Option Files) (may_leave : H → Files → Type 0)
-        (seen_now : (host : H) (t : ℕ) (seen : Observation) → t ≤ moment host → may_leave host seen.image → said host ≡ Some seen.said → observed host t seen) where
+    module _ {H : Type 0} (frame : HostGhosts H)
+        (seen_now : (host : H) (t : ℕ) (seen : Observation) → t ≤ frame.moment host → frame.may_leave host seen.image → frame.said host ≡ Some seen.said → frame.observed host t seen) where
       abbrev Once : Observation → Type 0
       Once seen = IsNewOnceOpen layout tree seen.image
 
       -- what is seen is what a crash may leave behind the call too
-      pub shows : (old new : H) → said new ≡ said old → SeesOnly moment observed old new Once → ShowsNewOnly moment observed said may_leave layout tree old new
+      pub shows : (old new : H) → frame.said new ≡ frame.said old → SeesOnly frame.moment frame.observed old new Once → ShowsNewOnly frame layout tree old new
       shows old new quiet sees = record {
         moments = sees;
         left = λ bytes spoke image leave. let seen : Observation = record { image = image; said = bytes } in
-            sees.each seen (seen_now new (moment old) seen sees.later leave (quiet ∙ spoke));
+            sees.each seen (seen_now new (frame.moment old) seen sees.later leave (quiet ∙ spoke));
       }
 
       -- while other files change, there is no layout
-      pub none_open : (named : List ℕ) (old new : H) → is_named named 0 ≡ false → LeavesEmpty 0 (may_leave old) → SeesOnly moment observed old new (ChangesNamed named (may_leave old) (said old))
-          → SeesOnly moment observed old new Once
+      pub none_open : (named : List ℕ) (old new : H) → is_named named 0 ≡ false → LeavesEmpty 0 (frame.may_leave old) → SeesOnly frame.moment frame.observed old new (ChangesNamed named (frame.may_leave old) (frame.said old))
+          → SeesOnly frame.moment frame.observed old new Once
       none_open named old new out none sees =
-          sees_weaker moment observed old new (ChangesNamed named (may_leave old) (said old)) Once
+          sees_weaker frame.moment frame.observed old new (ChangesNamed named (frame.may_leave old) (frame.said old)) Once
           (λ seen changed b bs log. absurd (no_entry b bs (seen.image 0) (changed.others 0 out ∙ none changed.before changed.was_left) log)) sees
 
-      pub then_open : (old mid new : H) (before : Files) (told : Option Files) → HaveEmptyLogs layout before told (may_leave mid) → SeesOnly moment observed old mid Once
-          → SeesOnly moment observed mid new (ChangesOne 0 (MayHave body) (may_leave mid) (said mid)) → SeesOnly moment observed old new Once
+      pub then_open : (old mid new : H) (before : Files) (told : Option Files) → HaveEmptyLogs layout before told (frame.may_leave mid) → SeesOnly frame.moment frame.observed old mid Once
+          → SeesOnly frame.moment frame.observed mid new (ChangesOne 0 (MayHave body) (frame.may_leave mid) (frame.said mid)) → SeesOnly frame.moment frame.observed old new Once
       then_open old mid new before told empty one two =
-          sees_then moment observed old mid new Once (ChangesOne 0 (MayHave body) (may_leave mid) (said mid)) one two
+          sees_then frame.moment frame.observed old mid new Once (ChangesOne 0 (MayHave body) (frame.may_leave mid) (frame.said mid)) one two
           (λ seen changed b bs log. opened changed.before seen.image (empty.left changed.before changed.was_left) (λ n out. changed.others n (λ e. named_not n out e)) b bs log (changed.such (b ∷ bs) log))
         where
           named_not : (n : ℕ) → is_named (0 ∷ []) n ≡ false → n ≢ 0
@@ -174,11 +175,11 @@ module _ (layout : Layout) (fields : HasFields layout) where
 
 -- ---- what changes
 
-module _ {H : Type 0} (moment : H → ℕ) (observed : H → ℕ → Observation → Type 0) (said : H → Option (List ℕ)) (reads : H → Option Files) (may_leave : H → Files → Type 0) where
+module _ {H : Type 0} (frame : HostGhosts H) where
   -- one file, and those named behind it
-  pub first_changes : (file : ℕ) (named : List ℕ) (old new : H) → ChangesOnly moment observed said reads may_leave (file ∷ []) old new → ChangesOnly moment observed said reads may_leave (file ∷ named) old new
+  pub first_changes : (file : ℕ) (named : List ℕ) (old new : H) → ChangesOnly frame (file ∷ []) old new → ChangesOnly frame (file ∷ named) old new
   first_changes file named old new =
-      changes_wider moment observed said reads may_leave (file ∷ []) (file ∷ named) old new (λ n out. ap (λ (b : Bool). b || false) (neither (file == n) (is_named named n) out).0)
+      changes_wider frame (file ∷ []) (file ∷ named) old new (λ n out. ap (λ (b : Bool). b || false) (neither (file == n) (is_named named n) out).0)
 
-  pub rest_changes : (file : ℕ) (named : List ℕ) (old new : H) → ChangesOnly moment observed said reads may_leave named old new → ChangesOnly moment observed said reads may_leave (file ∷ named) old new
-  rest_changes file named old new = changes_wider moment observed said reads may_leave named (file ∷ named) old new (λ n out. (neither (file == n) (is_named named n) out).1)
+  pub rest_changes : (file : ℕ) (named : List ℕ) (old new : H) → ChangesOnly frame named old new → ChangesOnly frame (file ∷ named) old new
+  rest_changes file named old new = changes_wider frame named (file ∷ named) old new (λ n out. (neither (file == n) (is_named named n) out).1)

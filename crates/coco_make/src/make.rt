@@ -58,8 +58,8 @@ pub fn make_store<H: Host>(alloc: Global, host: &mut H, layout: &Layout) -> Resu
         → RestsOn (new_contents layout.now tree) (H.reads host.new) (H.may_leave host.new)) }
     ensures bytes { OnOk result (LeavesOnlyLogs layout.now (H.reads host.old) (H.reads host.new)) }
     ensures moments { (files : Files) (tree : Procedures) → H.reads host.old ≡ Some files → LeavesEmpty 0 (H.may_leave host.old) → IsAcceptedText layout.now.text tree
-        → ShowsNewOnly H.moment H.observed H.said H.may_leave layout.now tree host.old host.new }
-    ensures changes { ChangesOnly H.moment H.observed H.said H.reads H.may_leave (named_by layout.now) host.old host.new }
+        → ShowsNewOnly H.Host layout.now tree host.old host.new }
+    ensures changes { ChangesOnly H.Host (named_by layout.now) host.old host.new }
     ensures counts { CountsMake result (H.disk_faults host.old) (H.disk_faults host.new) }
 {
     let mut body = Vec::new(alloc);
@@ -82,8 +82,8 @@ fn make_files<H: Host>(
         → RestsOn (new_contents layout.now tree) (H.reads host.new) (H.may_leave host.new)) }
     ensures bytes { OnOk result (LeavesOnlyLogs layout.now (H.reads host.old) (H.reads host.new)) }
     ensures moments { (files : Files) (tree : Procedures) → H.reads host.old ≡ Some files → LeavesEmpty 0 (H.may_leave host.old) → IsAcceptedText layout.now.text tree
-        → ShowsNewOnly H.moment H.observed H.said H.may_leave layout.now tree host.old host.new }
-    ensures changes { ChangesOnly H.moment H.observed H.said H.reads H.may_leave (named_by layout.now) host.old host.new }
+        → ShowsNewOnly H.Host layout.now tree host.old host.new }
+    ensures changes { ChangesOnly H.Host (named_by layout.now) host.old host.new }
     ensures counts { CountsFault result (H.disk_faults host.old) (H.disk_faults host.new) }
 {
     make_empty_logs(alloc, host, layout)?;
@@ -99,7 +99,7 @@ pub fn make_empty_logs<H: Host>(
 ) -> Result<(), LogFault>
     requires { HasFields layout.now }
     ensures ok { OnOk result ((before : Files) → H.reads host.old ≡ Some before → HaveEmptyLogs layout.now before (H.reads host.new) (H.may_leave host.new)) }
-    ensures changes { ChangesOnly H.moment H.observed H.said H.reads H.may_leave (layout.now.chief_file ∷ layout.now.node_files) host.old host.new }
+    ensures changes { ChangesOnly H.Host (layout.now.chief_file ∷ layout.now.node_files) host.old host.new }
     ensures counts { CountsFault result (H.disk_faults host.old) (H.disk_faults host.new) }
 {
     make_logs(alloc, host, layout.node_files.as_slice(), PREPARED)?;
@@ -109,7 +109,7 @@ pub fn make_empty_logs<H: Host>(
 // Makes a log without entries in each of these files.
 fn make_logs<H: Host>(alloc: Global, host: &mut H, files: &[u32], kind: u8) -> Result<(), LogFault>
     ensures ok { OnOk result ((before : Files) → H.reads host.old ≡ Some before → HaveLogs kind files.now (length files.now) before (H.reads host.new) (H.may_leave host.new)) }
-    ensures changes { ChangesOnly H.moment H.observed H.said H.reads H.may_leave files.now host.old host.new }
+    ensures changes { ChangesOnly H.Host files.now host.old host.new }
     ensures counts { CountsFault result (H.disk_faults host.old) (H.disk_faults host.new) }
 {
     for file in files {
@@ -124,7 +124,7 @@ fn make_layouts<H: Host>(alloc: Global, host: &mut H, body: &[u8]) -> Result<(),
     ensures ok { OnOk result ((before : Files) → H.reads host.old ≡ Some before → HasLayout body.now before (H.reads host.new) (H.may_leave host.new)) }
     ensures moments { (files : Files) → H.reads host.old ≡ Some files → LeavesEmpty 0 (H.may_leave host.old)
         → SeesOnly H.moment H.observed host.old host.new (ChangesOne 0 (MayHave body.now) (H.may_leave host.old) (H.said host.old)) }
-    ensures changes { ChangesOnly H.moment H.observed H.said H.reads H.may_leave (0 ∷ []) host.old host.new }
+    ensures changes { ChangesOnly H.Host (0 ∷ []) host.old host.new }
     ensures counts { CountsFault result (H.disk_faults host.old) (H.disk_faults host.new) }
 {
     let mut layouts = Log::make(alloc, host, 0, LAYOUTS)?;

@@ -2,6 +2,7 @@
 use Rattle.std.proofs.Common.{◌≡◌, inl, inr, ℕ, ◌<◌, ◌≤◌, true, false, List, [], ◌∷◌, refl, sym, ap, subst, ◌∙◌, arith}
 use Rattle.std.specs.List.{Contains}
 use Rattle.std.proofs.lemmas.List.Elements.{Contains-append_cases}
+use Rattle.coco_letters.proofs.TellingLemmas.{finished_weaker, votes_weaker}
 use Rattle.coco_letters.specs.Saying.{is_of_commit, posted}
 use Rattle.coco_letters.specs.Telling.{Adds, IsOfChief, IsOfFinish, IsOfNode, IsOfVote, FinishedBelow, VotesBelow, IsOfSettling}
 use Rattle.coco_msg.specs.Bytes.{bytes_of}
@@ -105,12 +106,6 @@ ships_below_settling epoch = ships_below_with (IsOfSettling epoch) (settling_let
 
 pub ships_below_later : (next later : ℕ) (sent : List Posted) → next ≤ later → ShipsBelow next sent → ShipsBelow later sent
 ships_below_later next later sent le below e from = below e (omega (arith, le, from))
-
-pub votes_below_later : (next later : ℕ) (sent : List Posted) → next ≤ later → VotesBelow next sent → VotesBelow later sent
-votes_below_later next later sent le below n e vote from = below n e vote (omega (arith, le, from))
-
-pub finished_below_later : (next later : ℕ) (sent : List Posted) → next ≤ later → FinishedBelow next sent → FinishedBelow later sent
-finished_below_later next later sent le below n e from = below n e (omega (arith, le, from))
 
 -- nothing was sent
 pub none_below : (next : ℕ) → LettersBelow next []

@@ -15,9 +15,10 @@ use coco_ast::Checked;
 use coco_chief::ChiefCore;
 use coco_finish::NodeTables;
 use coco_kept::Kept;
+use coco_load::PackedRows;
 use coco_recover::{Logs, Opened, an_opened_store_stands};
 use coco_standing::{settled_shards_hold_a_map, tables_at_rest};
-use coco_types::{MapRows, NoMemory};
+use coco_types::NoMemory;
 use coco_world::entries_begin_a_world;
 use std::alloc::Global;
 
@@ -32,7 +33,7 @@ pub struct Reopened {
     pub next_epoch: u64,
     pub keep: Option<u16>,
     /// The rows of the base, entry by entry, for a node that loses its tables.
-    pub base: Vec<MapRows>,
+    pub base: Vec<PackedRows>,
 }
 
 /// The nodes and the coordinator of an opened store, between two epochs: each core begins anew from the epochs of its

@@ -19,7 +19,7 @@ use Rattle.coco_desks.specs.Desks.{AreBackBy, AreDealt}
 use Rattle.coco_desks.specs.Gains.{AreSame}
 use Rattle.coco_desks.specs.Rows.{column}
 use Rattle.coco_desks.proofs.DeskLemmas.{ClosedBy, back_count, bears, closed_by, dealt_pass, journals_count, machines_count, same_pass}
-use Rattle.coco_desks.proofs.RowLemmas.{some_at}
+use Rattle.coco_desks.proofs.RowLemmas.{in_column, some_at}
 use Rattle.coco_journaled.specs.declared.entry.Entry.{Entry}
 use Rattle.coco_journaled.specs.Passes.{HasPasses, entries_of, entry_of, new_pass}
 use Rattle.coco_order.specs.Execution.{Journal, Transcript}
@@ -36,7 +36,7 @@ use Rattle.coco_parallel.specs.Worked.{CopyJournal, HaveCommits, HaveWorked, Put
 use Rattle.coco_parallel.specs.Working.{LeavesEach}
 use Rattle.coco_parallel.specs.declared.workers.Station.{Station}
 use Rattle.coco_parallel.proofs.CrewLemmas.{all_dealt, column_slots, column_tables, crew, crew_at, crew_count, map_slots, seats_of, shard_rows, table_rows, tables_count, tables_same}
-use Rattle.coco_parallel.proofs.CopyLemmas.{copies_are_of_commits, in_column, within_list}
+use Rattle.coco_parallel.proofs.CopyLemmas.{copies_are_of_commits, within_list}
 use Rattle.coco_parallel.proofs.RunLemmas.{runs_end}
 
 -- ---- done

@@ -7,6 +7,7 @@ use Rattle.std.proofs.lemmas.List.Elements.{All-map}
 use Rattle.coco_types.specs.declared.call.Request.{Request}
 use Rattle.coco_ast.specs.Tree.{Procedures}
 use Rattle.coco_claim.specs.Seats.{Drawer, Round, has_ended, new_seats}
+use Rattle.coco_claim.proofs.Drawing.{fresh_seats, seats_count}
 use Rattle.coco_copy.specs.CopyState.{CopyState}
 use Rattle.coco_desks.specs.Desks.{AreDealt}
 use Rattle.coco_desks.specs.Gains.{AreSame}
@@ -25,7 +26,7 @@ use Rattle.coco_parallel.specs.Stations.{station_of, stations_of}
 use Rattle.coco_parallel.specs.Worked.{copy_passes_at}
 use Rattle.coco_parallel.specs.Working.{IsManned, LeavesEach}
 use Rattle.coco_parallel.specs.declared.workers.Station.{Station}
-use Rattle.coco_parallel.proofs.StationLemmas.{fresh_seats, seats_count, station_at, stations_count}
+use Rattle.coco_parallel.proofs.StationLemmas.{station_at, stations_count}
 
 abbrev pub shard_rows : List Station → List (Vec ShardPass)
 shard_rows = map (λ (s : Station). s.slot.passes)

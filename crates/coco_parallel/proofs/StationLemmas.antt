@@ -1,10 +1,7 @@
 -- Stations that are manned from rows and seats, and taken apart.
-use Rattle.std.proofs.Common.{◌≡◌, ℕ, zero, suc, ◌+◌, ◌<◌, List, [], ◌∷◌, All, length, slice_index_or, refl, ap, ◌∙◌, arith}
+use Rattle.std.proofs.Common.{◌≡◌, ℕ, zero, suc, ◌+◌, ◌<◌, List, [], ◌∷◌, length, slice_index_or, refl, ap, ◌∙◌, arith}
 use Rattle.std.specs.Global.{Vec}
-use Rattle.std.specs.List.{range_with_len}
-use Rattle.std.proofs.lemmas.List.{length-map}
-use Rattle.std.proofs.lemmas.List.Elements.{All-map}
-use Rattle.coco_claim.specs.Seats.{Drawer, Round, new_seats}
+use Rattle.coco_claim.specs.Seats.{Drawer}
 use Rattle.coco_worker.specs.Gains.{ShardPass}
 use Rattle.coco_parallel.specs.Copies.{CopyPass}
 use Rattle.coco_parallel.specs.Stations.{station_of, stations_of}
@@ -15,8 +12,6 @@ Rows = List (Vec ShardPass)
 
 abbrev CopyRows : Type 0
 CopyRows = List (Vec CopyPass)
-
--- ---- one of them
 
 pub stations_count : (worker : ℕ) (rows : Rows) (copies : CopyRows) (seats : List Drawer) → length rows ≡ length seats → length copies ≡ length seats → length (stations_of worker rows copies seats) ≡ length seats
 stations_count worker [] copies [] a b = refl
@@ -34,20 +29,3 @@ station_at worker (r' ∷ rs) (c' ∷ cs) (s' ∷ ss) a b zero d r c s lt = ap (
 station_at worker (r' ∷ rs) (c' ∷ cs) (s' ∷ ss) a b (suc n) d r c s lt =
     station_at (suc worker) rs cs ss (omega (arith, a)) (omega (arith, b)) n d r c s (omega arith)
     ∙ ap (λ (w : ℕ). station_of w (slice_index_or rs n r) (slice_index_or cs n c) (slice_index_or ss n s)) (let h : suc worker + n ≡ worker + suc n = omega arith in h)
-
--- ---- new seats
-
--- a seat that drew nothing
-pub record IsFresh (claims : Round) (seat : Drawer) : Type 0 where
-  pub of : seat.claims ≡ claims
-  pub drawn : seat.drawn ≡ []
-
-pub fresh_seats : (claims : Round) → All (IsFresh claims) (new_seats claims)
-fresh_seats claims = All-map (IsFresh claims) (λ (mark : ℕ). let seat : Drawer = record { claims = claims; mark = mark; drawn = [] } in seat) (range_with_len 0 claims.seats) (λ k d lt. record { of = refl; drawn = refl })
-
-pub seats_count : (claims : Round) → length (new_seats claims) ≡ claims.seats
-seats_count claims = length-map (range_with_len 0 claims.seats) (λ (mark : ℕ). let seat : Drawer = record { claims = claims; mark = mark; drawn = [] } in seat) ∙ ranged 0 claims.seats
-  where
-    ranged : (first count : ℕ) → length (range_with_len first count) ≡ count
-    ranged first zero = refl
-    ranged first (suc count) = ap suc (ranged (first + 1) count)

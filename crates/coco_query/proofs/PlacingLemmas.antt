@@ -1,5 +1,5 @@
 -- Replies that are put at their places.
-use Rattle.std.proofs.Common.{◌≡◌, ℕ, zero, suc, ◌+◌, ◌<◌, ◌≤◌, Bool, true, false, cond, eqb, All, List, [], ◌∷◌, ◌++◌, map, length, None, Some, slice_index_or, slice_set, refl, sym, ap, ◌∙◌, subst, arith}
+use Rattle.std.proofs.Common.{◌≡◌, ℕ, zero, suc, ◌+◌, ◌<◌, ◌≤◌, Bool, cond, eqb, All, List, [], ◌∷◌, ◌++◌, map, length, None, Some, slice_index_or, slice_set, refl, sym, ap, ◌∙◌, subst, arith}
 use Rattle.std.specs.Prelude.{sum_by}
 use Rattle.std.specs.List.{AllByRecursion, flat_map, slice_get}
 use Rattle.std.proofs.lemmas.Bool.{eq-eqb}
@@ -9,7 +9,7 @@ use Rattle.std.proofs.lemmas.Option.{slice_get_within}
 use Rattle.coco_types.specs.declared.call.Reply.{Reply}
 use Rattle.coco_types.specs.declared.call.Reply.TheVariants.{Ok}
 use Rattle.coco_types.specs.declared.call.Request.{Request}
-use Rattle.coco_ast.proofs.Lists.{all_append, all_weaker}
+use Rattle.coco_ast.proofs.Lists.{all_append}
 use Rattle.coco_ast.specs.Tree.{Procedures}
 use Rattle.coco_claim.specs.Numbers.{times}
 use Rattle.coco_claim.proofs.Counts.{times-append, times-cons}
@@ -17,7 +17,7 @@ use Rattle.coco_desks.proofs.GainLemmas.{get_set_other, get_set_same}
 use Rattle.coco_journaled.specs.declared.entry.Entry.{Entry}
 use Rattle.coco_journaled.specs.Passes.{entries_of}
 use Rattle.coco_query.specs.Answers.{FrozenJournal, HaveRead, IsReplied, IsTold, entered, journal_at}
-use Rattle.coco_query.specs.Placing.{HasRun, HaveRun, blanks, put_all, put_lists}
+use Rattle.coco_query.specs.Placing.{HaveRun, blanks, put_all, put_lists}
 use Rattle.coco_query.specs.Readers.{IsServed, Served, places_of, reading_of, replied}
 use Rattle.coco_query.specs.declared.answering.Answered.{Answered}
 use Rattle.coco_query.specs.declared.answering.Ran.{Ran}

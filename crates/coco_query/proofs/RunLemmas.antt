@@ -1,5 +1,5 @@
 -- Replies of readers on tables that hold a map.
-use Rattle.std.proofs.Common.{◌≡◌, ℕ, zero, suc, ◌+◌, ◌%◌, ◌<◌, Bool, true, false, cond, eqb, nat_eq, All, List, [], ◌∷◌, ◌++◌, map, length, Option, None, Some, slice_index_or, refl, sym, ap, ◌∙◌, subst, arith}
+use Rattle.std.proofs.Common.{◌≡◌, ℕ, zero, suc, ◌+◌, ◌%◌, ◌<◌, Bool, true, false, cond, eqb, All, List, [], ◌∷◌, map, length, Option, None, Some, slice_index_or, refl, sym, ap, ◌∙◌, arith}
 use Rattle.std.specs.Prelude.{sum_by}
 use Rattle.std.specs.List.{AllByRecursion, slice_get}
 use Rattle.std.specs.Option.{option_map}
@@ -19,7 +19,6 @@ use Rattle.coco_ast.proofs.KeyedLemmas.{value_on_partition}
 use Rattle.coco_ast.proofs.Lists.{all_weaker}
 use Rattle.coco_claim.specs.Numbers.{times}
 use Rattle.coco_claim.proofs.Counts.{times-cons}
-use Rattle.coco_eval.specs.Standing.{HasGiven}
 use Rattle.coco_eval.specs.declared.machine.Given.{Given}
 use Rattle.coco_query.specs.Answers.{HaveRead, IsIn, IsReplied, RepliesAreRuns}
 use Rattle.coco_query.specs.Frozen.{HoldsFrozen}

@@ -1,10 +1,9 @@
 -- Requests that a reader reads for: one, and from one stretch to the next.
-use Rattle.std.proofs.Common.{◌≡◌, ℕ, ◌+◌, ◌<◌, ◌≤◌, Bool, true, false, cond, eqb, MatchBool, List, [], ◌∷◌, ◌++◌, map, length, Option, Some, slice_index_or, refl, sym, ap, ◌∙◌, subst, arith, append_assoc}
-use Rattle.std.specs.List.{AllByRecursion, flat_map, slice_get}
+use Rattle.std.proofs.Common.{◌≡◌, ℕ, ◌+◌, ◌<◌, ◌≤◌, Bool, true, false, cond, eqb, MatchBool, List, [], ◌∷◌, ◌++◌, map, length, Some, refl, sym, ap, ◌∙◌, subst, arith, append_assoc}
+use Rattle.std.specs.List.{flat_map, slice_get}
 use Rattle.std.proofs.lemmas.Bool.{ne_eqb}
 use Rattle.std.proofs.lemmas.List.{append-nil, map-append}
 use Rattle.std.proofs.lemmas.List.Concat.{flat_map-append}
-use Rattle.std.proofs.lemmas.Option.{same_Some, slice_get-get_or}
 use Rattle.coco_types.specs.declared.call.Call.{Call}
 use Rattle.coco_types.specs.declared.call.Reply.{Reply}
 use Rattle.coco_types.specs.declared.call.Request.{Request}
@@ -13,17 +12,16 @@ use Rattle.coco_ast.proofs.Lists.{all_append}
 use Rattle.coco_ast.specs.Tree.{Procedures}
 use Rattle.coco_claim.specs.Numbers.{times}
 use Rattle.coco_claim.specs.Seats.{Drawer, Draws, Round, has_ended}
-use Rattle.coco_claim.proofs.Counts.{times-append, times-cons, times-push}
+use Rattle.coco_claim.proofs.Counts.{times-append, times-push}
 use Rattle.coco_claim.proofs.Drawing.{any_last}
 use Rattle.coco_desks.specs.Gains.{AreSame}
 use Rattle.coco_eval.specs.Standing.{Ended, Evaluation, Ready}
 use Rattle.coco_eval.specs.declared.machine.Given.{Given}
 use Rattle.coco_gate.specs.declared.passes.Passage.{Passage}
-use Rattle.coco_query.specs.Reading.{EndsOn, FrozenPass, Reads}
-use Rattle.coco_query.specs.Readers.{HasDrawn, HasRead, IsReading, IsServed, Served, had_by, places_of, points_of, reading_of, replied}
+use Rattle.coco_query.specs.Reading.{EndsOn, Reads}
+use Rattle.coco_query.specs.Readers.{HasDrawn, HasRead, IsServed, Served, had_by, places_of, points_of, reading_of, replied}
 use Rattle.coco_query.specs.declared.readers.Reader.{Reader}
 use Rattle.coco_query.specs.declared.readers.Reading.{Reading}
-use Rattle.coco_query.specs.declared.readers.Replied.{Replied}
 use Rattle.coco_query.proofs.ReadingLemmas.{reads_none, reads_then}
 
 -- ---- one request

@@ -25,12 +25,12 @@ use coco_ast::Checked;
 use coco_copy::CopyTable;
 use coco_entry::Layout;
 use coco_kept::Kept;
-use coco_load::Tables;
+use coco_load::{PackedRow, PackedRows, Tables};
 use coco_pieces::partition_of;
 use coco_recover::Opened;
 use coco_serial::Executor;
 use coco_shard::Shard;
-use coco_types::{Call, Done, Key, MapRows, NoMemory, Value, Write};
+use coco_types::{Call, Done, NoMemory, Write};
 use std::alloc::Global;
 use std::mem;
 
@@ -156,7 +156,7 @@ fn earlier(
     alloc: Global,
     mut layout: Layout,
     procs: &Checked,
-    base: Vec<MapRows>,
+    base: Vec<PackedRows>,
     kept: &Kept,
     epoch: u64,
 ) -> Result<Vec<Frozen>, NoMemory>
@@ -188,7 +188,7 @@ struct Replay {
 
 impl Replay {
     // On the map of a base, whose lists of rows are let go one after another.
-    fn of_base(alloc: Global, layout: &Layout, base: Vec<MapRows>) -> Result<Replay, NoMemory>
+    fn of_base(alloc: Global, layout: &Layout, base: Vec<PackedRows>) -> Result<Replay, NoMemory>
         requires { IsRing layout.now }
         ensures rows { IfOk result (λ replay. replay.executor.rows ≡ put_over empty (puts (flat_map (λ rows. rows) base.items))) }
         ensures held { IfOk result (λ replay. HoldsItsMap layout.now replay.executor.rows replay.shards.items) }
@@ -235,7 +235,7 @@ fn load_list(
     executor: &mut Executor,
     tables: &mut Tables,
     layout: &Layout,
-    rows: &[(Key, Value)],
+    rows: &[PackedRow],
 ) -> Result<(), NoMemory>
     requires { HoldMap layout.now executor.old.rows tables.old.shards.items tables.old.copies.items }
     ensures rows { OnOk result (executor.new.rows ≡ put_over executor.old.rows (puts rows.now)) }
@@ -246,11 +246,11 @@ fn load_list(
 }
 
 // Adds rows to an executor's map.
-fn load_rows(executor: &mut Executor, rows: &[(Key, Value)]) -> Result<(), NoMemory>
+fn load_rows(executor: &mut Executor, rows: &[PackedRow]) -> Result<(), NoMemory>
     ensures { OnOk result (executor.new.rows ≡ put_over executor.old.rows (puts rows.now)) }
 {
-    for (key, value) in rows {
-        executor.load(*key, *value)?;
+    for row in rows {
+        executor.load(row.key(), row.value())?;
     }
     Ok(())
 }

@@ -36,9 +36,8 @@ pub fn read_file<H: Host, R: Rules>(
         → IsFirstIn (R.rules (R.setting rules.old)) kind (files file) at }
     ensures kept { (other at : ℕ) (files : Files) (entries : List (R.Entry)) → H.reads host.old ≡ Some files
         → IsFile (R.rules (R.setting rules.old)) kind entries (files file) → result ≢ Err (fault.NotAStore other at) }
-    ensures read { IsOnlyRead H.moment H.observed H.said H.reads H.may_leave host.old host.new }
+    ensures read { IsOnlyRead H.Host host.old host.new }
     ensures counts { Counts result (H.disk_faults host.old) (H.disk_faults host.new) }
-    ensures others { H.say_faults host.new ≡ H.say_faults host.old }
 {
     let mut entries = begin(alloc, host, file, kind)?;
     while read_next(alloc, host, file, &mut entries, rules)? {}
@@ -57,9 +56,8 @@ fn begin<H: Host>(alloc: Global, host: &mut H, file: u32, kind: u8) -> Result<En
     ensures ok { IfOk result (λ entries. (files : Files) → H.reads host.old ≡ Some files → IsBegun entries files (H.may_leave host.new)) }
     ensures here { (other at : ℕ) → result ≡ Err (fault.NotAStore other at) → other ≡ file }
     ensures refused { (other at : ℕ) (files : Files) → result ≡ Err (fault.NotAStore other at) → H.reads host.old ≡ Some files → IsNoHeader kind (files file) at }
-    ensures read { IsOnlyRead H.moment H.observed H.said H.reads H.may_leave host.old host.new }
+    ensures read { IsOnlyRead H.Host host.old host.new }
     ensures counts { Counts result (H.disk_faults host.old) (H.disk_faults host.new) }
-    ensures others { H.say_faults host.new ≡ H.say_faults host.old }
 {
     match Entries::open(alloc, host, file, kind) {
         Ok(entries) => Ok(entries),
@@ -83,9 +81,8 @@ fn read_next<H: Host, R: Rules>(
     ensures here { (other at : ℕ) → result ≡ Err (fault.NotAStore other at) → other ≡ file }
     ensures end { entries.new.end ≡ entries.old.end }
     ensures on { result ≡ Ok true → (entries.old.at < entries.new.at) × (entries.new.at < entries.new.end) }
-    ensures read { IsOnlyRead H.moment H.observed H.said H.reads H.may_leave host.old host.new }
+    ensures read { IsOnlyRead H.Host host.old host.new }
     ensures counts { Counts result (H.disk_faults host.old) (H.disk_faults host.new) }
-    ensures others { H.say_faults host.new ≡ H.say_faults host.old }
 {
     let goes_on = match entries.next(host) {
         Ok(more) => more,

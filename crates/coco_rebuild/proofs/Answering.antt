@@ -3,6 +3,7 @@ use Rattle.std.proofs.Common.{◌≡◌, ℕ, List, Option, Result, Ok, Err, ref
 use Rattle.std.specs.Prelude.{OnOk}
 use Rattle.coco_host.specs.Files.{Files}
 use Rattle.coco_host.specs.Moments.{Observation}
+use Rattle.coco_host.specs.declared.host.Host.{Ghosts as HostGhosts}
 use Rattle.coco_append.specs.Gaining.{GainsAs, RestsAs}
 use Rattle.coco_entry.specs.declared.layout.Layout.{Layout}
 use Rattle.coco_read.specs.declared.fault.OpenFault.{OpenFault}
@@ -28,20 +29,20 @@ fault_back (NotAStore g b) file at is = cc
 fault_back NoMemory file at is = cc
 
 -- what is gained, where the last step's answer is told on
-pub gains_failed : {H : Type 0} (moment : H → ℕ) (observed : H → ℕ → Observation → Type 0) (said : H → Option (List ℕ)) (reads : H → Option Files) (may_leave : H → Files → Type 0)
-    (inner : Result (Unit {0}) OpenFault) (e : RebuildFault) (Was Now : Files → Type 0) (old new : H) → GainsAs moment observed said reads may_leave inner Was Now old new
-    → (result : Result (Unit {0}) RebuildFault) → result ≡ Err e → GainsAs moment observed said reads may_leave result Was Now old new
-gains_failed moment observed said reads may_leave inner e Was Now old new gains result is = record {
-  ok = subst (λ (r : Result (Unit {0}) RebuildFault). OnOk r (RestsAs Now (reads new) (may_leave new))) (sym is) tt;
+pub gains_failed : {H : Type 0} (frame : HostGhosts H)
+    (inner : Result (Unit {0}) OpenFault) (e : RebuildFault) (Was Now : Files → Type 0) (old new : H) → GainsAs frame inner Was Now old new
+    → (result : Result (Unit {0}) RebuildFault) → result ≡ Err e → GainsAs frame result Was Now old new
+gains_failed frame inner e Was Now old new gains result is = record {
+  ok = subst (λ (r : Result (Unit {0}) RebuildFault). OnOk r (RestsAs Now (frame.reads new) (frame.may_leave new))) (sym is) tt;
   moments = gains.moments;
   left = gains.left;
 }
 
-pub gains_done : {H : Type 0} (moment : H → ℕ) (observed : H → ℕ → Observation → Type 0) (said : H → Option (List ℕ)) (reads : H → Option Files) (may_leave : H → Files → Type 0)
-    (inner : Result (Unit {0}) OpenFault) (u v : Unit {0}) (Was Now : Files → Type 0) (old new : H) → inner ≡ Ok u → GainsAs moment observed said reads may_leave inner Was Now old new
-    → GainsAs {T = Unit {0}} {E = RebuildFault} moment observed said reads may_leave (Ok v) Was Now old new
-gains_done moment observed said reads may_leave inner u v Was Now old new is gains = record {
-  ok = subst (λ (r : Result (Unit {0}) OpenFault). OnOk r (RestsAs Now (reads new) (may_leave new))) is gains.ok;
+pub gains_done : {H : Type 0} (frame : HostGhosts H)
+    (inner : Result (Unit {0}) OpenFault) (u v : Unit {0}) (Was Now : Files → Type 0) (old new : H) → inner ≡ Ok u → GainsAs frame inner Was Now old new
+    → GainsAs {T = Unit {0}} {E = RebuildFault} frame (Ok v) Was Now old new
+gains_done frame inner u v Was Now old new is gains = record {
+  ok = subst (λ (r : Result (Unit {0}) OpenFault). OnOk r (RestsAs Now (frame.reads new) (frame.may_leave new))) is gains.ok;
   moments = gains.moments;
   left = gains.left;
 }

@@ -3,10 +3,11 @@ use Rattle.std.proofs.Common.{◌≡◌, ◌≢◌, ℕ, ◌+◌, ◌<◌, ◌==
 use Rattle.std.specs.Prelude.{OnOk}
 use Rattle.std.specs.List.{AllByRecursion}
 use Rattle.std.specs.Set.{is_member}
-use Rattle.std.proofs.lemmas.Bool.{eq-eqb, eqb-true}
+use Rattle.std.proofs.lemmas.Bool.{eq-eqb, eqb-true, or_left, or_right}
 use Rattle.std.proofs.lemmas.List.{map-append}
 use Rattle.coco_host.specs.Files.{Become, Files}
 use Rattle.coco_host.specs.Moments.{Observation}
+use Rattle.coco_host.specs.declared.host.Host.{Ghosts as HostGhosts}
 use Rattle.coco_ast.specs.History.{RisesAbove}
 use Rattle.coco_ast.proofs.Lists.{all_append}
 use Rattle.coco_entry.specs.declared.layout.Layout.{Layout}
@@ -29,7 +30,6 @@ use Rattle.coco_rebuild.specs.Answers.{answer_to}
 use Rattle.coco_rebuild.specs.Rebuilding.{IsRebuilt}
 use Rattle.coco_rebuild.specs.Sources.{AreOthers, AreReadUpTo, HasAdded, HasNode, IsReadIn, file_at, node_after, node_first}
 use Rattle.coco_rebuild.specs.declared.sources.Sources.{Sources}
-use Rattle.coco_rebuild.proofs.Grouping.{or_left, or_right}
 
 -- ---- calls
 
@@ -42,12 +42,12 @@ answered (Err (NotALog at)) P is = tt
 answered (Err TooLong) P is = tt
 
 -- what is only read changes nothing
-module _ {H : Type 0} (moment : H → ℕ) (observed : H → ℕ → Observation → Type 0) (said : H → Option (List ℕ)) (reads : H → Option Files) (may_leave : H → Files → Type 0) where
-  pub changes_read : (named : List ℕ) (old new : H) → IsOnlyRead moment observed said reads may_leave old new → ChangesOnly moment observed said reads may_leave named old new
+module _ {H : Type 0} (frame : HostGhosts H) where
+  pub changes_read : (named : List ℕ) (old new : H) → IsOnlyRead frame old new → ChangesOnly frame named old new
   changes_read named old new read = record {
-    moments = λ files told. sees_weaker moment observed old new (IsAsBefore (may_leave old) (said old)) (ChangesNamed named (may_leave old) (said old))
+    moments = λ files told. sees_weaker frame.moment frame.observed old new (IsAsBefore (frame.may_leave old) (frame.said old)) (ChangesNamed named (frame.may_leave old) (frame.said old))
         (λ seen shows. record { before = seen.image; was_left = shows.image; others = λ n out. refl; said = shows.said }) read.moments;
-    files = subst (λ (o : Option Files). Become (SameBesides named) (reads old) o) (sym read.same) (same_besides (reads old));
+    files = subst (λ (o : Option Files). Become (SameBesides named) (frame.reads old) o) (sym read.same) (same_besides (frame.reads old));
     crash = λ left may. (left, read.crash left may, λ n out. refl);
     quiet = read.quiet;
   }

@@ -2,7 +2,7 @@
 use Rattle.std.proofs.Common.{◌≡◌, ◌≢◌, ℕ, ◌<◌, ◌==◌, Bool, true, false, cond, nat_eq, List, [], ◌∷◌, ◌++◌, length, map, filter, refl, sym, ap, subst, ◌∙◌, arith}
 use Rattle.std.specs.List.{AllByRecursion, flat_map}
 use Rattle.std.specs.Set.{is_member}
-use Rattle.std.proofs.lemmas.Bool.{eq-eqb, eqb-false, eqb-true}
+use Rattle.std.proofs.lemmas.Bool.{eq-eqb, eqb-false, eqb-true, or_left, or_right}
 use Rattle.std.proofs.lemmas.List.{get_or-set_other, get_or-set_same, map-append}
 use Rattle.std.proofs.lemmas.List.Elements.{filter-append}
 use Rattle.coco_types.specs.declared.call.Write.{Write}
@@ -29,7 +29,7 @@ use Rattle.coco_store.specs.Switching.{Allows, IsReadyFor, KeepRules, Switches}
 use Rattle.coco_store.proofs.Switching.{where_allowed}
 use Rattle.coco_rebuild.specs.Laws.{RebuiltIsGood}
 use Rattle.coco_rebuild.specs.Rebuilding.{AreRebuilt, IsHeldAlone, IsRebuilt, holder_behind, new_file, on_rows, rebuilt_with, rows_at}
-use Rattle.coco_rebuild.proofs.Grouping.{or_left, or_right, same_as}
+use Rattle.coco_rebuild.proofs.Grouping.{same_as}
 use Rattle.coco_rebuild.proofs.NewNode.{is_layout, none_of_old, within_limits}
 use Rattle.coco_rebuild.proofs.Holders.{is_node, next_holder}
 

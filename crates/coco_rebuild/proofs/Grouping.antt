@@ -2,28 +2,12 @@
 use Rattle.std.proofs.Common.{◌≡◌, ℕ, ◌<◌, ◌≤◌, ◌||◌, Bool, true, false, cond, nat_eq, List, [], ◌∷◌, ◌++◌, map, filter, refl, sym, ap, ◌∙◌, arith, append_assoc}
 use Rattle.std.specs.List.{AllByRecursion, flat_map}
 use Rattle.std.specs.Set.{is_member}
-use Rattle.std.proofs.lemmas.Bool.{eq-eqb, eqb-true, ne_eqb}
+use Rattle.std.proofs.lemmas.Bool.{eq-eqb, eqb-true, ne_eqb, or_from, or_left, or_parts, or_right}
 use Rattle.coco_ast.specs.History.{RisesAbove}
-
-pub or_left : (a b : Bool) → a ≡ true → a || b ≡ true
-or_left true b e = refl
-or_left false b e = let no : false ≡ true = e in cc
-
-pub or_right : (a b : Bool) → b ≡ true → a || b ≡ true
-or_right true b h = refl
-or_right false b h = h
 
 pub or_either : (a b : Bool) (P : Type 0) → (a ≡ true → P) → (b ≡ true → P) → a || b ≡ true → P
 or_either true b P here there is = here refl
 or_either false b P here there is = there is
-
-pub neither : (a b : Bool) → a ≡ false → b ≡ false → a || b ≡ false
-neither true b e f = e
-neither false b e f = f
-
-pub either_false : (a b : Bool) → a || b ≡ false → (a ≡ false) × (b ≡ false)
-either_false true b e = let no : true ≡ false = e in cc
-either_false false b e = (refl, e)
 
 -- ---- members of rising numbers
 
@@ -31,7 +15,7 @@ not_behind : (k m : ℕ) (ks : List ℕ) → k ≤ m → RisesAbove m ks → is_
 not_behind k m [] le rises = refl
 not_behind k m (j ∷ js) le rises =
     let above : m < j = rises.0 in
-    neither (nat_eq k j) (is_member nat_eq js k) (ne_eqb k j (λ same. omega (arith, le, above, same))) (not_behind k j js (omega (arith, le, above)) rises.1)
+    or_from (nat_eq k j) (is_member nat_eq js k) (ne_eqb k j (λ same. omega (arith, le, above, same))) (not_behind k j js (omega (arith, le, above)) rises.1)
 
 member_above : (k m : ℕ) (ks : List ℕ) → RisesAbove m ks → is_member nat_eq ks k ≡ true → m < k
 member_above k m [] rises is = let no : false ≡ true = is in cc
@@ -59,7 +43,7 @@ module _ {A B : Type 0} (at : A → ℕ) (f : A → List B) where
   passed : (x : A) (xs : List A) (ks : List ℕ) → is_member nat_eq ks (at x) ≡ false → flat_map (λ k. here k (x ∷ xs)) ks ≡ flat_map (λ k. here k xs) ks
   passed x xs [] none = refl
   passed x xs (k ∷ ks) none =
-      let parts = either_false (nat_eq (at x) k) (is_member nat_eq ks (at x)) none in
+      let parts = or_parts (nat_eq (at x) k) (is_member nat_eq ks (at x)) none in
       let one : here k (x ∷ xs) ≡ here k xs = ap (λ (b : Bool). flat_map f (cond b (x ∷ filter (λ y. nat_eq (at y) k) xs) (filter (λ y. nat_eq (at y) k) xs))) parts.0 in
       ap (λ (l : List B). l ++ flat_map (λ j. here j (x ∷ xs)) ks) one ∙ ap (λ (l : List B). here k xs ++ l) (passed x xs ks parts.1)
 

@@ -11,5 +11,4 @@ mod Reading
 mod Rebuilds
 mod Rebuilt
 mod Sourcing
-mod Steps
 mod Taking

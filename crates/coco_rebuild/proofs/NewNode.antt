@@ -2,7 +2,7 @@
 use Rattle.std.proofs.Common.{◌≡◌, ℕ, zero, suc, ◌+◌, ◌<◌, ◌≤◌, ◌^◌, ◌==◌, ◌||◌, Bool, true, false, List, [], ◌∷◌, ◌++◌, length, set, Option, None, Some, refl, sym, ◌∙◌, arith, length-append}
 use Rattle.std.specs.Prelude.{slice_index}
 use Rattle.std.specs.Option.{option_to_list}
-use Rattle.std.proofs.lemmas.Bool.{eq-eqb, eqb-true, ne_eqb}
+use Rattle.std.proofs.lemmas.Bool.{eq-eqb, eqb-true, ne_eqb, or_from, or_left, or_parts, or_right}
 use Rattle.std.proofs.lemmas.List.{length-set}
 use Rattle.std.proofs.lemmas.List.Folds.{list_any-append}
 use Rattle.coco_entry.specs.declared.layout.LayoutEntry.{LayoutEntry}
@@ -13,7 +13,7 @@ use Rattle.coco_make.proofs.FreeLemmas.{free_are_new, length-free_files}
 use Rattle.coco_store.specs.Entries.{files_of}
 use Rattle.coco_store.specs.Rules.{IsWithinLimits}
 use Rattle.coco_rebuild.specs.Rebuilding.{new_file, rebuilt_layout}
-use Rattle.coco_rebuild.proofs.Grouping.{either_false, neither, or_either, or_left, or_right}
+use Rattle.coco_rebuild.proofs.Grouping.{or_either}
 
 -- ---- names
 
@@ -25,7 +25,7 @@ not_named true denied = sym (denied refl)
 not_named false denied = refl
 
 unnamed_parts : (xs ys : List ℕ) (f : ℕ) → is_named (xs ++ ys) f ≡ false → (is_named xs f ≡ false) × (is_named ys f ≡ false)
-unnamed_parts xs ys f none = either_false (is_named xs f) (is_named ys f) (sym (list_any-append (λ n. n == f) xs ys) ∙ none)
+unnamed_parts xs ys f none = or_parts (is_named xs f) (is_named ys f) (sym (list_any-append (λ n. n == f) xs ys) ∙ none)
 
 named_push : (named : List ℕ) (x f : ℕ) → is_named (named ++ x ∷ []) f ≡ is_named named f || ((x == f) || false)
 named_push named x f = list_any-append (λ n. n == f) named (x ∷ [])
@@ -54,17 +54,17 @@ set_new named (x ∷ xs) zero f small off none new = (
   new_behind (named ++ x ∷ []) (named ++ f ∷ []) xs (λ n in_rest is.
       or_either (is_named named n) ((f == n) || false) (is_named (named ++ x ∷ []) n ≡ true)
       (λ one. named_push named x n ∙ or_left (is_named named n) ((x == n) || false) one)
-      (λ one. absurd (apart xs n f in_rest (either_false (x == f) (is_named xs f) none).1 (sym (this f n one))))
+      (λ one. absurd (apart xs n f in_rest (or_parts (x == f) (is_named xs f) none).1 (sym (this f n one))))
       (sym (named_push named f n) ∙ is)) new.1,
 )
 set_new named (x ∷ xs) (suc i) f small off none new =
-    let parts = either_false (x == f) (is_named xs f) none in
-    (new.0, set_new (named ++ x ∷ []) xs i f small (named_push named x f ∙ neither (is_named named f) ((x == f) || false) off (neither (x == f) false parts.0 refl)) parts.1 new.1)
+    let parts = or_parts (x == f) (is_named xs f) none in
+    (new.0, set_new (named ++ x ∷ []) xs i f small (named_push named x f ∙ or_from (is_named named f) ((x == f) || false) off (or_from (x == f) false parts.0 refl)) parts.1 new.1)
 
 set_unnamed : (xs : List ℕ) (i f n : ℕ) → (f == n) ≡ false → is_named xs n ≡ false → is_named (set xs i f) n ≡ false
 set_unnamed [] i f n off none = refl
-set_unnamed (x ∷ xs) zero f n off none = neither (f == n) (is_named xs n) off (either_false (x == n) (is_named xs n) none).1
-set_unnamed (x ∷ xs) (suc i) f n off none = let parts = either_false (x == n) (is_named xs n) none in neither (x == n) (is_named (set xs i f) n) parts.0 (set_unnamed xs i f n off parts.1)
+set_unnamed (x ∷ xs) zero f n off none = or_from (f == n) (is_named xs n) off (or_parts (x == n) (is_named xs n) none).1
+set_unnamed (x ∷ xs) (suc i) f n off none = let parts = or_parts (x == n) (is_named xs n) none in or_from (x == n) (is_named (set xs i f) n) parts.0 (set_unnamed xs i f n off parts.1)
 
 first_new : (named xs : List ℕ) → length xs ≡ 1 → AreNew named xs → IsNew named (slice_index xs 0)
 first_new named [] one new = absurd (omega (arith, one))
@@ -98,16 +98,16 @@ module _ (node : ℕ) (old : LayoutEntry) (is : IsLayout old) (limits : IsWithin
   of_base = (unnamed_parts (named_by old.layout) (option_to_list old.base_file) file is_new.1).1
 
   pub of_nodes : is_named old.layout.node_files file ≡ false
-  of_nodes = (either_false (old.layout.chief_file == file) (is_named old.layout.node_files file) (either_false (0 == file) _ of_layout).1).1
+  of_nodes = (or_parts (old.layout.chief_file == file) (is_named old.layout.node_files file) (or_parts (0 == file) _ of_layout).1).1
 
   of_others : is_named (0 ∷ old.layout.chief_file ∷ []) file ≡ false
   of_others =
-      let rest = either_false (0 == file) (is_named (old.layout.chief_file ∷ old.layout.node_files) file) of_layout in
-      neither (0 == file) (is_named (old.layout.chief_file ∷ []) file) rest.0 (neither (old.layout.chief_file == file) false (either_false (old.layout.chief_file == file) (is_named old.layout.node_files file) rest.1).0 refl)
+      let rest = or_parts (0 == file) (is_named (old.layout.chief_file ∷ old.layout.node_files) file) of_layout in
+      or_from (0 == file) (is_named (old.layout.chief_file ∷ []) file) rest.0 (or_from (old.layout.chief_file == file) false (or_parts (old.layout.chief_file == file) (is_named old.layout.node_files file) rest.1).0 refl)
 
   -- no file of the old layout is the new one
   pub none_of_old : (n : ℕ) → is_named (files_of old) n ≡ true → is_named (file ∷ []) n ≡ false
-  none_of_old n named = neither (file == n) false (ne_eqb file n (λ same. apart (files_of old) n file named is_new.1 (sym same))) refl
+  none_of_old n named = or_from (file == n) false (ne_eqb file n (λ same. apart (files_of old) n file named is_new.1 (sym same))) refl
 
   fields : HasFields (rebuilt_layout node old).layout
   fields =
@@ -131,9 +131,9 @@ module _ (node : ℕ) (old : LayoutEntry) (is : IsLayout old) (limits : IsWithin
 
   base_still : (b : ℕ) → old.base_file ≡ Some b → IsNew (named_by old.layout) b → IsNew (named_by (rebuilt_layout node old).layout) b
   base_still b e new =
-      let one = either_false (0 == b) (is_named (old.layout.chief_file ∷ old.layout.node_files) b) new.1 in
-      let two = either_false (old.layout.chief_file == b) (is_named old.layout.node_files b) one.1 in
-      (new.0, neither (0 == b) _ one.0 (neither (old.layout.chief_file == b) _ two.0 (set_unnamed old.layout.node_files node file b (base_off old.base_file b e of_base) two.1)))
+      let one = or_parts (0 == b) (is_named (old.layout.chief_file ∷ old.layout.node_files) b) new.1 in
+      let two = or_parts (old.layout.chief_file == b) (is_named old.layout.node_files b) one.1 in
+      (new.0, or_from (0 == b) _ one.0 (or_from (old.layout.chief_file == b) _ two.0 (set_unnamed old.layout.node_files node file b (base_off old.base_file b e of_base) two.1)))
 
   pub is_layout : IsLayout (rebuilt_layout node old)
   is_layout = record { fields = fields; later = later_still (named_by old.layout) (named_by (rebuilt_layout node old).layout) old.keep old.base_file base_still is.later }

@@ -1,8 +1,10 @@
 -- A store whose new file is written stands ready to be switched to, and becomes the rebuilt one by a layout more.
 use Rattle.std.proofs.Common.{◌≡◌, ℕ, ◌<◌, List, [], ◌∷◌, map, Option, Result, Ok, Err, refl, sym, ap, subst, ◌∙◌, ◌==◌, true, false}
 use Rattle.std.specs.Prelude.{OnOk, slice_set}
+use Rattle.std.proofs.lemmas.Bool.{or_parts}
 use Rattle.coco_host.specs.Files.{Files}
 use Rattle.coco_host.specs.Moments.{Observation}
+use Rattle.coco_host.specs.declared.host.Host.{Ghosts as HostGhosts}
 use Rattle.coco_append.specs.Gaining.{GainsAs, RestsAs}
 use Rattle.coco_append.proofs.PastLemmas.{logs_besides}
 use Rattle.coco_ast.proofs.Lists.{all_weaker}
@@ -29,8 +31,7 @@ use Rattle.coco_store.specs.Switching.{IsReadyFor, Switches}
 use Rattle.coco_rebuild.specs.Answers.{answer_to}
 use Rattle.coco_rebuild.specs.Laws.{MaySwitch, RebuiltIsGood}
 use Rattle.coco_rebuild.specs.Rebuilding.{AreRebuilt, HasRebuilt, IsHeldAlone, IsRebuilt, new_file, rebuild_files, rebuilt_layout, rebuilt_with}
-use Rattle.coco_rebuild.proofs.Grouping.{either_false}
-use Rattle.coco_rebuild.proofs.Steps.{told}
+use Rattle.coco_make.proofs.Besides.{told}
 
 -- files that a layout doesn't name may change
 pub still_but : (node : ℕ) (named : List ℕ) (c : Contents) → BehindGatesButForANode → ((n : ℕ) → is_named (files_of c.setting.entry) n ≡ true → is_named named n ≡ false) → (old new : Files)
@@ -73,7 +74,7 @@ module _ (node : ℕ) (c : Contents) (entries : List Prepared) (law : RebuiltIsG
 
 -- what isn't among the files that change isn't the new one
 pub wider : (old : LayoutEntry) (file : ℕ) → file ≡ new_file old → (n : ℕ) → is_named (rebuild_files old) n ≡ false → is_named (file ∷ []) n ≡ false
-wider old file is n out = subst (λ (f : ℕ). is_named (f ∷ []) n ≡ false) (sym is) (either_false (0 == n) (is_named (new_file old ∷ []) n) out).1
+wider old file is n out = subst (λ (f : ℕ). is_named (f ∷ []) n ≡ false) (sym is) (or_parts (0 == n) (is_named (new_file old ∷ []) n) out).1
 
 -- the layout that is written is the rebuilt one
 pub same_entry : (node file : ℕ) (old entry : LayoutEntry) (layout : Layout) → old ≡ entry → file ≡ new_file old → layout ≡ record old.layout { node_files = slice_set old.layout.node_files node file }
@@ -91,11 +92,11 @@ answered_ok (Err NoMemory) P p = tt
 answered_ok (Err (NotALog at)) P p = tt
 answered_ok (Err TooLong) P p = tt
 
-pub gains_answered : {H : Type 0} (moment : H → ℕ) (observed : H → ℕ → Observation → Type 0) (said : H → Option (List ℕ)) (reads : H → Option Files) (may_leave : H → Files → Type 0)
+pub gains_answered : {H : Type 0} (frame : HostGhosts H)
     (written : Result (Unit {0}) LogFault) (result : Result (Unit {0}) OpenFault) (Was Now : Files → Type 0) (old new : H) → result ≡ answer_to written
-    → GainsAs moment observed said reads may_leave written Was Now old new → GainsAs moment observed said reads may_leave result Was Now old new
-gains_answered moment observed said reads may_leave written result Was Now old new is gains = record {
-  ok = subst (λ (r : Result (Unit {0}) OpenFault). OnOk r (RestsAs Now (reads new) (may_leave new))) (sym is) (answered_ok written (RestsAs Now (reads new) (may_leave new)) gains.ok);
+    → GainsAs frame written Was Now old new → GainsAs frame result Was Now old new
+gains_answered frame written result Was Now old new is gains = record {
+  ok = subst (λ (r : Result (Unit {0}) OpenFault). OnOk r (RestsAs Now (frame.reads new) (frame.may_leave new))) (sym is) (answered_ok written (RestsAs Now (frame.reads new) (frame.may_leave new)) gains.ok);
   moments = gains.moments;
   left = gains.left;
 }

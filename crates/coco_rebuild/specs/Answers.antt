@@ -2,6 +2,7 @@
 use Rattle.std.specs.Prelude.{◌≡◌, ◌⊎◌, ℕ, ◌<◌, ◌≤◌, List, Option, Some, Result, Ok, Err, IsErr}
 use Rattle.coco_host.specs.Files.{Become, Files, Follows}
 use Rattle.coco_host.specs.Moments.{Observation}
+use Rattle.coco_host.specs.declared.host.Host.{Ghosts as HostGhosts}
 use Rattle.coco_io.specs.Counts.{Rose}
 use Rattle.coco_append.specs.Gaining.{GainsAs}
 use Rattle.coco_entry.specs.declared.layout.Layout.{Layout}
@@ -80,10 +81,10 @@ AnswersFor node layout (Err fault.NoMemory) = Unit {0}
 
 -- ---- what is seen
 
-module _ {H : Type 0} (moment : H → ℕ) (observed : H → ℕ → Observation → Type 0) (said : H → Option (List ℕ)) (reads : H → Option Files) (may_leave : H → Files → Type 0) where
+module _ {H : Type 0} (frame : HostGhosts H) where
   -- no file changes
   pub record IsLeftAlone (result : Result (Unit {0}) RebuildFault) (old new : H) : Type 0 where
-    pub read : IsOnlyRead moment observed said reads may_leave old new
+    pub read : IsOnlyRead frame old new
     pub failed : IsErr result
 
   -- the store is opened but for the node's file, and that is made again. So it is only with files that are such a store, with such a node and each holder
@@ -92,16 +93,16 @@ module _ {H : Type 0} (moment : H → ℕ) (observed : H → ℕ → Observation
   -- for the node, each moment since the opening shows such a one of the same contents, or the good store with the node's file, and so does what is left
   pub record MakesAgain (node : ℕ) (result : Result (Unit {0}) RebuildFault) (old new : H) : Type 0 where
     pub opened : H
-    pub opening : IsOnlyRead moment observed said reads may_leave old opened
+    pub opening : IsOnlyRead frame old opened
     pub may : MayWrite result
-    pub holds : (files : Files) → reads old ≡ Some files → (c : Contents) × HoldsBut node files c
-    pub makes : (files : Files) (c : Contents) → reads old ≡ Some files → HoldsBut node files c → MayMake node c.setting.entry.layout
+    pub holds : (files : Files) → frame.reads old ≡ Some files → (c : Contents) × HoldsBut node files c
+    pub makes : (files : Files) (c : Contents) → frame.reads old ≡ Some files → HoldsBut node files c → MayMake node c.setting.entry.layout
     pub named : List ℕ
-    pub are_new : (files : Files) (c : Contents) → reads old ≡ Some files → HoldsBut node files c → named ≡ rebuild_files c.setting.entry
-    pub files : Become (SameBesides named) (reads opened) (reads new)
-    pub crash : Follows (SameBesides named) (may_leave opened) (may_leave new)
-    pub gains : (files : Files) (c : Contents) → reads old ≡ Some files → IsGoodBut node files c
-        → GainsAs moment observed said reads may_leave result (λ image. IsGoodBut node image c) (HasRebuilt node c) opened new
+    pub are_new : (files : Files) (c : Contents) → frame.reads old ≡ Some files → HoldsBut node files c → named ≡ rebuild_files c.setting.entry
+    pub files : Become (SameBesides named) (frame.reads opened) (frame.reads new)
+    pub crash : Follows (SameBesides named) (frame.may_leave opened) (frame.may_leave new)
+    pub gains : (files : Files) (c : Contents) → frame.reads old ≡ Some files → IsGoodBut node files c
+        → GainsAs frame result (λ image. IsGoodBut node image c) (HasRebuilt node c) opened new
 
   -- the one or the other
   abbrev pub Rebuilds : ℕ → Result (Unit {0}) RebuildFault → H → H → Type 0

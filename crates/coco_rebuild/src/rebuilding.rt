@@ -30,7 +30,7 @@ pub fn rebuild<H: Host>(alloc: Global, host: &mut H, node: u8) -> Result<(), Reb
     ensures refused { (file at : ℕ) (files : Files) → result ≡ Err (fault.NotAStore file at) → H.reads host.old ≡ Some files → IsFirstRefusalBut node files file at }
     ensures holds { (files : Files) → H.reads host.old ≡ Some files → NeedsStore result ((c : Contents) × HoldsBut node files c) }
     ensures answers { (files : Files) (c : Contents) → H.reads host.old ≡ Some files → HoldsBut node files c → AnswersFor node c.setting.entry.layout result }
-    ensures seen { Rebuilds H.moment H.observed H.said H.reads H.may_leave node result host.old host.new }
+    ensures seen { Rebuilds H.Host node result host.old host.new }
     ensures said { H.said host.new ≡ H.said host.old }
     ensures counts { CountsRebuild result (H.disk_faults host.old) (H.disk_faults host.new) }
     ensures stream { H.say_faults host.new ≡ H.say_faults host.old }
@@ -63,7 +63,7 @@ pub fn rebuild_store<H: Host>(
     requires stands { PartsStand parts (H.reads host.old) (H.may_leave host.old) }
     // At each moment, and whatever the answer is, there is the store that is good but for the node, or the good one with its file; after Ok there is no other than this.
     ensures gains { (c : Contents) → HasParts c parts → RestsBut node c (H.reads host.old) (H.may_leave host.old)
-        → GainsAs H.moment H.observed H.said H.reads H.may_leave result (λ image. IsGoodBut node image c) (HasRebuilt node c) host.old host.new }
+        → GainsAs H.Host result (λ image. IsGoodBut node image c) (HasRebuilt node c) host.old host.new }
     ensures kept { (file at : ℕ) (files : Files) (c : Contents) → H.reads host.old ≡ Some files → HoldsBut node files c → HasParts c parts → ¬ (result ≡ Err (opening.NotAStore file at)) }
     ensures files { Become (SameBesides (rebuild_files (entry_of_parts parts))) (H.reads host.old) (H.reads host.new) }
     ensures crash { Follows (SameBesides (rebuild_files (entry_of_parts parts))) (H.may_leave host.old) (H.may_leave host.new) }

@@ -49,9 +49,8 @@ impl Sources {
             → (base : ℕ) → AreReadUpTo layout.now node c sources base files) }
         ensures kept { (file at : ℕ) (epochs : List ℕ) (files : Files) (c : Contents) → H.reads host.old ≡ Some files → AreOthers layout.now node epochs files c
             → ¬ (result ≡ Err (fault.NotAStore file at)) }
-        ensures read { IsOnlyRead H.moment H.observed H.said H.reads H.may_leave host.old host.new }
+        ensures read { IsOnlyRead H.Host host.old host.new }
         ensures counts { Counts result (H.disk_faults host.old) (H.disk_faults host.new) }
-        ensures stream { H.say_faults host.new ≡ H.say_faults host.old }
     {
         if layout.copies == 0 {
             return Ok(Sources {
@@ -95,9 +94,8 @@ impl Sources {
             → AreReadUpTo layout.now node c self.new epoch files × AreGot layout.now node c epoch rows.0.items rows.1.items) }
         ensures kept { (file at last : ℕ) (epochs : List ℕ) (files : Files) (c : Contents) → H.reads host.old ≡ Some files → AreOthers layout.now node epochs files c
             → AreReadUpTo layout.now node c self.old last files → last < epoch → is_member nat_eq epochs epoch ≡ true → ¬ (result ≡ Err (fault.NotAStore file at)) }
-        ensures read { IsOnlyRead H.moment H.observed H.said H.reads H.may_leave host.old host.new }
+        ensures read { IsOnlyRead H.Host host.old host.new }
         ensures counts { Counts result (H.disk_faults host.old) (H.disk_faults host.new) }
-        ensures stream { H.say_faults host.new ≡ H.say_faults host.old }
     {
         let after = node_after(layout, node);
         let first = node_first(layout, node);
@@ -119,9 +117,8 @@ fn begin<H: Host>(
     ensures ok { IfOk result (λ entries. (files : Files) → H.reads host.old ≡ Some files → IsReading entries [] (files (file_at layout.now node))) }
     ensures kept { (file at : ℕ) (all : List PreparedEntry) (files : Files) → H.reads host.old ≡ Some files → ArePrepared all (files (file_at layout.now node))
         → ¬ (result ≡ Err (fault.NotAStore file at)) }
-    ensures read { IsOnlyRead H.moment H.observed H.said H.reads H.may_leave host.old host.new }
+    ensures read { IsOnlyRead H.Host host.old host.new }
     ensures counts { Counts result (H.disk_faults host.old) (H.disk_faults host.new) }
-    ensures stream { H.say_faults host.new ≡ H.say_faults host.old }
 {
     let file = layout.node_files.as_slice()[usize::from(node)];
     match Entries::open(alloc, host, file, PREPARED) {
@@ -154,9 +151,8 @@ fn rows_of<H: Host>(
         → IsReadIn source.new all epoch (files (file_at layout.now from)) × (IsSome source.old → rows.items ≡ filter (λ r. gets layout.now node from r.key) (rows_at epoch all))) }
     ensures kept { (file at : ℕ) (all : List PreparedEntry) (last : ℕ) (files : Files) → H.reads host.old ≡ Some files → (IsSome source.old → HasEpoch all epoch (files (file_at layout.now from)))
         → last < epoch → IsReadIn source.old all last (files (file_at layout.now from)) → ¬ (result ≡ Err (fault.NotAStore file at)) }
-    ensures read { IsOnlyRead H.moment H.observed H.said H.reads H.may_leave host.old host.new }
+    ensures read { IsOnlyRead H.Host host.old host.new }
     ensures counts { Counts result (H.disk_faults host.old) (H.disk_faults host.new) }
-    ensures stream { H.say_faults host.new ≡ H.say_faults host.old }
 {
     match source {
         None => Ok(Vec::new(alloc)),
@@ -193,9 +189,8 @@ fn entry_of<H: Host>(
     ensures is { IfOk result IsPrepared }
     ensures found { (all : List PreparedEntry) (last : ℕ) (files : Files) → H.reads host.old ≡ Some files → HasEpoch all epoch (files file) → last < epoch
         → IsReadUpTo entries.old all last (files file) → IsFoundAt result entries.new all epoch (files file) }
-    ensures read { IsOnlyRead H.moment H.observed H.said H.reads H.may_leave host.old host.new }
+    ensures read { IsOnlyRead H.Host host.old host.new }
     ensures counts { Counts result (H.disk_faults host.old) (H.disk_faults host.new) }
-    ensures stream { H.say_faults host.new ≡ H.say_faults host.old }
 {
     let mut prepared = next_entry(alloc, host, file, entries)?;
     while prepared.epoch < epoch {
@@ -222,9 +217,8 @@ fn next_entry<H: Host>(
         → IsReading entries.old (map prepared_bytes done) (files file) → GoesOnTo result entries.new done rest (files file) }
     ensures end { entries.new.end ≡ entries.old.end }
     ensures on { OnOk result ((entries.old.at < entries.new.at) × (entries.new.at < entries.new.end)) }
-    ensures read { IsOnlyRead H.moment H.observed H.said H.reads H.may_leave host.old host.new }
+    ensures read { IsOnlyRead H.Host host.old host.new }
     ensures counts { Counts result (H.disk_faults host.old) (H.disk_faults host.new) }
-    ensures stream { H.say_faults host.new ≡ H.say_faults host.old }
 {
     match entries.next(host) {
         Ok(true) => read_entry(alloc, file, entries),

@@ -49,7 +49,7 @@ pub fn write_node<H: Host>(
         → HasNode node c file (H.reads host.new) (H.may_leave host.new)) }
     ensures kept { (other at : ℕ) (files : Files) (c : Contents) → H.reads host.old ≡ Some files → AreOthers layout.now node epochs.now files c
         → ¬ (result ≡ Err (fault.NotAStore other at)) }
-    ensures changes { ChangesOnly H.moment H.observed H.said H.reads H.may_leave (file ∷ []) host.old host.new }
+    ensures changes { ChangesOnly H.Host (file ∷ []) host.old host.new }
     ensures counts { Counts result (H.disk_faults host.old) (H.disk_faults host.new) }
     ensures stream { H.say_faults host.new ≡ H.say_faults host.old }
 {
@@ -97,7 +97,7 @@ fn add_epoch<H: Host>(
     ensures kept { (other at last : ℕ) (epochs : List ℕ) (files : Files) (c : Contents) → H.reads host.old ≡ Some files → AreOthers layout.now node epochs files c
         → AreReadUpTo layout.now node c sources.old last files → last < epoch → is_member nat_eq epochs epoch ≡ true → ¬ (result ≡ Err (fault.NotAStore other at)) }
     ensures of { OnOk result ((draft.new.file ≡ draft.old.file) × (draft.new.kind ≡ draft.old.kind)) }
-    ensures changes { ChangesOnly H.moment H.observed H.said H.reads H.may_leave (draft.old.file ∷ []) host.old host.new }
+    ensures changes { ChangesOnly H.Host (draft.old.file ∷ []) host.old host.new }
     ensures counts { Counts result (H.disk_faults host.old) (H.disk_faults host.new) }
     ensures stream { H.say_faults host.new ≡ H.say_faults host.old }
 {
@@ -117,7 +117,7 @@ fn add_entry<H: Host>(host: &mut H, draft: &mut Draft, body: &[u8]) -> Result<()
     ensures drafts { OnOk result ((bodies : List (List ℕ)) → Drafts draft.old bodies (H.reads host.old) → Drafts draft.new (bodies ++ body.now ∷ []) (H.reads host.new)) }
     ensures kept { (other at : ℕ) → ¬ (result ≡ Err (fault.NotAStore other at)) }
     ensures of { OnOk result ((draft.new.file ≡ draft.old.file) × (draft.new.kind ≡ draft.old.kind)) }
-    ensures changes { ChangesOnly H.moment H.observed H.said H.reads H.may_leave (draft.old.file ∷ []) host.old host.new }
+    ensures changes { ChangesOnly H.Host (draft.old.file ∷ []) host.old host.new }
     ensures counts { Counts result (H.disk_faults host.old) (H.disk_faults host.new) }
     ensures stream { H.say_faults host.new ≡ H.say_faults host.old }
 {

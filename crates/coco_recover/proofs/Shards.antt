@@ -6,6 +6,7 @@ use Rattle.std.specs.Option.{option_map, unwrap_or}
 use Rattle.std.proofs.lemmas.Bool.{eq-eqb, ltb-false, ltb-true}
 use Rattle.std.proofs.lemmas.List.{get_or_past}
 use Rattle.std.proofs.lemmas.Option.{unwrap_or-slice_get}
+use Rattle.std.proofs.lemmas.Nat.{mod_below}
 use Rattle.coco_types.specs.RowKey.{RowKey, key_cmp}
 use Rattle.coco_types.specs.declared.value.Value.{Value}
 use Rattle.coco_ast.specs.Keyed.{Rows, on_partition, value_at}
@@ -25,9 +26,6 @@ held_stable f s holds k = ap (λ (o : Option RowState). (unwrap_or o (resting No
 
 none_there : (count p : ℕ) → IsOfPartition count p empty
 none_there count p k some = let two : false ≡ true = subst (λ (o : Option RowState). IsSome o) (get-empty key_cmp k) some in cc
-
-left_within : (x count : ℕ) → 0 < count → x % count < count
-left_within x count some = omega arith
 
 module _ (layout : Layout) (maps : Maps) (shards : List ShardState) (copies : List CopyState) (held : HoldMaps layout maps shards copies) where
   same_shard : (p : ℕ) → shard_at shards p ≡ shard_in shards p
@@ -51,7 +49,7 @@ module _ (layout : Layout) (maps : Maps) (shards : List ShardState) (copies : Li
       value : (k : RowKey) → stable_at (shard_in shards (k.row % layout.partitions)) k ≡ value_at m k
       value k =
           let p = k.row % layout.partitions in
-          let within = left_within k.row layout.partitions held.tables.ring.some in
+          let within = mod_below k.row layout.partitions held.tables.ring.some in
           let here : nat_eq (k.row % layout.partitions) p ≡ true = eq-eqb p p refl in
           ap (λ (s : ShardState). stable_at s k) (sym (same_shard p))
           ∙ held_stable (value_at (maps p 0)) (shard_at shards p) (held.primaries p within).holds k

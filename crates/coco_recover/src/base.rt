@@ -17,7 +17,10 @@ use coco_ast::Checked;
 use coco_entry::{BaseHead, EntryFault, read_base_dones, read_base_rows, read_head};
 use coco_io::told::Told;
 use coco_kept::Kept;
-use coco_load::{Tables, keep_dones, kept_dones_follow_the_files, tables_follow_the_files};
+use coco_load::{
+    PackedRows, Tables, keep_dones, kept_dones_follow_the_files, packed_rows,
+    tables_follow_the_files,
+};
 use coco_read::Rules;
 use coco_rules::{BaseRules, HistoryRules};
 use coco_types::{Dones, MapRows, NoMemory};
@@ -47,7 +50,7 @@ pub struct BaseHistory {
 pub struct Based {
     pub history: BaseHistory,
     pub tables: Tables,
-    pub rows: Vec<MapRows>,
+    pub rows: Vec<PackedRows>,
 }
 
 // What is kept of the entries of a base.
@@ -56,7 +59,7 @@ pub(crate) struct Gathered {
     pub keep: Option<u16>,
     pub kept: Kept,
     pub tables: Tables,
-    pub rows: Vec<MapRows>,
+    pub rows: Vec<PackedRows>,
     pub entries: Told<BasePart>,
 }
 
@@ -176,8 +179,10 @@ impl Gathered {
             }
             BasePart::Dones(dones) => keep_dones(alloc, &mut self.kept, dones),
             BasePart::Rows(rows) => {
-                self.tables.load_base(&last.entry.layout, rows.as_slice())?;
-                self.rows.push(rows)?;
+                let packed = packed_rows(alloc, rows)?;
+                self.tables
+                    .load_base(&last.entry.layout, packed.as_slice())?;
+                self.rows.push(packed)?;
                 Ok(())
             }
         }

@@ -49,9 +49,8 @@ pub(crate) fn read_layouts<H: Host>(
     ensures log { IfOk result (λ read. IsFresh read.1 0 layouts_kind) }
     ensures ok { IfOk result (λ read. (files : Files) → H.reads host.old ≡ Some files → HoldsLast files read.0 × IsOpened read.1 files (H.may_leave host.new)) }
     ensures refused { (file at : ℕ) (files : Files) → result ≡ Err (fault.NotAStore file at) → H.reads host.old ≡ Some files → IsHistoryRefusal files file at }
-    ensures read { IsOnlyRead H.moment H.observed H.said H.reads H.may_leave host.old host.new }
+    ensures read { IsOnlyRead H.Host host.old host.new }
     ensures counts { Counts result (H.disk_faults host.old) (H.disk_faults host.new) }
-    ensures stream { H.say_faults host.new ≡ H.say_faults host.old }
 {
     let mut reading = LayoutReading::new();
     let log = read_file(alloc, host, LAYOUTS_FILE, LAYOUTS, &mut reading)?;
@@ -79,9 +78,8 @@ pub(crate) fn read_base<H: Host>(
     ensures ok { IfOk result (λ based. (files : Files) → H.reads host.old ≡ Some files
         → HoldsParts files last.now based.history.entries.items × IsLeft last.now.entry.base_file files (H.may_leave host.new)) }
     ensures refused { (file at : ℕ) (files : Files) → result ≡ Err (fault.NotAStore file at) → H.reads host.old ≡ Some files → HoldsLast files last.now → IsHistoryRefusal files file at }
-    ensures read { IsOnlyRead H.moment H.observed H.said H.reads H.may_leave host.old host.new }
+    ensures read { IsOnlyRead H.Host host.old host.new }
     ensures counts { Counts result (H.disk_faults host.old) (H.disk_faults host.new) }
-    ensures stream { H.say_faults host.new ≡ H.say_faults host.old }
 {
     let Some(file) = last.entry.base_file else {
         return Ok(Based::without_file(alloc, last, keep)?);
@@ -106,9 +104,8 @@ pub(crate) fn read_commits<H: Host>(
     ensures ok { IfOk result (λ read. (files : Files) → H.reads host.old ≡ Some files → HoldsCommitted files last.now read.0 × IsOpened read.1 files (H.may_leave host.new)) }
     ensures refused { (file at : ℕ) (files : Files) → result ≡ Err (fault.NotAStore file at) → H.reads host.old ≡ Some files → HoldsLast files last.now
         → HoldsParts files last.now base.entries.items → IsHistoryRefusal files file at }
-    ensures read { IsOnlyRead H.moment H.observed H.said H.reads H.may_leave host.old host.new }
+    ensures read { IsOnlyRead H.Host host.old host.new }
     ensures counts { Counts result (H.disk_faults host.old) (H.disk_faults host.new) }
-    ensures stream { H.say_faults host.new ≡ H.say_faults host.old }
 {
     let mut reading = CommitReading::new(alloc, last, base);
     let log = read_file(
@@ -147,9 +144,8 @@ pub(crate) fn read_prepared_file<H: Host>(
     ensures kept { (file at : ℕ) (files : Files) (s : Setting) (commits : List CommitEntry) (entries : List PreparedEntry) → H.reads host.old ≡ Some files
         → s.entry.layout ≡ layout.now → s.tree ≡ procs.now → commit_epochs commits ≡ epochs.now → HoldsNode s commits node entries (files (slice_index layout.now.node_files node))
         → result ≢ Err (fault.NotAStore file at) }
-    ensures read { IsOnlyRead H.moment H.observed H.said H.reads H.may_leave host.old host.new }
+    ensures read { IsOnlyRead H.Host host.old host.new }
     ensures counts { Counts result (H.disk_faults host.old) (H.disk_faults host.new) }
-    ensures stream { H.say_faults host.new ≡ H.say_faults host.old }
 {
     let file = layout.node_files.as_slice()[usize::from(node)];
     let mut reading = NodeReading::new(layout, procs, epochs, node, tables);
@@ -176,9 +172,8 @@ pub(crate) fn read_next_node<H: Host>(
     ensures log { IfOk result (λ read. IsFresh read.1 (file_of (setting_of last.now) node) prepared_kind) }
     ensures refused { (file at : ℕ) (files : Files) → result ≡ Err (fault.NotAStore file at) → H.reads host.old ≡ Some files
         → (file ≡ file_of (setting_of last.now) node) × IsFirst (IsNodeRefused (setting_of last.now) committed.now.commits.items node (files file)) at }
-    ensures read { IsOnlyRead H.moment H.observed H.said H.reads H.may_leave host.old host.new }
+    ensures read { IsOnlyRead H.Host host.old host.new }
     ensures counts { Counts result (H.disk_faults host.old) (H.disk_faults host.new) }
-    ensures stream { H.say_faults host.new ≡ H.say_faults host.old }
 {
     // The law by which the tables hold what each node has; the call does nothing.
     tables_follow_the_files();
@@ -239,9 +234,8 @@ pub(crate) fn read_nodes<H: Host>(
     ensures prepared { IfOk result (λ read. read.2.items ≡ map greatest_prepared (nodes_of read.0)) }
     ensures refused { (file at : ℕ) (files : Files) → result ≡ Err (fault.NotAStore file at) → H.reads host.old ≡ Some files → HoldsLast files last.now
         → HoldsParts files last.now committed.now.base.items → HoldsCommitted files last.now committed.now → IsFirstRefusal files file at }
-    ensures only { IsOnlyRead H.moment H.observed H.said H.reads H.may_leave host.old host.new }
+    ensures only { IsOnlyRead H.Host host.old host.new }
     ensures counts { Counts result (H.disk_faults host.old) (H.disk_faults host.new) }
-    ensures stream { H.say_faults host.new ≡ H.say_faults host.old }
 {
     let mut loaded = Loaded::new(committed, tables);
     let mut logs = Vec::new(alloc);

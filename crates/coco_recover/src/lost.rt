@@ -22,10 +22,10 @@ use crate::files::read_prepared_file;
 use coco_ast::Checked;
 use coco_entry::Layout;
 use coco_host::Host;
-use coco_load::{Tables, tables_follow_the_files};
+use coco_load::{PackedRows, Tables, tables_follow_the_files};
 use coco_log::Log;
 use coco_read::OpenFault;
-use coco_types::{MapRows, NoMemory};
+use coco_types::NoMemory;
 use std::alloc::Global;
 
 /// Reads a node's file once, from its front, and writes none: tables of which those on the node hold the rows of the
@@ -38,7 +38,7 @@ pub fn read_node<H: Host>(
     layout: &Layout,
     procs: &Checked,
     epochs: &[u64],
-    base: &[MapRows],
+    base: &[PackedRows],
     node: u8,
 ) -> Result<(Tables, Log), OpenFault>
     requires node { node < layout.now.nodes }
@@ -55,9 +55,8 @@ pub fn read_node<H: Host>(
         → s.entry.layout ≡ layout.now → s.tree ≡ procs.now → commit_epochs commits ≡ epochs.now → IsFirst (IsNodeRefused s commits node (files file)) at }
     ensures kept { (file at : ℕ) (files : Files) (c : Contents) → H.reads host.old ≡ Some files → Holds files c → AreKnown c layout.now procs.now epochs.now base.now
         → result ≢ Err (fault.NotAStore file at) }
-    ensures read { IsOnlyRead H.moment H.observed H.said H.reads H.may_leave host.old host.new }
+    ensures read { IsOnlyRead H.Host host.old host.new }
     ensures counts { Counts result (H.disk_faults host.old) (H.disk_faults host.new) }
-    ensures stream { H.say_faults host.new ≡ H.say_faults host.old }
 {
     // The law by which the tables hold what the node has; the call does nothing.
     tables_follow_the_files();
@@ -68,7 +67,7 @@ pub fn read_node<H: Host>(
 }
 
 // Tables that hold the rows of a base.
-fn with_base(alloc: Global, layout: &Layout, base: &[MapRows]) -> Result<Tables, NoMemory>
+fn with_base(alloc: Global, layout: &Layout, base: &[PackedRows]) -> Result<Tables, NoMemory>
     requires { IsRing layout.now }
     ensures { IfOk result (λ tables. HoldMap layout.now (map_with (joined base.now)) tables.shards.items tables.copies.items) }
 {

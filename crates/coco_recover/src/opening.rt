@@ -21,12 +21,11 @@ use coco_copy::CopyTable;
 use coco_entry::{Layout, LayoutEntry};
 use coco_host::Host;
 use coco_kept::Kept;
-use coco_load::{Tables, kept_dones_follow_the_files, tables_follow_the_files};
+use coco_load::{PackedRows, Tables, kept_dones_follow_the_files, tables_follow_the_files};
 use coco_log::Log;
 use coco_read::OpenFault;
 use coco_shard::Shard;
 use coco_store::{a_refused_store_is_none, a_store_is_its_logs, files_hold_one_store};
-use coco_types::MapRows;
 use std::alloc::Global;
 
 /// The logs that a store is written to: that of its layouts, the coordinator's, and that of each node.
@@ -54,7 +53,7 @@ pub struct Opened {
     pub prepared: Vec<u64>,
     pub keep: Option<u16>,
     /// The rows of the base, entry by entry.
-    pub base: Vec<MapRows>,
+    pub base: Vec<PackedRows>,
     pub base_file: Option<u32>,
     /// Where the body of the last layout begins in the layouts' file.
     pub layout_place: u64,
@@ -78,9 +77,8 @@ pub fn recover<H: Host>(alloc: Global, host: &mut H) -> Result<Opened, OpenFault
     ensures rests { OnOk result ((files : Files) (c : Contents) → H.reads host.old ≡ Some files → IsGoodStore files c → RestsOn c (H.reads host.new) (H.may_leave host.new)) }
     ensures refused { (file at : ℕ) (files : Files) → result ≡ Err (fault.NotAStore file at) → H.reads host.old ≡ Some files → IsFirstRefusal files file at }
     ensures kept { (file at : ℕ) (files : Files) (c : Contents) → H.reads host.old ≡ Some files → Holds files c → result ≢ Err (fault.NotAStore file at) }
-    ensures read { IsOnlyRead H.moment H.observed H.said H.reads H.may_leave host.old host.new }
+    ensures read { IsOnlyRead H.Host host.old host.new }
     ensures counts { Counts result (H.disk_faults host.old) (H.disk_faults host.new) }
-    ensures stream { H.say_faults host.new ≡ H.say_faults host.old }
 {
     // The law by which no store is refused; the call does nothing.
     a_refused_store_is_none();
@@ -98,9 +96,8 @@ pub fn recover_whole<H: Host>(alloc: Global, host: &mut H) -> Result<Opened, Ope
     ensures rests { OnOk result ((files : Files) (c : Contents) → H.reads host.old ≡ Some files → IsGoodStore files c → RestsOn c (H.reads host.new) (H.may_leave host.new)) }
     ensures refused { (file at : ℕ) (files : Files) → result ≡ Err (fault.NotAStore file at) → H.reads host.old ≡ Some files → IsFirstRefusal files file at }
     ensures kept { (file at : ℕ) (files : Files) (c : Contents) → H.reads host.old ≡ Some files → Holds files c → result ≢ Err (fault.NotAStore file at) }
-    ensures read { IsOnlyRead H.moment H.observed H.said H.reads H.may_leave host.old host.new }
+    ensures read { IsOnlyRead H.Host host.old host.new }
     ensures counts { Counts result (H.disk_faults host.old) (H.disk_faults host.new) }
-    ensures stream { H.say_faults host.new ≡ H.say_faults host.old }
 {
     // The law by which no store is refused; the call does nothing.
     a_refused_store_is_none();
@@ -128,9 +125,8 @@ fn open_behind<H: Host>(
     ensures rests { OnOk result ((files : Files) (c : Contents) → H.reads host.old ≡ Some files → HoldsLast files last → Stands root (H.reads host.old) (H.may_leave host.old)
         → IsGoodStore files c → RestsOn c (H.reads host.new) (H.may_leave host.new)) }
     ensures refused { (file at : ℕ) (files : Files) → result ≡ Err (fault.NotAStore file at) → H.reads host.old ≡ Some files → HoldsLast files last → IsFirstRefusal files file at }
-    ensures read { IsOnlyRead H.moment H.observed H.said H.reads H.may_leave host.old host.new }
+    ensures read { IsOnlyRead H.Host host.old host.new }
     ensures counts { Counts result (H.disk_faults host.old) (H.disk_faults host.new) }
-    ensures stream { H.say_faults host.new ≡ H.say_faults host.old }
 {
     // The laws by which this is what the files hold; the calls do nothing.
     tables_follow_the_files();

@@ -68,9 +68,8 @@ pub fn read_without<H: Host>(alloc: Global, host: &mut H, node: u8) -> Result<Pa
     ensures rests { OnOk result ((files : Files) (c : Contents) → H.reads host.old ≡ Some files → IsGoodBut node files c → RestsBut node c (H.reads host.new) (H.may_leave host.new)) }
     ensures refused { (file at : ℕ) (files : Files) → result ≡ Err (fault.NotAStore file at) → H.reads host.old ≡ Some files → IsFirstRefusalBut node files file at }
     ensures kept { (file at : ℕ) (files : Files) (c : Contents) → H.reads host.old ≡ Some files → HoldsBut node files c → result ≢ Err (fault.NotAStore file at) }
-    ensures read { IsOnlyRead H.moment H.observed H.said H.reads H.may_leave host.old host.new }
+    ensures read { IsOnlyRead H.Host host.old host.new }
     ensures counts { Counts result (H.disk_faults host.old) (H.disk_faults host.new) }
-    ensures stream { H.say_faults host.new ≡ H.say_faults host.old }
 {
     let (last, root) = read_layouts(alloc, host)?;
     let Based {
@@ -114,9 +113,8 @@ fn read_others<H: Host>(
         → AreOthersHeld files (H.may_leave host.new) last.now committed.now left_out nodes logs.items last.now.entry.layout.nodes)) }
     ensures refused { (file at : ℕ) (files : Files) → result ≡ Err (fault.NotAStore file at) → H.reads host.old ≡ Some files → HoldsLast files last.now
         → HoldsParts files last.now committed.now.base.items → HoldsCommitted files last.now committed.now → IsFirstRefusalBut left_out files file at }
-    ensures only { IsOnlyRead H.moment H.observed H.said H.reads H.may_leave host.old host.new }
+    ensures only { IsOnlyRead H.Host host.old host.new }
     ensures counts { Counts result (H.disk_faults host.old) (H.disk_faults host.new) }
-    ensures stream { H.say_faults host.new ≡ H.say_faults host.old }
 {
     let mut loaded = Loaded::new(committed, tables);
     let mut logs = Vec::new(alloc);
@@ -154,9 +152,8 @@ fn read_other<H: Host>(
     ensures log { IfOk result (λ read. IsLogBut left_out node (file_of (setting_of last.now) node) read.1) }
     ensures refused { (file at : ℕ) (files : Files) → result ≡ Err (fault.NotAStore file at) → H.reads host.old ≡ Some files
         → (node ≢ left_out) × (file ≡ file_of (setting_of last.now) node) × IsFirst (IsNodeRefused (setting_of last.now) committed.now.commits.items node (files file)) at }
-    ensures read { IsOnlyRead H.moment H.observed H.said H.reads H.may_leave host.old host.new }
+    ensures read { IsOnlyRead H.Host host.old host.new }
     ensures counts { Counts result (H.disk_faults host.old) (H.disk_faults host.new) }
-    ensures stream { H.say_faults host.new ≡ H.say_faults host.old }
 {
     if node == left_out {
         return Ok((passed(loaded), None));

@@ -2,12 +2,14 @@
 #![tactic(auto)]
 
 mod dealing;
+pub mod holder;
 pub mod note;
 mod plays;
 pub mod seen;
 pub mod stores;
 pub mod view;
 
-pub use note::{HoldsNote, Note};
+pub use holder::HoldsNote;
+pub use note::Note;
 pub use seen::Seen;
 pub use stores::Stores;

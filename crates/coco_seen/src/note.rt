@@ -27,36 +27,6 @@ impl<S: Stores> Model for Note<S> {
     ghost invariant = { λ n. IsSeatOf n.number n.seat.me };
 }
 
-/// What holds a note, and gives it up when the lock is closed.
-pub trait HoldsNote<S: Stores> {
-    ghost use Rattle.coco_seen.specs.Notes.{Known};
-
-    /// The note that it holds.
-    ghost note: { Self → Known S.Entry S.Root };
-
-    /// What is true of it beside that.
-    ghost fact: { Self → Type 0 };
-
-    /// Where it puts what it has beside the note.
-    type Rests;
-
-    fn into_note(self, rests: &mut Self::Rests) -> Note<S>
-        ensures note { result ≡ note self }
-        ensures fact { fact self };
-}
-
-impl<S: Stores> HoldsNote<S> for Note<S> {
-    ghost note = { λ n. n };
-
-    ghost fact = { λ _. Unit {0} };
-
-    type Rests = ();
-
-    fn into_note(self, _rests: &mut ()) -> Note<S> {
-        self
-    }
-}
-
 impl<S: Stores> Drop for Note<S> {
     fn drop(self) {
         let Note { number: _, seat: _ } = self;

@@ -6,7 +6,8 @@ ghost use Rattle.coco_seen.specs.Closes.{StandsFor};
 ghost use Rattle.coco_seen.specs.Notes.{ComesFrom};
 ghost use Rattle.coco_seen.specs.Rules.{how_often, once_below};
 
-use crate::note::{HoldsNote, Note, SeatOf};
+use crate::holder::HoldsNote;
+use crate::note::{Note, SeatOf};
 use crate::plays::{Append, Give, OneMark, Said, Take};
 use crate::stores::Stores;
 use crate::view::{HELD, HOME, LENGTH, OneHolder, VALUE, View, WHERE};
@@ -183,9 +184,9 @@ impl<S: Stores> Seen<S> {
         let Some(first) = holders.pop() else {
             unreachable!()
         };
-        let mut seat = first.into_note(rests).into_seat();
+        let mut seat = first.into_note(self, rests).into_seat();
         while let Some(holder) = holders.pop() {
-            let other = holder.into_note(rests).into_seat();
+            let other = holder.into_note(self, rests).into_seat();
             self.table.shared.join_seat::<OneMark>(&mut seat, other);
         }
         holders.destroy_empty();

@@ -7,6 +7,7 @@ use Rattle.std.proofs.lemmas.Bool.Decides.{nat_tests}
 use Rattle.std.proofs.lemmas.List.{map-append, length-append}
 use Rattle.std.proofs.lemmas.List.Folds.{list_any-append}
 use Rattle.std.proofs.lemmas.List.Sorted.{IsPermutation-append_right, IsPermutation-trans, IsPermutation-sym, IsPermutation-refl, list_any-IsPermutation, length_permutation}
+use Rattle.std.proofs.lemmas.Bool.{and_left, or_from, or_left, or_parts, or_right}
 use Rattle.coco_types.specs.declared.limits.TheConstants.{MOST_KEPT, MOST_LINE_BYTES}
 use Rattle.coco_types.specs.declared.call.Done.{Done}
 use Rattle.coco_types.specs.declared.call.Request.{Request}
@@ -170,10 +171,6 @@ in_two procs k (x ∷ xs) ys (c ∷ all) are =
 abbrev pub has : ℕ → List Request → Bool
 has id rs = list_any (λ (q : Request). nat_eq id q.id) rs
 
-neither : (b c : Bool) → (b || c) ≡ false → (b ≡ false) × (c ≡ false)
-neither true c e = let f : true ≡ false = e in cc
-neither false c e = (refl, e)
-
 new_by : (k : Known) (q r : Request) (a b c d : Bool) → is_known k q ≡ b → is_up_to k.floor q.id ≡ c → is_full k ≡ d → first_that_fits (tests_by q a b c d) ≡ Some (New r) → (q ≡ r) × IsNewTo k q × (is_full k ≡ false)
 new_by k q r true b c d known old full h = let e : ◌≡◌ {A = Option Class} (Some (Same q.id)) (Some (New r)) = h in cc
 new_by k q r false true c d known old full h = let e : ◌≡◌ {A = Option Class} (Some (Refused error.Reused)) (Some (New r)) = h in cc
@@ -202,7 +199,7 @@ new_class procs k line r is =
     ]
 
 still_new : (k : Known) (rs : List Request) (q : Request) → IsNewTo (and_known k rs) q → IsNewTo k q
-still_new k rs q new = record { unknown = (neither (is_known k q) (has q.id rs) (sym (list_any-append (λ (p : Request). nat_eq q.id p.id) k.requests rs) ∙ new.unknown)).0; above = new.above }
+still_new k rs q new = record { unknown = (or_parts (is_known k q) (has q.id rs) (sym (list_any-append (λ (p : Request). nat_eq q.id p.id) k.requests rs) ∙ new.unknown)).0; above = new.above }
 
 pub all_still_new : (k : Known) (rs qs : List Request) → AllByRecursion (IsNewTo (and_known k rs)) qs → AllByRecursion (IsNewTo k) qs
 all_still_new k rs [] all = tt
@@ -228,19 +225,6 @@ none_new procs k (line ∷ lines) (New r ∷ cs) full are = let e : true ≡ fal
 
 -- ---- a line again
 
-pub either_true : (b c : Bool) → c ≡ true → (b || c) ≡ true
-either_true true c h = refl
-either_true false c h = h
-
-pub first_true : (b c : Bool) → b ≡ true → (b || c) ≡ true
-first_true b c h = ap (λ x. x || c) h
-
-pub both_false : (b c : Bool) → b ≡ false → c ≡ false → (b || c) ≡ false
-both_false b c p q = ap (λ x. x || c) p ∙ q
-
-and_false : (b c : Bool) → b ≡ false → (b && c) ≡ false
-and_false b c p = ap (λ x. x && c) p
-
 pub clash : (a b : Bool) → a ≡ b → a ≡ true → b ≡ false → ⊥
 clash a b e p q = let f : true ≡ false = sym p ∙ e ∙ q in cc
 
@@ -263,14 +247,14 @@ old_apart k r (q ∷ qs) old all =
 
 pub none_has : (r : Request) (qs : List Request) → AreApart r qs → has r.id qs ≡ false
 none_has r [] all = refl
-none_has r (q ∷ qs) all = both_false (nat_eq r.id q.id) (has r.id qs) all.0 (none_has r qs all.1)
+none_has r (q ∷ qs) all = or_from (nat_eq r.id q.id) (has r.id qs) all.0 (none_has r qs all.1)
 
 abbrev pub equals : Request → Request → Bool
 equals r q = nat_eq r.id q.id && call.ghosts.eq q.call r.call
 
 pub none_equals : (r : Request) (qs : List Request) → AreApart r qs → list_any (equals r) qs ≡ false
 none_equals r [] all = refl
-none_equals r (q ∷ qs) all = both_false (equals r q) (list_any (equals r) qs) (and_false (nat_eq r.id q.id) (call.ghosts.eq q.call r.call) all.0) (none_equals r qs all.1)
+none_equals r (q ∷ qs) all = or_from (equals r q) (list_any (equals r) qs) (and_left (nat_eq r.id q.id) (call.ghosts.eq q.call r.call) all.0) (none_equals r qs all.1)
 
 pub same_with : (k : Known) (r : Request) (qs : List Request) → is_same (and_known k qs) r ≡ (is_same k r || list_any (equals r) qs)
 same_with k r qs = list_any-append (equals r) k.requests qs
@@ -300,37 +284,37 @@ asked_again : (k : Known) (later : List Request) (r : Request) (c : Class) (a b 
 asked_again k later r (Same id) true b o f same known old full h after =
     let e : ◌≡◌ {A = Option Class} (Some (Same r.id)) (Some (Same id)) = h in
     tests_are (and_known k later) r true (is_known (and_known k later) r) (is_up_to k.floor r.id) (is_full (and_known k later)) (Same id)
-    (same_with k r later ∙ first_true (is_same k r) (list_any (equals r) later) same) refl refl refl e
+    (same_with k r later ∙ or_left (is_same k r) (list_any (equals r) later) same) refl refl refl e
 asked_again k later r (Refused x) true b o f same known old full h after = let e : ◌≡◌ {A = Option Class} (Some (Same r.id)) (Some (Refused x)) = h in absurd (cc)
 asked_again k later r (New q) true b o f same known old full h after = let e : ◌≡◌ {A = Option Class} (Some (Same r.id)) (Some (New q)) = h in absurd (cc)
 asked_again k later r (Refused x) false true o f same known old full h after =
     let apart = known_apart k r later known (all_still_new k [] later after.0) in
     tests_are (and_known k later) r false true (is_up_to k.floor r.id) (is_full (and_known k later)) (Refused x)
-    (same_with k r later ∙ both_false (is_same k r) (list_any (equals r) later) same (none_equals r later apart))
-    (known_with k r later ∙ first_true (is_known k r) (has r.id later) known) refl refl h
+    (same_with k r later ∙ or_from (is_same k r) (list_any (equals r) later) same (none_equals r later apart))
+    (known_with k r later ∙ or_left (is_known k r) (has r.id later) known) refl refl h
 asked_again k later r (Same id) false true o f same known old full h after = let e : ◌≡◌ {A = Option Class} (Some (Refused error.Reused)) (Some (Same id)) = h in absurd (cc)
 asked_again k later r (New q) false true o f same known old full h after = let e : ◌≡◌ {A = Option Class} (Some (Refused error.Reused)) (Some (New q)) = h in absurd (cc)
 asked_again k later r (Refused x) false false true f same known old full h after =
     let apart = old_apart k r later old (all_still_new k [] later after.0) in
     tests_are (and_known k later) r false false true (is_full (and_known k later)) (Refused x)
-    (same_with k r later ∙ both_false (is_same k r) (list_any (equals r) later) same (none_equals r later apart))
-    (known_with k r later ∙ both_false (is_known k r) (has r.id later) known (none_has r later apart)) old refl h
+    (same_with k r later ∙ or_from (is_same k r) (list_any (equals r) later) same (none_equals r later apart))
+    (known_with k r later ∙ or_from (is_known k r) (has r.id later) known (none_has r later apart)) old refl h
 asked_again k later r (Same id) false false true f same known old full h after = let e : ◌≡◌ {A = Option Class} (Some (Refused error.Old)) (Some (Same id)) = h in absurd (cc)
 asked_again k later r (New q) false false true f same known old full h after = let e : ◌≡◌ {A = Option Class} (Some (Refused error.Old)) (Some (New q)) = h in absurd (cc)
 asked_again k later r (Refused x) false false false true same known old full h after =
     let none : later ≡ [] = after.1 (full_still k [] full) in
     let apart : AreApart r later = subst (AreApart r) (sym none) tt in
     tests_are (and_known k later) r false false false true (Refused x)
-    (same_with k r later ∙ both_false (is_same k r) (list_any (equals r) later) same (none_equals r later apart))
-    (known_with k r later ∙ both_false (is_known k r) (has r.id later) known (none_has r later apart)) old (full_still k later full) h
+    (same_with k r later ∙ or_from (is_same k r) (list_any (equals r) later) same (none_equals r later apart))
+    (known_with k r later ∙ or_from (is_known k r) (has r.id later) known (none_has r later apart)) old (full_still k later full) h
 asked_again k later r (Same id) false false false true same known old full h after = let e : ◌≡◌ {A = Option Class} (Some (Refused error.Full)) (Some (Same id)) = h in absurd (cc)
 asked_again k later r (New q) false false false true same known old full h after = let e : ◌≡◌ {A = Option Class} (Some (Refused error.Full)) (Some (New q)) = h in absurd (cc)
 asked_again k later r (New q) false false false false same known old full h after =
     let e : ◌≡◌ {A = Option Class} (Some (New r)) (Some (New q)) = h in
     let is : r ≡ q = cc in
     let all = and_known k (q ∷ later) in
-    let here : is_same all r ≡ true = same_with k r (q ∷ later) ∙ either_true (is_same k r) (equals r q || list_any (equals r) later)
-    (first_true (equals r q) (list_any (equals r) later) (subst (λ x. equals r x ≡ true) is (equals_itself r))) in
+    let here : is_same all r ≡ true = same_with k r (q ∷ later) ∙ or_right (is_same k r) (equals r q || list_any (equals r) later)
+    (or_left (equals r q) (list_any (equals r) later) (subst (λ x. equals r x ≡ true) is (equals_itself r))) in
     tests_are all r true (is_known all r) (is_up_to k.floor r.id) (is_full all) (Same q.id) here refl refl refl (ap (λ (x : Request). Some (Same x.id)) is)
 asked_again k later r (Refused x) false false false false same known old full h after = let e : ◌≡◌ {A = Option Class} (Some (New r)) (Some (Refused x)) = h in absurd (cc)
 asked_again k later r (Same id) false false false false same known old full h after = let e : ◌≡◌ {A = Option Class} (Some (New r)) (Some (Same id)) = h in absurd (cc)

@@ -34,6 +34,7 @@ use Rattle.coco_commits.specs.EpochEntries.{HasRoomFor}
 use Rattle.coco_host.specs.Files.{Files, NoMore}
 use Rattle.coco_host.specs.Moments.{IsNew, IsSaidBetween, Observation, SeesOnly}
 use Rattle.coco_host.specs.Record.{known}
+use Rattle.coco_host.specs.declared.host.Host.{Ghosts as HostGhosts}
 use Rattle.coco_io.proofs.KnownLemmas.{append_known-nil}
 use Rattle.coco_order.specs.Execution.{Beginning}
 use Rattle.coco_order.specs.Outcome.{ComeOfExecution}
@@ -143,7 +144,7 @@ RefusesNone f = (file at : ℕ) → f ≢ turn.NotAStore file at
 
 -- ---- moments
 
-module _ {H : Type 0} (moment : H → ℕ) (observed : H → ℕ → Observation → Type 0) (said : H → Option (List ℕ)) (reads : H → Option Files) (may_leave : H → Files → Type 0) where
+module _ {H : Type 0} (frame : HostGhosts H) where
   -- what a turn made of the store, where it succeeded
   pub record Committed (c : Contents) (requests : List Request) (bounds : RunBounds) (next spare : ℕ) (after : Cluster) (old mid : H) : Type 0 where
     pub d : Contents
@@ -155,24 +156,24 @@ module _ {H : Type 0} (moment : H → ℕ) (observed : H → ℕ → Observation
     pub below : IsBehindAll d (number + epochs_of requests)
     pub last : IsBehindAll d (number + 1)
     pub next_is : after.next_epoch ≡ number + epochs_of requests
-    pub rests : RestsOn d (reads mid) (may_leave mid)
+    pub rests : RestsOn d (frame.reads mid) (frame.may_leave mid)
     pub stands : StandsAt d after
-    pub moments : SeesOnly moment observed old mid (ShowsStore c.setting (history_of c) (history_of d) (number + 1) (said old))
-    pub others : WritesLogs c.setting (reads old) (reads mid) (may_leave old) (may_leave mid)
+    pub moments : SeesOnly frame.moment frame.observed old mid (ShowsStore c.setting (history_of c) (history_of d) (number + 1) (frame.said old))
+    pub others : WritesLogs c.setting (frame.reads old) (frame.reads mid) (frame.may_leave old) (frame.may_leave mid)
 
   abbrev pub OnlyNow : Type 0
-  OnlyNow = (host : H) (seen : Observation) → observed host (moment host) seen → may_leave host seen.image × (said host ≡ Some seen.said)
+  OnlyNow = (host : H) (seen : Observation) → frame.observed host (frame.moment host) seen → frame.may_leave host seen.image × (frame.said host ≡ Some seen.said)
 
-  unmoved : OnlyNow → (c : Contents) (end : ℕ) (host : H) → RestsOn c (reads host) (may_leave host) → IsBehindAll c end → SeesOnly moment observed host host (ShowsHistory c.setting (history_of c) end (said host))
-  unmoved only_now c end host rests below = (keeps_same moment observed said reads may_leave only_now c end host rests below).moments
+  unmoved : OnlyNow → (c : Contents) (end : ℕ) (host : H) → RestsOn c (frame.reads host) (frame.may_leave host) → IsBehindAll c end → SeesOnly frame.moment frame.observed host host (ShowsHistory c.setting (history_of c) end (frame.said host))
+  unmoved only_now c end host rests below = (keeps_same frame only_now c end host rests below).moments
 
-  unmoved_so : OnlyNow → (c : Contents) (end : ℕ) (host : H) → RestsOn c (reads host) (may_leave host) → IsBehindAll c end → SeesOnly moment observed host host (ShowsStore c.setting (history_of c) (history_of c) end (said host))
-  unmoved_so only_now c end host rests below = sees_weaker moment observed host host (ShowsHistory c.setting (history_of c) end (said host)) (ShowsStore c.setting (history_of c) (history_of c) end (said host))
+  unmoved_so : OnlyNow → (c : Contents) (end : ℕ) (host : H) → RestsOn c (frame.reads host) (frame.may_leave host) → IsBehindAll c end → SeesOnly frame.moment frame.observed host host (ShowsStore c.setting (history_of c) (history_of c) end (frame.said host))
+  unmoved_so only_now c end host rests below = sees_weaker frame.moment frame.observed host host (ShowsHistory c.setting (history_of c) end (frame.said host)) (ShowsStore c.setting (history_of c) (history_of c) end (frame.said host))
       (λ seen shows. record { store = inl shows.0; said = shows.1 }) (unmoved only_now c end host rests below)
 
   pub committed : OnlyNow → (result : Result (Unit {0}) TurnFault) (x : Unit {0}) (requests : List Request) (bounds : RunBounds) (spare : ℕ) (c : Contents) (before after : Cluster) (old mid : H) → result ≡ Ok x
-      → (requests ≡ [] → (mid ≡ old) × IsUntraced before after) → RestsOn c (reads old) (may_leave old) → StandsAt c before
-      → KeepsHistory moment observed said reads may_leave result requests before.next_epoch spare c old mid ⊎ Turns moment observed said reads may_leave result requests bounds.workers bounds.attempts spare c before after old mid
+      → (requests ≡ [] → (mid ≡ old) × IsUntraced before after) → RestsOn c (frame.reads old) (frame.may_leave old) → StandsAt c before
+      → KeepsHistory frame result requests before.next_epoch spare c old mid ⊎ Turns frame result requests bounds.workers bounds.attempts spare c before after old mid
       → Committed c requests bounds before.next_epoch spare after old mid
   committed only_now result x requests bounds spare c before after old mid ok still rests stands (inl none) =
       let empty : requests ≡ [] = subst (λ (r : Result _ _). OnOk r (requests ≡ [])) ok none.ok in
@@ -189,15 +190,15 @@ module _ {H : Type 0} (moment : H → ℕ) (observed : H → ℕ → Observation
         below = behind_later c before.next_epoch (before.next_epoch + epochs_of requests) (omega arith) stands.next;
         next_is = omega (arith, no_epoch, same_next);
         last = behind_later c before.next_epoch (before.next_epoch + 1) (omega arith) stands.next;
-        rests = subst (λ h. RestsOn c (reads h) (may_leave h)) (sym nothing.0) rests;
+        rests = subst (λ h. RestsOn c (frame.reads h) (frame.may_leave h)) (sym nothing.0) rests;
         stands = same_stands c before after (same_store before after nothing.1) stands;
-        moments = subst (λ h. SeesOnly moment observed old h (ShowsStore c.setting (history_of c) (history_of c) (before.next_epoch + 1) (said old))) (sym nothing.0)
+        moments = subst (λ h. SeesOnly frame.moment frame.observed old h (ShowsStore c.setting (history_of c) (history_of c) (before.next_epoch + 1) (frame.said old))) (sym nothing.0)
             (unmoved_so only_now c (before.next_epoch + 1) old rests (behind_later c before.next_epoch (before.next_epoch + 1) (omega arith) stands.next));
-        others = writes_none c.setting (reads old) (reads mid) (may_leave old) (may_leave mid) (ap reads nothing.0) (λ image left. subst (λ h. may_leave h image) nothing.0 left);
+        others = writes_none c.setting (frame.reads old) (frame.reads mid) (frame.may_leave old) (frame.may_leave mid) (ap frame.reads nothing.0) (λ image left. subst (λ h. frame.may_leave h image) nothing.0 left);
       }
   committed only_now result x requests bounds spare c before after old mid ok still rests stands (inr t) =
-      let done : RestsOn t.d (reads mid) (may_leave mid) × StandsAt t.d after × (option_map traced after.trace ≡ Some t.trace) × (after.next_epoch ≡ t.number + 1) =
-      subst (λ (r : Result _ _). OnOk r (RestsOn t.d (reads mid) (may_leave mid) × StandsAt t.d after × (option_map traced after.trace ≡ Some t.trace) × (after.next_epoch ≡ t.number + 1))) ok t.ok in
+      let done : RestsOn t.d (frame.reads mid) (frame.may_leave mid) × StandsAt t.d after × (option_map traced after.trace ≡ Some t.trace) × (after.next_epoch ≡ t.number + 1) =
+      subst (λ (r : Result _ _). OnOk r (RestsOn t.d (frame.reads mid) (frame.may_leave mid) × StandsAt t.d after × (option_map traced after.trace ≡ Some t.trace) × (after.next_epoch ≡ t.number + 1))) ok t.ok in
       let one = one_epoch requests bounds.workers bounds.attempts t.number t.trace c t.d t.grown in
       let next_then = done.3 in
       record {
@@ -218,15 +219,15 @@ module _ {H : Type 0} (moment : H → ℕ) (observed : H → ℕ → Observation
 
   -- ---- a turn that failed
 
-  refused_so : (f : TurnFault) (c : Contents) (end : ℕ) (host : H) → RefusesNone f → EndsWithout c end (reads host) (may_leave host) (Err f) → RefusedEnds c end (reads host) (may_leave host) (Err (fault_of_turn f))
+  refused_so : (f : TurnFault) (c : Contents) (end : ℕ) (host : H) → RefusesNone f → EndsWithout c end (frame.reads host) (frame.may_leave host) (Err f) → RefusedEnds c end (frame.reads host) (frame.may_leave host) (Err (fault_of_turn f))
   refused_so turn.Disk c end host none ends = tt
   refused_so (turn.NotAStore file at) c end host none ends = absurd (none file at refl)
   refused_so turn.Unreachable c end host none ends = ends
   refused_so turn.EpochsUsedUp c end host none ends = ends
   refused_so turn.NoMemory c end host none ends = tt
 
-  pub refused : (f : TurnFault) (turned : Result (Unit {0}) TurnFault) (requests : List Request) (spare : ℕ) (c : Contents) (before : Cluster) (old new : H) → turned ≡ Err f → RefusesNone f → said new ≡ said old
-      → KeepsHistory moment observed said reads may_leave turned requests before.next_epoch spare c old new → IsRefused moment observed said reads may_leave (Err (fault_of_turn f)) c before.next_epoch spare old new
+  pub refused : (f : TurnFault) (turned : Result (Unit {0}) TurnFault) (requests : List Request) (spare : ℕ) (c : Contents) (before : Cluster) (old new : H) → turned ≡ Err f → RefusesNone f → frame.said new ≡ frame.said old
+      → KeepsHistory frame turned requests before.next_epoch spare c old new → IsRefused frame (Err (fault_of_turn f)) c before.next_epoch spare old new
   refused f turned requests spare c before old new was none quiet k = record {
     number = k.number;
     taken = k.taken;
@@ -234,20 +235,20 @@ module _ {H : Type 0} (moment : H → ℕ) (observed : H → ℕ → Observation
     left = k.left;
     others = k.others;
     quiet = quiet;
-    ends = refused_so f c k.number new none (subst (EndsWithout c k.number (reads new) (may_leave new)) was k.ends);
+    ends = refused_so f c k.number new none (subst (EndsWithout c k.number (frame.reads new) (frame.may_leave new)) was k.ends);
   }
 
   -- out of memory before the turn
-  pub refused_early : OnlyNow → (result : Result (Unit {0}) BatchFault) (c : Contents) (k : Cluster) (spare : ℕ) (host : H) → result ≡ Err fault.NoMemory → RestsOn c (reads host) (may_leave host) → StandsAt c k
-      → IsRefused moment observed said reads may_leave result c k.next_epoch spare host host
+  pub refused_early : OnlyNow → (result : Result (Unit {0}) BatchFault) (c : Contents) (k : Cluster) (spare : ℕ) (host : H) → result ≡ Err fault.NoMemory → RestsOn c (frame.reads host) (frame.may_leave host) → StandsAt c k
+      → IsRefused frame result c k.next_epoch spare host host
   refused_early only_now result c k spare host is rests stands =
       let later = behind_later c k.next_epoch (k.next_epoch + 1) (omega arith) stands.next in
-      subst (λ r. IsRefused moment observed said reads may_leave r c k.next_epoch spare host host) (sym is) (record {
+      subst (λ r. IsRefused frame r c k.next_epoch spare host host) (sym is) (record {
         number = k.next_epoch;
         taken = record { low = omega arith; few = omega arith };
         moments = unmoved only_now c (k.next_epoch + 1) host rests later;
         left = λ bytes spoke image leaves. record { contents = c; setting = refl; good = rests.left image leaves; history = refl; below = later };
-        others = writes_none c.setting (reads host) (reads host) (may_leave host) (may_leave host) refl (λ image leaves. leaves);
+        others = writes_none c.setting (frame.reads host) (frame.reads host) (frame.may_leave host) (frame.may_leave host) refl (λ image leaves. leaves);
         quiet = refl;
         ends = tt;
       })
@@ -256,9 +257,9 @@ module _ {H : Type 0} (moment : H → ℕ) (observed : H → ℕ → Observation
   turn_shows s before after end bytes texts seen shows =
       ⊎_elim (λ was. inl (was, shows.said)) (λ grown. inr (grown, nothing_said bytes seen.said texts shows.said)) shows.store
 
-  turn_ends : (f : TurnFault) (result : Result (Unit {0}) TurnFault) (batch : Batch) (requests : List Request) (bounds : RunBounds) (spare : ℕ) (c : Contents) (before after : Cluster) (old new : H) → result ≡ Err f → RefusesNone f → requests ≡ batch.fresh → said new ≡ said old
-      → Turns moment observed said reads may_leave result requests bounds.workers bounds.attempts spare c before after old new
-      → WorksOffBatch moment observed said reads may_leave (Err (fault_of_turn f)) batch bounds c before.next_epoch spare after old new
+  turn_ends : (f : TurnFault) (result : Result (Unit {0}) TurnFault) (batch : Batch) (requests : List Request) (bounds : RunBounds) (spare : ℕ) (c : Contents) (before after : Cluster) (old new : H) → result ≡ Err f → RefusesNone f → requests ≡ batch.fresh → frame.said new ≡ frame.said old
+      → Turns frame result requests bounds.workers bounds.attempts spare c before after old new
+      → WorksOffBatch frame (Err (fault_of_turn f)) batch bounds c before.next_epoch spare after old new
   turn_ends f result batch requests bounds spare c before after old new was none same quiet t = by f none (subst MayHaveCommitted was t.may)
     where
       numbers : AddsWithin before.next_epoch (t.number + epochs_of batch.fresh) spare (history_of c) (history_of t.d)
@@ -271,12 +272,12 @@ module _ {H : Type 0} (moment : H → ℕ) (observed : H → ℕ → Observation
       grows : GrowsByExecution (manner_of c.setting bounds) (history_of c) batch.fresh (history_of t.d)
       grows = subst (λ rs. GrowsByExecution (manner_of c.setting bounds) (history_of c) rs (history_of t.d)) same (grows_by_execution requests bounds t.number t.trace c t.d t.grown)
 
-      moments : SeesOnly moment observed old new (ShowsBatch c.setting (history_of c) (history_of t.d) (t.number + 1) (said old) (batch_texts c t.d batch))
-      moments = sees_weaker moment observed old new (ShowsStore c.setting (history_of c) (history_of t.d) (t.number + 1) (said old))
-          (ShowsBatch c.setting (history_of c) (history_of t.d) (t.number + 1) (said old) (batch_texts c t.d batch))
-          (turn_shows c.setting (history_of c) (history_of t.d) (t.number + 1) (said old) (batch_texts c t.d batch)) t.moments
+      moments : SeesOnly frame.moment frame.observed old new (ShowsBatch c.setting (history_of c) (history_of t.d) (t.number + 1) (frame.said old) (batch_texts c t.d batch))
+      moments = sees_weaker frame.moment frame.observed old new (ShowsStore c.setting (history_of c) (history_of t.d) (t.number + 1) (frame.said old))
+          (ShowsBatch c.setting (history_of c) (history_of t.d) (t.number + 1) (frame.said old) (batch_texts c t.d batch))
+          (turn_shows c.setting (history_of c) (history_of t.d) (t.number + 1) (frame.said old) (batch_texts c t.d batch)) t.moments
 
-      by : (f : TurnFault) → RefusesNone f → MayHaveCommitted {T = Unit {0}} (Err f) → WorksOffBatch moment observed said reads may_leave (Err (fault_of_turn f)) batch bounds c before.next_epoch spare after old new
+      by : (f : TurnFault) → RefusesNone f → MayHaveCommitted {T = Unit {0}} (Err f) → WorksOffBatch frame (Err (fault_of_turn f)) batch bounds c before.next_epoch spare after old new
       by turn.Disk none may = record { d = t.d; setting = t.grown.setting; grows = grows; number = t.number; taken = t.taken; numbers = numbers; below = below; next_is = tt; moments = moments; others = t.others; ends = (t.left, quiet) }
       by (turn.NotAStore file at) none may = absurd (none file at refl)
       by turn.Unreachable none may = absurd may
@@ -284,23 +285,23 @@ module _ {H : Type 0} (moment : H → ℕ) (observed : H → ℕ → Observation
       by turn.NoMemory none may = record { d = t.d; setting = t.grown.setting; grows = grows; number = t.number; taken = t.taken; numbers = numbers; below = below; next_is = tt; moments = moments; others = t.others; ends = inl (t.left, quiet) }
 
   pub turn_failed : (f : TurnFault) (turned : Result (Unit {0}) TurnFault) (result : Result (Unit {0}) BatchFault) (batch : Batch) (requests : List Request) (bounds : RunBounds) (spare : ℕ) (c : Contents) (before after : Cluster) (old new : H)
-      → turned ≡ Err f → ((file at : ℕ) → turned ≢ Err (turn.NotAStore file at)) → result ≡ Err (fault_of_turn f) → requests ≡ batch.fresh → said new ≡ said old
-      → KeepsHistory moment observed said reads may_leave turned requests before.next_epoch spare c old new ⊎ Turns moment observed said reads may_leave turned requests bounds.workers bounds.attempts spare c before after old new
-      → IsRefused moment observed said reads may_leave result c before.next_epoch spare old new ⊎ WorksOffBatch moment observed said reads may_leave result batch bounds c before.next_epoch spare after old new
+      → turned ≡ Err f → ((file at : ℕ) → turned ≢ Err (turn.NotAStore file at)) → result ≡ Err (fault_of_turn f) → requests ≡ batch.fresh → frame.said new ≡ frame.said old
+      → KeepsHistory frame turned requests before.next_epoch spare c old new ⊎ Turns frame turned requests bounds.workers bounds.attempts spare c before after old new
+      → IsRefused frame result c before.next_epoch spare old new ⊎ WorksOffBatch frame result batch bounds c before.next_epoch spare after old new
   turn_failed f turned result batch requests bounds spare c before after old new was never is same quiet turns =
       let none : RefusesNone f = λ file at same. never file at (was ∙ ap Err same) in
-      subst (λ r. IsRefused moment observed said reads may_leave r c before.next_epoch spare old new ⊎ WorksOffBatch moment observed said reads may_leave r batch bounds c before.next_epoch spare after old new) (sym is)
+      subst (λ r. IsRefused frame r c before.next_epoch spare old new ⊎ WorksOffBatch frame r batch bounds c before.next_epoch spare after old new) (sym is)
       (⊎_elim (λ keeps. inl (refused f turned requests spare c before old new was none quiet keeps)) (λ t. inr (turn_ends f turned batch requests bounds spare c before after old new was none same quiet t)) turns)
 
   -- ---- a turn that committed, and what is said behind it
 
-  module _ (batch : Batch) (requests : List Request) (bounds : RunBounds) (c : Contents) (next spare : ℕ) (after : Cluster) (old mid : H) (same : requests ≡ batch.fresh) (quiet : said mid ≡ said old)
+  module _ (batch : Batch) (requests : List Request) (bounds : RunBounds) (c : Contents) (next spare : ℕ) (after : Cluster) (old mid : H) (same : requests ≡ batch.fresh) (quiet : frame.said mid ≡ frame.said old)
       (done : Committed c requests bounds next spare after old mid) where
     abbrev texts : List ℕ
     texts = batch_texts c done.d batch
 
     abbrev Shows : Observation → Type 0
-    Shows = ShowsBatch c.setting (history_of c) (history_of done.d) (done.number + 1) (said old) texts
+    Shows = ShowsBatch c.setting (history_of c) (history_of done.d) (done.number + 1) (frame.said old) texts
 
     numbers_so : AddsWithin next (done.number + epochs_of batch.fresh) spare (history_of c) (history_of done.d)
     numbers_so = subst (λ rs. AddsWithin next (done.number + epochs_of rs) spare (history_of c) (history_of done.d)) same done.numbers
@@ -314,12 +315,12 @@ module _ {H : Type 0} (moment : H → ℕ) (observed : H → ℕ → Observation
     grows_so : GrowsByExecution (manner_of c.setting bounds) (history_of c) batch.fresh (history_of done.d)
     grows_so = subst (λ rs. GrowsByExecution (manner_of c.setting bounds) (history_of c) rs (history_of done.d)) same done.grows
 
-    shown : SeesOnly moment observed old mid Shows
-    shown = sees_weaker moment observed old mid (ShowsStore c.setting (history_of c) (history_of done.d) (done.number + 1) (said old)) Shows (turn_shows c.setting (history_of c) (history_of done.d) (done.number + 1) (said old) texts) done.moments
+    shown : SeesOnly frame.moment frame.observed old mid Shows
+    shown = sees_weaker frame.moment frame.observed old mid (ShowsStore c.setting (history_of c) (history_of done.d) (done.number + 1) (frame.said old)) Shows (turn_shows c.setting (history_of c) (history_of done.d) (done.number + 1) (frame.said old) texts) done.moments
 
     -- out of memory before anything is said
-    pub unsaid : (result : Result (Unit {0}) BatchFault) → result ≡ Err fault.NoMemory → WorksOffBatch moment observed said reads may_leave result batch bounds c next spare after old mid
-    unsaid result is = subst (λ r. WorksOffBatch moment observed said reads may_leave r batch bounds c next spare after old mid) (sym is) (record {
+    pub unsaid : (result : Result (Unit {0}) BatchFault) → result ≡ Err fault.NoMemory → WorksOffBatch frame result batch bounds c next spare after old mid
+    unsaid result is = subst (λ r. WorksOffBatch frame r batch bounds c next spare after old mid) (sym is) (record {
       d = done.d;
       setting = done.setting;
       grows = grows_so;
@@ -330,23 +331,23 @@ module _ {H : Type 0} (moment : H → ℕ) (observed : H → ℕ → Observation
       next_is = tt;
       moments = shown;
       others = done.others;
-      ends = inr (done.rests, (0, quiet ∙ sym (append_known-nil (said old))));
+      ends = inr (done.rests, (0, quiet ∙ sym (append_known-nil (frame.said old))));
     })
 
-    module _ (new : H) (piece : List ℕ) (are : piece ≡ texts) (unread : reads new ≡ reads mid) (crash : NoMore (may_leave mid) (may_leave new))
-        (sees : SeesOnly moment observed mid new (IsNew (may_leave mid) (said mid) (said new))) (part : SaysPart piece (said mid) (said new)) where
-      said_part : SaysPart texts (said old) (said new)
-      said_part = (part.0, part.1 ∙ ap (λ o. append_known o (take part.0 piece)) quiet ∙ ap (λ l. append_known (said old) (take part.0 l)) are)
+    module _ (new : H) (piece : List ℕ) (are : piece ≡ texts) (unread : frame.reads new ≡ frame.reads mid) (crash : NoMore (frame.may_leave mid) (frame.may_leave new))
+        (sees : SeesOnly frame.moment frame.observed mid new (IsNew (frame.may_leave mid) (frame.said mid) (frame.said new))) (part : SaysPart piece (frame.said mid) (frame.said new)) where
+      said_part : SaysPart texts (frame.said old) (frame.said new)
+      said_part = (part.0, part.1 ∙ ap (λ o. append_known o (take part.0 piece)) quiet ∙ ap (λ l. append_known (frame.said old) (take part.0 l)) are)
 
-      saying_shows : (seen : Observation) → IsNew (may_leave mid) (said mid) (said new) seen → Shows seen
+      saying_shows : (seen : Observation) → IsNew (frame.may_leave mid) (frame.said mid) (frame.said new) seen → Shows seen
       saying_shows seen is_new =
-          let between : IsSaidBetween (said old) (said new) seen.said = subst (λ o. IsSaidBetween o (said new) seen.said) quiet is_new.said in
+          let between : IsSaidBetween (frame.said old) (frame.said new) seen.said = subst (λ o. IsSaidBetween o (frame.said new) seen.said) quiet is_new.said in
           inr (
             record { contents = done.d; setting = done.setting; good = done.rests.left seen.image is_new.image; history = refl; below = done.last },
-            said_between (said old) (said new) texts seen.said said_part.0 said_part.1 between,
+            said_between (frame.said old) (frame.said new) texts seen.said said_part.0 said_part.1 between,
           )
 
-      pub rests_still : RestsOn done.d (reads new) (may_leave new)
+      pub rests_still : RestsOn done.d (frame.reads new) (frame.may_leave new)
       rests_still = record {
         files = done.rests.files;
         are = unread ∙ done.rests.are;
@@ -355,7 +356,7 @@ module _ {H : Type 0} (moment : H → ℕ) (observed : H → ℕ → Observation
       }
 
       answered : (result : Result (Unit {0}) BatchFault) → OnOk result (after.next_epoch ≡ done.number + epochs_of batch.fresh)
-          → BatchEnds c done.d (done.number + 1) after texts (said old) (said new) (reads new) (may_leave new) result → WorksOffBatch moment observed said reads may_leave result batch bounds c next spare after old new
+          → BatchEnds c done.d (done.number + 1) after texts (frame.said old) (frame.said new) (frame.reads new) (frame.may_leave new) result → WorksOffBatch frame result batch bounds c next spare after old new
       answered result next_is ends = record {
         d = done.d;
         setting = done.setting;
@@ -365,23 +366,23 @@ module _ {H : Type 0} (moment : H → ℕ) (observed : H → ℕ → Observation
         numbers = numbers_so;
         below = below_so;
         next_is = next_is;
-        moments = sees_then moment observed old mid new Shows (IsNew (may_leave mid) (said mid) (said new)) shown sees saying_shows;
-        others = writes_then c.setting (reads old) (reads mid) (reads new) (may_leave old) (may_leave mid) (may_leave new) done.others
-            (writes_none c.setting (reads mid) (reads new) (may_leave mid) (may_leave new) unread crash);
+        moments = sees_then frame.moment frame.observed old mid new Shows (IsNew (frame.may_leave mid) (frame.said mid) (frame.said new)) shown sees saying_shows;
+        others = writes_then c.setting (frame.reads old) (frame.reads mid) (frame.reads new) (frame.may_leave old) (frame.may_leave mid) (frame.may_leave new) done.others
+            (writes_none c.setting (frame.reads mid) (frame.reads new) (frame.may_leave mid) (frame.may_leave new) unread crash);
         ends = ends;
       }
 
       -- the piece is said whole
-      pub all_said : said new ≡ append_known (said mid) piece → WorksOffBatch moment observed said reads may_leave (Ok tt) batch bounds c next spare after old new
-      all_said whole = answered (Ok tt) next_so (rests_still, done.stands, whole ∙ ap (λ o. append_known o piece) quiet ∙ ap (append_known (said old)) are)
+      pub all_said : frame.said new ≡ append_known (frame.said mid) piece → WorksOffBatch frame (Ok tt) batch bounds c next spare after old new
+      all_said whole = answered (Ok tt) next_so (rests_still, done.stands, whole ∙ ap (λ o. append_known o piece) quiet ∙ ap (append_known (frame.said old)) are)
 
-      by_fault : (f : OutFault) → WorksOffBatch moment observed said reads may_leave (Err (fault_of_saying f)) batch bounds c next spare after old new
+      by_fault : (f : OutFault) → WorksOffBatch frame (Err (fault_of_saying f)) batch bounds c next spare after old new
       by_fault out.Failed = answered (Err fault.Say) tt (rests_still, said_part)
       by_fault out.NoMemory = answered (Err fault.NoMemory) tt (inr (rests_still, said_part))
 
       -- the saying broke off
-      pub partly_said : (f : OutFault) (result : Result (Unit {0}) BatchFault) → result ≡ Err (fault_of_saying f) → WorksOffBatch moment observed said reads may_leave result batch bounds c next spare after old new
-      partly_said f result is = subst (λ r. WorksOffBatch moment observed said reads may_leave r batch bounds c next spare after old new) (sym is) (by_fault f)
+      pub partly_said : (f : OutFault) (result : Result (Unit {0}) BatchFault) → result ≡ Err (fault_of_saying f) → WorksOffBatch frame result batch bounds c next spare after old new
+      partly_said f result is = subst (λ r. WorksOffBatch frame r batch bounds c next spare after old new) (sym is) (by_fault f)
 
 -- ---- texts
 

@@ -14,6 +14,7 @@ use Rattle.coco_cluster.specs.Turning.{epochs_of}
 use Rattle.coco_cluster.proofs.AroundLemmas.{spare_then}
 use Rattle.coco_host.specs.Files.{Files}
 use Rattle.coco_host.specs.Moments.{Observation}
+use Rattle.coco_host.specs.declared.host.Host.{Ghosts as HostGhosts}
 use Rattle.coco_io.specs.Counts.{Rose}
 use Rattle.coco_lines.specs.Lines.{Line, lines_of}
 use Rattle.coco_lines.specs.ReaderState.{ReaderState}
@@ -59,11 +60,11 @@ cause_of fault.NoMemory next now requests bytes start end was before says disks 
 
 -- ---- batches
 
-module _ {H : Type 0} (moment : H → ℕ) (observed : H → ℕ → Observation → Type 0) (said : H → Option (List ℕ)) (reads : H → Option Files) (may_leave : H → Files → Type 0) where
+module _ {H : Type 0} (frame : HostGhosts H) where
   -- between two batches
   pub record IsRunning (next spare : ℕ) (bounds : RunBounds) (reader : ReaderState) (before now : SourceMoment) (start k : Cluster) (first host : H) : Type 0 where
     pub taken : AreTaken next spare reader before now k
-    pub served : (c : Contents) → RestsOn c (reads first) (may_leave first) → StandsAt c start → AreServed moment observed said reads may_leave c next spare bounds taken.lines k first host
+    pub served : (c : Contents) → RestsOn c (frame.reads first) (frame.may_leave first) → StandsAt c start → AreServed frame c next spare bounds taken.lines k first host
 
   -- at the end, where more may be skipped than did so far
   pub record RunsTo (next spare total : ℕ) (bounds : RunBounds) (reader : ReaderState) (before now : SourceMoment) (start k : Cluster) (e : Served) (first host : H) : Type 0 where
@@ -71,12 +72,12 @@ module _ {H : Type 0} (moment : H → ℕ) (observed : H → ℕ → Observation
     pub gives : Gives before now bytes
     pub count : reader.taken ≡ length bytes
     pub low : SkipsFew next k.next_epoch (length (lines_of bytes)) spare
-    pub serves : (c : Contents) → RestsOn c (reads first) (may_leave first) → StandsAt c start → Serves moment observed said reads may_leave c next total bounds bytes e first host
+    pub serves : (c : Contents) → RestsOn c (frame.reads first) (frame.may_leave first) → StandsAt c start → Serves frame c next total bounds bytes e first host
 
-  pub running_new : OnlyNow moment observed said reads may_leave → (bounds : RunBounds) (s : ReaderState) (m : SourceMoment) (k : Cluster) (host : H) (spare : ℕ) → s ≡ new_reader → IsRunning k.next_epoch spare bounds s m m k k host host
+  pub running_new : OnlyNow frame → (bounds : RunBounds) (s : ReaderState) (m : SourceMoment) (k : Cluster) (host : H) (spare : ℕ) → s ≡ new_reader → IsRunning k.next_epoch spare bounds s m m k k host host
   running_new only_now bounds s m k host spare fresh = subst (λ r. IsRunning k.next_epoch spare bounds r m m k k host host) (sym fresh) (record {
     taken = record { lines = []; takes = takes_none new_reader m; given = refl; low = omega arith };
-    served = λ c rests stands. served_new moment observed said reads may_leave only_now c spare bounds k host rests stands;
+    served = λ c rests stands. served_new frame only_now c spare bounds k host rests stands;
   })
 
   module _ (next spare : ℕ) (bounds : RunBounds) (reader reader' : ReaderState) (before m n : SourceMoment) (start k : Cluster) (first mid : H) (run : IsRunning next spare bounds reader before m start k first mid) where
@@ -95,7 +96,7 @@ module _ {H : Type 0} (moment : H → ℕ) (observed : H → ℕ → Observation
 
     -- ends without a turn
     ends_here : (e : Served) (more : List Line) (behind : List ℕ) → (takes : TakesLines reader reader' m n more behind)
-        → ((c : Contents) → AreServed moment observed said reads may_leave c next spare bounds run.taken.lines k first mid → Serves moment observed said reads may_leave c next spare bounds (takes_on more behind takes).bytes e first mid)
+        → ((c : Contents) → AreServed frame c next spare bounds run.taken.lines k first mid → Serves frame c next spare bounds (takes_on more behind takes).bytes e first mid)
         → RunsTo next spare spare bounds reader' before n start k e first mid
     ends_here e more behind takes ends =
         let t = takes_on more behind takes in
@@ -107,7 +108,7 @@ module _ {H : Type 0} (moment : H → ℕ) (observed : H → ℕ → Observation
           serves = λ c rests stands. ends c (run.served c rests stands);
         }
 
-    module _ (seen_now : SeenNow moment observed said reads may_leave) where
+    module _ (seen_now : SeenNow frame) where
       others_so : (more : List Line) (behind : List ℕ) → (takes : TakesLines reader reader' m n more behind) → lines_of (takes_on more behind takes).bytes ≡ run.taken.lines ++ (more ++ lines_of behind)
       others_so more behind takes = lines_so more behind takes ∙ append_assoc run.taken.lines more (lines_of behind)
 
@@ -115,12 +116,12 @@ module _ {H : Type 0} (moment : H → ℕ) (observed : H → ℕ → Observation
 
       pub broken_memory : (f : LineFault) → BreaksOff reader reader' m n bounds.size f → RunsTo next spare spare bounds reader' before n start k ending.NoMemory first mid
       broken_memory f b = ends_here ending.NoMemory b.lines b.rest b.takes (λ c a.
-          memory_ran_out moment observed said reads may_leave seen_now c next spare bounds run.taken.lines k first mid a (takes_on b.lines b.rest b.takes).bytes (b.lines ++ lines_of b.rest) (others_so b.lines b.rest b.takes))
+          memory_ran_out frame seen_now c next spare bounds run.taken.lines k first mid a (takes_on b.lines b.rest b.takes).bytes (b.lines ++ lines_of b.rest) (others_so b.lines b.rest b.takes))
 
       broken_read : (f : LineFault) → (b : BreaksOff reader reader' m n bounds.size f) → (length b.lines < bounds.size) × HasNoFeed b.rest × (reader'.ended ≡ false) → RunsTo next spare spare bounds reader' before n start k ending.ReadFault first mid
       broken_read f b cut = ends_here ending.ReadFault b.lines b.rest b.takes (λ c a.
           let t = takes_on b.lines b.rest b.takes in
-          read_failed moment observed said reads may_leave seen_now c next spare bounds run.taken.lines k first mid a t.bytes (b.lines ++ lines_of b.rest) (others_so b.lines b.rest b.takes)
+          read_failed frame seen_now c next spare bounds run.taken.lines k first mid a t.bytes (b.lines ++ lines_of b.rest) (others_so b.lines b.rest b.takes)
           b.lines (ended-first (run.taken.lines ++ b.lines) t.bytes b.rest reader'.ended t.text cut.2 cut.1) cut.0)
 
       pub broken_failed : (f : LineFault) → BreaksOff reader reader' m n bounds.size f → f ≡ line.Failed → RunsTo next spare spare bounds reader' before n start k ending.ReadFault first mid
@@ -143,7 +144,7 @@ module _ {H : Type 0} (moment : H → ℕ) (observed : H → ℕ → Observation
         finished_empty none some = ends_here ending.Finished more reader'.pending r.taking.takes (λ c a.
             let end = r.ends (omega (arith, none, some)) in
             let no_lines : more ≡ [] = nothing more (omega (arith, r.taking.as_many, none)) in
-            finished moment observed said reads may_leave seen_now c next spare bounds run.taken.lines k first mid a took.bytes (more ++ lines_of reader'.pending) (others_so more reader'.pending r.taking.takes)
+            finished frame seen_now c next spare bounds run.taken.lines k first mid a took.bytes (more ++ lines_of reader'.pending) (others_so more reader'.pending r.taking.takes)
             (ap (λ ls. ls ++ lines_of reader'.pending) no_lines ∙ ap lines_of end.1 ∙ lines_of-nil) some)
           where
             nothing : (ls : List Line) → length ls ≡ 0 → ls ≡ []
@@ -152,11 +153,11 @@ module _ {H : Type 0} (moment : H → ℕ) (observed : H → ℕ → Observation
 
         abbrev Tries : ℕ → Result (Unit {0}) BatchFault → Cluster → H → Type 0
         Tries later result k' host =
-            (d : Contents) → RestsOn d (reads mid) (may_leave mid) → StandsAt d k
-            → IsRefused moment observed said reads may_leave result d k.next_epoch later mid host ⊎ WorksOffBatch moment observed said reads may_leave result batch bounds d k.next_epoch later k' mid host
+            (d : Contents) → RestsOn d (frame.reads mid) (frame.may_leave mid) → StandsAt d k
+            → IsRefused frame result d k.next_epoch later mid host ⊎ WorksOffBatch frame result batch bounds d k.next_epoch later k' mid host
 
-        answered : (later : ℕ) (k' : Cluster) (host : H) → Tries later (Ok tt) k' host → (d : Contents) → RestsOn d (reads mid) (may_leave mid) → StandsAt d k
-            → WorksOffBatch moment observed said reads may_leave (Ok tt) batch bounds d k.next_epoch later k' mid host
+        answered : (later : ℕ) (k' : Cluster) (host : H) → Tries later (Ok tt) k' host → (d : Contents) → RestsOn d (frame.reads mid) (frame.may_leave mid) → StandsAt d k
+            → WorksOffBatch frame (Ok tt) batch bounds d k.next_epoch later k' mid host
         answered later k' host tries d rests stands = ⊎_elim (λ none. absurd none.ends) (λ yes. yes) (tries d rests stands)
 
         -- it was whole, and there are more
@@ -175,7 +176,7 @@ module _ {H : Type 0} (moment : H → ℕ) (observed : H → ℕ → Observation
               served = λ c rests stands.
                   let a = run.served c rests stands in
                   let x = answered later k' host good a.d a.rests a.stands in
-                  served_more moment observed said reads may_leave c next spare later bounds run.taken.lines k k' first mid host reader reader' m n batch (Ok tt) a run.taken.given r x x.ends full x.next_is;
+                  served_more frame c next spare later bounds run.taken.lines k k' first mid host reader reader' m n batch (Ok tt) a run.taken.given r x x.ends full x.next_is;
             })
 
         -- it was the last one
@@ -191,7 +192,7 @@ module _ {H : Type 0} (moment : H → ℕ) (observed : H → ℕ → Observation
               serves = λ c rests stands.
                   let a = run.served c rests stands in
                   let x = answered later k' host good a.d a.rests a.stands in
-                  finished_short moment observed said reads may_leave c next spare later bounds run.taken.lines k k' first mid host reader reader' m n batch (Ok tt) a run.taken.given r x seen_now took.bytes
+                  finished_short frame c next spare later bounds run.taken.lines k k' first mid host reader reader' m n batch (Ok tt) a run.taken.given r x seen_now took.bytes
                   (lines_so more reader'.pending r.taking.takes) some x.ends short;
             })
 
@@ -205,8 +206,8 @@ module _ {H : Type 0} (moment : H → ℕ) (observed : H → ℕ → Observation
           low = low_so more reader'.pending r.taking.takes;
           serves = λ c rests stands.
               let a = run.served c rests stands in
-              ⊎_elim (λ x. refused_ends moment observed said reads may_leave c next spare later bounds run.taken.lines k first mid host reader reader' m n batch result a r took.bytes
+              ⊎_elim (λ x. refused_ends frame c next spare later bounds run.taken.lines k first mid host reader reader' m n batch result a r took.bytes
               (lines_so more reader'.pending r.taking.takes) some x seen_now f is reason)
-              (λ x. answers_failed moment observed said reads may_leave c next spare later bounds run.taken.lines k k' first mid host reader reader' m n batch result a run.taken.given r x seen_now took.bytes
+              (λ x. answers_failed frame c next spare later bounds run.taken.lines k k' first mid host reader reader' m n batch result a run.taken.given r x seen_now took.bytes
               (lines_so more reader'.pending r.taking.takes) some f is) (tries a.d a.rests a.stands);
         })

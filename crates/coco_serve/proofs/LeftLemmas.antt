@@ -2,7 +2,7 @@
 use Rattle.std.proofs.Common.{◌≡◌, refl, sym, ap, subst, ◌∙◌, ℕ, zero, suc, Bool, true, false, not, ◌||◌, ◌&&◌, cond, nat_eq, nat_le, List, [], ◌∷◌, ◌++◌, map, Option, None, Some, append-nil, arith, inl, inr, ◌⊎◌}
 use Rattle.std.specs.Prelude.{⊤}
 use Rattle.std.specs.List.{AllByRecursion, IsDistinct, list_any}
-use Rattle.std.proofs.lemmas.Bool.{and_parts}
+use Rattle.std.proofs.lemmas.Bool.{and_parts, or_from, or_left, or_right}
 use Rattle.std.proofs.lemmas.Bool.Decides.{nat_tests}
 use Rattle.std.proofs.lemmas.List.{map-append}
 use Rattle.std.proofs.lemmas.List.Folds.{list_any-append}
@@ -25,7 +25,7 @@ use Rattle.coco_lines.specs.declared.error.LineError.{LineError}
 use Rattle.coco_lines.specs.declared.error.LineError.TheVariants as error
 use Rattle.coco_lines.proofs.ReplyLemmas.{IsNewTo}
 use Rattle.coco_serve.specs.Again.{StandsAt}
-use Rattle.coco_serve.proofs.AgainLemmas.{IsSettled, all_still_new, asked, both_added, both_false, class_by, class_decided, equals, equals_itself, first_true, either_true, has, known_with, news_are_new, none_has, old_apart, tests_by}
+use Rattle.coco_serve.proofs.AgainLemmas.{IsSettled, all_still_new, asked, both_added, class_by, class_decided, equals, equals_itself, has, known_with, news_are_new, none_has, old_apart, tests_by}
 use Rattle.coco_serve.proofs.OnceLemmas.{gains}
 use Rattle.coco_serve.proofs.SpentLemmas.{Leads, any_passing, either, fewer, leads_on, old_above}
 
@@ -130,7 +130,7 @@ past_still procs h [] cs g r grows past = subst (λ x. IsPast x r) (sym grows.1)
 past_still procs h (b ∷ bs) [] g r grows past = absurd grows
 past_still procs h (b ∷ bs) (c ∷ cs) g r grows past =
     let none = none_has r (new_of c) (old_apart (known_in h) r (new_of c) past.old (news_are_new procs (known_in h) b c grows.1.are)) in
-    past_still procs grows.0 bs cs g r grows.2 (past_with procs h grows.0 (new_of c) r grows.1.grows (known_with (known_in h) r (new_of c) ∙ both_false _ _ past.unkept none) past.old)
+    past_still procs grows.0 bs cs g r grows.2 (past_with procs h grows.0 (new_of c) r grows.1.grows (known_with (known_in h) r (new_of c) ∙ or_from _ _ past.unkept none) past.old)
 
 -- ---- what a line leaves
 
@@ -165,7 +165,7 @@ abbrev NewBehind : Known → Class → List Request → Type 0
 NewBehind k c later = AllByRecursion (IsNewTo (and_known k (new_in c))) later
 
 among : (p : Request → Bool) (k : Known) (rs : List Request) → list_any p k.requests ≡ true → list_any p (k.requests ++ rs) ≡ true
-among p k rs h = list_any-append p k.requests rs ∙ first_true (list_any p k.requests) (list_any p rs) h
+among p k rs h = list_any-append p k.requests rs ∙ or_left (list_any p k.requests) (list_any p rs) h
 
 left_by : (k : Known) (g : History) (later : List Request) (r : Request) (c : Class) (a b o f : Bool) → is_same k r ≡ a → is_known k r ≡ b → is_up_to k.floor r.id ≡ o → first_that_fits (tests_by r a b o f) ≡ Some c
     → IsDistinct nat_eq (ids_of (all_dones g)) → Leads (and_known k (new_in c)) g → Passes g (and_known k (new_in c ++ later)) → NewBehind k c later → LeavesRequest g r c
@@ -184,7 +184,7 @@ left_by k g later r (Refused x) false false true f same known old h once leads p
     let e : ◌≡◌ {A = Option Class} (Some (Refused error.Old)) (Some (Refused x)) = h in
     let is : error.Old ≡ x = cc in
     let none = none_has r later (old_apart k r later old (all_still_new k [] later new)) in
-    subst (LeavesRefused g r) is (passes r (known_with k r later ∙ both_false (is_known k r) (has r.id later) known none) old)
+    subst (LeavesRefused g r) is (passes r (known_with k r later ∙ or_from (is_known k r) (has r.id later) known none) old)
 left_by k g later r (Same id) false false true f same known old h once leads passes new = let e : ◌≡◌ {A = Option Class} (Some (Refused error.Old)) (Some (Same id)) = h in absurd (cc)
 left_by k g later r (New q) false false true f same known old h once leads passes new = let e : ◌≡◌ {A = Option Class} (Some (Refused error.Old)) (Some (New q)) = h in absurd (cc)
 left_by k g later r (Refused x) false false false true same known old h once leads passes new =
@@ -197,7 +197,7 @@ left_by k g later r (New q) false false false false same known old h once leads 
     let e : ◌≡◌ {A = Option Class} (Some (New r)) (Some (New q)) = h in
     let is : r ≡ q = cc in
     let here : list_any (equals r) (k.requests ++ q ∷ []) ≡ true =
-    list_any-append (equals r) k.requests (q ∷ []) ∙ either_true (list_any (equals r) k.requests) (equals r q || false) (first_true (equals r q) false (subst (λ x. equals r x ≡ true) is (equals_itself r))) in
+    list_any-append (equals r) k.requests (q ∷ []) ∙ or_right (list_any (equals r) k.requests) (equals r q || false) (or_left (equals r q) false (subst (λ x. equals r x ≡ true) is (equals_itself r))) in
     (is, has_done true r (all_dones g) once (leads.have (equals r) here))
 left_by k g later r (Refused x) false false false false same known old h once leads passes new = let e : ◌≡◌ {A = Option Class} (Some (New r)) (Some (Refused x)) = h in absurd (cc)
 left_by k g later r (Same id) false false false false same known old h once leads passes new = let e : ◌≡◌ {A = Option Class} (Some (New r)) (Some (Same id)) = h in absurd (cc)

@@ -20,6 +20,7 @@ use Rattle.coco_cluster.proofs.BehindLemmas.{behind_later}
 use Rattle.coco_cluster.proofs.WriteLemmas.{writes_then}
 use Rattle.coco_host.specs.Files.{Files}
 use Rattle.coco_host.specs.Moments.{Observation, SeesOnly}
+use Rattle.coco_host.specs.declared.host.Host.{Ghosts as HostGhosts}
 use Rattle.coco_io.proofs.KnownLemmas.{append_known-append}
 use Rattle.coco_lines.specs.Answers.{answers_by}
 use Rattle.coco_lines.specs.Batches.{AreBatches, Batch as Lines, joined}
@@ -49,18 +50,18 @@ use Rattle.coco_serve.proofs.NumberLemmas.{adds_more, adds_none}
 use Rattle.coco_serve.proofs.ReplyLemmas.{keeps_some, no_later_done, texts_are_answers}
 use Rattle.coco_serve.proofs.RunLemmas.{AreServed, SeenNow, all_served, answers-append, batches_more, classes_at, cut_more, first_more, joined-more, later_served, left_by, map-more, more_served, paired, size_more, turns_more, moved}
 
-module _ {H : Type 0} (moment : H → ℕ) (observed : H → ℕ → Observation → Type 0) (said : H → Option (List ℕ)) (reads : H → Option Files) (may_leave : H → Files → Type 0) where
+module _ {H : Type 0} (frame : HostGhosts H) where
   -- a batch that was read is the next one
   module _ (c : Contents) (next spare : ℕ) (bounds : RunBounds) (lines : List Line) (k : Cluster) (first mid : H) (reader reader' : ReaderState) (m n : SourceMoment) (batch : Batch)
-      (a : AreServed moment observed said reads may_leave c next spare bounds lines k first mid) (r : ReadsBatch k.procs (known_of k.kept []) reader reader' m n bounds.size batch) (bytes : List ℕ)
+      (a : AreServed frame c next spare bounds lines k first mid) (r : ReadsBatch k.procs (known_of k.kept []) reader reader' m n bounds.size batch) (bytes : List ℕ)
       (all : lines_of bytes ≡ (lines ++ r.taking.lines) ++ lines_of reader'.pending) (some : 0 < length batch.answers.items) where
     pub read_next : AreFirstBatches bounds.size bytes (a.batches ++ r.taking.lines ∷ [])
     read_next = first_more bounds.size bytes lines r.taking.lines (lines_of reader'.pending) a.batches a.lines_are a.whole (omega (arith, r.taking.as_many, some)) (omega (arith, r.taking.as_many, r.few))
         (λ short. ap lines_of (r.ends (omega (arith, r.taking.as_many, short))).1 ∙ lines_of-nil) all
 
   module _ (c : Contents) (next spare more_spare : ℕ) (bounds : RunBounds) (lines : List Line) (k k' : Cluster) (first mid host : H) (reader reader' : ReaderState) (m n : SourceMoment) (batch : Batch) (result : Result (Unit {0}) BatchFault)
-      (a : AreServed moment observed said reads may_leave c next spare bounds lines k first mid) (given : reader.given ≡ length lines) (r : ReadsBatch k.procs (known_of k.kept []) reader reader' m n bounds.size batch)
-      (x : WorksOffBatch moment observed said reads may_leave result batch bounds a.d k.next_epoch more_spare k' mid host) where
+      (a : AreServed frame c next spare bounds lines k first mid) (given : reader.given ≡ length lines) (r : ReadsBatch k.procs (known_of k.kept []) reader reader' m n bounds.size batch)
+      (x : WorksOffBatch frame result batch bounds a.d k.next_epoch more_spare k' mid host) where
     abbrev tree : Procedures
     tree = c.setting.tree
 
@@ -143,38 +144,38 @@ module _ {H : Type 0} (moment : H → ℕ) (observed : H → ℕ → Observation
         ∙ ap (λ i. answers_of h a.classes ++ answers_by (all_dones g) i cs) number ∙ ap (λ t. answers_of h a.classes ++ t) (sym texts_are)
 
     -- a front of the batch's texts, behind what was said before
-    front_said : (now : Option (List ℕ)) (i : ℕ) → now ≡ append_known (said mid) (take i texts) → now ≡ append_known (said first) (take (length (answers_of h a.classes) + i) (answers_of g classes'))
+    front_said : (now : Option (List ℕ)) (i : ℕ) → now ≡ append_known (frame.said mid) (take i texts) → now ≡ append_known (frame.said first) (take (length (answers_of h a.classes) + i) (answers_of g classes'))
     front_said now i is =
-        is ∙ ap (λ o. append_known o (take i texts)) a.says ∙ append_known-append (said first) (answers_of h a.classes) (take i texts)
-        ∙ ap (append_known (said first)) (sym (ap (take (length (answers_of h a.classes) + i)) all_answers ∙ take-append-add (answers_of h a.classes) texts i))
+        is ∙ ap (λ o. append_known o (take i texts)) a.says ∙ append_known-append (frame.said first) (answers_of h a.classes) (take i texts)
+        ∙ ap (append_known (frame.said first)) (sym (ap (take (length (answers_of h a.classes) + i)) all_answers ∙ take-append-add (answers_of h a.classes) texts i))
 
-    batch_shows : (seen : Observation) → ShowsBatch a.d.setting h g (x.number + 1) (said mid) texts seen → IsServed c.setting bounds opening next all batches' classes' g (said first) seen
+    batch_shows : (seen : Observation) → ShowsBatch a.d.setting h g (x.number + 1) (frame.said mid) texts seen → IsServed c.setting bounds opening next all batches' classes' g (frame.said first) seen
     batch_shows seen shows = ⊎_elim
-        (λ was. more_served c.setting bounds opening next all a.batches a.classes h (said first) as_many more cs g keeps.prefix seen
-        (all_served c.setting bounds opening next all a.batches a.classes h (said first) a.grown x.number numbers_before seen
+        (λ was. more_served c.setting bounds opening next all a.batches a.classes h (frame.said first) as_many more cs g keeps.prefix seen
+        (all_served c.setting bounds opening next all a.batches a.classes h (frame.said first) a.grown x.number numbers_before seen
         (moved a.d.setting c.setting h (x.number + 1) (x.number + 1) seen.image a.setting (omega arith) was.0) (length (answers_of h a.classes))
-        (sym was.1 ∙ a.says ∙ ap (append_known (said first)) (sym (take-length (answers_of h a.classes))))))
-        (λ grew. all_served c.setting bounds opening next all batches' classes' g (said first) grown' end' numbers' seen
+        (sym was.1 ∙ a.says ∙ ap (append_known (frame.said first)) (sym (take-length (answers_of h a.classes))))))
+        (λ grew. all_served c.setting bounds opening next all batches' classes' g (frame.said first) grown' end' numbers' seen
         (moved a.d.setting c.setting g (x.number + 1) (end' + 1) seen.image a.setting (omega arith) grew.0) (length (answers_of h a.classes) + grew.1.0) (front_said (Some seen.said) grew.1.0 grew.1.1)) shows
 
-    moments' : SeesOnly moment observed first host (IsServed c.setting bounds opening next all batches' classes' g (said first))
-    moments' = sees_then moment observed first mid host (IsServed c.setting bounds opening next all batches' classes' g (said first)) (ShowsBatch a.d.setting h g (x.number + 1) (said mid) texts)
-        (sees_weaker moment observed first mid (IsServed c.setting bounds opening next spare a.batches a.classes h (said first)) (IsServed c.setting bounds opening next all batches' classes' g (said first))
-        (λ seen s. more_served c.setting bounds opening next all a.batches a.classes h (said first) as_many more cs g keeps.prefix seen
-        (later_served c.setting bounds opening next spare a.batches a.classes h (said first) all (omega arith) seen s)) a.moments) x.moments batch_shows
+    moments' : SeesOnly frame.moment frame.observed first host (IsServed c.setting bounds opening next all batches' classes' g (frame.said first))
+    moments' = sees_then frame.moment frame.observed first mid host (IsServed c.setting bounds opening next all batches' classes' g (frame.said first)) (ShowsBatch a.d.setting h g (x.number + 1) (frame.said mid) texts)
+        (sees_weaker frame.moment frame.observed first mid (IsServed c.setting bounds opening next spare a.batches a.classes h (frame.said first)) (IsServed c.setting bounds opening next all batches' classes' g (frame.said first))
+        (λ seen s. more_served c.setting bounds opening next all a.batches a.classes h (frame.said first) as_many more cs g keeps.prefix seen
+        (later_served c.setting bounds opening next spare a.batches a.classes h (frame.said first) all (omega arith) seen s)) a.moments) x.moments batch_shows
 
-    others' : WritesLogs c.setting (reads first) (reads host) (may_leave first) (may_leave host)
-    others' = writes_then c.setting (reads first) (reads mid) (reads host) (may_leave first) (may_leave mid) (may_leave host) a.others
-        (subst (λ s. WritesLogs s (reads mid) (reads host) (may_leave mid) (may_leave host)) a.setting x.others)
+    others' : WritesLogs c.setting (frame.reads first) (frame.reads host) (frame.may_leave first) (frame.may_leave host)
+    others' = writes_then c.setting (frame.reads first) (frame.reads mid) (frame.reads host) (frame.may_leave first) (frame.may_leave mid) (frame.may_leave host) a.others
+        (subst (λ s. WritesLogs s (frame.reads mid) (frame.reads host) (frame.may_leave mid) (frame.may_leave host)) a.setting x.others)
 
     abbrev IsWhole : Type 0
-    IsWhole = RestsOn x.d (reads host) (may_leave host) × StandsAt x.d k' × (said host ≡ append_known (said mid) texts)
+    IsWhole = RestsOn x.d (frame.reads host) (frame.may_leave host) × StandsAt x.d k' × (frame.said host ≡ append_known (frame.said mid) texts)
 
-    says_whole : IsWhole → said host ≡ append_known (said first) (answers_of g classes')
-    says_whole done = done.2 ∙ ap (λ o. append_known o texts) a.says ∙ append_known-append (said first) (answers_of h a.classes) texts ∙ ap (append_known (said first)) (sym all_answers)
+    says_whole : IsWhole → frame.said host ≡ append_known (frame.said first) (answers_of g classes')
+    says_whole done = done.2 ∙ ap (λ o. append_known o texts) a.says ∙ append_known-append (frame.said first) (answers_of h a.classes) texts ∙ ap (append_known (frame.said first)) (sym all_answers)
 
     -- the batch was whole, committed and said
-    pub served_more : IsWhole → bounds.size ≤ length batch.answers.items → k'.next_epoch ≡ end' → AreServed moment observed said reads may_leave c next all bounds (lines ++ more) k' first host
+    pub served_more : IsWhole → bounds.size ≤ length batch.answers.items → k'.next_epoch ≡ end' → AreServed frame c next all bounds (lines ++ more) k' first host
     served_more done full next_is =
         record {
           batches = batches';
@@ -197,7 +198,7 @@ module _ {H : Type 0} (moment : H → ℕ) (observed : H → ℕ → Observation
 
     -- ---- where a run ends with the batch
 
-    module _ (seen_now : SeenNow moment observed said reads may_leave) (bytes : List ℕ) (lines_are : lines_of bytes ≡ (lines ++ more) ++ lines_of reader'.pending) (some : 0 < length batch.answers.items) where
+    module _ (seen_now : SeenNow frame) (bytes : List ℕ) (lines_are : lines_of bytes ≡ (lines ++ more) ++ lines_of reader'.pending) (some : 0 < length batch.answers.items) where
       all_lines : lines_of bytes ≡ joined batches' ++ lines_of reader'.pending
       all_lines = lines_are ∙ ap (λ ls. ls ++ lines_of reader'.pending) (ap (λ ls. ls ++ more) a.lines_are ∙ sym (joined-more a.batches more))
 
@@ -213,16 +214,16 @@ module _ {H : Type 0} (moment : H → ℕ) (observed : H → ℕ → Observation
       abbrev progress' : Progress manner opening next all bounds.size bytes
       progress' = record { batches = batches'; classes = classes'; history = g; grown = grown'; end = end'; numbers = numbers'; first = firsts }
 
-      ends_so : (e : Served) → RunEnds c next all bounds bytes progress' (said first) (said host) (reads host) (may_leave host) e → Serves moment observed said reads may_leave c next all bounds bytes e first host
+      ends_so : (e : Served) → RunEnds c next all bounds bytes progress' (frame.said first) (frame.said host) (frame.reads host) (frame.may_leave host) e → Serves frame c next all bounds bytes e first host
       ends_so e ends = record {
         progress = progress';
         moments = moments';
-        left = left_by moment observed said reads may_leave seen_now first host (IsServed c.setting bounds opening next all batches' classes' g (said first)) moments';
+        left = left_by frame seen_now first host (IsServed c.setting bounds opening next all batches' classes' g (frame.said first)) moments';
         others = others';
         ends = ends;
       }
 
-      pub finished_short : IsWhole → length batch.answers.items < bounds.size → Serves moment observed said reads may_leave c next all bounds bytes ending.Finished first host
+      pub finished_short : IsWhole → length batch.answers.items < bounds.size → Serves frame c next all bounds bytes ending.Finished first host
       finished_short done short =
           let end = cut_short (r.ends short) in
           ends_so ending.Finished (
@@ -247,28 +248,28 @@ module _ {H : Type 0} (moment : H → ℕ) (observed : H → ℕ → Observation
       grown_before = subst (λ bs. IsGrown manner opening bs (take last classes') h) (sym take_batches) (subst (λ l. IsGrown manner opening a.batches l h) (sym take_classes) a.grown)
 
       -- the batch is committed, and its answers are said in part
-      says_part : SaysPart texts (said mid) (said host) → SaysUpTo (said first) (said host) g classes'
+      says_part : SaysPart texts (frame.said mid) (frame.said host) → SaysUpTo (frame.said first) (frame.said host) g classes'
       says_part part =
           let but_last : take (length classes' - 1) classes' ≡ a.classes =
           ap (λ i. take i classes') (let e = length-append a.classes (cs ∷ []) in let l : length classes' - 1 ≡ length a.classes = omega (arith, e) in l) ∙ take-append_seam a.classes (cs ∷ []) in
           let shorter : length (answers_of g (take (length classes' - 1) classes')) ≡ length (answers_of h a.classes) = ap (length {A = ℕ}) (ap (answers_of g) but_last ∙ answers_stay) in
           record {
             part = length (answers_of h a.classes) + part.0;
-            says = front_said (said host) part.0 part.1;
+            says = front_said (frame.said host) part.0 part.1;
             most = omega (arith, shorter);
           }
 
-      rests_then : RestsOn x.d (reads host) (may_leave host) → RestsAt c.setting g end' (reads host) (may_leave host)
+      rests_then : RestsOn x.d (frame.reads host) (frame.may_leave host) → RestsAt c.setting g end' (frame.reads host) (frame.may_leave host)
       rests_then rests = (x.d, x.setting ∙ a.setting, refl, x.below, rests)
 
-      say_ends : RestsOn x.d (reads host) (may_leave host) × SaysPart texts (said mid) (said host) → Serves moment observed said reads may_leave c next all bounds bytes ending.SayFault first host
+      say_ends : RestsOn x.d (frame.reads host) (frame.may_leave host) × SaysPart texts (frame.said mid) (frame.said host) → Serves frame c next all bounds bytes ending.SayFault first host
       say_ends ends = ends_so ending.SayFault (rests_then ends.0, says_part ends.1)
 
       abbrev Leaves : (History → List (List Class) → Type 0) → Type 0
-      Leaves Says = LeavesLast c.setting bounds opening next all batches' classes' g Says (said host) (may_leave host)
+      Leaves Says = LeavesLast c.setting bounds opening next all batches' classes' g Says (frame.said host) (frame.may_leave host)
 
       -- the batch's turn failed
-      leaves_before : (Says : History → List (List Class) → Type 0) → LeavesEither a.d.setting h g (x.number + 1) (said mid) (may_leave host) → said host ≡ said mid → Says h a.classes → Leaves Says
+      leaves_before : (Says : History → List (List Class) → Type 0) → LeavesEither a.d.setting h g (x.number + 1) (frame.said mid) (frame.may_leave host) → frame.said host ≡ frame.said mid → Says h a.classes → Leaves Says
       leaves_before Says left same says = record {
         count = last;
         last = inr one_more;
@@ -282,24 +283,24 @@ module _ {H : Type 0} (moment : H → ℕ) (observed : H → ℕ → Observation
             (λ grew. inr (moved a.d.setting c.setting g (x.number + 1) (x.number + 1) image a.setting (omega arith) grew)) (left bytes (sym same ∙ spoke) image leaves);
       }
 
-      says_before : said host ≡ said mid → said host ≡ append_known (said first) (answers_of h a.classes)
+      says_before : frame.said host ≡ frame.said mid → frame.said host ≡ append_known (frame.said first) (answers_of h a.classes)
       says_before same = same ∙ a.says
 
-      says_before_whole : said host ≡ said mid → SaysUpTo (said first) (said host) h a.classes
+      says_before_whole : frame.said host ≡ frame.said mid → SaysUpTo (frame.said first) (frame.said host) h a.classes
       says_before_whole same =
           let whole = answers_of h a.classes in
           let front = answers_of h (take (length a.classes - 1) a.classes) in
           record {
             part = length whole + length front;
-            says = says_before same ∙ ap (append_known (said first)) (sym (take_all (length whole + length front) whole (omega arith)));
+            says = says_before same ∙ ap (append_known (frame.said first)) (sym (take_all (length whole + length front) whole (omega arith)));
             most = omega arith;
           }
 
-      disk_ends : LeavesEither a.d.setting h g (x.number + 1) (said mid) (may_leave host) × (said host ≡ said mid) → Serves moment observed said reads may_leave c next all bounds bytes ending.DiskFault first host
-      disk_ends ends = ends_so ending.DiskFault (leaves_before (SaysAll (said first) (said host)) ends.0 ends.1 (says_before ends.1))
+      disk_ends : LeavesEither a.d.setting h g (x.number + 1) (frame.said mid) (frame.may_leave host) × (frame.said host ≡ frame.said mid) → Serves frame c next all bounds bytes ending.DiskFault first host
+      disk_ends ends = ends_so ending.DiskFault (leaves_before (SaysAll (frame.said first) (frame.said host)) ends.0 ends.1 (says_before ends.1))
 
       -- the batch is committed
-      leaves_after : (Says : History → List (List Class) → Type 0) → RestsOn x.d (reads host) (may_leave host) → Says g classes' → Leaves Says
+      leaves_after : (Says : History → List (List Class) → Type 0) → RestsOn x.d (frame.reads host) (frame.may_leave host) → Says g classes' → Leaves Says
       leaves_after Says rests says = record {
         count = length batches';
         last = inl refl;
@@ -321,13 +322,13 @@ module _ {H : Type 0} (moment : H → ℕ) (observed : H → ℕ → Observation
           all_classes : take (length batches') classes' ≡ classes'
           all_classes = ap (λ i. take i classes') (sym (paired tree opening batches' classes' g grown'.grown)) ∙ take-length classes'
 
-      memory_ends : LeavesEither a.d.setting h g (x.number + 1) (said mid) (may_leave host) × (said host ≡ said mid) ⊎ RestsOn x.d (reads host) (may_leave host) × SaysPart texts (said mid) (said host)
-          → Serves moment observed said reads may_leave c next all bounds bytes ending.NoMemory first host
+      memory_ends : LeavesEither a.d.setting h g (x.number + 1) (frame.said mid) (frame.may_leave host) × (frame.said host ≡ frame.said mid) ⊎ RestsOn x.d (frame.reads host) (frame.may_leave host) × SaysPart texts (frame.said mid) (frame.said host)
+          → Serves frame c next all bounds bytes ending.NoMemory first host
       memory_ends ends = ends_so ending.NoMemory (⊎_elim
-          (λ before. leaves_before (SaysUpTo (said first) (said host)) before.0 before.1 (says_before_whole before.1))
-          (λ after. leaves_after (SaysUpTo (said first) (said host)) after.0 (says_part after.1)) ends)
+          (λ before. leaves_before (SaysUpTo (frame.said first) (frame.said host)) before.0 before.1 (says_before_whole before.1))
+          (λ after. leaves_after (SaysUpTo (frame.said first) (frame.said host)) after.0 (says_part after.1)) ends)
 
-      batch_fails : (f : BatchFault) → BatchEnds a.d x.d (x.number + 1) k' texts (said mid) (said host) (reads host) (may_leave host) (Err f) → Serves moment observed said reads may_leave c next all bounds bytes (ending_of f) first host
+      batch_fails : (f : BatchFault) → BatchEnds a.d x.d (x.number + 1) k' texts (frame.said mid) (frame.said host) (frame.reads host) (frame.may_leave host) (Err f) → Serves frame c next all bounds bytes (ending_of f) first host
       batch_fails fault.Say ends = say_ends ends
       batch_fails fault.Disk ends = disk_ends ends
       batch_fails (fault.NotAStore file at) ends = absurd ends
@@ -335,5 +336,5 @@ module _ {H : Type 0} (moment : H → ℕ) (observed : H → ℕ → Observation
       batch_fails fault.EpochsUsedUp ends = absurd ends
       batch_fails fault.NoMemory ends = memory_ends ends
 
-      pub answers_failed : (f : BatchFault) → result ≡ Err f → Serves moment observed said reads may_leave c next all bounds bytes (ending_of f) first host
-      answers_failed f is = batch_fails f (subst (BatchEnds a.d x.d (x.number + 1) k' texts (said mid) (said host) (reads host) (may_leave host)) is x.ends)
+      pub answers_failed : (f : BatchFault) → result ≡ Err f → Serves frame c next all bounds bytes (ending_of f) first host
+      answers_failed f is = batch_fails f (subst (BatchEnds a.d x.d (x.number + 1) k' texts (frame.said mid) (frame.said host) (frame.reads host) (frame.may_leave host)) is x.ends)

@@ -6,6 +6,7 @@ use Rattle.std.specs.Option.{option_or}
 use Rattle.std.proofs.lemmas.List.{map-append}
 use Rattle.std.proofs.lemmas.List.Folds.{list_any-append}
 use Rattle.std.proofs.lemmas.List.Sorted.{IsPermutation-refl, list_any-IsPermutation}
+use Rattle.std.proofs.lemmas.Bool.{or_left, or_right}
 use Rattle.coco_types.specs.declared.call.Done.{Done}
 use Rattle.coco_types.specs.declared.call.Request.{Request}
 use Rattle.coco_ast.specs.Growth.{AreNew, GrowsBy}
@@ -18,7 +19,7 @@ use Rattle.coco_lines.specs.Batches.{Batch, joined}
 use Rattle.coco_lines.specs.Classes.{new_of}
 use Rattle.coco_lines.specs.Growing.{GrowsByBatches}
 use Rattle.coco_lines.specs.declared.class.Class.{Class}
-use Rattle.coco_serve.proofs.AgainLemmas.{apart_by, either_true, first_true, has, new_append}
+use Rattle.coco_serve.proofs.AgainLemmas.{apart_by, has, new_append}
 use Rattle.coco_lines.proofs.ReplyLemmas.{are_new}
 
 -- ---- ids with and without a Done
@@ -78,8 +79,8 @@ gains procs h (r ∷ rs) m grows =
 all_here : (rs : List Request) → AllByRecursion (λ r. has r.id rs ≡ true) rs
 all_here [] = tt
 all_here (r ∷ rs) = (
-  first_true (nat_eq r.id r.id) (has r.id rs) (nat_eq_equiv.refl r.id),
-  all_weaker (λ (q : Request). has q.id rs ≡ true) (λ q. has q.id (r ∷ rs) ≡ true) (λ q h. either_true (nat_eq q.id r.id) (has q.id rs) h) rs (all_here rs),
+  or_left (nat_eq r.id r.id) (has r.id rs) (nat_eq_equiv.refl r.id),
+  all_weaker (λ (q : Request). has q.id rs ≡ true) (λ q. has q.id (r ∷ rs) ≡ true) (λ q h. or_right (nat_eq q.id r.id) (has q.id rs) h) rs (all_here rs),
 )
 
 all_gained : (h : History) (rs : List Request) (m : History) → Gains h rs m → AllByRecursion (λ r. has r.id (map request_of (all_dones m)) ≡ true) rs
@@ -87,7 +88,7 @@ all_gained h rs m g =
     all_weaker (λ (r : Request). has r.id rs ≡ true) (λ r. has r.id (map request_of (all_dones m)) ≡ true)
     (λ r here. ap (λ l. has r.id (map request_of l)) g.dones ∙ ap (has r.id) (map-append request_of (all_dones h) g.more)
     ∙ list_any-append (λ (q : Request). nat_eq r.id q.id) (map request_of (all_dones h)) (map request_of g.more)
-    ∙ either_true (has r.id (map request_of (all_dones h))) (has r.id (map request_of g.more))
+    ∙ or_right (has r.id (map request_of (all_dones h))) (has r.id (map request_of g.more))
     (sym (list_any-IsPermutation (λ (q : Request). nat_eq r.id q.id) rs (map request_of g.more) g.each) ∙ here)) rs (all_here rs)
 
 above_append : (f : Option ℕ) (xs ys : List ℕ) → AreAbove f xs → AreAbove f ys → AreAbove f (xs ++ ys)

@@ -3,6 +3,7 @@ use Rattle.std.proofs.Common.{◌≡◌, ℕ, ◌+◌, ◌-◌, ◌<◌, inl, Er
 use Rattle.std.specs.Prelude.{⊤, Result}
 use Rattle.std.proofs.Math.Seq.{take-length, take_all}
 use Rattle.std.specs.Io.KnownBytes.{append_known}
+use Rattle.coco_cluster.proofs.SeeingLemmas.{same_history}
 use Rattle.coco_types.specs.Limits.{epochs_end}
 use Rattle.coco_types.specs.declared.call.Request.{Request}
 use Rattle.coco_ast.specs.History.{History}
@@ -16,6 +17,7 @@ use Rattle.coco_cluster.specs.Writing.{WritesLogs}
 use Rattle.coco_cluster.proofs.WriteLemmas.{writes_then}
 use Rattle.coco_host.specs.Files.{Files}
 use Rattle.coco_host.specs.Moments.{Observation, SeesOnly}
+use Rattle.coco_host.specs.declared.host.Host.{Ghosts as HostGhosts}
 use Rattle.coco_lines.specs.Lines.{Line, lines_of}
 use Rattle.coco_lines.specs.ReaderState.{ReaderState}
 use Rattle.coco_lines.specs.Reads.{SourceMoment}
@@ -37,14 +39,6 @@ use Rattle.coco_serve.proofs.NextLemmas.{read_next}
 use Rattle.coco_serve.proofs.NumberLemmas.{adds_more, adds_none}
 use Rattle.coco_serve.proofs.RunLemmas.{AreServed, SeenNow, all_served, classes_at, later_served, left_by, moved, paired}
 
--- prepared entries change no history
-pub history_stays : (c d : Contents) → AddsOnlyPrepared c d → history_of d ≡ history_of c
-history_stays c d adds =
-    let settings = adds.setting in
-    let bases = adds.base in
-    let commits = adds.commits in
-    λ i. record { base = base_of (settings i) (bases i); epochs = map epoch_of (commits i); keep = (settings i).entry.keep }
-
 -- why a batch of so many requests broke off, where no store says it
 abbrev pub HasReason : ℕ → ℕ → ℕ → BatchFault → Type 0
 HasReason next spare requests fault.Say = ⊤
@@ -54,11 +48,11 @@ HasReason next spare requests fault.Unreachable = 0 < requests
 HasReason next spare requests fault.EpochsUsedUp = SkipsFew next epochs_end 0 spare × (0 < requests)
 HasReason next spare requests fault.NoMemory = ⊤
 
-module _ {H : Type 0} (moment : H → ℕ) (observed : H → ℕ → Observation → Type 0) (said : H → Option (List ℕ)) (reads : H → Option Files) (may_leave : H → Files → Type 0) where
+module _ {H : Type 0} (frame : HostGhosts H) where
   module _ (c : Contents) (next spare more_spare : ℕ) (bounds : RunBounds) (lines : List Line) (k : Cluster) (first mid host : H) (reader reader' : ReaderState) (m n : SourceMoment) (batch : Batch) (result : Result (Unit {0}) BatchFault)
-      (a : AreServed moment observed said reads may_leave c next spare bounds lines k first mid) (r : ReadsBatch k.procs (known_of k.kept []) reader reader' m n bounds.size batch) (bytes : List ℕ)
+      (a : AreServed frame c next spare bounds lines k first mid) (r : ReadsBatch k.procs (known_of k.kept []) reader reader' m n bounds.size batch) (bytes : List ℕ)
       (lines_are : lines_of bytes ≡ (lines ++ r.taking.lines) ++ lines_of reader'.pending) (some : 0 < length batch.answers.items)
-      (x : IsRefused moment observed said reads may_leave result a.d k.next_epoch more_spare mid host) (seen_now : SeenNow moment observed said reads may_leave) where
+      (x : IsRefused frame result a.d k.next_epoch more_spare mid host) (seen_now : SeenNow frame) where
     abbrev manner : Manner
     manner = manner_of c.setting bounds
 
@@ -75,21 +69,21 @@ module _ {H : Type 0} (moment : H → ℕ) (observed : H → ℕ → Observation
     numbers = adds_more next k.next_epoch x.number spare more_spare opening h h a.numbers (adds_none k.next_epoch x.number more_spare h x.taken)
 
     abbrev Shows : Observation → Type 0
-    Shows = IsServed c.setting bounds opening next total a.batches a.classes h (said first)
+    Shows = IsServed c.setting bounds opening next total a.batches a.classes h (frame.said first)
 
-    still_shows : (seen : Observation) → ShowsHistory a.d.setting h (x.number + 1) (said mid) seen → Shows seen
-    still_shows seen shows = all_served c.setting bounds opening next total a.batches a.classes h (said first) a.grown x.number numbers seen
+    still_shows : (seen : Observation) → ShowsHistory a.d.setting h (x.number + 1) (frame.said mid) seen → Shows seen
+    still_shows seen shows = all_served c.setting bounds opening next total a.batches a.classes h (frame.said first) a.grown x.number numbers seen
         (moved a.d.setting c.setting h (x.number + 1) (x.number + 1) seen.image a.setting (omega arith) shows.0) (length (answers_of h a.classes))
-        (sym shows.1 ∙ a.says ∙ ap (append_known (said first)) (sym (take-length (answers_of h a.classes))))
+        (sym shows.1 ∙ a.says ∙ ap (append_known (frame.said first)) (sym (take-length (answers_of h a.classes))))
 
-    moments : SeesOnly moment observed first host Shows
-    moments = sees_then moment observed first mid host Shows (ShowsHistory a.d.setting h (x.number + 1) (said mid))
-        (sees_weaker moment observed first mid (IsServed c.setting bounds opening next spare a.batches a.classes h (said first)) Shows
-        (later_served c.setting bounds opening next spare a.batches a.classes h (said first) total (omega arith)) a.moments) x.moments still_shows
+    moments : SeesOnly frame.moment frame.observed first host Shows
+    moments = sees_then frame.moment frame.observed first mid host Shows (ShowsHistory a.d.setting h (x.number + 1) (frame.said mid))
+        (sees_weaker frame.moment frame.observed first mid (IsServed c.setting bounds opening next spare a.batches a.classes h (frame.said first)) Shows
+        (later_served c.setting bounds opening next spare a.batches a.classes h (frame.said first) total (omega arith)) a.moments) x.moments still_shows
 
-    others : WritesLogs c.setting (reads first) (reads host) (may_leave first) (may_leave host)
-    others = writes_then c.setting (reads first) (reads mid) (reads host) (may_leave first) (may_leave mid) (may_leave host) a.others
-        (subst (λ s. WritesLogs s (reads mid) (reads host) (may_leave mid) (may_leave host)) a.setting x.others)
+    others : WritesLogs c.setting (frame.reads first) (frame.reads host) (frame.may_leave first) (frame.may_leave host)
+    others = writes_then c.setting (frame.reads first) (frame.reads mid) (frame.reads host) (frame.may_leave first) (frame.may_leave mid) (frame.may_leave host) a.others
+        (subst (λ s. WritesLogs s (frame.reads mid) (frame.reads host) (frame.may_leave mid) (frame.may_leave host)) a.setting x.others)
 
     abbrev progress : Progress manner opening next total bounds.size bytes
     progress = record {
@@ -106,28 +100,28 @@ module _ {H : Type 0} (moment : H → ℕ) (observed : H → ℕ → Observation
       };
     }
 
-    ends_so : (e : Served) → RunEnds c next total bounds bytes progress (said first) (said host) (reads host) (may_leave host) e → Serves moment observed said reads may_leave c next total bounds bytes e first host
-    ends_so e ends = record { progress = progress; moments = moments; left = left_by moment observed said reads may_leave seen_now first host Shows moments; others = others; ends = ends }
+    ends_so : (e : Served) → RunEnds c next total bounds bytes progress (frame.said first) (frame.said host) (frame.reads host) (frame.may_leave host) e → Serves frame c next total bounds bytes e first host
+    ends_so e ends = record { progress = progress; moments = moments; left = left_by frame seen_now first host Shows moments; others = others; ends = ends }
 
     -- ---- what is said and left
 
-    says : said host ≡ append_known (said first) (answers_of h a.classes)
+    says : frame.said host ≡ append_known (frame.said first) (answers_of h a.classes)
     says = x.quiet ∙ a.says
 
-    says_whole : SaysUpTo (said first) (said host) h a.classes
+    says_whole : SaysUpTo (frame.said first) (frame.said host) h a.classes
     says_whole =
         let whole = answers_of h a.classes in
         let front = answers_of h (take (length a.classes - 1) a.classes) in
         record {
           part = length whole + length front;
-          says = says ∙ ap (append_known (said first)) (sym (take_all (length whole + length front) whole (omega arith)));
+          says = says ∙ ap (append_known (frame.said first)) (sym (take_all (length whole + length front) whole (omega arith)));
           most = omega arith;
         }
 
     all_classes : take (length a.batches) a.classes ≡ a.classes
     all_classes = ap (λ i. take i a.classes) (sym (paired c.setting.tree opening a.batches a.classes h a.grown.grown)) ∙ take-length a.classes
 
-    leaves : (Says : History → List (List Class) → Type 0) → Says h a.classes → LeavesLast c.setting bounds opening next total a.batches a.classes h Says (said host) (may_leave host)
+    leaves : (Says : History → List (List Class) → Type 0) → Says h a.classes → LeavesLast c.setting bounds opening next total a.batches a.classes h Says (frame.said host) (frame.may_leave host)
     leaves Says is = record {
       count = length a.batches;
       last = inl refl;
@@ -139,8 +133,8 @@ module _ {H : Type 0} (moment : H → ℕ) (observed : H → ℕ → Observation
       left = λ bytes spoke image left. inl (moved a.d.setting c.setting h (x.number + 1) (x.number + 1) image a.setting (omega arith) (x.left bytes (sym x.quiet ∙ spoke) image left));
     }
 
-    rests : RestsWithout a.d x.number (reads host) (may_leave host) → RestsAt c.setting h x.number (reads host) (may_leave host)
-    rests w = (w.0, w.1.setting ∙ a.setting, history_stays a.d w.0 w.1, w.2, w.3)
+    rests : RestsWithout a.d x.number (frame.reads host) (frame.may_leave host) → RestsAt c.setting h x.number (frame.reads host) (frame.may_leave host)
+    rests w = (w.0, w.1.setting ∙ a.setting, same_history a.d w.0 w.1, w.2, w.3)
 
     has_next : 0 < length batch.fresh → HasNext manner opening next total bounds.size bytes progress
     has_next fresh =
@@ -148,14 +142,14 @@ module _ {H : Type 0} (moment : H → ℕ) (observed : H → ℕ → Observation
         record {
           batch = r.taking.lines;
           classes = r.taking.classes;
-          first = read_next moment observed said reads may_leave c next spare bounds lines k first mid reader reader' m n batch a r bytes lines_are some;
+          first = read_next frame c next spare bounds lines k first mid reader reader' m n batch a r bytes lines_are some;
           are = classes_at c a.d k r.taking.lines r.taking.classes a.stands a.setting r.taking.are;
           some = omega (arith, same, fresh);
         }
 
-    ends : (f : BatchFault) → HasReason k.next_epoch more_spare (length batch.fresh) f → RefusedEnds a.d x.number (reads host) (may_leave host) (Err f) → Serves moment observed said reads may_leave c next total bounds bytes (ending_of f) first host
+    ends : (f : BatchFault) → HasReason k.next_epoch more_spare (length batch.fresh) f → RefusedEnds a.d x.number (frame.reads host) (frame.may_leave host) (Err f) → Serves frame c next total bounds bytes (ending_of f) first host
     ends fault.Say reason left = absurd left
-    ends fault.Disk reason left = ends_so ending.DiskFault (leaves (SaysAll (said first) (said host)) says)
+    ends fault.Disk reason left = ends_so ending.DiskFault (leaves (SaysAll (frame.said first) (frame.said host)) says)
     ends (fault.NotAStore file at) reason left = absurd left
     ends fault.Unreachable reason left = ends_so ending.Unreachable (rests left, says, has_next reason)
     ends fault.EpochsUsedUp reason left =
@@ -163,7 +157,7 @@ module _ {H : Type 0} (moment : H → ℕ) (observed : H → ℕ → Observation
         let end = reason.0 in
         let no_more = length-append a.numbers.added [] in
         ends_so ending.EpochsUsedUp (rests left, says, record { end = omega (arith, few, end, no_more); has_next = has_next reason.1 })
-    ends fault.NoMemory reason left = ends_so ending.NoMemory (leaves (SaysUpTo (said first) (said host)) says_whole)
+    ends fault.NoMemory reason left = ends_so ending.NoMemory (leaves (SaysUpTo (frame.said first) (frame.said host)) says_whole)
 
-    pub refused_ends : (f : BatchFault) → result ≡ Err f → HasReason k.next_epoch more_spare (length batch.fresh) f → Serves moment observed said reads may_leave c next total bounds bytes (ending_of f) first host
-    refused_ends f is reason = ends f reason (subst (RefusedEnds a.d x.number (reads host) (may_leave host)) is x.ends)
+    pub refused_ends : (f : BatchFault) → result ≡ Err f → HasReason k.next_epoch more_spare (length batch.fresh) f → Serves frame c next total bounds bytes (ending_of f) first host
+    refused_ends f is reason = ends f reason (subst (RefusedEnds a.d x.number (frame.reads host) (frame.may_leave host)) is x.ends)

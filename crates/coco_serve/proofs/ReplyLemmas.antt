@@ -7,6 +7,7 @@ use Rattle.std.specs.Prelude.{⊤, MatchOption}
 use Rattle.std.specs.Set.{distinct_count}
 use Rattle.std.proofs.lemmas.Bool.Decides.{nat_tests}
 use Rattle.std.proofs.lemmas.List.Elements.{filter-append}
+use Rattle.coco_recover.proofs.Few.{filter_keeps}
 use Rattle.coco_types.specs.declared.call.Done.{Done}
 use Rattle.coco_types.specs.declared.call.Request.{Request}
 use Rattle.coco_ast.specs.Growth.{GrowsBy}
@@ -33,13 +34,6 @@ use Rattle.coco_store.specs.Rules.{EachBehind, IsKeep, IsKeptDone, IsNextBase, S
 use Rattle.coco_serve.specs.Texts.{text_over, texts_over}
 
 -- ---- lists of Dones
-
-all_filter : (P : Done → Type 0) (p : Done → Bool) (xs : List Done) → AllByRecursion P xs → AllByRecursion P (filter p xs)
-all_filter P p [] all = tt
-all_filter P p (x ∷ xs) all = elim (p x) as (λ b. AllByRecursion P (cond b (x ∷ filter p xs) (filter p xs))) [
-  | true ↦ (all.0, all_filter P p xs all.1)
-  | false ↦ all_filter P p xs all.1
-]
 
 filter_all_of : (p : Done → Bool) (xs : List Done) → AllByRecursion (λ x. p x ≡ true) xs → filter p xs ≡ xs
 filter_all_of p [] all = refl
@@ -183,7 +177,7 @@ module _ (procs : Procedures) (h : History) (e : Epoch) (ordered : IsOrdered h) 
 
   candidates_low : AllByRecursion (λ (d : Done). d.epoch ≤ e.number) candidates
   candidates_low = all_append (λ (d : Done). d.epoch ≤ e.number) (kept h) e.dones
-      (all_filter (λ (d : Done). d.epoch ≤ e.number) (is_held h.keep (all_dones h)) (all_dones h)
+      (filter_keeps (λ (d : Done). d.epoch ≤ e.number) (is_held h.keep (all_dones h)) (all_dones h)
       (all_weaker (λ (d : Done). d.epoch ≤ last_epoch h) (λ (d : Done). d.epoch ≤ e.number) (λ d le. omega (arith, le, later)) (all_dones h) low))
       (all_weaker (λ (d : Done). d.epoch ≡ e.number) (λ (d : Done). d.epoch ≤ e.number) (λ d is. omega (arith, is)) e.dones numbered)
 

@@ -2,6 +2,7 @@
 use Rattle.std.proofs.Common.{◌≡◌, refl, sym, ap, subst, ◌∙◌, ℕ, zero, suc, Bool, true, false, ◌||◌, ◌&&◌, cond, nat_eq, List, [], ◌∷◌, ◌++◌, map, Option, None, Some, inl, inr}
 use Rattle.std.specs.List.{AllByRecursion, IsDistinct, list_any}
 use Rattle.std.specs.Option.{option_or}
+use Rattle.std.proofs.lemmas.Bool.{false_from_ne_true, or_from, or_left}
 use Rattle.coco_types.specs.declared.call.Done.{Done}
 use Rattle.coco_types.specs.declared.call.Request.{Request}
 use Rattle.coco_types.specs.contracts.call.CallPartialEq.TheImpl as call
@@ -24,7 +25,7 @@ use Rattle.coco_lines.specs.declared.error.LineError.{LineError}
 use Rattle.coco_lines.specs.declared.error.LineError.TheVariants as error
 use Rattle.coco_lines.proofs.ReplyLemmas.{IsNewTo, all_added, all_ordered}
 use Rattle.coco_serve.specs.Again.{ComesAgain, IsAgain, IsRefusedAgain, StandsAt, or_old}
-use Rattle.coco_serve.proofs.AgainLemmas.{IsOwn, IsSettled, all_still_new, asked, both_added, both_false, class_by, class_is, equals, first_true, has, known_apart, known_with, new_class, none_added, none_equals, none_has, old_apart, same_with, tests_are}
+use Rattle.coco_serve.proofs.AgainLemmas.{IsOwn, IsSettled, all_still_new, asked, both_added, class_by, class_is, equals, has, known_apart, known_with, new_class, none_added, none_equals, none_has, old_apart, same_with, tests_are}
 use Rattle.coco_serve.proofs.OnceLemmas.{has_none}
 use Rattle.coco_serve.proofs.SpentLemmas.{any_passing, same_has}
 use Rattle.coco_serve.proofs.LeftLemmas.{HasDone, IsPast, LeavesOpen, LeavesRequest, above_one, all_left, has_done, left_at, no_more, not_both, past_still, some_is}
@@ -74,12 +75,8 @@ done_equal r (x ∷ ds) d equal h = by (nat_eq r.id x.id) h (done_equal r ds d e
   where
     by : (b : Bool) → cond b (Some x) (done_of r.id ds) ≡ Some d → (done_of r.id ds ≡ Some d → list_any (equals r) (map request_of ds) ≡ true)
         → ((b && call.ghosts.eq x.call r.call) || list_any (equals r) (map request_of ds)) ≡ true
-    by true h rest = first_true (call.ghosts.eq x.call r.call) (list_any (equals r) (map request_of ds)) (ap (λ (y : Done). call.ghosts.eq y.call r.call) (some_is x d h) ∙ equal)
+    by true h rest = or_left (call.ghosts.eq x.call r.call) (list_any (equals r) (map request_of ds)) (ap (λ (y : Done). call.ghosts.eq y.call r.call) (some_is x d h) ∙ equal)
     by false h rest = rest h
-
-refuted : (b : Bool) → (b ≡ true → ⊥) → b ≡ false
-refuted true h = absurd (h refl)
-refuted false h = refl
 
 -- ---- a request again
 
@@ -99,8 +96,8 @@ module _ (m : History) (ordered : IsOrdered m) (r : Request) (before : List Requ
       let apart = old_apart (known_in m) r before past.old new in
       let same : is_same (known_in m) r ≡ false = no_more (is_same (known_in m) r) (has r.id (map request_of (kept m))) (same_has r (map request_of (kept m))) past.unkept in
       tests_are k r false false true (is_full k) (Refused error.Old)
-      (same_with (known_in m) r before ∙ both_false (is_same (known_in m) r) (list_any (equals r) before) same (none_equals r before apart))
-      (known_with (known_in m) r before ∙ both_false (is_known (known_in m) r) (has r.id before) past.unkept (none_has r before apart)) past.old refl refl
+      (same_with (known_in m) r before ∙ or_from (is_same (known_in m) r) (list_any (equals r) before) same (none_equals r before apart))
+      (known_with (known_in m) r before ∙ or_from (is_known (known_in m) r) (has r.id before) past.unkept (none_has r before apart)) past.old refl refl
 
   is_past : (equal : Bool) → HasDone (all_dones m) equal r → done_of r.id (kept m) ≡ None → IsPast m r
   unfolding IsDistinct
@@ -120,18 +117,18 @@ module _ (m : History) (ordered : IsOrdered m) (r : Request) (before : List Requ
       let k = and_known (known_in m) before in
       let equal = one_done d true there (kept_are_dones m ordered r.id d found) in
       tests_are k r true (is_known k r) (is_up_to (floor m) r.id) (is_full k) (Same r.id)
-      (same_with (known_in m) r before ∙ first_true (is_same (known_in m) r) (list_any (equals r) before) (done_equal r (kept m) d equal found)) refl refl refl refl
+      (same_with (known_in m) r before ∙ or_left (is_same (known_in m) r) (list_any (equals r) before) (done_equal r (kept m) d equal found)) refl refl refl refl
   kept_again false d there found =
       let k = and_known (known_in m) before in
       let known : is_known (known_in m) r ≡ true = done_has r.id (kept m) d found in
       let apart = known_apart (known_in m) r before known new in
-      let same : is_same (known_in m) r ≡ false = refuted (is_same (known_in m) r) (λ h.
+      let same : is_same (known_in m) r ≡ false = false_from_ne_true (is_same (known_in m) r) (λ h.
       let other = has_done true r (all_dones m) ordered.once (any_passing (equals r) (is_held m.keep (all_dones m)) (all_dones m) h) in
       let e : true ≡ false = sym other.compared ∙ one_done other.done false there other.found in
       cc) in
       tests_are k r false true (is_up_to (floor m) r.id) (is_full k) (Refused error.Reused)
-      (same_with (known_in m) r before ∙ both_false (is_same (known_in m) r) (list_any (equals r) before) same (none_equals r before apart))
-      (known_with (known_in m) r before ∙ first_true (is_known (known_in m) r) (has r.id before) known) refl refl refl
+      (same_with (known_in m) r before ∙ or_from (is_same (known_in m) r) (list_any (equals r) before) same (none_equals r before apart))
+      (known_with (known_in m) r before ∙ or_left (is_known (known_in m) r) (has r.id before) known) refl refl refl
 
   pub done_again : (equal : Bool) → HasDone (all_dones m) equal r → (o : Option Done) → done_of r.id (kept m) ≡ o → Fits (or_old o (was equal r))
   done_again equal there None none = past_again (is_past equal there none)

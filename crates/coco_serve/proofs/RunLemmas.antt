@@ -25,6 +25,7 @@ use Rattle.coco_host.specs.Files.{Files}
 use Rattle.coco_store.specs.Rules.{Setting}
 use Rattle.coco_host.specs.Moments.{Observation, SeesOnly}
 use Rattle.coco_host.proofs.Sees.{started}
+use Rattle.coco_host.specs.declared.host.Host.{Ghosts as HostGhosts}
 use Rattle.coco_io.proofs.KnownLemmas.{append_known-nil}
 use Rattle.coco_lines.specs.Answers.{answers_by, answer_by}
 use Rattle.coco_lines.specs.Batches.{AreBatches, Batch as Lines, joined}
@@ -209,7 +210,7 @@ pub record AreTaken (next spare : ℕ) (reader : ReaderState) (before now : Sour
   pub given : reader.given ≡ length lines
   pub low : SkipsFew next k.next_epoch (length lines) spare
 
-module _ {H : Type 0} (moment : H → ℕ) (observed : H → ℕ → Observation → Type 0) (said : H → Option (List ℕ)) (reads : H → Option Files) (may_leave : H → Files → Type 0) where
+module _ {H : Type 0} (frame : HostGhosts H) where
   -- the lines so far are whole batches, a host rests on the store that they make, and all their answers are said
   pub record AreServed (c : Contents) (next spare : ℕ) (bounds : RunBounds) (lines : List Line) (k : Cluster) (first host : H) : Type 0 where
     pub batches : List Lines
@@ -220,20 +221,20 @@ module _ {H : Type 0} (moment : H → ℕ) (observed : H → ℕ → Observation
     pub grown : IsGrown (manner_of c.setting bounds) (history_of c) batches classes (history_of d)
     pub whole : HaveSize bounds.size batches
     pub many : length (joined classes) ≡ length lines
-    pub rests : RestsOn d (reads host) (may_leave host)
+    pub rests : RestsOn d (frame.reads host) (frame.may_leave host)
     pub stands : StandsAt d k
-    pub says : said host ≡ append_known (said first) (answers_of (history_of d) classes)
-    pub moments : SeesOnly moment observed first host (IsServed c.setting bounds (history_of c) next spare batches classes (history_of d) (said first))
+    pub says : frame.said host ≡ append_known (frame.said first) (answers_of (history_of d) classes)
+    pub moments : SeesOnly frame.moment frame.observed first host (IsServed c.setting bounds (history_of c) next spare batches classes (history_of d) (frame.said first))
     pub numbers : AddsWithin next k.next_epoch spare (history_of c) (history_of d)
-    pub others : WritesLogs c.setting (reads first) (reads host) (may_leave first) (may_leave host)
+    pub others : WritesLogs c.setting (frame.reads first) (frame.reads host) (frame.may_leave first) (frame.may_leave host)
 
   abbrev pub OnlyNow : Type 0
-  OnlyNow = (host : H) (seen : Observation) → observed host (moment host) seen → may_leave host seen.image × (said host ≡ Some seen.said)
+  OnlyNow = (host : H) (seen : Observation) → frame.observed host (frame.moment host) seen → frame.may_leave host seen.image × (frame.said host ≡ Some seen.said)
 
   abbrev pub SeenNow : Type 0
-  SeenNow = (host : H) (t : ℕ) (seen : Observation) → t ≤ moment host → may_leave host seen.image → said host ≡ Some seen.said → observed host t seen
+  SeenNow = (host : H) (t : ℕ) (seen : Observation) → t ≤ frame.moment host → frame.may_leave host seen.image → frame.said host ≡ Some seen.said → frame.observed host t seen
 
-  pub served_new : OnlyNow → (c : Contents) (spare : ℕ) (bounds : RunBounds) (k : Cluster) (host : H) → RestsOn c (reads host) (may_leave host) → StandsAt c k → AreServed c k.next_epoch spare bounds [] k host host
+  pub served_new : OnlyNow → (c : Contents) (spare : ℕ) (bounds : RunBounds) (k : Cluster) (host : H) → RestsOn c (frame.reads host) (frame.may_leave host) → StandsAt c k → AreServed c k.next_epoch spare bounds [] k host host
   served_new only_now c spare bounds k host rests stands = record {
     batches = [];
     classes = [];
@@ -245,21 +246,21 @@ module _ {H : Type 0} (moment : H → ℕ) (observed : H → ℕ → Observation
     many = refl;
     rests = rests;
     stands = stands;
-    says = sym (append_known-nil (said host));
-    moments = started moment observed host (IsServed c.setting bounds (history_of c) k.next_epoch spare [] [] (history_of c) (said host)) (λ seen since.
+    says = sym (append_known-nil (frame.said host));
+    moments = started frame.moment frame.observed host (IsServed c.setting bounds (history_of c) k.next_epoch spare [] [] (history_of c) (frame.said host)) (λ seen since.
         let now = only_now host seen since in
-        all_served c.setting bounds (history_of c) k.next_epoch spare [] [] (history_of c) (said host) (record { grown = (refl, refl); executed = refl }) k.next_epoch none seen
-        (record { contents = c; setting = refl; good = rests.left seen.image now.0; history = refl; below = behind_later c k.next_epoch (k.next_epoch + 1) (omega arith) stands.next }) 0 (sym now.1 ∙ sym (append_known-nil (said host))));
+        all_served c.setting bounds (history_of c) k.next_epoch spare [] [] (history_of c) (frame.said host) (record { grown = (refl, refl); executed = refl }) k.next_epoch none seen
+        (record { contents = c; setting = refl; good = rests.left seen.image now.0; history = refl; below = behind_later c k.next_epoch (k.next_epoch + 1) (omega arith) stands.next }) 0 (sym now.1 ∙ sym (append_known-nil (frame.said host))));
     numbers = none;
-    others = writes_none c.setting (reads host) (reads host) (may_leave host) (may_leave host) refl (λ image left. left);
+    others = writes_none c.setting (frame.reads host) (frame.reads host) (frame.may_leave host) (frame.may_leave host) refl (λ image left. left);
   }
     where
       none : AddsWithin k.next_epoch k.next_epoch spare (history_of c) (history_of c)
       none = adds_none k.next_epoch k.next_epoch spare (history_of c) (record { low = omega arith; few = omega arith })
 
   -- what is left at exit was seen
-  pub left_by : SeenNow → (first host : H) (P : Observation → Type 0) → SeesOnly moment observed first host P → (seen : Observation) → said host ≡ Some seen.said → may_leave host seen.image → P seen
-  left_by seen_now first host P sees seen spoke leaves = sees.each seen (seen_now host (moment first) seen sees.later leaves spoke)
+  pub left_by : SeenNow → (first host : H) (P : Observation → Type 0) → SeesOnly frame.moment frame.observed first host P → (seen : Observation) → frame.said host ≡ Some seen.said → frame.may_leave host seen.image → P seen
+  left_by seen_now first host P sees seen spoke leaves = sees.each seen (seen_now host (frame.moment first) seen sees.later leaves spoke)
 
   -- ---- where a run ends between two batches
 
@@ -285,19 +286,19 @@ module _ {H : Type 0} (moment : H → ℕ) (observed : H → ℕ → Observation
       first = record { others = others; lines = all ∙ ap (λ ls. ls ++ others) a.lines_are; cut = inl a.whole };
     }
 
-    ended_so : (e : Served) → RunEnds c next spare bounds bytes still (said first) (said host) (reads host) (may_leave host) e → Serves moment observed said reads may_leave c next spare bounds bytes e first host
+    ended_so : (e : Served) → RunEnds c next spare bounds bytes still (frame.said first) (frame.said host) (frame.reads host) (frame.may_leave host) e → Serves frame c next spare bounds bytes e first host
     ended_so e ends = record {
       progress = still;
       moments = a.moments;
-      left = left_by seen_now first host (IsServed c.setting bounds (history_of c) next spare a.batches a.classes h (said first)) a.moments;
+      left = left_by seen_now first host (IsServed c.setting bounds (history_of c) next spare a.batches a.classes h (frame.said first)) a.moments;
       others = a.others;
       ends = ends;
     }
 
-    rests_at : RestsAt c.setting h k.next_epoch (reads host) (may_leave host)
+    rests_at : RestsAt c.setting h k.next_epoch (frame.reads host) (frame.may_leave host)
     rests_at = (a.d, a.setting, refl, a.stands.next, a.rests)
 
-    leaves_one : LeavesEither c.setting h h (k.next_epoch + 1) (said host) (may_leave host)
+    leaves_one : LeavesEither c.setting h h (k.next_epoch + 1) (frame.said host) (frame.may_leave host)
     leaves_one bytes spoke image leaves =
         inl (record { contents = a.d; setting = a.setting; good = a.rests.left image leaves; history = refl; below = behind_later a.d k.next_epoch (k.next_epoch + 1) (omega arith) a.stands.next })
 
@@ -310,7 +311,7 @@ module _ {H : Type 0} (moment : H → ℕ) (observed : H → ℕ → Observation
     all_classes : take (length a.batches) a.classes ≡ a.classes
     all_classes = ap (λ n. take n a.classes) (sym (paired tree (history_of c) a.batches a.classes h a.grown.grown)) ∙ take-length a.classes
 
-    leaves_by : (Says : History → List (List Class) → Type 0) → Says h a.classes → LeavesLast c.setting bounds (history_of c) next spare a.batches a.classes h Says (said host) (may_leave host)
+    leaves_by : (Says : History → List (List Class) → Type 0) → Says h a.classes → LeavesLast c.setting bounds (history_of c) next spare a.batches a.classes h Says (frame.said host) (frame.may_leave host)
     leaves_by Says says = record {
       count = length a.batches;
       last = inl refl;
@@ -323,27 +324,27 @@ module _ {H : Type 0} (moment : H → ℕ) (observed : H → ℕ → Observation
     }
 
     -- all that is said may be said to be a part
-    says_whole : SaysUpTo (said first) (said host) h a.classes
+    says_whole : SaysUpTo (frame.said first) (frame.said host) h a.classes
     says_whole =
         let whole = answers_of h a.classes in
         let front = answers_of h (take (length a.classes - 1) a.classes) in
         record {
           part = length whole + length front;
-          says = a.says ∙ ap (append_known (said first)) (sym (take_all (length whole + length front) whole (omega arith)));
+          says = a.says ∙ ap (append_known (frame.said first)) (sym (take_all (length whole + length front) whole (omega arith)));
           most = omega arith;
         }
 
-    pub memory_ran_out : Serves moment observed said reads may_leave c next spare bounds bytes ending.NoMemory first host
-    memory_ran_out = ended_so ending.NoMemory (leaves_by (SaysUpTo (said first) (said host)) says_whole)
+    pub memory_ran_out : Serves frame c next spare bounds bytes ending.NoMemory first host
+    memory_ran_out = ended_so ending.NoMemory (leaves_by (SaysUpTo (frame.said first) (frame.said host)) says_whole)
 
-    pub read_failed : (rest : List Line) → ended_lines_of bytes ≡ lines ++ rest → length rest < bounds.size → Serves moment observed said reads may_leave c next spare bounds bytes ending.ReadFault first host
+    pub read_failed : (rest : List Line) → ended_lines_of bytes ≡ lines ++ rest → length rest < bounds.size → Serves frame c next spare bounds bytes ending.ReadFault first host
     read_failed rest ended few = ended_so ending.ReadFault (
       record { whole = a.whole; others = rest; lines = ended ∙ ap (λ ls. ls ++ rest) a.lines_are; few = few },
       rests_at,
       a.says,
     )
 
-    pub finished : others ≡ [] → 0 < bounds.size → Serves moment observed said reads may_leave c next spare bounds bytes ending.Finished first host
+    pub finished : others ≡ [] → 0 < bounds.size → Serves frame c next spare bounds bytes ending.Finished first host
     finished none some = ended_so ending.Finished (
       (all ∙ ap (λ ls. lines ++ ls) none ∙ append-nil lines ∙ a.lines_are, cut_full bounds.size a.batches a.whole some),
       rests_at,

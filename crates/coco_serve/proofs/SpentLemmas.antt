@@ -6,6 +6,7 @@ use Rattle.std.proofs.lemmas.Bool.Decides.{nat_tests}
 use Rattle.std.proofs.lemmas.List.{map-append}
 use Rattle.std.proofs.lemmas.List.Folds.{list_any-append}
 use Rattle.std.proofs.lemmas.List.Sorted.{list_any-IsPermutation}
+use Rattle.std.proofs.lemmas.Bool.{or_left, or_right}
 use Rattle.coco_types.specs.declared.call.Done.{Done}
 use Rattle.coco_types.specs.declared.call.Request.{Request}
 use Rattle.coco_types.specs.contracts.call.CallPartialEq.TheImpl as call
@@ -25,7 +26,7 @@ use Rattle.coco_lines.specs.declared.error.LineError.{LineError}
 use Rattle.coco_lines.specs.declared.error.LineError.TheVariants as error
 use Rattle.coco_lines.proofs.ReplyLemmas.{all_added, are_new}
 use Rattle.coco_serve.specs.Again.{IsNotFull}
-use Rattle.coco_serve.proofs.AgainLemmas.{asked, both_added, class_decided, clash, either_true, equals, first_true, has, new_asked_is, none_added, tests_by}
+use Rattle.coco_serve.proofs.AgainLemmas.{asked, both_added, class_decided, clash, equals, has, new_asked_is, none_added, tests_by}
 use Rattle.coco_serve.proofs.OnceLemmas.{gains, has_none}
 
 -- ---- what a line has left
@@ -59,8 +60,8 @@ taken_by : (k : Known) (r : Request) (c : Class) (a b o f : Bool) → is_same k 
 taken_by k r c true b o f same known old h fits = inl (here k r (new_in c) (same_has r k.requests same))
   where
     here : (k : Known) (r : Request) (qs : List Request) → has r.id k.requests ≡ true → has r.id (k.requests ++ qs) ≡ true
-    here k r qs h = list_any-append (λ (q : Request). nat_eq r.id q.id) k.requests qs ∙ first_true (has r.id k.requests) (has r.id qs) h
-taken_by k r c false true o f same known old h fits = inl (list_any-append (λ (q : Request). nat_eq r.id q.id) k.requests (new_in c) ∙ first_true (has r.id k.requests) (has r.id (new_in c)) known)
+    here k r qs h = list_any-append (λ (q : Request). nat_eq r.id q.id) k.requests qs ∙ or_left (has r.id k.requests) (has r.id qs) h
+taken_by k r c false true o f same known old h fits = inl (list_any-append (λ (q : Request). nat_eq r.id q.id) k.requests (new_in c) ∙ or_left (has r.id k.requests) (has r.id (new_in c)) known)
 taken_by k r c false false true f same known old h fits = inr old
 taken_by k r c false false false true same known old h fits =
     let e : ◌≡◌ {A = Option Class} (Some (Refused error.Full)) (Some c) = h in
@@ -70,7 +71,7 @@ taken_by k r c false false false false same known old h fits =
     let e : ◌≡◌ {A = Option Class} (Some (New r)) (Some c) = h in
     let is : New r ≡ c = cc in
     subst (λ x. IsTaken (and_known k (new_in x)) r) is
-    (inl (list_any-append (λ (q : Request). nat_eq r.id q.id) k.requests (r ∷ []) ∙ either_true (has r.id k.requests) (has r.id (r ∷ [])) (first_true (nat_eq r.id r.id) false (nat_eq_equiv.refl r.id))))
+    (inl (list_any-append (λ (q : Request). nat_eq r.id q.id) k.requests (r ∷ []) ∙ or_right (has r.id k.requests) (has r.id (r ∷ [])) (or_left (nat_eq r.id r.id) false (nat_eq_equiv.refl r.id))))
 
 pub old_above : (f : Option ℕ) (r : Request) → is_up_to f r.id ≡ true → AreAbove f (r.id ∷ []) → ⊥
 old_above None r old above = let e : false ≡ true = old in cc
@@ -107,7 +108,7 @@ line_spent procs k g line c is fits leads r new =
 
 pub fewer : (k : Known) (rs : List Request) (g : History) → Leads (and_known k rs) g → Leads k g
 fewer k rs g leads = record {
-  have = λ p h. leads.have p (list_any-append p k.requests rs ∙ first_true (list_any p k.requests) (list_any p rs) h);
+  have = λ p h. leads.have p (list_any-append p k.requests rs ∙ or_left (list_any p k.requests) (list_any p rs) h);
   below = leads.below;
 }
 
@@ -136,17 +137,17 @@ any_passing p held (d ∷ ds) h = by (held d) h (any_passing p held ds)
     by : (b : Bool) → list_any p (map request_of (cond b (d ∷ filter held ds) (filter held ds))) ≡ true → (list_any p (map request_of (filter held ds)) ≡ true → list_any p (map request_of ds) ≡ true)
         → list_any p (map request_of (d ∷ ds)) ≡ true
     by true e rest = one (p (request_of d)) (list_any p (map request_of (filter held ds))) (list_any p (map request_of ds)) rest e
-    by false e rest = either_true (p (request_of d)) (list_any p (map request_of ds)) (rest e)
+    by false e rest = or_right (p (request_of d)) (list_any p (map request_of ds)) (rest e)
 
 any_front : (p : Request → Bool) (xs ys : List Done) → list_any p (map request_of xs) ≡ true → list_any p (map request_of (xs ++ ys)) ≡ true
 any_front p xs ys h =
     ap (list_any p) (map-append request_of xs ys) ∙ list_any-append p (map request_of xs) (map request_of ys)
-    ∙ first_true (list_any p (map request_of xs)) (list_any p (map request_of ys)) h
+    ∙ or_left (list_any p (map request_of xs)) (list_any p (map request_of ys)) h
 
 any_back : (p : Request → Bool) (xs ys : List Done) → list_any p (map request_of ys) ≡ true → list_any p (map request_of (xs ++ ys)) ≡ true
 any_back p xs ys h =
     ap (list_any p) (map-append request_of xs ys) ∙ list_any-append p (map request_of xs) (map request_of ys)
-    ∙ either_true (list_any p (map request_of xs)) (list_any p (map request_of ys)) h
+    ∙ or_right (list_any p (map request_of xs)) (list_any p (map request_of ys)) h
 
 pub either : (b c : Bool) → (b || c) ≡ true → (b ≡ true) ⊎ (c ≡ true)
 either true c e = inl refl

@@ -11,6 +11,7 @@ use Rattle.coco_cluster.specs.Writing.{WritesLogs}
 use Rattle.coco_cluster.specs.declared.cluster.Cluster.{Cluster}
 use Rattle.coco_host.specs.Files.{Files}
 use Rattle.coco_host.specs.Moments.{Observation, SeesOnly}
+use Rattle.coco_host.specs.declared.host.Host.{Ghosts as HostGhosts}
 use Rattle.coco_store.specs.Contents.{Contents, history_of}
 use Rattle.coco_serve.specs.Growth.{AddsWithin, GrowsByExecution, manner_of}
 use Rattle.coco_serve.specs.Seen.{LeavesEither, ShowsBatch}
@@ -41,7 +42,7 @@ BatchEnds c d end after texts before now reads may_leave (Err fault.NoMemory) =
 
 -- the store has grown by a batch, whose epoch, if it has one, has this number, before which few were skipped, and whose answers are said behind it. At each moment there is the
 -- store of before with nothing said, or the grown one with a front of the answers, and no entry is of a later epoch; and behind it the other files are as they were
-pub record WorksOffBatch {H : Type 0} (moment : H → ℕ) (observed : H → ℕ → Observation → Type 0) (said : H → Option (List ℕ)) (reads : H → Option Files) (may_leave : H → Files → Type 0)
+pub record WorksOffBatch {H : Type 0} (frame : HostGhosts H)
     (result : Result (Unit {0}) BatchFault) (batch : Batch) (bounds : RunBounds) (c : Contents) (next spare : ℕ) (after : Cluster) (old new : H) : Type 0 where
   pub d : Contents
   pub setting : d.setting ≡ c.setting
@@ -51,9 +52,9 @@ pub record WorksOffBatch {H : Type 0} (moment : H → ℕ) (observed : H → ℕ
   pub numbers : AddsWithin next (number + epochs_of batch.fresh) spare (history_of c) (history_of d)
   pub below : IsBehindAll d (number + epochs_of batch.fresh)
   pub next_is : OnOk result (after.next_epoch ≡ number + epochs_of batch.fresh)
-  pub moments : SeesOnly moment observed old new (ShowsBatch c.setting (history_of c) (history_of d) (number + 1) (said old) (batch_texts c d batch))
-  pub others : WritesLogs c.setting (reads old) (reads new) (may_leave old) (may_leave new)
-  pub ends : BatchEnds c d (number + 1) after (batch_texts c d batch) (said old) (said new) (reads new) (may_leave new) result
+  pub moments : SeesOnly frame.moment frame.observed old new (ShowsBatch c.setting (history_of c) (history_of d) (number + 1) (frame.said old) (batch_texts c d batch))
+  pub others : WritesLogs c.setting (frame.reads old) (frame.reads new) (frame.may_leave old) (frame.may_leave new)
+  pub ends : BatchEnds c d (number + 1) after (batch_texts c d batch) (frame.said old) (frame.said new) (frame.reads new) (frame.may_leave new) result
 
 -- how a batch ends that isn't committed: where its turn gave up, or found no number, the host rests on the store of before, but for prepared entries, and none is of this epoch or a later one.
 -- No file of such a store is refused
@@ -68,12 +69,12 @@ RefusedEnds c end reads may_leave (Err fault.NoMemory) = ⊤
 
 -- nothing of a batch is committed or said. At each moment, and behind it, there is the store of before, in which no entry is of a later epoch than the one tried last; and behind it the other
 -- files are as they were
-pub record IsRefused {H : Type 0} (moment : H → ℕ) (observed : H → ℕ → Observation → Type 0) (said : H → Option (List ℕ)) (reads : H → Option Files) (may_leave : H → Files → Type 0)
+pub record IsRefused {H : Type 0} (frame : HostGhosts H)
     (result : Result (Unit {0}) BatchFault) (c : Contents) (next spare : ℕ) (old new : H) : Type 0 where
   pub number : ℕ
   pub taken : IsTaken next number spare
-  pub moments : SeesOnly moment observed old new (ShowsHistory c.setting (history_of c) (number + 1) (said old))
-  pub left : (bytes : List ℕ) → said old ≡ Some bytes → (image : Files) → may_leave new image → IsStoreOf c.setting (history_of c) (number + 1) image
-  pub others : WritesLogs c.setting (reads old) (reads new) (may_leave old) (may_leave new)
-  pub quiet : said new ≡ said old
-  pub ends : RefusedEnds c number (reads new) (may_leave new) result
+  pub moments : SeesOnly frame.moment frame.observed old new (ShowsHistory c.setting (history_of c) (number + 1) (frame.said old))
+  pub left : (bytes : List ℕ) → frame.said old ≡ Some bytes → (image : Files) → frame.may_leave new image → IsStoreOf c.setting (history_of c) (number + 1) image
+  pub others : WritesLogs c.setting (frame.reads old) (frame.reads new) (frame.may_leave old) (frame.may_leave new)
+  pub quiet : frame.said new ≡ frame.said old
+  pub ends : RefusedEnds c number (frame.reads new) (frame.may_leave new) result

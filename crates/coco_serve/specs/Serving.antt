@@ -11,6 +11,7 @@ use Rattle.coco_cluster.specs.Writing.{WritesLogs}
 use Rattle.coco_cluster.specs.declared.cluster.Cluster.{Cluster}
 use Rattle.coco_host.specs.Files.{Files}
 use Rattle.coco_host.specs.Moments.{Observation, SeesOnly}
+use Rattle.coco_host.specs.declared.host.Host.{Ghosts as HostGhosts}
 use Rattle.coco_io.specs.Counts.{Rose}
 use Rattle.coco_lines.specs.Batches.{AreBatches, Batch, joined}
 use Rattle.coco_lines.specs.Classes.{AreClasses, known_in, new_of}
@@ -137,19 +138,19 @@ RunEnds c next spare bounds bytes p before now reads may_leave NoMemory =
     LeavesLast c.setting bounds (history_of c) next spare p.batches p.classes p.history (SaysUpTo before now) now may_leave
 
 -- of a host that rested on these contents: what was seen in the run and is left behind it, which files it wrote, and how it ended
-pub record Serves {H : Type 0} (moment : H → ℕ) (observed : H → ℕ → Observation → Type 0) (said : H → Option (List ℕ)) (reads : H → Option Files) (may_leave : H → Files → Type 0)
+pub record Serves {H : Type 0} (frame : HostGhosts H)
     (c : Contents) (next spare : ℕ) (bounds : RunBounds) (bytes : List ℕ) (ending : Served) (old new : H) : Type 0 where
   pub progress : Progress (manner_of c.setting bounds) (history_of c) next spare bounds.size bytes
-  pub moments : SeesOnly moment observed old new (IsServed c.setting bounds (history_of c) next spare progress.batches progress.classes progress.history (said old))
-  pub left : (seen : Observation) → said new ≡ Some seen.said → may_leave new seen.image → IsServed c.setting bounds (history_of c) next spare progress.batches progress.classes progress.history (said old) seen
-  pub others : WritesLogs c.setting (reads old) (reads new) (may_leave old) (may_leave new)
-  pub ends : RunEnds c next spare bounds bytes progress (said old) (said new) (reads new) (may_leave new) ending
+  pub moments : SeesOnly frame.moment frame.observed old new (IsServed c.setting bounds (history_of c) next spare progress.batches progress.classes progress.history (frame.said old))
+  pub left : (seen : Observation) → frame.said new ≡ Some seen.said → frame.may_leave new seen.image → IsServed c.setting bounds (history_of c) next spare progress.batches progress.classes progress.history (frame.said old) seen
+  pub others : WritesLogs c.setting (frame.reads old) (frame.reads new) (frame.may_leave old) (frame.may_leave new)
+  pub ends : RunEnds c next spare bounds bytes progress (frame.said old) (frame.said new) (frame.reads new) (frame.may_leave new) ending
 
 -- the bytes that the source gave, what came of net and power, why the run ended so, and what it made of each store that the cluster stood at
-pub record Runs {H : Type 0} (moment : H → ℕ) (observed : H → ℕ → Observation → Type 0) (said : H → Option (List ℕ)) (reads : H → Option Files) (may_leave : H → Files → Type 0)
+pub record Runs {H : Type 0} (frame : HostGhosts H)
     (cluster : Cluster) (bounds : RunBounds) (before after : Outside) (ending : Served) (old new : H) : Type 0 where
   pub bytes : List ℕ
   pub gives : Gives before.source after.source bytes
   pub later : IsLater before.around after.around
   pub cause : HasCause cluster.next_epoch bytes before after ending
-  pub serves : (c : Contents) → RestsOn c (reads old) (may_leave old) → StandsAt c cluster → Serves moment observed said reads may_leave c cluster.next_epoch (spare_of before after) bounds bytes ending old new
+  pub serves : (c : Contents) → RestsOn c (frame.reads old) (frame.may_leave old) → StandsAt c cluster → Serves frame c cluster.next_epoch (spare_of before after) bounds bytes ending old new

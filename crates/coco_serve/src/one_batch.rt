@@ -50,14 +50,14 @@ pub fn turn_and_say<
     requires few { length batch.fresh ≤ most_batch_lines }
     requires stand { AllStand cluster.old (H.reads host.old) (H.may_leave host.old) }
     ensures answers { (c : Contents) → RestsOn c (H.reads host.old) (H.may_leave host.old) → StandsAt c cluster.old
-        → IsRefused H.moment H.observed H.said H.reads H.may_leave result c cluster.old.next_epoch (spare (around N.sent N.given N.faults N.last_seed P.stops_seen P.early_stops P.stopped P.begun P.asked net.old power.old) (around N.sent N.given N.faults N.last_seed P.stops_seen P.early_stops P.stopped P.begun P.asked net.new power.new)) host.old host.new ⊎ WorksOffBatch H.moment H.observed H.said H.reads H.may_leave result batch bounds c cluster.old.next_epoch (spare (around N.sent N.given N.faults N.last_seed P.stops_seen P.early_stops P.stopped P.begun P.asked net.old power.old) (around N.sent N.given N.faults N.last_seed P.stops_seen P.early_stops P.stopped P.begun P.asked net.new power.new)) cluster.new host.old host.new }
+        → IsRefused H.Host result c cluster.old.next_epoch (spare (around N.Net P.Power net.old power.old) (around N.Net P.Power net.new power.new)) host.old host.new ⊎ WorksOffBatch H.Host result batch bounds c cluster.old.next_epoch (spare (around N.Net P.Power net.old power.old) (around N.Net P.Power net.new power.new)) cluster.new host.old host.new }
     ensures stand { OnOk result (AllStand cluster.new (H.reads host.new) (H.may_leave host.new)) }
     ensures sound { OnOk result (IsSound cluster.new (N.sent net.new)) }
     ensures few { OnOk result (length cluster.new.kept.dones ≤ most_kept) }
-    ensures next { OnOk result (SkipsFew cluster.old.next_epoch cluster.new.next_epoch (epochs_of batch.fresh) (spare (around N.sent N.given N.faults N.last_seed P.stops_seen P.early_stops P.stopped P.begun P.asked net.old power.old) (around N.sent N.given N.faults N.last_seed P.stops_seen P.early_stops P.stopped P.begun P.asked net.new power.new))) }
-    ensures later { IsLater (around N.sent N.given N.faults N.last_seed P.stops_seen P.early_stops P.stopped P.begun P.asked net.old power.old) (around N.sent N.given N.faults N.last_seed P.stops_seen P.early_stops P.stopped P.begun P.asked net.new power.new) }
+    ensures next { OnOk result (SkipsFew cluster.old.next_epoch cluster.new.next_epoch (epochs_of batch.fresh) (spare (around N.Net P.Power net.old power.old) (around N.Net P.Power net.new power.new))) }
+    ensures later { IsLater (around N.Net P.Power net.old power.old) (around N.Net P.Power net.new power.new) }
     ensures procs { cluster.new.procs ≡ cluster.old.procs }
-    ensures counts { CountsBatch result cluster.old.next_epoch (around N.sent N.given N.faults N.last_seed P.stops_seen P.early_stops P.stopped P.begun P.asked net.old power.old) (around N.sent N.given N.faults N.last_seed P.stops_seen P.early_stops P.stopped P.begun P.asked net.new power.new) (length batch.fresh)
+    ensures counts { CountsBatch result cluster.old.next_epoch (around N.Net P.Power net.old power.old) (around N.Net P.Power net.new power.new) (length batch.fresh)
         (record { say = H.say_faults host.old; disk = H.disk_faults host.old })
         (record { say = H.say_faults host.new; disk = H.disk_faults host.new }) }
 {

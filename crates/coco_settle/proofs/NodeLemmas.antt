@@ -2,6 +2,7 @@
 use Rattle.std.proofs.Common.{◌≡◌, ◌≢◌, inl, inr, ℕ, ◌+◌, ◌<◌, max, true, false, List, [], ◌∷◌, length, Option, Some, None, refl, sym, ap, subst, ◌∙◌, arith}
 use Rattle.std.specs.List.{slice_get}
 use Rattle.std.proofs.lemmas.Option.{same_Some, slice_get_cases, slice_get_within}
+use Rattle.coco_vote.proofs.StepLemmas.{max_none}
 use Rattle.coco_append.specs.Gaining.{Stands}
 use Rattle.coco_host.specs.Files.{Files}
 use Rattle.coco_log.specs.LogState.{LogState}
@@ -55,9 +56,6 @@ new_voted e cores voting newest n core at =
     let is : core.durable ≡ e = newest n core at in
     let kept : core.lost < e = (voting n core at).kept in
     record { idle = (voting n core at).idle; kept = omega (arith, kept); older = omega (arith, is) }
-
-max_none : (e : ℕ) → max e 0 ≡ e
-max_none e = omega arith
 
 new_restarted : (e n : ℕ) → IsNew (e + 1) (restarted n (e ∷ []) None)
 new_restarted e n = record { idle = refl; kept = omega arith; older = (let is : max e 0 ≡ e = max_none e in omega (arith, is)) }

@@ -62,7 +62,7 @@ fn finish_committed<N: Net, P: Power>(
     ensures asked { OnOk result ((n : ℕ) → n < length members.old.cores.items → P.asked power.new n 6 ≡ true) }
     ensures world { OnOk result (GoesBetween (P.stopped power.old) (P.stopped power.new) SameEntries (scene_of members.old (N.sent net.old)) (scene_of members.new (N.sent net.new))) }
     ensures early { P.early_stops power.new ≡ P.early_stops power.old }
-    ensures later { IsLater P.stops_seen P.early_stops P.stopped P.begun P.asked power.old power.new }
+    ensures later { IsLater P.Power power.old power.new }
     ensures says { OnOk result (Adds (IsOfSettling epoch) (N.sent net.old) (N.sent net.new)) }
     ensures sent { SendsMore (N.sent net.old) (N.sent net.new) }
     ensures net { GivesOn (N.given net.old) (N.faults net.old) (N.last_seed net.old) (N.given net.new) (N.faults net.new) (N.last_seed net.new) }
@@ -119,7 +119,7 @@ pub fn settle<H: Host, N: Net, P: Power>(
     // The files.
     ensures files { (c : Contents) → let entry : Commit = record { epoch = epoch; dones = dones.now } in
         RestsOn c (H.reads host.old) (H.may_leave host.old) → IsChiefLog c members.old.log → (IsCommit entry → MayCommit c entry)
-        → Gains H.moment H.observed H.said H.reads H.may_leave result c (with_commit entry c) host.old host.new }
+        → Gains H.Host result c (with_commit entry c) host.old host.new }
     ensures log { OnOk result (members.new.log ≡ with_entry members.old.log (commit_bytes (record { epoch = epoch; dones = dones.now }))) }
     ensures stands { OnOk result (Stands members.new.log (H.reads host.new) (H.may_leave host.new)) }
     ensures ready { OnOk result (AreReady members.old.voters.items (H.reads host.old) (H.may_leave host.old) → AreReady members.new.voters.items (H.reads host.new) (H.may_leave host.new)) }
@@ -134,7 +134,7 @@ pub fn settle<H: Host, N: Net, P: Power>(
     // The power and the counts.
     ensures asked { OnOk result ((n : ℕ) → n < length members.old.cores.items → P.asked power.new n 6 ≡ true) }
     ensures early { P.early_stops power.new ≡ P.early_stops power.old }
-    ensures later { IsLater P.stops_seen P.early_stops P.stopped P.begun P.asked power.old power.new }
+    ensures later { IsLater P.Power power.old power.new }
     ensures says { OnOk result (Adds (IsOfSettling epoch) (N.sent net.old) (N.sent net.new)) }
     ensures sent { SendsMore (N.sent net.old) (N.sent net.new) }
     ensures net { GivesOn (N.given net.old) (N.faults net.old) (N.last_seed net.old) (N.given net.new) (N.faults net.new) (N.last_seed net.new) }

@@ -1,7 +1,10 @@
 //! The shard: rows under their keys, as a machine and for the steps that need no lock.
 
-ghost use Rattle.std.specs.Prelude.{◌≡◌, ◌≤◌, None, true, IfOk, IsSome, OnOk, OnErr};
+ghost use Rattle.std.specs.Prelude.{◌≡◌, ◌≤◌, ◌++◌, List, None, true, IfOk, IsSome, OnOk, OnErr};
 ghost use Rattle.std.specs.FinMap.{get, insert, empty};
+ghost use Rattle.std.specs.Map.{keys_of};
+ghost use Rattle.coco_types.specs.RowKey.{RowKey};
+ghost use Rattle.coco_types.specs.declared.value.Value.{Value as Datum};
 ghost use Rattle.coco_shard.specs.Memory.{TakesRoom, TakesMemory};
 ghost use Rattle.coco_shard.specs.RowState.{loaded, row_at, newest_at, stable_at, value_at, Holds, IsSettled, IsGreatestTime, ListsRows};
 ghost use Rattle.coco_shard.specs.Table.{after_ask, answer_in, installed, extended, key_of, may_make_row};
@@ -11,7 +14,7 @@ use crate::ops::{Answer, Ask, Op};
 use crate::settle::settle;
 use crate::table::{act_on_missing, act_on_rows, drop_loaded, load_row, stable_of};
 use crate::tail::{put_row, read_row};
-use crate::values::{greatest, values};
+use crate::values::{add_keys, greatest, values};
 use coco_packs::AnswersInPlace;
 use coco_rows::{Rooms, Row};
 use coco_types::{Key, Machine, MapRows, NoMemory, Value};
@@ -98,6 +101,13 @@ impl Shard {
         let alloc = *self.touched.allocator();
         let values = values(alloc, &self.rows, !stable)?;
         Ok(MapRows::from_vec(values))
+    }
+
+    /// Puts all keys that have a stable value at the end of a list, rising.
+    pub fn add_keys(&self, keys: &mut Vec<Key>) -> Result<(), NoMemory>
+        ensures { OnOk result ((rows : List (RowKey × Datum)) × ListsRows (stable_at self.now) rows × (keys.new.items ≡ keys.old.items ++ keys_of rows)) }
+    {
+        add_keys(keys, &self.rows)
     }
 
     /// The greatest read time of any row.

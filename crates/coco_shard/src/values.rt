@@ -1,6 +1,6 @@
 //! What a shard's rows have in all: their values in order, and the greatest read time of some.
 
-ghost use Rattle.std.specs.Prelude.{◌≡◌, ◌++◌, OnOk, IfOk};
+ghost use Rattle.std.specs.Prelude.{◌≡◌, ◌++◌, false, OnOk, IfOk};
 ghost use Rattle.std.specs.Map.{keys_of};
 ghost use Rattle.std.specs.List.Sorted.{IsStrictlySortedBy};
 ghost use Rattle.coco_types.specs.RowKey.{key_cmp};
@@ -48,6 +48,19 @@ fn version(row: &Row, newest: bool) -> Option<Value>
     } else {
         row.stable.get()
     }
+}
+
+// Puts the keys that have a stable value at the end of a list.
+pub fn add_keys(keys: &mut Vec<Key>, rows: &BTreeMap<Key, Row>) -> Result<(), NoMemory>
+    ensures keys { OnOk result (keys.new.items ≡ keys.old.items ++ keys_of (values_in false rows.now.entries)) }
+    ensures rising { OnOk result (IsStrictlySortedBy key_cmp (keys_of rows.now.entries)) }
+{
+    for (key, row) in rows {
+        if row.stable.is_some() {
+            keys.push(*key)?;
+        }
+    }
+    Ok(())
 }
 
 // The greatest read time of these keys.

@@ -3,6 +3,7 @@ use Rattle.std.proofs.Common.{◌≡◌, ℕ, ◌+◌, ◌-◌, ◌*◌, ◌%◌
 use Rattle.std.specs.FinMap.{empty}
 use Rattle.std.proofs.lemmas.Bool.{eq-eqb, ltb-true, ltb-false}
 use Rattle.std.proofs.lemmas.List.{ext_get_or, get_or_past, length-map}
+use Rattle.std.proofs.lemmas.Nat.{mod_below}
 use Rattle.coco_types.specs.RowKey.{RowKey}
 use Rattle.coco_ast.specs.Keyed.{Rows, on_partition, value_at}
 use Rattle.coco_ast.proofs.KeyedLemmas.{value_on_partition}
@@ -37,15 +38,12 @@ loaded_stand layout m shards copies hold = record {
 
 -- ---- the nodes of a ring
 
-left_within : (x count : ℕ) → 0 < count → x % count < count
-left_within x count some = omega arith
-
 module _ (layout : Layout) (m : Rows) (shards : List ShardState) (copies : List CopyState) (stand : TablesStand layout m none_behind shards copies) where
   some_node : 0 < layout.nodes
   some_node = let around : layout.copies < layout.nodes = stand.counted.ring.around in omega arith
 
   shard_rests : (p : ℕ) → p < layout.partitions → IsShardOf layout.partitions p (on_partition layout.partitions p m) (shard_at shards p)
-  shard_rests p below = (stand.nodes (node_of layout p 0) (left_within (p + 0) layout.nodes some_node)).primaries p below refl
+  shard_rests p below = (stand.nodes (node_of layout p 0) (mod_below (p + 0) layout.nodes some_node)).primaries p below refl
 
   -- so does one that isn't there
   some_map : (p : ℕ) → (n : Rows) × IsShardOf layout.partitions p n (shard_at shards p)
@@ -58,7 +56,7 @@ module _ (layout : Layout) (m : Rows) (shards : List ShardState) (copies : List 
   value_of : (k : RowKey) → stable_at (shard_at shards (k.row % layout.partitions)) k ≡ value_at m k
   value_of k =
       let p : ℕ = k.row % layout.partitions in
-      (stable_held layout.partitions p (on_partition layout.partitions p m) (shard_at shards p) (shard_rests p (left_within k.row layout.partitions stand.counted.ring.some))).values k
+      (stable_held layout.partitions p (on_partition layout.partitions p m) (shard_at shards p) (shard_rests p (mod_below k.row layout.partitions stand.counted.ring.some))).values k
       ∙ value_on_partition layout.partitions p m k
       ∙ ap (λ b. cond b (value_at m k) None) (eq-eqb p p refl)
 
@@ -75,7 +73,7 @@ module _ (layout : Layout) (m : Rows) (shards : List ShardState) (copies : List 
   tables_keep = record {
     counted = stand.counted;
     primaries = λ p below. stable_held layout.partitions p (on_partition layout.partitions p m) (shard_at shards p) (shard_rests p below);
-    others = λ p j below from to. ap (λ (c : CopyState). c.stable) ((stand.nodes (node_of layout p j) (left_within (p + j) layout.nodes some_node)).others p j below from to refl);
+    others = λ p j below from to. ap (λ (c : CopyState). c.stable) ((stand.nodes (node_of layout p j) (mod_below (p + j) layout.nodes some_node)).others p j below from to refl);
   }
 
 pub at_rest_shards : AtRestShards

@@ -1,6 +1,7 @@
 -- A node's tables are promoted, or others take their place.
 use Rattle.std.proofs.Common.{◌≡◌, ℕ, ◌+◌, ◌%◌, ◌<◌, Bool, false, List, get_or, refl, sym, subst, arith}
 use Rattle.std.specs.FinMap.{empty}
+use Rattle.std.proofs.lemmas.Nat.{mod_below}
 use Rattle.coco_ast.specs.Keyed.{Rows, on_partition}
 use Rattle.coco_copy.specs.CopyState.{CopyState, begun}
 use Rattle.coco_entry.specs.declared.layout.Layout.{Layout}
@@ -12,17 +13,14 @@ use Rattle.coco_standing.specs.Changes.{ChangesAt, PromotesCopy, PromotesShard}
 use Rattle.coco_standing.specs.Places.{is_copy_on, is_shard_on, node_of}
 use Rattle.coco_standing.specs.Standing.{AreCounted, CopyStands, NodeIsFrom, NodePromotes, NodeStands, OthersStand, OthersStay, ShardStands, TablesStand, caught_up}
 
-left_within : (x count : ℕ) → 0 < count → x % count < count
-left_within x count some = omega arith
-
 -- the tables of any number stand as a node's do: where no node has it, it has none
 node_of_all : (layout : Layout) (m : Rows) (behind : ℕ → Bool) (shards : List ShardState) (copies : List CopyState) → TablesStand layout m behind shards copies → (n : ℕ) → NodeStands layout m n (behind n) shards copies
 node_of_all layout m behind shards copies stand n =
     let some : 0 < layout.nodes = (let around : layout.copies < layout.nodes = stand.counted.ring.around in omega arith) in record {
       primaries = λ p below here. subst (λ (i : ℕ). ShardStands (behind i) layout.partitions p (on_partition layout.partitions p m) (shard_at shards p)) here
-          ((stand.nodes (node_of layout p 0) (left_within (p + 0) layout.nodes some)).primaries p below refl);
+          ((stand.nodes (node_of layout p 0) (mod_below (p + 0) layout.nodes some)).primaries p below refl);
       others = λ p j below from to here. subst (λ (i : ℕ). CopyStands (behind i) (on_partition layout.partitions p m) (copy_at layout copies p j)) here
-          ((stand.nodes (node_of layout p j) (left_within (p + j) layout.nodes some)).others p j below from to refl);
+          ((stand.nodes (node_of layout p j) (mod_below (p + j) layout.nodes some)).others p j below from to refl);
     }
 
 -- ---- promoted

@@ -4,6 +4,7 @@ use Rattle.std.specs.FinMap.{get, empty, keys, get-empty, contains_key-keys}
 use Rattle.std.specs.List.{list_any, flat_map}
 use Rattle.std.specs.Option.{is_some, unwrap_or}
 use Rattle.std.proofs.lemmas.List.Folds.{list_any-append}
+use Rattle.std.proofs.lemmas.Bool.{or_parts}
 use Rattle.coco_types.specs.RowKey.{RowKey, key_cmp}
 use Rattle.coco_types.specs.declared.value.Value.{Value}
 use Rattle.coco_types.proofs.Keys.{is_key, one_key}
@@ -30,10 +31,6 @@ value_of_rows f (k ∷ ks) q = value_written (rows_at f ks) k (f k) q ∙ ap (co
 
 -- ---- keys without a row
 
-either_false : (a b : Bool) → (a || b) ≡ false → (a ≡ false) × (b ≡ false)
-either_false false b h = (refl, h)
-either_false true b h = absurd (let two : true ≡ false = h in cc)
-
 no_row : (o : Option RowState) → is_some o ≡ false → o ≡ None
 no_row None h = refl
 no_row (Some r) h = absurd (let two : true ≡ false = h in cc)
@@ -41,8 +38,8 @@ no_row (Some r) h = absurd (let two : true ≡ false = h in cc)
 -- a key that no shard has is one that this shard hasn't
 none_in : (shards : List ShardState) (p : ℕ) (k : RowKey) → list_any (is_key k) (flat_map keys shards) ≡ false → get (shard_at shards p) k ≡ None
 none_in [] p k none = get-empty key_cmp k
-none_in (s ∷ ss) zero k none = no_row (get s k) (contains_key-keys s k ∙ (either_false (list_any (is_key k) (keys s)) (list_any (is_key k) (flat_map keys ss)) (sym (list_any-append (is_key k) (keys s) (flat_map keys ss)) ∙ none)).0)
-none_in (s ∷ ss) (suc p) k none = none_in ss p k (either_false (list_any (is_key k) (keys s)) (list_any (is_key k) (flat_map keys ss)) (sym (list_any-append (is_key k) (keys s) (flat_map keys ss)) ∙ none)).1
+none_in (s ∷ ss) zero k none = no_row (get s k) (contains_key-keys s k ∙ (or_parts (list_any (is_key k) (keys s)) (list_any (is_key k) (flat_map keys ss)) (sym (list_any-append (is_key k) (keys s) (flat_map keys ss)) ∙ none)).0)
+none_in (s ∷ ss) (suc p) k none = none_in ss p k (or_parts (list_any (is_key k) (keys s)) (list_any (is_key k) (flat_map keys ss)) (sym (list_any-append (is_key k) (keys s) (flat_map keys ss)) ∙ none)).1
 
 -- ---- all shards
 

@@ -6,7 +6,7 @@ ghost use Rattle.coco_load.specs.Tables.{AreTables, IsRing};
 use crate::made::number;
 use coco_entry::{Layout, Row};
 use coco_load::*;
-use coco_types::{Key, NoMemory, Packed, Sequence, Value};
+use coco_types::{Key, MapRows, NoMemory, Packed, Sequence, Text, Value};
 use std::alloc::Global;
 use std::test::Fail;
 
@@ -38,13 +38,36 @@ fn based(alloc: Global, layout: &Layout) -> Result<Tables, NoMemory>
     ensures { IfOk result (λ tables. AreTables layout.now tables.shards.items tables.copies.items) }
 {
     let mut tables = Tables::new(alloc, layout)?;
-    let rows = [
+    let rows = vec![in alloc;
         (key(0), Value::Int(1)),
         (key(1), Value::Int(2)),
         (key(2), Value::Int(3)),
-    ];
-    tables.load_base(layout, &rows)?;
+    ]?;
+    let rows = packed_rows(alloc, MapRows::from_vec(rows))?;
+    tables.load_base(layout, rows.as_slice())?;
     Ok(tables)
+}
+
+// A whole number and a text come out as they went in.
+fn stay_as_they_are(alloc: Global) -> Result<bool, NoMemory> {
+    let Some(text) = Text::of("seven") else {
+        return Ok(false);
+    };
+    let (number, text) = (Value::Int(-7), Value::Text(text));
+    let rows = vec![in alloc; (key(1), number), (key(2), text)]?;
+    let packed = packed_rows(alloc, MapRows::from_vec(rows))?;
+    let [first, second] = packed.as_slice() else {
+        return Ok(false);
+    };
+    let is_first = first.key() == key(1) && first.value() == number;
+    let is_second = second.key() == key(2) && second.value() == text;
+    Ok(is_first && is_second)
+}
+
+#[test]
+fn packed_rows_are_those_that_came(rt: HostRuntime) -> Result<(), Fail> {
+    assert!(rt; stay_as_they_are(rt.alloc())?);
+    Ok(())
 }
 
 fn row(number: u32, value: Packed) -> Row {

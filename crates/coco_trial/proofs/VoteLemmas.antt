@@ -5,6 +5,9 @@ use Rattle.std.proofs.Math.Seq.{drop-append_seam}
 use Rattle.std.specs.Option.{option_map, unwrap_or}
 use Rattle.std.proofs.lemmas.Option.{same_Some}
 use Rattle.coco_host.specs.Files.{Files}
+use Rattle.coco_host.specs.declared.host.Host.{Ghosts as HostGhosts}
+use Rattle.coco_net.specs.declared.net.Net.{Ghosts as NetGhosts}
+use Rattle.coco_power.specs.declared.power.Power.{Ghosts as PowerGhosts}
 use Rattle.coco_chief.specs.Chief.{Chief}
 use Rattle.coco_chief.specs.Table.{is_open}
 use Rattle.coco_msg.specs.declared.message.Message.TheVariants.{Prepare, Vote}
@@ -29,12 +32,14 @@ use Rattle.coco_store.specs.Contents.{Contents}
 use Rattle.coco_vote.specs.Beginning.{AreNew, GoesOnVoted, StartsVote}
 use Rattle.coco_vote.specs.Counting.{prepare_of, GivesOn}
 use Rattle.coco_vote.specs.Ending.{GiveUp}
+use Rattle.coco_vote.specs.Keeping.{KeepsRest}
 use Rattle.coco_vote.specs.Outcomes.{Comes}
 use Rattle.coco_vote.specs.Preparing.{durable_at, have_durable, Ballot, HavePrepared, RestsVoted}
 use Rattle.coco_vote.specs.Taking.{vote_of, AreMarked, AreReady, AreTold, KeepPlaces, KeepsCores, KeepsPlace, StayWhole}
 use Rattle.coco_vote.specs.Voting.{GainsNewest}
 use Rattle.coco_vote.specs.declared.phase.Votes.{Votes}
 use Rattle.coco_vote.specs.declared.phase.Votes.TheVariants.{All, Stopped, Silent}
+use Rattle.coco_vote.proofs.KeepingLemmas.{rest_places}
 use Rattle.coco_vote.proofs.PlaceLemmas.{durable_here}
 use Rattle.coco_vote.proofs.VoterLemmas.{apart_still}
 use Rattle.coco_members.specs.AtRest.{AreMembers, ShipsBelow}
@@ -65,6 +70,9 @@ pub unmarked_places : (vs : List Voter) → KeepPlaces vs (map unmarked vs)
 unmarked_places vs n now there =
     let was = unmarked_at vs n now there in
     (was.0, was.1, subst (λ (v : Voter). KeepsPlace was.0 v) was.2 (record { held = refl; file = refl; kind = refl }))
+
+pub rest_unmarked : {H N P : Type 0} {frame : HostGhosts H} {nets : NetGhosts N} {powers : PowerGhosts P} (vs now : List Voter) (host : H) (net : N) (power : P) → now ≡ map unmarked vs → KeepsRest frame nets powers vs now host host net net power power
+rest_unmarked vs now host net power is = rest_places vs now host net power (subst (KeepPlaces vs) (sym is) (unmarked_places vs))
 
 pub unmarked_whole : (seen : ℕ) (vs : List Voter) → StayWhole seen seen vs (map unmarked vs)
 unmarked_whole seen vs same n now there =

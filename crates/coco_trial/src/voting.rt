@@ -1,25 +1,20 @@
 //! The vote on an epoch, or its end.
 
 ghost use Rattle.std.specs.Prelude.{◌≡◌, ◌≢◌, ℕ, ◌<◌, ◌≤◌, Bool, false, true, List, Contains, length, map, IfOk, OnOk};
-ghost use Rattle.coco_append.specs.Gaining.{RestsOn, Stands};
+ghost use Rattle.coco_append.specs.Gaining.{RestsOn};
 ghost use Rattle.coco_chief.specs.Shown.{chief_of};
 ghost use Rattle.coco_chief.specs.declared.machine.Phase.TheVariants.{Rest as Still};
 ghost use Rattle.coco_finish.specs.Finishing.{AllCanFinish};
 ghost use Rattle.coco_letters.specs.Around.{around};
 ghost use Rattle.coco_letters.specs.Telling.{Adds, IsOfVote};
 ghost use Rattle.coco_log.specs.Faults.{CountsFault};
-ghost use Rattle.coco_log.specs.LogState.{LogState};
 ghost use Rattle.coco_members.specs.AtRest.{scene_of};
-ghost use Rattle.coco_net.specs.declared.letter.Posted.{Posted as Sent};
 ghost use Rattle.coco_store.specs.Contents.{Contents};
-ghost use Rattle.coco_vote.specs.Asking.{IsLater};
 ghost use Rattle.coco_vote.specs.Beginning.{AreNew, GoesOnVoted};
-ghost use Rattle.coco_vote.specs.Counting.{GivesOn};
+ghost use Rattle.coco_vote.specs.Keeping.{KeepsRest};
 ghost use Rattle.coco_vote.specs.Preparing.{have_durable, Ballot, MayForce, Votes as KeepsVotes};
-ghost use Rattle.coco_vote.specs.Taking.{vote_of, AreApart, AreHeld, AreReady, HaveLogs, IsElsewhere, KeepPlaces, SameElsewhere, StayWhole};
+ghost use Rattle.coco_vote.specs.Taking.{vote_of, AreApart, AreHeld, AreReady, HaveLogs, StayWhole};
 ghost use Rattle.coco_vote.specs.declared.phase.Votes.TheVariants.{All};
-ghost use Rattle.coco_host.specs.Files.{Become, Follows};
-ghost use Rattle.coco_letters.specs.Turns.{SendsMore};
 ghost use Rattle.coco_trial.specs.Voting.{unmarked, ComesOf, Decided, KeepsTables, MayVote};
 
 use coco_chief::ChiefCore;
@@ -78,33 +73,24 @@ fn decide<H: Host, N: Net, P: Power>(
     requires ready { AreReady voters.old (H.reads host.old) (H.may_leave host.old) }
     requires apart { AreApart voters.old }
     ensures comes { IfOk result (λ all. ComesOf all epoch cores.new (chief_of chief.new)
-        (around N.sent N.given N.faults N.last_seed P.stops_seen P.early_stops P.stopped P.begun P.asked net.old power.old)
-        (around N.sent N.given N.faults N.last_seed P.stops_seen P.early_stops P.stopped P.begun P.asked net.new power.new)) }
+        (around N.Net P.Power net.old power.old)
+        (around N.Net P.Power net.new power.new)) }
     ensures can { OnOk result ((e : ℕ) → e < epoch → AllCanFinish e cores.old → AllCanFinish e cores.new) }
     ensures nodes { (chief_of chief.new).nodes ≡ (chief_of chief.old).nodes }
     ensures last { OnOk result ((chief_of chief.new).last ≡ (chief_of chief.old).last) }
     ensures committed { OnOk result ((chief_of chief.new).committed ≡ (chief_of chief.old).committed) }
     ensures says { OnOk result (Adds (IsOfVote epoch) (N.sent net.old) (N.sent net.new)) }
-    ensures sent { SendsMore (N.sent net.old) (N.sent net.new) }
     // The files.
     ensures files { (c : Contents) (hold : ℕ → List Bool) → let b : Ballot = record { epoch = epoch; pieces = pieces.now; held = hold } in
         AreHeld hold voters.old → MayForce c b → c.setting.entry.layout.nodes ≡ length cores.old → HaveLogs c voters.old
         → RestsOn c (H.reads host.old) (H.may_leave host.old)
-        → KeepsVotes H.moment H.observed H.said H.reads H.may_leave result c b (have_durable epoch cores.new) host.old host.new }
+        → KeepsVotes H.Host result c b (have_durable epoch cores.new) host.old host.new }
     ensures ready { OnOk result (AreReady voters.new (H.reads host.new) (H.may_leave host.new)) }
-    ensures places { KeepPlaces voters.old voters.new }
     ensures whole { OnOk result (StayWhole (P.stops_seen power.old) (P.stops_seen power.new) voters.old voters.new) }
-    ensures others { (other : LogState) → IsElsewhere other voters.old → Stands other (H.reads host.old) (H.may_leave host.old) → Stands other (H.reads host.new) (H.may_leave host.new) }
-    ensures read { Become (SameElsewhere voters.old) (H.reads host.old) (H.reads host.new) }
-    ensures crash { Follows (SameElsewhere voters.old) (H.may_leave host.old) (H.may_leave host.new) }
-    ensures said { H.said host.new ≡ H.said host.old }
+    ensures rest { KeepsRest H.Host N.Net P.Power voters.old voters.new host.old host.new net.old net.new power.old power.new }
     ensures disk { CountsFault result (H.disk_faults host.old) (H.disk_faults host.new) }
-    ensures stream { H.say_faults host.new ≡ H.say_faults host.old }
     // The world.
     ensures world { OnOk result (GoesOnVoted epoch (P.stopped power.old) (P.stopped power.new) (record { cores = cores.old; chief = chief_of chief.old; sent = N.sent net.old }) (record { cores = cores.new; chief = chief_of chief.new; sent = N.sent net.new })) }
-    // The counts.
-    ensures later { IsLater P.stops_seen P.early_stops P.stopped P.begun P.asked power.old power.new }
-    ensures net { GivesOn (N.given net.old) (N.faults net.old) (N.last_seed net.old) (N.given net.new) (N.faults net.new) (N.last_seed net.new) }
 {
     unmark(voters);
     let votes = prepare(host, net, power, cores, voters, chief, epoch, pieces, body)?;
@@ -130,31 +116,23 @@ pub fn vote<H: Host, N: Net, P: Power>(
     requires ready { AreReady members.old.voters.items (H.reads host.old) (H.may_leave host.old) }
     ensures decided { IfOk result (λ all. Decided all epoch (N.sent net.new) members.old members.new) }
     ensures comes { IfOk result (λ all. ComesOf all epoch members.new.cores.items (chief_of members.new.chief)
-        (around N.sent N.given N.faults N.last_seed P.stops_seen P.early_stops P.stopped P.begun P.asked net.old power.old)
-        (around N.sent N.given N.faults N.last_seed P.stops_seen P.early_stops P.stopped P.begun P.asked net.new power.new)) }
+        (around N.Net P.Power net.old power.old)
+        (around N.Net P.Power net.new power.new)) }
     ensures keeps { KeepsTables members.old members.new }
     ensures whole { OnOk result (StayWhole (P.stops_seen power.old) (P.stops_seen power.new) members.old.voters.items members.new.voters.items) }
     ensures last { OnOk result ((chief_of members.new.chief).last ≡ (chief_of members.old.chief).last) }
     ensures committed { OnOk result ((chief_of members.new.chief).committed ≡ (chief_of members.old.chief).committed) }
     ensures says { OnOk result (Adds (IsOfVote epoch) (N.sent net.old) (N.sent net.new)) }
-    ensures sent { SendsMore (N.sent net.old) (N.sent net.new) }
     // The files: just the nodes whose core has the epoch have its entry.
     ensures files { (c : Contents) (hold : ℕ → List Bool) → let b : Ballot = record { epoch = epoch; pieces = pieces.now; held = hold } in
         AreHeld hold members.old.voters.items → MayForce c b → c.setting.entry.layout.nodes ≡ length members.old.cores.items → HaveLogs c members.old.voters.items
         → RestsOn c (H.reads host.old) (H.may_leave host.old)
-        → KeepsVotes H.moment H.observed H.said H.reads H.may_leave result c b (have_durable epoch members.new.cores.items) host.old host.new }
+        → KeepsVotes H.Host result c b (have_durable epoch members.new.cores.items) host.old host.new }
     ensures ready { OnOk result (AreReady members.new.voters.items (H.reads host.new) (H.may_leave host.new)) }
-    ensures others { (other : LogState) → IsElsewhere other members.old.voters.items → Stands other (H.reads host.old) (H.may_leave host.old) → Stands other (H.reads host.new) (H.may_leave host.new) }
-    ensures read { Become (SameElsewhere members.old.voters.items) (H.reads host.old) (H.reads host.new) }
-    ensures crash { Follows (SameElsewhere members.old.voters.items) (H.may_leave host.old) (H.may_leave host.new) }
-    ensures said { H.said host.new ≡ H.said host.old }
+    ensures rest { KeepsRest H.Host N.Net P.Power members.old.voters.items members.new.voters.items host.old host.new net.old net.new power.old power.new }
     ensures disk { CountsFault result (H.disk_faults host.old) (H.disk_faults host.new) }
-    ensures stream { H.say_faults host.new ≡ H.say_faults host.old }
     // The world.
     ensures world { OnOk result (GoesOnVoted epoch (P.stopped power.old) (P.stopped power.new) (scene_of members.old (N.sent net.old)) (scene_of members.new (N.sent net.new))) }
-    // The counts.
-    ensures later { IsLater P.stops_seen P.early_stops P.stopped P.begun P.asked power.old power.new }
-    ensures net { GivesOn (N.given net.old) (N.faults net.old) (N.last_seed net.old) (N.given net.new) (N.faults net.new) (N.last_seed net.new) }
 {
     let all = decide(
         host,

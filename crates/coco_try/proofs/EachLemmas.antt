@@ -1,6 +1,7 @@
 -- Requests worked off batch by batch, of each store that the cluster may stand at, and how that ends.
 use Rattle.std.proofs.Common.{◌≡◌, ℕ, ◌+◌, ◌*◌, ◌≤◌, inl, inr, ⊎_elim, List, [], ◌∷◌, ◌++◌, drop, length, take, Option, Result, Ok, Err, refl, sym, ap, subst, ◌∙◌, arith, length-append}
 use Rattle.std.specs.Prelude.{⊤, OnOk}
+use Rattle.coco_cluster.proofs.SeeingLemmas.{same_history}
 use Rattle.coco_types.specs.Limits.{epochs_end}
 use Rattle.coco_types.specs.declared.call.Request.{Request}
 use Rattle.coco_append.specs.Gaining.{RestsOn}
@@ -19,6 +20,7 @@ use Rattle.coco_cluster.proofs.WriteLemmas.{writes_none, writes_then}
 use Rattle.coco_host.specs.Files.{Files}
 use Rattle.coco_host.specs.Moments.{Observation, SeesOnly}
 use Rattle.coco_host.proofs.Sees.{started}
+use Rattle.coco_host.specs.declared.host.Host.{Ghosts as HostGhosts}
 use Rattle.coco_io.specs.Counts.{Rose}
 use Rattle.coco_lines.specs.Batches.{joined}
 use Rattle.coco_lines.specs.Classes.{Known, known_in, new_of}
@@ -35,7 +37,6 @@ use Rattle.coco_serve.specs.declared.fault.BatchFault.{BatchFault}
 use Rattle.coco_serve.specs.declared.fault.BatchFault.TheVariants as fault
 use Rattle.coco_serve.proofs.BatchLemmas.{refused_early}
 use Rattle.coco_serve.proofs.NumberLemmas.{added_by, adds_more, adds_none}
-use Rattle.coco_serve.proofs.RefusedLemmas.{history_stays}
 use Rattle.coco_serve.proofs.RunLemmas.{OnlyNow, known_at, moved}
 use Rattle.coco_try.specs.Growth.{AreClassesOf, GrowsByParts, part_at, parts_of}
 use Rattle.coco_try.specs.Report.{answered_in}
@@ -73,7 +74,7 @@ cause_of fault.EpochsUsedUp k part next at epochs requests start was now first b
     (let used = counts.0 in let adds = spare_then start was now later then_ in subst (SkipsFew next epochs_end requests) (sym adds) (omega (arith, used, low, few)))
 cause_of fault.NoMemory k part next at epochs requests start was now first before after same low few later then_ counts = tt
 
-module _ {H : Type 0} (moment : H → ℕ) (observed : H → ℕ → Observation → Type 0) (said : H → Option (List ℕ)) (reads : H → Option Files) (may_leave : H → Files → Type 0) where
+module _ {H : Type 0} (frame : HostGhosts H) where
   -- the requests before these others are whole batches, and a host rests on the store that they make
   pub record AreWorkedOff (c : Contents) (next spare : ℕ) (bounds : RunBounds) (requests rest : List Request) (worked : Worked) (k : Cluster) (first host : H) : Type 0 where
     pub count : ℕ
@@ -85,13 +86,13 @@ module _ {H : Type 0} (moment : H → ℕ) (observed : H → ℕ → Observation
     pub numbers : AddsWithin next k.next_epoch spare (history_of c) (history_of d)
     pub answered : worked.answered ≡ answered_in (joined classes)
     pub epochs : worked.epochs ≡ length numbers.added
-    pub rests : RestsOn d (reads host) (may_leave host)
+    pub rests : RestsOn d (frame.reads host) (frame.may_leave host)
     pub stands : StandsAt d k
-    pub moments : SeesOnly moment observed first host (Unsaid (ShowsParts c.setting bounds (history_of c) next spare requests count classes (history_of d)) (said first))
-    pub others : WritesLogs c.setting (reads first) (reads host) (may_leave first) (may_leave host)
+    pub moments : SeesOnly frame.moment frame.observed first host (Unsaid (ShowsParts c.setting bounds (history_of c) next spare requests count classes (history_of d)) (frame.said first))
+    pub others : WritesLogs c.setting (frame.reads first) (frame.reads host) (frame.may_leave first) (frame.may_leave host)
 
-  pub worked_new : OnlyNow moment observed said reads may_leave → (c : Contents) (spare : ℕ) (bounds : RunBounds) (requests : List Request) (worked : Worked) (k : Cluster) (host : H) → worked.answered ≡ 0 → worked.epochs ≡ 0
-      → RestsOn c (reads host) (may_leave host) → StandsAt c k → AreWorkedOff c k.next_epoch spare bounds requests requests worked k host host
+  pub worked_new : OnlyNow frame → (c : Contents) (spare : ℕ) (bounds : RunBounds) (requests : List Request) (worked : Worked) (k : Cluster) (host : H) → worked.answered ≡ 0 → worked.epochs ≡ 0
+      → RestsOn c (frame.reads host) (frame.may_leave host) → StandsAt c k → AreWorkedOff c k.next_epoch spare bounds requests requests worked k host host
   worked_new only_now c spare bounds requests worked k host answered epochs rests stands = record {
     count = 0;
     classes = [];
@@ -104,19 +105,19 @@ module _ {H : Type 0} (moment : H → ℕ) (observed : H → ℕ → Observation
     epochs = epochs;
     rests = rests;
     stands = stands;
-    moments = started moment observed host (Unsaid (ShowsParts c.setting bounds (history_of c) k.next_epoch spare requests 0 [] (history_of c)) (said host)) (λ seen since.
+    moments = started frame.moment frame.observed host (Unsaid (ShowsParts c.setting bounds (history_of c) k.next_epoch spare requests 0 [] (history_of c)) (frame.said host)) (λ seen since.
         let now = only_now host seen since in (
           all_shown c.setting bounds (history_of c) k.next_epoch spare requests 0 [] (history_of c) (refl, refl) k.next_epoch
               (adds_none k.next_epoch k.next_epoch spare (history_of c) (record { low = omega arith; few = omega arith })) seen
               (record { contents = c; setting = refl; good = rests.left seen.image now.0; history = refl; below = behind_later c k.next_epoch (k.next_epoch + 1) (omega arith) stands.next }),
           now.1,
         ));
-    others = writes_none c.setting (reads host) (reads host) (may_leave host) (may_leave host) refl (λ image left. left);
+    others = writes_none c.setting (frame.reads host) (frame.reads host) (frame.may_leave host) (frame.may_leave host) refl (λ image left. left);
   }
 
   -- all are worked off
   pub works_done : (c : Contents) (next spare : ℕ) (bounds : RunBounds) (requests rest : List Request) (worked : Worked) (k : Cluster) (first host : H)
-      → AreWorkedOff c next spare bounds requests rest worked k first host → rest ≡ [] → Works moment observed said reads may_leave c next spare bounds requests (Ok worked) k first host
+      → AreWorkedOff c next spare bounds requests rest worked k first host → rest ≡ [] → Works frame c next spare bounds requests (Ok worked) k first host
   works_done c next spare bounds requests rest worked k first host a none = record {
     progress = record { count = a.count; classes = a.classes; history = history_of a.d; grown = a.grown; end = k.next_epoch; numbers = a.numbers };
     moments = a.moments;
@@ -131,7 +132,7 @@ module _ {H : Type 0} (moment : H → ℕ) (observed : H → ℕ → Observation
   }
 
   module _ (c : Contents) (next spare more_spare : ℕ) (bounds : RunBounds) (requests rest : List Request) (worked : Worked) (k : Cluster) (first mid host : H) (part : List Request)
-      (a : AreWorkedOff c next spare bounds requests rest worked k first mid) (quiet : said mid ≡ said first) (part_is : part ≡ take bounds.size rest) where
+      (a : AreWorkedOff c next spare bounds requests rest worked k first mid) (quiet : frame.said mid ≡ frame.said first) (part_is : part ≡ take bounds.size rest) where
     abbrev manner : Manner
     manner = manner_of c.setting bounds
 
@@ -151,11 +152,11 @@ module _ {H : Type 0} (moment : H → ℕ) (observed : H → ℕ → Observation
     as_many = paired manner opening bounds.size a.count requests a.classes h a.grown
 
     abbrev Was : Observation → Type 0
-    Was = Unsaid (ShowsParts c.setting bounds opening next spare requests a.count a.classes h) (said first)
+    Was = Unsaid (ShowsParts c.setting bounds opening next spare requests a.count a.classes h) (frame.said first)
 
     -- ---- nothing of the next batch is committed
 
-    module _ (result : Result (Unit {0}) BatchFault) (x : IsRefused moment observed said reads may_leave result a.d k.next_epoch more_spare mid host) where
+    module _ (result : Result (Unit {0}) BatchFault) (x : IsRefused frame result a.d k.next_epoch more_spare mid host) where
       abbrev numbers_still : AddsWithin next x.number all opening h
       numbers_still = adds_more next k.next_epoch x.number spare more_spare opening h h a.numbers (adds_none k.next_epoch x.number more_spare h x.taken)
 
@@ -163,23 +164,23 @@ module _ {H : Type 0} (moment : H → ℕ) (observed : H → ℕ → Observation
       still = record { count = a.count; classes = a.classes; history = h; grown = a.grown; end = x.number; numbers = numbers_still }
 
       abbrev Still : Observation → Type 0
-      Still = Unsaid (ShowsParts c.setting bounds opening next all requests a.count a.classes h) (said first)
+      Still = Unsaid (ShowsParts c.setting bounds opening next all requests a.count a.classes h) (frame.said first)
 
-      still_shows : (seen : Observation) → ShowsHistory a.d.setting h (x.number + 1) (said mid) seen → Still seen
+      still_shows : (seen : Observation) → ShowsHistory a.d.setting h (x.number + 1) (frame.said mid) seen → Still seen
       still_shows seen shows = (
         all_shown c.setting bounds opening next all requests a.count a.classes h a.grown x.number numbers_still seen (moved a.d.setting c.setting h (x.number + 1) (x.number + 1) seen.image a.setting (omega arith) shows.0),
         sym quiet ∙ shows.1,
       )
 
-      moments_still : SeesOnly moment observed first host Still
-      moments_still = sees_then moment observed first mid host Still (ShowsHistory a.d.setting h (x.number + 1) (said mid))
-          (sees_weaker moment observed first mid Was Still (λ seen s. (later_shown c.setting bounds opening next spare requests a.count a.classes h all (omega arith) seen s.0, s.1)) a.moments) x.moments still_shows
+      moments_still : SeesOnly frame.moment frame.observed first host Still
+      moments_still = sees_then frame.moment frame.observed first mid host Still (ShowsHistory a.d.setting h (x.number + 1) (frame.said mid))
+          (sees_weaker frame.moment frame.observed first mid Was Still (λ seen s. (later_shown c.setting bounds opening next spare requests a.count a.classes h all (omega arith) seen s.0, s.1)) a.moments) x.moments still_shows
 
-      others_still : WritesLogs c.setting (reads first) (reads host) (may_leave first) (may_leave host)
-      others_still = writes_then c.setting (reads first) (reads mid) (reads host) (may_leave first) (may_leave mid) (may_leave host) a.others
-          (subst (λ s. WritesLogs s (reads mid) (reads host) (may_leave mid) (may_leave host)) a.setting x.others)
+      others_still : WritesLogs c.setting (frame.reads first) (frame.reads host) (frame.may_leave first) (frame.may_leave host)
+      others_still = writes_then c.setting (frame.reads first) (frame.reads mid) (frame.reads host) (frame.may_leave first) (frame.may_leave mid) (frame.may_leave host) a.others
+          (subst (λ s. WritesLogs s (frame.reads mid) (frame.reads host) (frame.may_leave mid) (frame.may_leave host)) a.setting x.others)
 
-      leaves_still : LeavesLast c.setting bounds opening next all requests still (said first) (may_leave host)
+      leaves_still : LeavesLast c.setting bounds opening next all requests still (frame.said first) (frame.may_leave host)
       leaves_still = record {
         count = a.count;
         last = inl refl;
@@ -190,14 +191,14 @@ module _ {H : Type 0} (moment : H → ℕ) (observed : H → ℕ → Observation
         left = λ bytes spoke image left. inl (moved a.d.setting c.setting h (x.number + 1) (x.number + 1) image a.setting (omega arith) (x.left bytes (quiet ∙ spoke) image left));
       }
 
-      rests_still : RestsWithout a.d x.number (reads host) (may_leave host) → RestsAt c.setting h x.number (reads host) (may_leave host)
-      rests_still w = (w.0, w.1.setting ∙ a.setting, history_stays a.d w.0 w.1, w.2, w.3)
+      rests_still : RestsWithout a.d x.number (frame.reads host) (frame.may_leave host) → RestsAt c.setting h x.number (frame.reads host) (frame.may_leave host)
+      rests_still w = (w.0, w.1.setting ∙ a.setting, same_history a.d w.0 w.1, w.2, w.3)
 
       next_new : HasNew (known_of k.kept []) part → HasNew (known_in h) (part_at bounds.size requests a.count)
       next_new new = subst (λ p. HasNew (known_in h) p) part_so (subst (λ kn. HasNew kn part) (known_at a.d k a.stands) new)
 
-      by_still : (f : BatchFault) → HasReason k.next_epoch more_spare (known_of k.kept []) part f → RefusedEnds a.d x.number (reads host) (may_leave host) (Err f)
-          → WorkEnds c next all bounds requests still k (said first) (reads host) (may_leave host) (Err f)
+      by_still : (f : BatchFault) → HasReason k.next_epoch more_spare (known_of k.kept []) part f → RefusedEnds a.d x.number (frame.reads host) (frame.may_leave host) (Err f)
+          → WorkEnds c next all bounds requests still k (frame.said first) (frame.reads host) (frame.may_leave host) (Err f)
       by_still fault.Say reason ends = absurd ends
       by_still fault.Disk reason ends = leaves_still
       by_still (fault.NotAStore file at) reason ends = absurd ends
@@ -210,16 +211,16 @@ module _ {H : Type 0} (moment : H → ℕ) (observed : H → ℕ → Observation
       by_still fault.NoMemory reason ends = leaves_still
 
       pub works_refused : (f : BatchFault) (after : Cluster) → result ≡ Err f → HasReason k.next_epoch more_spare (known_of k.kept []) part f
-          → Works moment observed said reads may_leave c next all bounds requests (Err f) after first host
+          → Works frame c next all bounds requests (Err f) after first host
       works_refused f after is reason = record {
         progress = still;
         moments = moments_still;
         others = others_still;
-        ends = ended f (by_still f reason (subst (RefusedEnds a.d x.number (reads host) (may_leave host)) is x.ends));
+        ends = ended f (by_still f reason (subst (RefusedEnds a.d x.number (frame.reads host) (frame.may_leave host)) is x.ends));
       }
         where
           -- how it ended says nothing of the cluster
-          ended : (f : BatchFault) → WorkEnds c next all bounds requests still k (said first) (reads host) (may_leave host) (Err f) → WorkEnds c next all bounds requests still after (said first) (reads host) (may_leave host) (Err f)
+          ended : (f : BatchFault) → WorkEnds c next all bounds requests still k (frame.said first) (frame.reads host) (frame.may_leave host) (Err f) → WorkEnds c next all bounds requests still after (frame.said first) (frame.reads host) (frame.may_leave host) (Err f)
           ended fault.Say ends = ends
           ended fault.Disk ends = ends
           ended (fault.NotAStore file at) ends = ends
@@ -229,7 +230,7 @@ module _ {H : Type 0} (moment : H → ℕ) (observed : H → ℕ → Observation
 
     -- ---- the next batch may be committed
 
-    module _ (result : Result Worked BatchFault) (k' : Cluster) (x : WorksOffPart moment observed said reads may_leave result part bounds a.d k.next_epoch more_spare k' mid host) where
+    module _ (result : Result Worked BatchFault) (k' : Cluster) (x : WorksOffPart frame result part bounds a.d k.next_epoch more_spare k' mid host) where
       abbrev g : History
       g = history_of x.d
 
@@ -256,9 +257,9 @@ module _ {H : Type 0} (moment : H → ℕ) (observed : H → ℕ → Observation
       keeps = growth_keeps h (new_of x.classes) g grows.0
 
       abbrev Shows : Observation → Type 0
-      Shows = Unsaid (ShowsParts c.setting bounds opening next all requests (a.count + 1) classes' g) (said first)
+      Shows = Unsaid (ShowsParts c.setting bounds opening next all requests (a.count + 1) classes' g) (frame.said first)
 
-      part_shows : (seen : Observation) → ShowsStore a.d.setting h g (x.number + 1) (said mid) seen → Shows seen
+      part_shows : (seen : Observation) → ShowsStore a.d.setting h g (x.number + 1) (frame.said mid) seen → Shows seen
       part_shows seen shows = (
         ⊎_elim
             (λ was. more_shown c.setting bounds opening next all requests a.count a.classes h as_many x.classes g keeps.prefix seen
@@ -269,18 +270,18 @@ module _ {H : Type 0} (moment : H → ℕ) (observed : H → ℕ → Observation
         sym quiet ∙ shows.said,
       )
 
-      moments' : SeesOnly moment observed first host Shows
-      moments' = sees_then moment observed first mid host Shows (ShowsStore a.d.setting h g (x.number + 1) (said mid))
-          (sees_weaker moment observed first mid Was Shows
+      moments' : SeesOnly frame.moment frame.observed first host Shows
+      moments' = sees_then frame.moment frame.observed first mid host Shows (ShowsStore a.d.setting h g (x.number + 1) (frame.said mid))
+          (sees_weaker frame.moment frame.observed first mid Was Shows
           (λ seen s. (
             more_shown c.setting bounds opening next all requests a.count a.classes h as_many x.classes g keeps.prefix seen
                 (later_shown c.setting bounds opening next spare requests a.count a.classes h all (omega arith) seen s.0),
             s.1,
           )) a.moments) x.moments part_shows
 
-      others' : WritesLogs c.setting (reads first) (reads host) (may_leave first) (may_leave host)
-      others' = writes_then c.setting (reads first) (reads mid) (reads host) (may_leave first) (may_leave mid) (may_leave host) a.others
-          (subst (λ s. WritesLogs s (reads mid) (reads host) (may_leave mid) (may_leave host)) a.setting x.others)
+      others' : WritesLogs c.setting (frame.reads first) (frame.reads host) (frame.may_leave first) (frame.may_leave host)
+      others' = writes_then c.setting (frame.reads first) (frame.reads mid) (frame.reads host) (frame.may_leave first) (frame.may_leave mid) (frame.may_leave host) a.others
+          (subst (λ s. WritesLogs s (frame.reads mid) (frame.reads host) (frame.may_leave mid) (frame.may_leave host)) a.setting x.others)
 
       -- it was committed
       pub worked_more : (more worked' : Worked) (rest' : List Request) → result ≡ Ok more → worked'.answered ≡ worked.answered + more.answered → worked'.epochs ≡ worked.epochs + more.epochs → rest' ≡ drop bounds.size rest
@@ -314,8 +315,8 @@ module _ {H : Type 0} (moment : H → ℕ) (observed : H → ℕ → Observation
         others = others';
       }
         where
-          done : RestsOn x.d (reads host) (may_leave host) × StandsAt x.d k' × IsCountOf x.classes more
-          done = subst (PartEnds a.d x.d (x.number + 1) k' x.classes (said mid) (reads host) (may_leave host)) is x.ends
+          done : RestsOn x.d (frame.reads host) (frame.may_leave host) × StandsAt x.d k' × IsCountOf x.classes more
+          done = subst (PartEnds a.d x.d (x.number + 1) k' x.classes (frame.said mid) (frame.reads host) (frame.may_leave host)) is x.ends
 
           next_is : k'.next_epoch ≡ end'
           next_is = subst (λ (r : Result _ _). OnOk r (k'.next_epoch ≡ end')) is x.next_is
@@ -331,7 +332,7 @@ module _ {H : Type 0} (moment : H → ℕ) (observed : H → ℕ → Observation
       abbrev progress' : Progress manner opening next all bounds.size requests
       progress' = record { count = a.count + 1; classes = classes'; history = g; grown = grown'; end = end'; numbers = numbers' }
 
-      leaves' : LeavesEither a.d.setting h g (x.number + 1) (said mid) (may_leave host) → LeavesLast c.setting bounds opening next all requests progress' (said first) (may_leave host)
+      leaves' : LeavesEither a.d.setting h g (x.number + 1) (frame.said mid) (frame.may_leave host) → LeavesLast c.setting bounds opening next all requests progress' (frame.said first) (frame.may_leave host)
       leaves' left = record {
         count = a.count;
         last = inr refl;
@@ -344,7 +345,7 @@ module _ {H : Type 0} (moment : H → ℕ) (observed : H → ℕ → Observation
             (λ grew. inr (moved a.d.setting c.setting g (x.number + 1) (x.number + 1) image a.setting (omega arith) grew)) (left bytes (quiet ∙ spoke) image leaves);
       }
 
-      by_part : (f : BatchFault) → PartEnds a.d x.d (x.number + 1) k' x.classes (said mid) (reads host) (may_leave host) (Err f) → WorkEnds c next all bounds requests progress' k' (said first) (reads host) (may_leave host) (Err f)
+      by_part : (f : BatchFault) → PartEnds a.d x.d (x.number + 1) k' x.classes (frame.said mid) (frame.reads host) (frame.may_leave host) (Err f) → WorkEnds c next all bounds requests progress' k' (frame.said first) (frame.reads host) (frame.may_leave host) (Err f)
       by_part fault.Say ends = ends
       by_part fault.Disk ends = leaves' ends
       by_part (fault.NotAStore file at) ends = ends
@@ -352,38 +353,38 @@ module _ {H : Type 0} (moment : H → ℕ) (observed : H → ℕ → Observation
       by_part fault.EpochsUsedUp ends = absurd ends
       by_part fault.NoMemory ends = leaves' ends
 
-      pub works_failed : (f : BatchFault) → result ≡ Err f → Works moment observed said reads may_leave c next all bounds requests (Err f) k' first host
+      pub works_failed : (f : BatchFault) → result ≡ Err f → Works frame c next all bounds requests (Err f) k' first host
       works_failed f is = record {
         progress = progress';
         moments = moments';
         others = others';
-        ends = by_part f (subst (PartEnds a.d x.d (x.number + 1) k' x.classes (said mid) (reads host) (may_leave host)) is x.ends);
+        ends = by_part f (subst (PartEnds a.d x.d (x.number + 1) k' x.classes (frame.said mid) (frame.reads host) (frame.may_leave host)) is x.ends);
       }
 
   -- ---- one batch, as it ends
 
   -- what is known of a batch that came off the front, and of its answer
   module _ (c : Contents) (next spare more_spare total : ℕ) (bounds : RunBounds) (requests rest : List Request) (worked : Worked) (k k' : Cluster) (first mid host : H) (part : List Request) (result : Result Worked BatchFault)
-      (sums : total ≡ spare + more_spare) (a : AreWorkedOff c next spare bounds requests rest worked k first mid) (quiet : said mid ≡ said first) (part_is : part ≡ take bounds.size rest)
-      (comes : ComesOfPart moment observed said reads may_leave result part bounds a.d k.next_epoch more_spare k' mid host) where
+      (sums : total ≡ spare + more_spare) (a : AreWorkedOff c next spare bounds requests rest worked k first mid) (quiet : frame.said mid ≡ frame.said first) (part_is : part ≡ take bounds.size rest)
+      (comes : ComesOfPart frame result part bounds a.d k.next_epoch more_spare k' mid host) where
     -- it was committed, if it has an epoch
     pub worked_on : (more worked' : Worked) (rest' : List Request) → result ≡ Ok more → worked'.answered ≡ worked.answered + more.answered → worked'.epochs ≡ worked.epochs + more.epochs → rest' ≡ drop bounds.size rest
         → AreWorkedOff c next total bounds requests rest' worked' k' first host
     worked_on more worked' rest' is answered epochs rest_so = subst (λ n. AreWorkedOff c next n bounds requests rest' worked' k' first host) (sym sums) (⊎_elim
-        (λ x. absurd (subst (λ r. RefusedEnds a.d x.number (reads host) (may_leave host) (done_of r)) is x.ends))
+        (λ x. absurd (subst (λ r. RefusedEnds a.d x.number (frame.reads host) (frame.may_leave host) (done_of r)) is x.ends))
         (λ x. worked_more c next spare more_spare bounds requests rest worked k first mid host part a quiet part_is result k' x more worked' rest' is answered epochs rest_so) comes)
 
     -- it broke off
-    pub worked_off : (f : BatchFault) → result ≡ Err f → HasReason k.next_epoch more_spare (known_of k.kept []) part f → Works moment observed said reads may_leave c next total bounds requests (Err f) k' first host
-    worked_off f is reason = subst (λ n. Works moment observed said reads may_leave c next n bounds requests (Err f) k' first host) (sym sums) (⊎_elim
+    pub worked_off : (f : BatchFault) → result ≡ Err f → HasReason k.next_epoch more_spare (known_of k.kept []) part f → Works frame c next total bounds requests (Err f) k' first host
+    worked_off f is reason = subst (λ n. Works frame c next n bounds requests (Err f) k' first host) (sym sums) (⊎_elim
         (λ x. works_refused c next spare more_spare bounds requests rest worked k first mid host part a quiet part_is (done_of result) x f k' (ap done_of is) reason)
         (λ x. works_failed c next spare more_spare bounds requests rest worked k first mid host part a quiet part_is result k' x f is) comes)
 
   -- nothing is worked off, since memory ran out before
-  pub works_none : OnlyNow moment observed said reads may_leave → (c : Contents) (spare : ℕ) (bounds : RunBounds) (requests : List Request) (k : Cluster) (host : H) → RestsOn c (reads host) (may_leave host) → StandsAt c k
-      → Works moment observed said reads may_leave c k.next_epoch spare bounds requests (Err fault.NoMemory) k host host
+  pub works_none : OnlyNow frame → (c : Contents) (spare : ℕ) (bounds : RunBounds) (requests : List Request) (k : Cluster) (host : H) → RestsOn c (frame.reads host) (frame.may_leave host) → StandsAt c k
+      → Works frame c k.next_epoch spare bounds requests (Err fault.NoMemory) k host host
   works_none only_now c spare bounds requests k host rests stands =
       let worked : Worked = record { answered = 0; epochs = 0 } in
       let a = worked_new only_now c 0 bounds requests worked k host refl refl rests stands in
       worked_off c k.next_epoch 0 spare spare bounds requests requests worked k k host host host (take bounds.size requests) (Err fault.NoMemory) (omega arith) a refl refl
-      (inl (refused_early moment observed said reads may_leave only_now (Err fault.NoMemory) a.d k spare host refl a.rests a.stands)) fault.NoMemory refl tt
+      (inl (refused_early frame only_now (Err fault.NoMemory) a.d k spare host refl a.rests a.stands)) fault.NoMemory refl tt

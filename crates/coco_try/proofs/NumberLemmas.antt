@@ -1,6 +1,7 @@
 -- Requests that could each have a number of its own use no number up.
 use Rattle.std.proofs.Common.{◌≡◌, ℕ, zero, suc, ◌+◌, ◌*◌, ◌<◌, ◌≤◌, List, [], ◌∷◌, drop, length, ap, ◌∙◌, arith, length-append}
 use Rattle.std.proofs.lemmas.List.{length-drop, length-take}
+use Rattle.coco_serve.proofs.RunLemmas.{few_epochs}
 use Rattle.coco_types.specs.Limits.{epochs_end}
 use Rattle.coco_types.specs.declared.call.Request.{Request}
 use Rattle.coco_ast.specs.History.{History}
@@ -14,10 +15,6 @@ use Rattle.coco_try.specs.Trying.{AreUsedUp, Progress}
 use Rattle.coco_try.specs.Work.{HasNew}
 use Rattle.coco_try.proofs.GrowthLemmas.{parts-length}
 
-one_at_most : (rs : List Request) → epochs_of rs ≤ 1
-one_at_most [] = omega arith
-one_at_most (r ∷ rs) = omega arith
-
 -- a history has no more epochs more than there are batches
 gains_few : (m : Manner) (h : History) (parts : List (List Request)) (classes : List (List Class)) (g : History) → GrowsByParts m h parts classes g → length g.epochs ≤ length h.epochs + length parts
 gains_few m h [] classes g all = (let same = ap (λ (x : History). length x.epochs) all.1 in omega (arith, same))
@@ -25,7 +22,7 @@ gains_few m h (p ∷ parts) [] g all = absurd all
 gains_few m h (p ∷ parts) (cs ∷ classes) g all =
     let gained = added_by h (new_of cs) all.0 all.2.0 in
     let more = ap length gained.1 ∙ length-append h.epochs gained.0 in
-    let one = one_at_most (new_of cs) in
+    let one = few_epochs (new_of cs) in
     let rest = gains_few m all.0 parts classes g all.3 in
     omega (arith, gained.2, more, one, rest)
 

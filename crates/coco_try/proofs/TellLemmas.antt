@@ -14,6 +14,7 @@ use Rattle.coco_cluster.proofs.BehindLemmas.{behind_later}
 use Rattle.coco_cluster.proofs.WriteLemmas.{writes_none, writes_then}
 use Rattle.coco_host.specs.Files.{Files, NoMore}
 use Rattle.coco_host.specs.Moments.{IsNew, IsSaidBetween, Observation, SeesOnly}
+use Rattle.coco_host.specs.declared.host.Host.{Ghosts as HostGhosts}
 use Rattle.coco_io.specs.Counts.{CountsWrite}
 use Rattle.coco_log.proofs.OnlyRead.{sees_then, sees_weaker}
 use Rattle.coco_store.specs.Contents.{Contents, history_of, map_in}
@@ -50,24 +51,24 @@ done_cause next requests was now before mid after same disks says = (λ i. recor
 
 -- ---- what is left
 
-module _ {H : Type 0} (moment : H → ℕ) (observed : H → ℕ → Observation → Type 0) (said : H → Option (List ℕ)) (reads : H → Option Files) (may_leave : H → Files → Type 0) where
+module _ {H : Type 0} (frame : HostGhosts H) where
   -- working off broke off, and nothing is said
-  module _ (seen_now : SeenNow moment observed said reads may_leave) (c : Contents) (next spare : ℕ) (bounds : RunBounds) (requests : List Request) (result : Result Worked BatchFault) (k : Cluster) (first host : H)
-      (w : Works moment observed said reads may_leave c next spare bounds requests result k first host) (quiet : said host ≡ said first) where
+  module _ (seen_now : SeenNow frame) (c : Contents) (next spare : ℕ) (bounds : RunBounds) (requests : List Request) (result : Result Worked BatchFault) (k : Cluster) (first host : H)
+      (w : Works frame c next spare bounds requests result k first host) (quiet : frame.said host ≡ frame.said first) where
     abbrev Seen : Observation → Type 0
-    Seen = IsSeen c.setting bounds (history_of c) next spare requests w.progress (said first)
+    Seen = IsSeen c.setting bounds (history_of c) next spare requests w.progress (frame.said first)
 
     abbrev Shows : Observation → Type 0
-    Shows = Unsaid (ShowsParts c.setting bounds (history_of c) next spare requests w.progress.count w.progress.classes w.progress.history) (said first)
+    Shows = Unsaid (ShowsParts c.setting bounds (history_of c) next spare requests w.progress.count w.progress.classes w.progress.history) (frame.said first)
 
-    pub unsaid_moments : SeesOnly moment observed first host Seen
-    unsaid_moments = sees_weaker moment observed first host Shows Seen (λ seen u. record { shows = u.0; says = inl u.1 }) w.moments
+    pub unsaid_moments : SeesOnly frame.moment frame.observed first host Seen
+    unsaid_moments = sees_weaker frame.moment frame.observed first host Shows Seen (λ seen u. record { shows = u.0; says = inl u.1 }) w.moments
 
-    leaves_now : LeavesLast c.setting bounds (history_of c) next spare requests w.progress (said first) (may_leave host) → LeavesLast c.setting bounds (history_of c) next spare requests w.progress (said host) (may_leave host)
-    leaves_now l = subst (λ o. LeavesLast c.setting bounds (history_of c) next spare requests w.progress o (may_leave host)) (sym quiet) l
+    leaves_now : LeavesLast c.setting bounds (history_of c) next spare requests w.progress (frame.said first) (frame.may_leave host) → LeavesLast c.setting bounds (history_of c) next spare requests w.progress (frame.said host) (frame.may_leave host)
+    leaves_now l = subst (λ o. LeavesLast c.setting bounds (history_of c) next spare requests w.progress o (frame.may_leave host)) (sym quiet) l
 
-    by_fault : (f : BatchFault) → WorkEnds c next spare bounds requests w.progress k (said first) (reads host) (may_leave host) (Err f)
-        → TryEnds c next spare bounds requests w.progress (said first) (said host) (reads host) (may_leave host) (Err f)
+    by_fault : (f : BatchFault) → WorkEnds c next spare bounds requests w.progress k (frame.said first) (frame.reads host) (frame.may_leave host) (Err f)
+        → TryEnds c next spare bounds requests w.progress (frame.said first) (frame.said host) (frame.reads host) (frame.may_leave host) (Err f)
     by_fault fault.Say ends = absurd ends
     by_fault fault.Disk ends = (leaves_now ends, quiet)
     by_fault (fault.NotAStore file at) ends = ends
@@ -75,27 +76,27 @@ module _ {H : Type 0} (moment : H → ℕ) (observed : H → ℕ → Observation
     by_fault fault.EpochsUsedUp ends = (ends.0, quiet, ends.1)
     by_fault fault.NoMemory ends = inl (leaves_now ends, quiet)
 
-    pub ends_unsaid : (tried : Result (Unit {0}) BatchFault) → TryEnds c next spare bounds requests w.progress (said first) (said host) (reads host) (may_leave host) tried
-        → Tries moment observed said reads may_leave c next spare bounds requests tried first host
+    pub ends_unsaid : (tried : Result (Unit {0}) BatchFault) → TryEnds c next spare bounds requests w.progress (frame.said first) (frame.said host) (frame.reads host) (frame.may_leave host) tried
+        → Tries frame c next spare bounds requests tried first host
     ends_unsaid tried ends = record {
       progress = w.progress;
       moments = unsaid_moments;
-      left = left_by moment observed said reads may_leave seen_now first host Seen unsaid_moments;
+      left = left_by frame seen_now first host Seen unsaid_moments;
       others = w.others;
       ends = ends;
     }
 
-    pub tries_failed : (f : BatchFault) (tried : Result (Unit {0}) BatchFault) → result ≡ Err f → tried ≡ Err f → Tries moment observed said reads may_leave c next spare bounds requests tried first host
+    pub tries_failed : (f : BatchFault) (tried : Result (Unit {0}) BatchFault) → result ≡ Err f → tried ≡ Err f → Tries frame c next spare bounds requests tried first host
     tries_failed f tried was is =
-        ends_unsaid tried (subst (TryEnds c next spare bounds requests w.progress (said first) (said host) (reads host) (may_leave host)) (sym is)
-        (by_fault f (subst (WorkEnds c next spare bounds requests w.progress k (said first) (reads host) (may_leave host)) was w.ends)))
+        ends_unsaid tried (subst (TryEnds c next spare bounds requests w.progress (frame.said first) (frame.said host) (frame.reads host) (frame.may_leave host)) (sym is)
+        (by_fault f (subst (WorkEnds c next spare bounds requests w.progress k (frame.said first) (frame.reads host) (frame.may_leave host)) was w.ends)))
 
     -- all is worked off
     module _ (worked : Worked) (done : result ≡ Ok worked) where
-      ends_so : WorkEnds c next spare bounds requests w.progress k (said first) (reads host) (may_leave host) (Ok worked)
-      ends_so = subst (WorkEnds c next spare bounds requests w.progress k (said first) (reads host) (may_leave host)) done w.ends
+      ends_so : WorkEnds c next spare bounds requests w.progress k (frame.said first) (frame.reads host) (frame.may_leave host) (Ok worked)
+      ends_so = subst (WorkEnds c next spare bounds requests w.progress k (frame.said first) (frame.reads host) (frame.may_leave host)) done w.ends
 
-      stand : StandsWith c.setting w.progress.history k (reads host) (may_leave host)
+      stand : StandsWith c.setting w.progress.history k (frame.reads host) (frame.may_leave host)
       stand = ends_so.1
 
       below : IsBehindAll stand.d w.progress.end
@@ -111,8 +112,8 @@ module _ {H : Type 0} (moment : H → ℕ) (observed : H → ℕ → Observation
           is ∙ ap (λ (m : Rows). report_text worked.answered worked.epochs (sum_in m)) (rows (map_in stand.d) stand.stands.map) ∙ (λ i. report_text (answered i) (epochs i) (sum_in (map_of (settings i).tree (histories i))))
 
       -- out of memory before anything is said
-      pub tries_untold : (tried : Result (Unit {0}) BatchFault) → tried ≡ Err fault.NoMemory → Tries moment observed said reads may_leave c next spare bounds requests tried first host
-      tries_untold tried is = ends_unsaid tried (subst (TryEnds c next spare bounds requests w.progress (said first) (said host) (reads host) (may_leave host)) (sym is) (inl (
+      pub tries_untold : (tried : Result (Unit {0}) BatchFault) → tried ≡ Err fault.NoMemory → Tries frame c next spare bounds requests tried first host
+      tries_untold tried is = ends_unsaid tried (subst (TryEnds c next spare bounds requests w.progress (frame.said first) (frame.said host) (frame.reads host) (frame.may_leave host)) (sym is) (inl (
         record {
           count = w.progress.count;
           last = inl refl;
@@ -132,14 +133,14 @@ module _ {H : Type 0} (moment : H → ℕ) (observed : H → ℕ → Observation
       )))
 
       -- a text is said of it
-      module _ (new : H) (text : List ℕ) (are : text ≡ report_of w.progress) (unread : reads new ≡ reads host) (crash : NoMore (may_leave host) (may_leave new))
-          (sees : SeesOnly moment observed host new (IsNew (may_leave host) (said host) (said new))) (part : SaysPart text (said host) (said new)) where
-        part_so : SaysPart (report_of w.progress) (said first) (said new)
-        part_so = (part.0, part.1 ∙ ap (λ o. append_known o (take part.0 text)) quiet ∙ ap (λ l. append_known (said first) (take part.0 l)) are)
+      module _ (new : H) (text : List ℕ) (are : text ≡ report_of w.progress) (unread : frame.reads new ≡ frame.reads host) (crash : NoMore (frame.may_leave host) (frame.may_leave new))
+          (sees : SeesOnly frame.moment frame.observed host new (IsNew (frame.may_leave host) (frame.said host) (frame.said new))) (part : SaysPart text (frame.said host) (frame.said new)) where
+        part_so : SaysPart (report_of w.progress) (frame.said first) (frame.said new)
+        part_so = (part.0, part.1 ∙ ap (λ o. append_known o (take part.0 text)) quiet ∙ ap (λ l. append_known (frame.said first) (take part.0 l)) are)
 
-        telling_shows : (seen : Observation) → IsNew (may_leave host) (said host) (said new) seen → Seen seen
+        telling_shows : (seen : Observation) → IsNew (frame.may_leave host) (frame.said host) (frame.said new) seen → Seen seen
         telling_shows seen is_new =
-            let between : IsSaidBetween (said first) (said new) seen.said = subst (λ o. IsSaidBetween o (said new) seen.said) quiet is_new.said in
+            let between : IsSaidBetween (frame.said first) (frame.said new) seen.said = subst (λ o. IsSaidBetween o (frame.said new) seen.said) quiet is_new.said in
             record {
               shows = all_shown c.setting bounds (history_of c) next spare requests w.progress.count w.progress.classes w.progress.history w.progress.grown w.progress.end w.progress.numbers seen (record {
                 contents = stand.d;
@@ -148,13 +149,13 @@ module _ {H : Type 0} (moment : H → ℕ) (observed : H → ℕ → Observation
                 history = stand.history;
                 below = behind_later stand.d w.progress.end (w.progress.end + 1) (omega arith) below;
               });
-              says = inr (ends_so.0, refl, said_between (said first) (said new) (report_of w.progress) seen.said part_so.0 part_so.1 between);
+              says = inr (ends_so.0, refl, said_between (frame.said first) (frame.said new) (report_of w.progress) seen.said part_so.0 part_so.1 between);
             }
 
-        moments_told : SeesOnly moment observed first new Seen
-        moments_told = sees_then moment observed first host new Seen (IsNew (may_leave host) (said host) (said new)) unsaid_moments sees telling_shows
+        moments_told : SeesOnly frame.moment frame.observed first new Seen
+        moments_told = sees_then frame.moment frame.observed first host new Seen (IsNew (frame.may_leave host) (frame.said host) (frame.said new)) unsaid_moments sees telling_shows
 
-        rests_still : RestsOn stand.d (reads new) (may_leave new)
+        rests_still : RestsOn stand.d (frame.reads new) (frame.may_leave new)
         rests_still = record {
           files = stand.rests.files;
           are = unread ∙ stand.rests.are;
@@ -162,31 +163,31 @@ module _ {H : Type 0} (moment : H → ℕ) (observed : H → ℕ → Observation
           left = λ image leaves. stand.rests.left image (crash image leaves);
         }
 
-        rests_at : RestsAt c.setting w.progress.history w.progress.end (reads new) (may_leave new)
+        rests_at : RestsAt c.setting w.progress.history w.progress.end (frame.reads new) (frame.may_leave new)
         rests_at = (stand.d, stand.setting, stand.history, below, rests_still)
 
-        told : (tried : Result (Unit {0}) BatchFault) → TryEnds c next spare bounds requests w.progress (said first) (said new) (reads new) (may_leave new) tried
-            → Tries moment observed said reads may_leave c next spare bounds requests tried first new
+        told : (tried : Result (Unit {0}) BatchFault) → TryEnds c next spare bounds requests w.progress (frame.said first) (frame.said new) (frame.reads new) (frame.may_leave new) tried
+            → Tries frame c next spare bounds requests tried first new
         told tried ends = record {
           progress = w.progress;
           moments = moments_told;
-          left = left_by moment observed said reads may_leave seen_now first new Seen moments_told;
-          others = writes_then c.setting (reads first) (reads host) (reads new) (may_leave first) (may_leave host) (may_leave new) w.others
-              (writes_none c.setting (reads host) (reads new) (may_leave host) (may_leave new) unread crash);
+          left = left_by frame seen_now first new Seen moments_told;
+          others = writes_then c.setting (frame.reads first) (frame.reads host) (frame.reads new) (frame.may_leave first) (frame.may_leave host) (frame.may_leave new) w.others
+              (writes_none c.setting (frame.reads host) (frame.reads new) (frame.may_leave host) (frame.may_leave new) unread crash);
           ends = ends;
         }
 
         -- it is said whole
-        pub tries_told : said new ≡ append_known (said host) text → Tries moment observed said reads may_leave c next spare bounds requests (Ok tt) first new
-        tries_told whole = told (Ok tt) (ends_so.0, rests_at, whole ∙ ap (λ o. append_known o text) quiet ∙ ap (append_known (said first)) are)
+        pub tries_told : frame.said new ≡ append_known (frame.said host) text → Tries frame c next spare bounds requests (Ok tt) first new
+        tries_told whole = told (Ok tt) (ends_so.0, rests_at, whole ∙ ap (λ o. append_known o text) quiet ∙ ap (append_known (frame.said first)) are)
 
-        in_part : IsToldInPart c.setting bounds (history_of c) next spare requests w.progress (said first) (said new) (reads new) (may_leave new)
+        in_part : IsToldInPart c.setting bounds (history_of c) next spare requests w.progress (frame.said first) (frame.said new) (frame.reads new) (frame.may_leave new)
         in_part = (ends_so.0, rests_at, part_so)
 
-        by_saying : (f : OutFault) → TryEnds c next spare bounds requests w.progress (said first) (said new) (reads new) (may_leave new) (Err (fault_of_saying f))
+        by_saying : (f : OutFault) → TryEnds c next spare bounds requests w.progress (frame.said first) (frame.said new) (frame.reads new) (frame.may_leave new) (Err (fault_of_saying f))
         by_saying out.Failed = in_part
         by_saying out.NoMemory = inr in_part
 
         -- the saying broke off
-        pub tries_cut : (f : OutFault) (tried : Result (Unit {0}) BatchFault) → tried ≡ Err (fault_of_saying f) → Tries moment observed said reads may_leave c next spare bounds requests tried first new
-        tries_cut f tried is = told tried (subst (TryEnds c next spare bounds requests w.progress (said first) (said new) (reads new) (may_leave new)) (sym is) (by_saying f))
+        pub tries_cut : (f : OutFault) (tried : Result (Unit {0}) BatchFault) → tried ≡ Err (fault_of_saying f) → Tries frame c next spare bounds requests tried first new
+        tries_cut f tried is = told tried (subst (TryEnds c next spare bounds requests w.progress (frame.said first) (frame.said new) (frame.reads new) (frame.may_leave new)) (sym is) (by_saying f))

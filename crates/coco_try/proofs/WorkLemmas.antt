@@ -12,6 +12,7 @@ use Rattle.coco_cluster.specs.declared.fault.TurnFault.{TurnFault}
 use Rattle.coco_cluster.specs.declared.fault.TurnFault.TheVariants as turn
 use Rattle.coco_host.specs.Files.{Files}
 use Rattle.coco_host.specs.Moments.{Observation}
+use Rattle.coco_host.specs.declared.host.Host.{Ghosts as HostGhosts}
 use Rattle.coco_lines.specs.Classes.{Known, known_in, new_of}
 use Rattle.coco_store.specs.Contents.{Contents, history_of}
 use Rattle.coco_serve.specs.Faults.{Counts, fault_of_turn}
@@ -80,7 +81,7 @@ part_counts f turned result k part fresh requests answered next was now before a
 
 -- ---- files
 
-module _ {H : Type 0} (moment : H → ℕ) (observed : H → ℕ → Observation → Type 0) (said : H → Option (List ℕ)) (reads : H → Option Files) (may_leave : H → Files → Type 0) where
+module _ {H : Type 0} (frame : HostGhosts H) where
   module _ (part fresh requests : List Request) (answered : ℕ) (bounds : RunBounds) (spare : ℕ) (c : Contents) (before after : Cluster) (old new : H) (has : HasClasses (known_of before.kept []) part fresh answered)
       (same : requests ≡ fresh) (stands : StandsAt c before) where
     are : AreClassesOf (known_in (history_of c)) part has.classes
@@ -91,8 +92,8 @@ module _ {H : Type 0} (moment : H → ℕ) (observed : H → ℕ → Observation
 
     -- its turn failed
     module _ (f : TurnFault) (turned : Result (Unit {0}) TurnFault) (was : turned ≡ Err f) (none : RefusesNone f) where
-      fails : Turns moment observed said reads may_leave turned requests bounds.workers bounds.attempts spare c before after old new
-          → WorksOffPart moment observed said reads may_leave (Err (fault_of_turn f)) part bounds c before.next_epoch spare after old new
+      fails : Turns frame turned requests bounds.workers bounds.attempts spare c before after old new
+          → WorksOffPart frame (Err (fault_of_turn f)) part bounds c before.next_epoch spare after old new
       fails t = by f none (subst MayHaveCommitted was t.may)
         where
           numbers : AddsWithin before.next_epoch (t.number + epochs_of (new_of has.classes)) spare (history_of c) (history_of t.d)
@@ -105,7 +106,7 @@ module _ {H : Type 0} (moment : H → ℕ) (observed : H → ℕ → Observation
           grows : GrowsByExecution (manner_of c.setting bounds) (history_of c) (new_of has.classes) (history_of t.d)
           grows = subst (λ rs. GrowsByExecution (manner_of c.setting bounds) (history_of c) rs (history_of t.d)) news (grows_by_execution requests bounds t.number t.trace c t.d t.grown)
 
-          by : (f : TurnFault) → RefusesNone f → MayHaveCommitted {T = Unit {0}} (Err f) → WorksOffPart moment observed said reads may_leave (Err (fault_of_turn f)) part bounds c before.next_epoch spare after old new
+          by : (f : TurnFault) → RefusesNone f → MayHaveCommitted {T = Unit {0}} (Err f) → WorksOffPart frame (Err (fault_of_turn f)) part bounds c before.next_epoch spare after old new
           by turn.Disk none may = record {
             classes = has.classes;
             are = are;
@@ -141,17 +142,17 @@ module _ {H : Type 0} (moment : H → ℕ) (observed : H → ℕ → Observation
           }
 
     pub part_failed : (f : TurnFault) (turned : Result (Unit {0}) TurnFault) (result : Result Worked BatchFault) → turned ≡ Err f → ((file at : ℕ) → turned ≢ Err (turn.NotAStore file at))
-        → result ≡ Err (fault_of_turn f) → said new ≡ said old
-        → KeepsHistory moment observed said reads may_leave turned requests before.next_epoch spare c old new ⊎ Turns moment observed said reads may_leave turned requests bounds.workers bounds.attempts spare c before after old new
-        → ComesOfPart moment observed said reads may_leave result part bounds c before.next_epoch spare after old new
+        → result ≡ Err (fault_of_turn f) → frame.said new ≡ frame.said old
+        → KeepsHistory frame turned requests before.next_epoch spare c old new ⊎ Turns frame turned requests bounds.workers bounds.attempts spare c before after old new
+        → ComesOfPart frame result part bounds c before.next_epoch spare after old new
     part_failed f turned result was never is quiet turns =
         let none : RefusesNone f = λ file at e. never file at (was ∙ ap Err e) in
-        subst (λ r. ComesOfPart moment observed said reads may_leave r part bounds c before.next_epoch spare after old new) (sym is)
-        (⊎_elim (λ keeps. inl (refused moment observed said reads may_leave f turned requests spare c before old new was none quiet keeps)) (λ t. inr (fails f turned was none t)) turns)
+        subst (λ r. ComesOfPart frame r part bounds c before.next_epoch spare after old new) (sym is)
+        (⊎_elim (λ keeps. inl (refused frame f turned requests spare c before old new was none quiet keeps)) (λ t. inr (fails f turned was none t)) turns)
 
     -- it committed
-    pub part_done : (worked : Worked) → worked.answered ≡ answered → worked.epochs ≡ epochs_of requests → Committed moment observed said reads may_leave c requests bounds before.next_epoch spare after old new
-        → WorksOffPart moment observed said reads may_leave (Ok worked) part bounds c before.next_epoch spare after old new
+    pub part_done : (worked : Worked) → worked.answered ≡ answered → worked.epochs ≡ epochs_of requests → Committed frame c requests bounds before.next_epoch spare after old new
+        → WorksOffPart frame (Ok worked) part bounds c before.next_epoch spare after old new
     part_done worked answered_is epochs_is done = record {
       classes = has.classes;
       are = are;

@@ -13,6 +13,7 @@ use Rattle.coco_cluster.specs.Writing.{WritesLogs}
 use Rattle.coco_cluster.specs.declared.cluster.Cluster.{Cluster}
 use Rattle.coco_host.specs.Files.{Files}
 use Rattle.coco_host.specs.Moments.{Observation, SeesOnly}
+use Rattle.coco_host.specs.declared.host.Host.{Ghosts as HostGhosts}
 use Rattle.coco_io.specs.Counts.{Rose}
 use Rattle.coco_lines.specs.Batches.{joined}
 use Rattle.coco_lines.specs.Classes.{known_in}
@@ -129,18 +130,18 @@ TryEnds c next spare bounds requests p before now reads may_leave (Err fault.NoM
     ⊎ IsToldInPart c.setting bounds (history_of c) next spare requests p before now reads may_leave
 
 -- of a host that rested on these contents: what was seen meanwhile and is left behind, which files were written, and how it ended
-pub record Tries {H : Type 0} (moment : H → ℕ) (observed : H → ℕ → Observation → Type 0) (said : H → Option (List ℕ)) (reads : H → Option Files) (may_leave : H → Files → Type 0)
+pub record Tries {H : Type 0} (frame : HostGhosts H)
     (c : Contents) (next spare : ℕ) (bounds : RunBounds) (requests : List Request) (result : Result (Unit {0}) BatchFault) (old new : H) : Type 0 where
   pub progress : Progress (manner_of c.setting bounds) (history_of c) next spare bounds.size requests
-  pub moments : SeesOnly moment observed old new (IsSeen c.setting bounds (history_of c) next spare requests progress (said old))
-  pub left : (seen : Observation) → said new ≡ Some seen.said → may_leave new seen.image → IsSeen c.setting bounds (history_of c) next spare requests progress (said old) seen
-  pub others : WritesLogs c.setting (reads old) (reads new) (may_leave old) (may_leave new)
-  pub ends : TryEnds c next spare bounds requests progress (said old) (said new) (reads new) (may_leave new) result
+  pub moments : SeesOnly frame.moment frame.observed old new (IsSeen c.setting bounds (history_of c) next spare requests progress (frame.said old))
+  pub left : (seen : Observation) → frame.said new ≡ Some seen.said → frame.may_leave new seen.image → IsSeen c.setting bounds (history_of c) next spare requests progress (frame.said old) seen
+  pub others : WritesLogs c.setting (frame.reads old) (frame.reads new) (frame.may_leave old) (frame.may_leave new)
+  pub ends : TryEnds c next spare bounds requests progress (frame.said old) (frame.said new) (frame.reads new) (frame.may_leave new) result
 
 -- what came of net and power, why the call ended so, and what it made of each store that the cluster stood at
-pub record TriesOut {H : Type 0} (moment : H → ℕ) (observed : H → ℕ → Observation → Type 0) (said : H → Option (List ℕ)) (reads : H → Option Files) (may_leave : H → Files → Type 0)
+pub record TriesOut {H : Type 0} (frame : HostGhosts H)
     (cluster : Cluster) (bounds : RunBounds) (requests : List Request) (was now : Around) (before after : Counts) (result : Result (Unit {0}) BatchFault) (old new : H) : Type 0 where
   pub later : IsLater was now
   pub cause : HasCause cluster.next_epoch (length requests) was now before after result
-  pub tries : (c : Contents) → RestsOn c (reads old) (may_leave old) → StandsAt c cluster
-      → Tries moment observed said reads may_leave c cluster.next_epoch (spare was now) bounds requests result old new
+  pub tries : (c : Contents) → RestsOn c (frame.reads old) (frame.may_leave old) → StandsAt c cluster
+      → Tries frame c cluster.next_epoch (spare was now) bounds requests result old new

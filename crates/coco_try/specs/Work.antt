@@ -11,6 +11,7 @@ use Rattle.coco_cluster.specs.Writing.{WritesLogs}
 use Rattle.coco_cluster.specs.declared.cluster.Cluster.{Cluster}
 use Rattle.coco_host.specs.Files.{Files}
 use Rattle.coco_host.specs.Moments.{Observation, SeesOnly}
+use Rattle.coco_host.specs.declared.host.Host.{Ghosts as HostGhosts}
 use Rattle.coco_io.specs.Counts.{Rose}
 use Rattle.coco_lines.specs.Classes.{Known, known_in, new_of}
 use Rattle.coco_lines.specs.declared.class.Class.{Class}
@@ -60,7 +61,7 @@ PartEnds c d end after classes said reads may_leave (Err fault.EpochsUsedUp) = �
 PartEnds c d end after classes said reads may_leave (Err fault.NoMemory) = LeavesEither c.setting (history_of c) (history_of d) end said may_leave
 
 -- the store has grown by a batch, whose epoch, if it has one, has this number, before which few were skipped. At each moment there is the store of before or the grown one, and no more is said
-pub record WorksOffPart {H : Type 0} (moment : H → ℕ) (observed : H → ℕ → Observation → Type 0) (said : H → Option (List ℕ)) (reads : H → Option Files) (may_leave : H → Files → Type 0)
+pub record WorksOffPart {H : Type 0} (frame : HostGhosts H)
     (result : Result Worked BatchFault) (part : List Request) (bounds : RunBounds) (c : Contents) (next spare : ℕ) (after : Cluster) (old new : H) : Type 0 where
   pub classes : List Class
   pub are : AreClassesOf (known_in (history_of c)) part classes
@@ -72,9 +73,9 @@ pub record WorksOffPart {H : Type 0} (moment : H → ℕ) (observed : H → ℕ 
   pub numbers : AddsWithin next (number + epochs_of (new_of classes)) spare (history_of c) (history_of d)
   pub below : IsBehindAll d (number + epochs_of (new_of classes))
   pub next_is : OnOk result (after.next_epoch ≡ number + epochs_of (new_of classes))
-  pub moments : SeesOnly moment observed old new (ShowsStore c.setting (history_of c) (history_of d) (number + 1) (said old))
-  pub others : WritesLogs c.setting (reads old) (reads new) (may_leave old) (may_leave new)
-  pub ends : PartEnds c d (number + 1) after classes (said old) (reads new) (may_leave new) result
+  pub moments : SeesOnly frame.moment frame.observed old new (ShowsStore c.setting (history_of c) (history_of d) (number + 1) (frame.said old))
+  pub others : WritesLogs c.setting (frame.reads old) (frame.reads new) (frame.may_leave old) (frame.may_leave new)
+  pub ends : PartEnds c d (number + 1) after classes (frame.said old) (frame.reads new) (frame.may_leave new) result
 
 -- an answer without its counts
 abbrev pub done_of : Result Worked BatchFault → Result (Unit {0}) BatchFault
@@ -82,11 +83,11 @@ done_of (Ok worked) = Ok tt
 done_of (Err f) = Err f
 
 -- nothing of the batch is committed, or it may be
-abbrev pub ComesOfPart : {H : Type 0} (moment : H → ℕ) (observed : H → ℕ → Observation → Type 0) (said : H → Option (List ℕ)) (reads : H → Option Files) (may_leave : H → Files → Type 0)
+abbrev pub ComesOfPart : {H : Type 0} (frame : HostGhosts H)
     → Result Worked BatchFault → List Request → RunBounds → Contents → ℕ → ℕ → Cluster → H → H → Type 0
-ComesOfPart moment observed said reads may_leave result part bounds c next spare after old new =
-    IsRefused moment observed said reads may_leave (done_of result) c next spare old new
-    ⊎ WorksOffPart moment observed said reads may_leave result part bounds c next spare after old new
+ComesOfPart frame result part bounds c next spare after old new =
+    IsRefused frame (done_of result) c next spare old new
+    ⊎ WorksOffPart frame result part bounds c next spare after old new
 
 -- a count rose where its fault is answered, and none moved where there is no fault; nodes are unreachable where four attempts were given up, and epochs are used up where there is no next
 -- number, but for few that may have been skipped: either where one of the requests is new. Nothing is said, so the reply stream doesn't fail

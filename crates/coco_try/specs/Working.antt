@@ -8,6 +8,7 @@ use Rattle.coco_cluster.specs.Writing.{WritesLogs}
 use Rattle.coco_cluster.specs.declared.cluster.Cluster.{Cluster}
 use Rattle.coco_host.specs.Files.{Files}
 use Rattle.coco_host.specs.Moments.{Observation, SeesOnly}
+use Rattle.coco_host.specs.declared.host.Host.{Ghosts as HostGhosts}
 use Rattle.coco_lines.specs.Batches.{joined}
 use Rattle.coco_serve.specs.Growth.{manner_of}
 use Rattle.coco_serve.specs.Serving.{RestsAt}
@@ -46,9 +47,9 @@ abbrev pub Unsaid : (Observation → Type 0) → Option (List ℕ) → Observati
 Unsaid Shows said seen = Shows seen × (said ≡ Some seen.said)
 
 -- of a host that rested on these contents: what was seen meanwhile, which files were written, and how it ended
-pub record Works {H : Type 0} (moment : H → ℕ) (observed : H → ℕ → Observation → Type 0) (said : H → Option (List ℕ)) (reads : H → Option Files) (may_leave : H → Files → Type 0)
+pub record Works {H : Type 0} (frame : HostGhosts H)
     (c : Contents) (next spare : ℕ) (bounds : RunBounds) (requests : List Request) (result : Result Worked BatchFault) (after : Cluster) (old new : H) : Type 0 where
   pub progress : Progress (manner_of c.setting bounds) (history_of c) next spare bounds.size requests
-  pub moments : SeesOnly moment observed old new (Unsaid (ShowsParts c.setting bounds (history_of c) next spare requests progress.count progress.classes progress.history) (said old))
-  pub others : WritesLogs c.setting (reads old) (reads new) (may_leave old) (may_leave new)
-  pub ends : WorkEnds c next spare bounds requests progress after (said old) (reads new) (may_leave new) result
+  pub moments : SeesOnly frame.moment frame.observed old new (Unsaid (ShowsParts c.setting bounds (history_of c) next spare requests progress.count progress.classes progress.history) (frame.said old))
+  pub others : WritesLogs c.setting (frame.reads old) (frame.reads new) (frame.may_leave old) (frame.may_leave new)
+  pub ends : WorkEnds c next spare bounds requests progress after (frame.said old) (frame.reads new) (frame.may_leave new) result

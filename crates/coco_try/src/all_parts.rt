@@ -65,9 +65,9 @@ pub fn try_calls<
     requires sound { IsSound cluster.old (N.sent net.old) }
     requires room { length cluster.old.kept.dones ≤ most_kept }
     requires stand { AllStand cluster.old (H.reads host.old) (H.may_leave host.old) }
-    ensures { TriesOut H.moment H.observed H.said H.reads H.may_leave cluster.old bounds (workload_of load.calls load.seed)
-        (around N.sent N.given N.faults N.last_seed P.stops_seen P.early_stops P.stopped P.begun P.asked net.old power.old)
-        (around N.sent N.given N.faults N.last_seed P.stops_seen P.early_stops P.stopped P.begun P.asked net.new power.new)
+    ensures { TriesOut H.Host cluster.old bounds (workload_of load.calls load.seed)
+        (around N.Net P.Power net.old power.old)
+        (around N.Net P.Power net.new power.new)
         (record { say = H.say_faults host.old; disk = H.disk_faults host.old }) (record { say = H.say_faults host.new; disk = H.disk_faults host.new })
         result host.old host.new }
 {
@@ -104,11 +104,11 @@ fn work_off<R: Threads + Wait + Clock + Sync, H: Host, N: Net + Sync, P: Power, 
     requires room { length cluster.old.kept.dones ≤ most_kept }
     requires stand { AllStand cluster.old (H.reads host.old) (H.may_leave host.old) }
     ensures works { (c : Contents) → RestsOn c (H.reads host.old) (H.may_leave host.old) → StandsAt c cluster.old
-        → Works H.moment H.observed H.said H.reads H.may_leave c cluster.old.next_epoch (spare (around N.sent N.given N.faults N.last_seed P.stops_seen P.early_stops P.stopped P.begun P.asked net.old power.old) (around N.sent N.given N.faults N.last_seed P.stops_seen P.early_stops P.stopped P.begun P.asked net.new power.new)) bounds requests.now result cluster.new host.old host.new }
-    ensures later { IsLater (around N.sent N.given N.faults N.last_seed P.stops_seen P.early_stops P.stopped P.begun P.asked net.old power.old) (around N.sent N.given N.faults N.last_seed P.stops_seen P.early_stops P.stopped P.begun P.asked net.new power.new) }
+        → Works H.Host c cluster.old.next_epoch (spare (around N.Net P.Power net.old power.old) (around N.Net P.Power net.new power.new)) bounds requests.now result cluster.new host.old host.new }
+    ensures later { IsLater (around N.Net P.Power net.old power.old) (around N.Net P.Power net.new power.new) }
     ensures said { H.said host.new ≡ H.said host.old }
     ensures cause { HasCause cluster.old.next_epoch (length requests.now)
-        (around N.sent N.given N.faults N.last_seed P.stops_seen P.early_stops P.stopped P.begun P.asked net.old power.old) (around N.sent N.given N.faults N.last_seed P.stops_seen P.early_stops P.stopped P.begun P.asked net.new power.new)
+        (around N.Net P.Power net.old power.old) (around N.Net P.Power net.new power.new)
         (record { say = H.say_faults host.old; disk = H.disk_faults host.old }) (record { say = H.say_faults host.new; disk = H.disk_faults host.new }) (done_of result) }
 {
     let mut worked = Worked {

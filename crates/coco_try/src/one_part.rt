@@ -121,16 +121,16 @@ pub fn work_part<
     requires room { length cluster.old.kept.dones ≤ most_kept }
     requires stand { AllStand cluster.old (H.reads host.old) (H.may_leave host.old) }
     ensures comes { (c : Contents) → RestsOn c (H.reads host.old) (H.may_leave host.old) → StandsAt c cluster.old
-        → ComesOfPart H.moment H.observed H.said H.reads H.may_leave result part.now bounds c cluster.old.next_epoch (spare (around N.sent N.given N.faults N.last_seed P.stops_seen P.early_stops P.stopped P.begun P.asked net.old power.old) (around N.sent N.given N.faults N.last_seed P.stops_seen P.early_stops P.stopped P.begun P.asked net.new power.new)) cluster.new host.old host.new }
+        → ComesOfPart H.Host result part.now bounds c cluster.old.next_epoch (spare (around N.Net P.Power net.old power.old) (around N.Net P.Power net.new power.new)) cluster.new host.old host.new }
     ensures stand { OnOk result (AllStand cluster.new (H.reads host.new) (H.may_leave host.new)) }
     ensures sound { OnOk result (IsSound cluster.new (N.sent net.new)) }
     ensures room { OnOk result (length cluster.new.kept.dones ≤ most_kept) }
     ensures few { IfOk result (IsFew (length part.now)) }
-    ensures next { IfOk result (λ worked. SkipsFew cluster.old.next_epoch cluster.new.next_epoch worked.epochs (spare (around N.sent N.given N.faults N.last_seed P.stops_seen P.early_stops P.stopped P.begun P.asked net.old power.old) (around N.sent N.given N.faults N.last_seed P.stops_seen P.early_stops P.stopped P.begun P.asked net.new power.new))) }
-    ensures later { IsLater (around N.sent N.given N.faults N.last_seed P.stops_seen P.early_stops P.stopped P.begun P.asked net.old power.old) (around N.sent N.given N.faults N.last_seed P.stops_seen P.early_stops P.stopped P.begun P.asked net.new power.new) }
+    ensures next { IfOk result (λ worked. SkipsFew cluster.old.next_epoch cluster.new.next_epoch worked.epochs (spare (around N.Net P.Power net.old power.old) (around N.Net P.Power net.new power.new))) }
+    ensures later { IsLater (around N.Net P.Power net.old power.old) (around N.Net P.Power net.new power.new) }
     ensures procs { cluster.new.procs ≡ cluster.old.procs }
     ensures said { H.said host.new ≡ H.said host.old }
-    ensures counts { CountsPart result (known_of cluster.old.kept []) part.now cluster.old.next_epoch (around N.sent N.given N.faults N.last_seed P.stops_seen P.early_stops P.stopped P.begun P.asked net.old power.old) (around N.sent N.given N.faults N.last_seed P.stops_seen P.early_stops P.stopped P.begun P.asked net.new power.new)
+    ensures counts { CountsPart result (known_of cluster.old.kept []) part.now cluster.old.next_epoch (around N.Net P.Power net.old power.old) (around N.Net P.Power net.new power.new)
         (record { say = H.say_faults host.old; disk = H.disk_faults host.old })
         (record { say = H.say_faults host.new; disk = H.disk_faults host.new }) }
 {

@@ -12,6 +12,7 @@ use coco_audit::{
 use coco_check::built_in;
 use coco_kept::{Found, Kept};
 use coco_lines::{LineError, RequestFault, Scratch, request};
+use coco_load::{PackedRows, packed_rows};
 use coco_shard::Shard;
 use coco_types::{Cause, Done, KeptReply, Key, MapRows, NoMemory, Reply, Text, Value};
 use std::alloc::Global;
@@ -142,6 +143,15 @@ fn lists_of(alloc: Global, lists: &[&[Row]]) -> Result<Vec<MapRows>, NoMemory> {
     Ok(rows)
 }
 
+// The lists as a store keeps them.
+fn packed(alloc: Global, lists: Vec<MapRows>) -> Result<Vec<PackedRows>, NoMemory> {
+    let mut packed = Vec::new(alloc);
+    for rows in lists {
+        packed.push(packed_rows(alloc, rows)?)?;
+    }
+    Ok(packed)
+}
+
 // How many partitions the rows of a dump are in.
 const PARTITIONS: u32 = 3;
 
@@ -251,13 +261,14 @@ fn line_of(alloc: Global, found: Option<NotSerial>, count: u64) -> Result<Vec<u8
 fn verdict_with(
     alloc: Global,
     procs: &Checked,
-    base: &[MapRows],
+    base: Vec<MapRows>,
     put: &Reply,
     get: &Reply,
     first: u64,
 ) -> Result<Vec<u8>, RequestFault> {
     let kept = kept_of(alloc, procs, put, get)?;
-    let found = verify_of(alloc, procs, base, &kept, first)?;
+    let base = packed(alloc, base)?;
+    let found = verify_of(alloc, procs, base.as_slice(), &kept, first)?;
     Ok(line_of(alloc, found, kept.len().saturating_sub(first))?)
 }
 
@@ -272,7 +283,7 @@ fn verdict(
     let procs = built_in(alloc)?;
     let base = lists_of(alloc, base)?;
     let (put, get) = (reply(put), reply(get));
-    verdict_with(alloc, &procs, base.as_slice(), &put, &get, first)
+    verdict_with(alloc, &procs, base, &put, &get, first)
 }
 
 #[test]

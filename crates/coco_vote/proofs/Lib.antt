@@ -14,3 +14,4 @@ pub mod EndingLemmas
 pub mod SayingLemmas
 pub mod FileLemmas
 pub mod WholeLemmas
+pub mod KeepingLemmas

@@ -6,6 +6,7 @@ use Rattle.std.proofs.lemmas.Bool.{eqb-true}
 use Rattle.coco_host.specs.Files.{Files}
 use Rattle.coco_host.specs.Moments.{Observation}
 use Rattle.coco_host.proofs.Sees.{started}
+use Rattle.coco_host.specs.declared.host.Host.{Ghosts as HostGhosts}
 use Rattle.coco_entry.specs.declared.commit.Commit.{Commit}
 use Rattle.coco_entry.specs.declared.prepared.Prepared.{Prepared}
 use Rattle.coco_entry.specs.declared.prepared.Row.{Row}
@@ -97,21 +98,21 @@ rests_same c b had has reads may_leave same rests = record {
   rests = rests.rests;
 }
 
-module _ {H : Type 0} (moment : H → ℕ) (observed : H → ℕ → Observation → Type 0) (said : H → Option (List ℕ)) (reads : H → Option Files) (may_leave : H → Files → Type 0) (c : Contents) (b : Ballot) where
-  is_left : (has : ℕ → Bool) (host : H) → RestsVoted c b has (reads host) (may_leave host) → (image : Files) → may_leave host image → IsVotedStore c b image
+module _ {H : Type 0} (frame : HostGhosts H) (c : Contents) (b : Ballot) where
+  is_left : (has : ℕ → Bool) (host : H) → RestsVoted c b has (frame.reads host) (frame.may_leave host) → (image : Files) → frame.may_leave host image → IsVotedStore c b image
   is_left has host rests image leaves = record { has = has; contents = rests.contents; voted = rests.voted; good = rests.rests.left image leaves }
 
-  pub keeps_same : ((host : H) (seen : Observation) → observed host (moment host) seen → may_leave host seen.image × (said host ≡ Some seen.said))
-      → (has : ℕ → Bool) (host : H) → RestsVoted c b has (reads host) (may_leave host) → KeepsVoted moment observed said may_leave c b host host
+  pub keeps_same : ((host : H) (seen : Observation) → frame.observed host (frame.moment host) seen → frame.may_leave host seen.image × (frame.said host ≡ Some seen.said))
+      → (has : ℕ → Bool) (host : H) → RestsVoted c b has (frame.reads host) (frame.may_leave host) → KeepsVoted frame c b host host
   keeps_same only_now has host rests = record {
-    moments = started moment observed host (ShowsVoted c b (said host)) (λ seen since. let now = only_now host seen since in record { store = is_left has host rests seen.image now.0; said = now.1 });
+    moments = started frame.moment frame.observed host (ShowsVoted c b (frame.said host)) (λ seen since. let now = only_now host seen since in record { store = is_left has host rests seen.image now.0; said = now.1 });
     left = λ bytes spoke image leaves. is_left has host rests image leaves;
     quiet = refl;
   }
 
-  pub keeps_then : (old mid new : H) → KeepsVoted moment observed said may_leave c b old mid → KeepsVoted moment observed said may_leave c b mid new → KeepsVoted moment observed said may_leave c b old new
+  pub keeps_then : (old mid new : H) → KeepsVoted frame c b old mid → KeepsVoted frame c b mid new → KeepsVoted frame c b old new
   keeps_then old mid new one two = record {
-    moments = sees_then moment observed old mid new (ShowsVoted c b (said old)) (ShowsVoted c b (said mid)) one.moments two.moments
+    moments = sees_then frame.moment frame.observed old mid new (ShowsVoted c b (frame.said old)) (ShowsVoted c b (frame.said mid)) one.moments two.moments
         (λ seen shows. record { store = shows.store; said = sym one.quiet ∙ shows.said });
     left = λ bytes spoke image leaves. two.left bytes (one.quiet ∙ spoke) image leaves;
     quiet = two.quiet ∙ one.quiet;
@@ -119,37 +120,37 @@ module _ {H : Type 0} (moment : H → ℕ) (observed : H → ℕ → Observation
 
   -- a call that changed nothing, and failed
   pub votes_none : {T E : Type 0} (result : Result T E) (fault : E) → result ≡ Err fault
-      → ((host : H) (seen : Observation) → observed host (moment host) seen → may_leave host seen.image × (said host ≡ Some seen.said))
-      → (had has : ℕ → Bool) (host : H) → RestsVoted c b had (reads host) (may_leave host) → Votes moment observed said reads may_leave result c b has host host
+      → ((host : H) (seen : Observation) → frame.observed host (frame.moment host) seen → frame.may_leave host seen.image × (frame.said host ≡ Some seen.said))
+      → (had has : ℕ → Bool) (host : H) → RestsVoted c b had (frame.reads host) (frame.may_leave host) → Votes frame result c b has host host
   votes_none result fault is only_now had has host rests = record {
     keeps = keeps_same only_now had host rests;
-    ok = none_ok result fault (RestsVoted c b has (reads host) (may_leave host)) is;
+    ok = none_ok result fault (RestsVoted c b has (frame.reads host) (frame.may_leave host)) is;
   }
 
   -- a call that failed as the one within it did
   pub votes_failed : {T E F : Type 0} (within : Result T E) (result : Result T F) (fault : F) → result ≡ Err fault → (has : ℕ → Bool) (old new : H)
-      → Votes moment observed said reads may_leave within c b has old new → Votes moment observed said reads may_leave result c b has old new
+      → Votes frame within c b has old new → Votes frame result c b has old new
   votes_failed within result fault is has old new votes = record {
     keeps = votes.keeps;
-    ok = none_ok result fault (RestsVoted c b has (reads new) (may_leave new)) is;
+    ok = none_ok result fault (RestsVoted c b has (frame.reads new) (frame.may_leave new)) is;
   }
 
   -- and one that succeeded so
   pub votes_succeeded : {T E F : Type 0} (within : Result T E) (result : Result T F) (x : T) → within ≡ Ok x → result ≡ Ok x → (has : ℕ → Bool) (old new : H)
-      → Votes moment observed said reads may_leave within c b has old new → Votes moment observed said reads may_leave result c b has old new
+      → Votes frame within c b has old new → Votes frame result c b has old new
   votes_succeeded within result x was is has old new votes = record {
     keeps = votes.keeps;
-    ok = subst (λ (o : Result _ _). OnOk o (RestsVoted c b has (reads new) (may_leave new))) (sym is)
-        (subst (λ (o : Result _ _). OnOk o (RestsVoted c b has (reads new) (may_leave new))) was votes.ok);
+    ok = subst (λ (o : Result _ _). OnOk o (RestsVoted c b has (frame.reads new) (frame.may_leave new))) (sym is)
+        (subst (λ (o : Result _ _). OnOk o (RestsVoted c b has (frame.reads new) (frame.may_leave new))) was votes.ok);
   }
 
   -- one that changed nothing of the files
   pub votes_same : {T E : Type 0} (result : Result T E)
-      → ((host : H) (seen : Observation) → observed host (moment host) seen → may_leave host seen.image × (said host ≡ Some seen.said))
-      → (had has : ℕ → Bool) (host : H) → ((n : ℕ) → has n ≡ had n) → RestsVoted c b had (reads host) (may_leave host) → Votes moment observed said reads may_leave result c b has host host
+      → ((host : H) (seen : Observation) → frame.observed host (frame.moment host) seen → frame.may_leave host seen.image × (frame.said host ≡ Some seen.said))
+      → (had has : ℕ → Bool) (host : H) → ((n : ℕ) → has n ≡ had n) → RestsVoted c b had (frame.reads host) (frame.may_leave host) → Votes frame result c b has host host
   votes_same result only_now had has host same rests = record {
     keeps = keeps_same only_now had host rests;
-    ok = any_ok result (RestsVoted c b has (reads host) (may_leave host)) (rests_same c b had has (reads host) (may_leave host) same rests);
+    ok = any_ok result (RestsVoted c b has (frame.reads host) (frame.may_leave host)) (rests_same c b had has (frame.reads host) (frame.may_leave host) same rests);
   }
 
   -- an append of a node's entry
@@ -163,14 +164,14 @@ module _ {H : Type 0} (moment : H → ℕ) (observed : H → ℕ → Observation
     or_more : (files : Files) → IsGoodStore files grown → IsVotedStore c b files
     or_more files good = record { has = put has n true; contents = grown; voted = voted_more c b has d voted n rows not last; good = good }
 
-    pub votes_gained : (old new : H) → said new ≡ said old → Gains moment observed said reads may_leave result d grown old new → Votes moment observed said reads may_leave result c b (put has n true) old new
+    pub votes_gained : (old new : H) → frame.said new ≡ frame.said old → Gains frame result d grown old new → Votes frame result c b (put has n true) old new
     votes_gained old new quiet gains = record {
       keeps = record {
-        moments = sees_weaker moment observed old new (ShowsEither d grown (said old)) (ShowsVoted c b (said old))
+        moments = sees_weaker frame.moment frame.observed old new (ShowsEither d grown (frame.said old)) (ShowsVoted c b (frame.said old))
             (λ seen shows. record { store = ⊎_elim (either seen.image) (or_more seen.image) shows.store; said = shows.said }) gains.moments;
         left = λ bytes spoke image leaves. ⊎_elim (either image) (or_more image) (gains.left bytes spoke image leaves);
         quiet = quiet;
       };
-      ok = on_ok result (RestsOn grown (reads new) (may_leave new)) (RestsVoted c b (put has n true) (reads new) (may_leave new))
+      ok = on_ok result (RestsOn grown (frame.reads new) (frame.may_leave new)) (RestsVoted c b (put has n true) (frame.reads new) (frame.may_leave new))
           (λ rests. record { contents = grown; voted = voted_more c b has d voted n rows not last; rests = rests }) gains.ok;
     }

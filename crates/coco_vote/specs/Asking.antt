@@ -3,14 +3,15 @@ use Rattle.std.specs.Prelude.{◌≡◌, ℕ, ◌<◌, ◌≤◌, Bool, true, fa
 use Rattle.coco_vote.specs.declared.step.Step.{Step}
 use Rattle.coco_vote.specs.declared.step.Step.TheVariants.{Voted, Restarted, Stopped}
 use Rattle.coco_vote.specs.Steps.{has_stopped, is_early}
+use Rattle.coco_power.specs.declared.power.Power.{Ghosts as PowerGhosts}
 
 -- Later in the same epoch: no count falls, and what was asked for stays so.
-pub record IsLater {P : Type 0} (seen early : P → ℕ) (stopped : P → ℕ → ℕ) (begun : P → ℕ) (asked : P → ℕ → ℕ → Bool) (old new : P) : Type 0 where
-  pub seen_rises : seen old ≤ seen new
-  pub early_rises : early old ≤ early new
-  pub stopped_rise : (n : ℕ) → n < 8 → stopped old n ≤ stopped new n
-  pub begun_stays : begun new ≡ begun old
-  pub asked_stays : (n p : ℕ) → n < 8 → p ≤ 6 → asked old n p ≡ true → asked new n p ≡ true
+pub record IsLater {P : Type 0} (powers : PowerGhosts P) (old new : P) : Type 0 where
+  pub seen_rises : powers.stops_seen old ≤ powers.stops_seen new
+  pub early_rises : powers.early_stops old ≤ powers.early_stops new
+  pub stopped_rise : (n : ℕ) → n < 8 → powers.stopped old n ≤ powers.stopped new n
+  pub begun_stays : powers.begun new ≡ powers.begun old
+  pub asked_stays : (n p : ℕ) → n < 8 → p ≤ 6 → powers.asked old n p ≡ true → powers.asked new n p ≡ true
 
 -- a count rises where this is true, and stays otherwise
 abbrev pub RisesIf : Bool → ℕ → ℕ → Type 0

@@ -5,6 +5,7 @@ pub mod Voting
 pub mod Taking
 pub mod Nearing
 pub mod Counting
+pub mod Keeping
 pub mod Outcomes
 pub mod Beginning
 pub mod Ending

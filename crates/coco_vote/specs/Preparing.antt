@@ -5,6 +5,7 @@ use Rattle.std.specs.Option.{option_map}
 use Rattle.coco_types.specs.declared.call.Piece.{Piece}
 use Rattle.coco_host.specs.Files.{Files}
 use Rattle.coco_host.specs.Moments.{Observation, SeesOnly}
+use Rattle.coco_host.specs.declared.host.Host.{Ghosts as HostGhosts}
 use Rattle.coco_entry.specs.Rows.{prepared_bytes, IsPrepared}
 use Rattle.coco_entry.specs.declared.prepared.Prepared.{Prepared}
 use Rattle.coco_entry.specs.declared.prepared.Row.{Row}
@@ -77,13 +78,13 @@ pub record ShowsVoted (c : Contents) (b : Ballot) (bytes : Option (List ℕ)) (s
   pub said : bytes ≡ Some seen.said
 
 -- at each moment between two, and behind the second, all that a crash may leave is such a store, and nothing is said
-pub record KeepsVoted {H : Type 0} (moment : H → ℕ) (observed : H → ℕ → Observation → Type 0) (said : H → Option (List ℕ)) (may_leave : H → Files → Type 0) (c : Contents) (b : Ballot) (old new : H) : Type 0 where
-  pub moments : SeesOnly moment observed old new (ShowsVoted c b (said old))
-  pub left : (bytes : List ℕ) → said old ≡ Some bytes → (image : Files) → may_leave new image → IsVotedStore c b image
-  pub quiet : said new ≡ said old
+pub record KeepsVoted {H : Type 0} (frame : HostGhosts H) (c : Contents) (b : Ballot) (old new : H) : Type 0 where
+  pub moments : SeesOnly frame.moment frame.observed old new (ShowsVoted c b (frame.said old))
+  pub left : (bytes : List ℕ) → frame.said old ≡ Some bytes → (image : Files) → frame.may_leave new image → IsVotedStore c b image
+  pub quiet : frame.said new ≡ frame.said old
 
 -- so it is between two moments of a vote, whatever was answered; and where it succeeded the host rests on what just these nodes have prepared
-pub record Votes {T E H : Type 0} (moment : H → ℕ) (observed : H → ℕ → Observation → Type 0) (said : H → Option (List ℕ)) (reads : H → Option Files) (may_leave : H → Files → Type 0)
+pub record Votes {T E H : Type 0} (frame : HostGhosts H)
     (result : Result T E) (c : Contents) (b : Ballot) (has : ℕ → Bool) (old new : H) : Type 0 where
-  pub keeps : KeepsVoted moment observed said may_leave c b old new
-  pub ok : OnOk result (RestsVoted c b has (reads new) (may_leave new))
+  pub keeps : KeepsVoted frame c b old new
+  pub ok : OnOk result (RestsVoted c b has (frame.reads new) (frame.may_leave new))

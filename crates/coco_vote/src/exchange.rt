@@ -10,16 +10,13 @@ ghost use Rattle.coco_letters.specs.Telling.{Adds, IsOfChief, IsOfVote};
 ghost use Rattle.coco_letters.specs.Turns.{AreSent, SendsMore};
 ghost use Rattle.coco_letters.specs.Worlds.{GoesBetween, GoesOn};
 ghost use Rattle.coco_log.specs.Faults.{CountsFault};
-ghost use Rattle.coco_log.specs.LogState.{LogState};
 ghost use Rattle.coco_store.specs.Contents.{Contents};
-ghost use Rattle.coco_append.specs.Gaining.{Stands};
-ghost use Rattle.coco_vote.specs.Asking.{IsLater};
 ghost use Rattle.coco_vote.specs.Counting.{prepare_of, GivesOn, HasCounted, IsAye};
+ghost use Rattle.coco_vote.specs.Keeping.{KeepsRest};
 ghost use Rattle.coco_vote.specs.Nearing.{all_ahead, Nears};
 ghost use Rattle.coco_vote.specs.Preparing.{have_durable, Ballot, MayForce, RestsVoted, Votes};
-ghost use Rattle.coco_vote.specs.Taking.{has_lost, vote_of, AreApart, AreHeld, AreMarked, AreReady, AreTold, AreVoting, CountsStops, HaveLogs, IsElsewhere, KeepPlaces, KeepsCores, UnlessLost, SameElsewhere, StayWhole};
+ghost use Rattle.coco_vote.specs.Taking.{has_lost, vote_of, AreApart, AreHeld, AreMarked, AreReady, AreTold, AreVoting, CountsStops, HaveLogs, KeepsCores, UnlessLost, StayWhole};
 ghost use Rattle.coco_vote.specs.Voting.{PreparesOnly};
-ghost use Rattle.coco_host.specs.Files.{Become, Follows};
 ghost use Rattle.coco_vote.specs.declared.step.Stops.TheVariants.{Never as NoStop};
 
 use crate::Stops;
@@ -101,28 +98,20 @@ pub(crate) fn exchange<H: Host, N: Net, P: Power>(
     ensures votes { IfOk result (λ stops. stops ≡ NoStop → (more : List Sent) → N.given net.new ≡ N.given net.old ++ more → N.faults net.new ≡ N.faults net.old → (n : ℕ) → n < length cores.old → Contains (N.fresh net.old) (prepare_of n epoch) → IsAye epoch more n) }
     ensures were_sent { OnOk result ((more : List Sent) (p : Sent) → N.given net.new ≡ N.given net.old ++ more → Contains more p → Contains (N.sent net.new) p) }
     ensures says { OnOk result (Adds (IsOfVote epoch) (N.sent net.old) (N.sent net.new)) }
-    ensures sent { SendsMore (N.sent net.old) (N.sent net.new) }
     ensures nears { IfOk result (λ stops. Nears stops (all_ahead epoch cores.old voters.old (length cores.old)) (all_ahead epoch cores.new voters.new (length cores.old))) }
     // The files.
     ensures files { (c : Contents) (hold : ℕ → List Bool) → let b : Ballot = record { epoch = epoch; pieces = pieces.now; held = hold } in
         AreHeld hold voters.old → MayForce c b → c.setting.entry.layout.nodes ≡ length cores.old → HaveLogs c voters.old
         → RestsVoted c b (have_durable epoch cores.old) (H.reads host.old) (H.may_leave host.old)
-        → Votes H.moment H.observed H.said H.reads H.may_leave result c b (have_durable epoch cores.new) host.old host.new }
+        → Votes H.Host result c b (have_durable epoch cores.new) host.old host.new }
     ensures ready { OnOk result (AreReady voters.new (H.reads host.new) (H.may_leave host.new)) }
-    ensures places { KeepPlaces voters.old voters.new }
     ensures whole { OnOk result (StayWhole (P.stops_seen power.old) (P.stops_seen power.new) voters.old voters.new) }
-    ensures others { (other : LogState) → IsElsewhere other voters.old → Stands other (H.reads host.old) (H.may_leave host.old) → Stands other (H.reads host.new) (H.may_leave host.new) }
-    ensures read { Become (SameElsewhere voters.old) (H.reads host.old) (H.reads host.new) }
-    ensures crash { Follows (SameElsewhere voters.old) (H.may_leave host.old) (H.may_leave host.new) }
-    ensures said { H.said host.new ≡ H.said host.old }
+    ensures rest { KeepsRest H.Host N.Net P.Power voters.old voters.new host.old host.new net.old net.new power.old power.new }
     ensures disk { CountsFault result (H.disk_faults host.old) (H.disk_faults host.new) }
-    ensures stream { H.say_faults host.new ≡ H.say_faults host.old }
     // The world.
     ensures world { OnOk result (GoesBetween (P.stopped power.old) (P.stopped power.new) (PreparesOnly epoch) (record { cores = cores.old; chief = chief_of chief.old; sent = N.sent net.old }) (record { cores = cores.new; chief = chief_of chief.new; sent = N.sent net.new })) }
     // The counts.
-    ensures later { IsLater P.stops_seen P.early_stops P.stopped P.begun P.asked power.old power.new }
     ensures stops { IfOk result (λ stops. CountsStops stops (P.stops_seen power.old) (P.early_stops power.old) (P.stops_seen power.new) (P.early_stops power.new)) }
-    ensures net { GivesOn (N.given net.old) (N.faults net.old) (N.last_seed net.old) (N.given net.new) (N.faults net.new) (N.last_seed net.new) }
 {
     net.round()?;
     waiting_letters_were_sent();

@@ -1,24 +1,23 @@
 //! A node's entry of an epoch, and then its vote.
 
-ghost use Rattle.std.specs.Prelude.{◌≡◌, ◌≢◌, ◌⊎◌, ℕ, ◌<◌, ◌≤◌, Bool, true, false, List, [], ◌∷◌, ◌++◌, None, Some, length, slice_set, IfOk, OnOk};
+ghost use Rattle.std.specs.Prelude.{◌≡◌, ◌⊎◌, ℕ, ◌<◌, ◌≤◌, Bool, true, false, List, [], ◌∷◌, ◌++◌, None, Some, length, slice_set, IfOk, OnOk};
 ghost use Rattle.std.specs.List.{slice_get};
 ghost use Rattle.coco_msg.specs.declared.message.Message.TheVariants.{Query as Asking};
 ghost use Rattle.coco_net.specs.declared.letter.Posted.{Posted as Sent};
 ghost use Rattle.coco_node.specs.Node.{restarted, Node as NodeState};
 ghost use Rattle.coco_node.specs.declared.machine.TheConstants.{COORDINATOR as Chiefs};
 ghost use Rattle.coco_chief.specs.Chief.{Chief as ChiefState};
-ghost use Rattle.coco_world.specs.World.{put, World};
+ghost use Rattle.coco_world.specs.World.{put};
 ghost use Rattle.coco_letters.specs.Saying.{posted};
 ghost use Rattle.coco_letters.specs.Turns.{AreFresh, Counts, IsForcing};
 ghost use Rattle.coco_letters.specs.Worlds.{GoesBetween, GoesOnStopped, Prepares, SameEntries};
 ghost use Rattle.coco_log.specs.Faults.{CountsFault};
-ghost use Rattle.coco_log.specs.LogState.{LogState, SameBut};
 ghost use Rattle.coco_store.specs.Contents.{Contents};
 ghost use Rattle.coco_append.specs.Gaining.{IsNodeLog, Stands};
 ghost use Rattle.coco_vote.specs.Asking.{AreAsked, IsLater, TellsStops};
+ghost use Rattle.coco_vote.specs.Keeping.{WritesLog};
 ghost use Rattle.coco_vote.specs.Preparing.{have_durable, AddsEntry, Ballot, MayForce, RestsVoted, Votes};
 ghost use Rattle.coco_vote.specs.Steps.{is_early, EndsVote, HasNewest, Marks, Steps};
-ghost use Rattle.coco_host.specs.Files.{Become, Follows};
 ghost use Rattle.coco_vote.specs.Voting.{PreparesOnly};
 
 use crate::Step;
@@ -46,17 +45,12 @@ fn prepare_entry<H: Host>(
     requires stands { Stands log.old (H.reads host.old) (H.may_leave host.old) }
     ensures files { (c : Contents) (hold : ℕ → List Bool) (has : ℕ → Bool) (n : ℕ) → let b : Ballot = record { epoch = epoch; pieces = pieces.now; held = hold } in
         hold n ≡ held.now → MayForce c b → n < c.setting.entry.layout.nodes → IsNodeLog c n log.old → has n ≡ false → RestsVoted c b has (H.reads host.old) (H.may_leave host.old)
-        → Votes H.moment H.observed H.said H.reads H.may_leave result c b (put has n true) host.old host.new }
+        → Votes H.Host result c b (put has n true) host.old host.new }
     ensures stands { OnOk result (Stands log.new (H.reads host.new) (H.may_leave host.new)) }
     ensures unspent { OnOk result (log.new.spent ≡ false) }
     ensures entry { OnOk result (AddsEntry epoch pieces.now held.now log.old log.new) }
-    ensures log { (log.new.file ≡ log.old.file) × (log.new.kind ≡ log.old.kind) }
-    ensures others { (other : LogState) → other.file ≢ log.old.file → Stands other (H.reads host.old) (H.may_leave host.old) → Stands other (H.reads host.new) (H.may_leave host.new) }
-    ensures read { Become (SameBut log.old.file) (H.reads host.old) (H.reads host.new) }
-    ensures crash { Follows (SameBut log.old.file) (H.may_leave host.old) (H.may_leave host.new) }
-    ensures said { H.said host.new ≡ H.said host.old }
+    ensures rest { WritesLog H.Host log.old log.new host.old host.new }
     ensures counts { CountsFault result (H.disk_faults host.old) (H.disk_faults host.new) }
-    ensures stream { H.say_faults host.new ≡ H.say_faults host.old }
 {
     let rows = prepared_rows(*body.allocator(), pieces, held)?;
     add_prepared(host, log, epoch, rows.as_slice(), body)?;
@@ -134,7 +128,7 @@ pub(crate) fn end_vote<N: Net, P: Power>(
     ensures marks { IfOk result (λ step. Marks step voter.old voter.new) }
     ensures log { voter.new.log ≡ voter.old.log }
     ensures held { voter.new.held ≡ voter.old.held }
-    ensures later { IsLater P.stops_seen P.early_stops P.stopped P.begun P.asked power.old power.new }
+    ensures later { IsLater P.Power power.old power.new }
     ensures stops { IfOk result (λ step. TellsStops step (P.stops_seen power.old) (P.early_stops power.old) (P.stops_seen power.new) (P.early_stops power.new)) }
     ensures asked { P.asked power.new node 5 ≡ true }
     ensures fresh { AreFresh (N.sent net.old) (N.fresh net.old) (N.sent net.new) (N.fresh net.new) }
@@ -168,7 +162,7 @@ fn vote<N: Net, P: Power>(
     ensures marks { IfOk result (λ step. Marks step voter.old voter.new) }
     ensures log { voter.new.log ≡ voter.old.log }
     ensures held { voter.new.held ≡ voter.old.held }
-    ensures later { IsLater P.stops_seen P.early_stops P.stopped P.begun P.asked power.old power.new }
+    ensures later { IsLater P.Power power.old power.new }
     ensures stops { IfOk result (λ step. TellsStops step (P.stops_seen power.old) (P.early_stops power.old) (P.stops_seen power.new) (P.early_stops power.new)) }
     ensures asked { IfOk result (λ step. P.asked power.old node 3 ≡ true → AreAsked step (P.asked power.new node)) }
     ensures fresh { AreFresh (N.sent net.old) (N.fresh net.old) (N.sent net.new) (N.fresh net.new) }
@@ -210,20 +204,15 @@ pub fn force_and_vote<H: Host, N: Net, P: Power>(
     ensures files { (c : Contents) (hold : ℕ → List Bool) → let b : Ballot = record { epoch = epoch; pieces = pieces.now; held = hold } in
         hold node ≡ voter.old.held.items → MayForce c b → node < c.setting.entry.layout.nodes → IsNodeLog c node voter.old.log
         → RestsVoted c b (have_durable epoch cores.old) (H.reads host.old) (H.may_leave host.old)
-        → Votes H.moment H.observed H.said H.reads H.may_leave result c b (have_durable epoch cores.new) host.old host.new }
+        → Votes H.Host result c b (have_durable epoch cores.new) host.old host.new }
     ensures stands { OnOk result (Stands voter.new.log (H.reads host.new) (H.may_leave host.new)) }
     ensures unspent { OnOk result (voter.new.log.spent ≡ false) }
-    ensures log { (voter.new.log.file ≡ voter.old.log.file) × (voter.new.log.kind ≡ voter.old.log.kind) }
-    ensures others { (other : LogState) → other.file ≢ voter.old.log.file → Stands other (H.reads host.old) (H.may_leave host.old) → Stands other (H.reads host.new) (H.may_leave host.new) }
-    ensures read { Become (SameBut voter.old.log.file) (H.reads host.old) (H.reads host.new) }
-    ensures crash { Follows (SameBut voter.old.log.file) (H.may_leave host.old) (H.may_leave host.new) }
-    ensures said { H.said host.new ≡ H.said host.old }
+    ensures rest { WritesLog H.Host voter.old.log voter.new.log host.old host.new }
     ensures disk { CountsFault result (H.disk_faults host.old) (H.disk_faults host.new) }
-    ensures stream { H.say_faults host.new ≡ H.say_faults host.old }
     // The world.
     ensures world { OnOk result ((chief : ChiefState) → GoesBetween (P.stopped power.old) (P.stopped power.new) (PreparesOnly epoch) (record { cores = cores.old; chief = chief; sent = N.sent net.old }) (record { cores = cores.new; chief = chief; sent = N.sent net.new })) }
     // The counts.
-    ensures later { IsLater P.stops_seen P.early_stops P.stopped P.begun P.asked power.old power.new }
+    ensures later { IsLater P.Power power.old power.new }
     ensures stops { IfOk result (λ step. TellsStops step (P.stops_seen power.old) (P.early_stops power.old) (P.stops_seen power.new) (P.early_stops power.new)) }
     ensures asked { IfOk result (λ step. AreAsked step (P.asked power.new node)) }
     ensures fresh { AreFresh (N.sent net.old) (N.fresh net.old) (N.sent net.new) (N.fresh net.new) }

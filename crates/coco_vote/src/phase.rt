@@ -11,16 +11,14 @@ ghost use Rattle.coco_letters.specs.Telling.{Adds, IsOfChief, IsOfVote};
 ghost use Rattle.coco_letters.specs.Turns.{AreFresh, Counts, SendsMore};
 ghost use Rattle.coco_letters.specs.Worlds.{GoesBetween, GoesOn};
 ghost use Rattle.coco_log.specs.Faults.{CountsFault};
-ghost use Rattle.coco_log.specs.LogState.{LogState};
 ghost use Rattle.coco_store.specs.Contents.{Contents};
-ghost use Rattle.coco_append.specs.Gaining.{RestsOn, Stands};
-ghost use Rattle.coco_vote.specs.Asking.{IsLater};
+ghost use Rattle.coco_append.specs.Gaining.{RestsOn};
 ghost use Rattle.coco_vote.specs.Beginning.{AreNew, GoesOnVoted};
-ghost use Rattle.coco_vote.specs.Counting.{prepare_of, GivesOn, HasCounted, IsAye};
+ghost use Rattle.coco_vote.specs.Counting.{prepare_of, HasCounted, IsAye};
+ghost use Rattle.coco_vote.specs.Keeping.{KeepsRest};
 ghost use Rattle.coco_vote.specs.Outcomes.{Comes, IsMissing, Settles};
 ghost use Rattle.coco_vote.specs.Preparing.{have_durable, Ballot, MayForce, RestsVoted, Votes as KeepsVotes};
-ghost use Rattle.coco_vote.specs.Taking.{vote_of, AreApart, AreHeld, AreMarked, AreReady, AreTold, AreVoting, HaveLogs, IsElsewhere, KeepPlaces, KeepsCores, SameElsewhere, StayWhole};
-ghost use Rattle.coco_host.specs.Files.{Become, Follows};
+ghost use Rattle.coco_vote.specs.Taking.{vote_of, AreApart, AreHeld, AreMarked, AreReady, AreTold, AreVoting, HaveLogs, KeepsCores, StayWhole};
 ghost use Rattle.coco_vote.specs.Voting.{PreparesOnly};
 
 use crate::exchange::exchange;
@@ -145,28 +143,19 @@ fn exchanges<H: Host, N: Net, P: Power>(
     ensures told { OnOk result (AreTold epoch cores.new (N.sent net.new) (P.asked power.new)) }
     ensures marked { OnOk result (AreMarked voters.new (P.asked power.new)) }
     ensures says { OnOk result (Adds (IsOfVote epoch) (N.sent net.old) (N.sent net.new)) }
-    ensures sent { SendsMore (N.sent net.old) (N.sent net.new) }
     // What was given was sent.
     ensures were_sent { OnOk result ((given : List Sent) (p : Sent) → N.given net.new ≡ N.given net.old ++ given → Contains given p → Contains (N.sent net.new) p) }
     // The files.
     ensures files { (c : Contents) (hold : ℕ → List Bool) → let b : Ballot = record { epoch = epoch; pieces = pieces.now; held = hold } in
         AreHeld hold voters.old → MayForce c b → c.setting.entry.layout.nodes ≡ length cores.old → HaveLogs c voters.old
         → RestsVoted c b (have_durable epoch cores.old) (H.reads host.old) (H.may_leave host.old)
-        → KeepsVotes H.moment H.observed H.said H.reads H.may_leave result c b (have_durable epoch cores.new) host.old host.new }
+        → KeepsVotes H.Host result c b (have_durable epoch cores.new) host.old host.new }
     ensures ready { OnOk result (AreReady voters.new (H.reads host.new) (H.may_leave host.new)) }
-    ensures places { KeepPlaces voters.old voters.new }
     ensures whole { OnOk result (StayWhole (P.stops_seen power.old) (P.stops_seen power.new) voters.old voters.new) }
-    ensures others { (other : LogState) → IsElsewhere other voters.old → Stands other (H.reads host.old) (H.may_leave host.old) → Stands other (H.reads host.new) (H.may_leave host.new) }
-    ensures read { Become (SameElsewhere voters.old) (H.reads host.old) (H.reads host.new) }
-    ensures crash { Follows (SameElsewhere voters.old) (H.may_leave host.old) (H.may_leave host.new) }
-    ensures said { H.said host.new ≡ H.said host.old }
+    ensures rest { KeepsRest H.Host N.Net P.Power voters.old voters.new host.old host.new net.old net.new power.old power.new }
     ensures disk { CountsFault result (H.disk_faults host.old) (H.disk_faults host.new) }
-    ensures stream { H.say_faults host.new ≡ H.say_faults host.old }
     // The world.
     ensures world { OnOk result (GoesBetween (P.stopped power.old) (P.stopped power.new) (PreparesOnly epoch) (record { cores = cores.old; chief = chief_of chief.old; sent = N.sent net.old }) (record { cores = cores.new; chief = chief_of chief.new; sent = N.sent net.new })) }
-    // The counts.
-    ensures later { IsLater P.stops_seen P.early_stops P.stopped P.begun P.asked power.old power.new }
-    ensures net { GivesOn (N.given net.old) (N.faults net.old) (N.last_seed net.old) (N.given net.new) (N.faults net.new) (N.last_seed net.new) }
 {
     let mut counted = 0;
     'asking: loop {
@@ -219,28 +208,19 @@ pub fn prepare<H: Host, N: Net, P: Power>(
     ensures told { OnOk result (AreTold epoch cores.new (N.sent net.new) (P.asked power.new)) }
     ensures marked { OnOk result (AreMarked voters.new (P.asked power.new)) }
     ensures says { OnOk result (Adds (IsOfVote epoch) (N.sent net.old) (N.sent net.new)) }
-    ensures sent { SendsMore (N.sent net.old) (N.sent net.new) }
     // What was given was sent.
     ensures were_sent { OnOk result ((given : List Sent) (p : Sent) → N.given net.new ≡ N.given net.old ++ given → Contains given p → Contains (N.sent net.new) p) }
     // The files.
     ensures files { (c : Contents) (hold : ℕ → List Bool) → let b : Ballot = record { epoch = epoch; pieces = pieces.now; held = hold } in
         AreHeld hold voters.old → MayForce c b → c.setting.entry.layout.nodes ≡ length cores.old → HaveLogs c voters.old
         → RestsOn c (H.reads host.old) (H.may_leave host.old)
-        → KeepsVotes H.moment H.observed H.said H.reads H.may_leave result c b (have_durable epoch cores.new) host.old host.new }
+        → KeepsVotes H.Host result c b (have_durable epoch cores.new) host.old host.new }
     ensures ready { OnOk result (AreReady voters.new (H.reads host.new) (H.may_leave host.new)) }
-    ensures places { KeepPlaces voters.old voters.new }
     ensures whole { OnOk result (StayWhole (P.stops_seen power.old) (P.stops_seen power.new) voters.old voters.new) }
-    ensures others { (other : LogState) → IsElsewhere other voters.old → Stands other (H.reads host.old) (H.may_leave host.old) → Stands other (H.reads host.new) (H.may_leave host.new) }
-    ensures read { Become (SameElsewhere voters.old) (H.reads host.old) (H.reads host.new) }
-    ensures crash { Follows (SameElsewhere voters.old) (H.may_leave host.old) (H.may_leave host.new) }
-    ensures said { H.said host.new ≡ H.said host.old }
+    ensures rest { KeepsRest H.Host N.Net P.Power voters.old voters.new host.old host.new net.old net.new power.old power.new }
     ensures disk { CountsFault result (H.disk_faults host.old) (H.disk_faults host.new) }
-    ensures stream { H.say_faults host.new ≡ H.say_faults host.old }
     // The world.
     ensures world { OnOk result (GoesOnVoted epoch (P.stopped power.old) (P.stopped power.new) (record { cores = cores.old; chief = chief_of chief.old; sent = N.sent net.old }) (record { cores = cores.new; chief = chief_of chief.new; sent = N.sent net.new })) }
-    // The counts.
-    ensures later { IsLater P.stops_seen P.early_stops P.stopped P.begun P.asked power.old power.new }
-    ensures net { GivesOn (N.given net.old) (N.faults net.old) (N.last_seed net.old) (N.given net.new) (N.faults net.new) (N.last_seed net.new) }
 {
     chief_begins(*body.allocator(), net, chief, epoch)?;
     let nodes = cores.len() as u8;

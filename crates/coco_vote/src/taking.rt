@@ -8,16 +8,15 @@ ghost use Rattle.coco_letters.specs.Telling.{Adds, IsOfVote};
 ghost use Rattle.coco_letters.specs.Turns.{AreFresh, AreSent, Counts, IsFrom};
 ghost use Rattle.coco_letters.specs.Worlds.{GoesBetween, GoesOn, SameEntries};
 ghost use Rattle.coco_log.specs.Faults.{CountsFault};
-ghost use Rattle.coco_log.specs.LogState.{LogState, SameBut};
 ghost use Rattle.coco_store.specs.Contents.{Contents};
 ghost use Rattle.coco_append.specs.Gaining.{IsNodeLog, Stands};
 ghost use Rattle.coco_vote.specs.Asking.{IsLater, TellsStops};
+ghost use Rattle.coco_vote.specs.Keeping.{KeepsRest, WritesLog};
 ghost use Rattle.coco_vote.specs.Nearing.{ahead_of, all_ahead, Nears};
 ghost use Rattle.coco_vote.specs.Preparing.{durable_at, have_durable, Ballot, MayForce, RestsVoted, Votes};
 ghost use Rattle.coco_vote.specs.Steps.{has_stopped, EndsVote, HasNewest, Marks};
-ghost use Rattle.coco_vote.specs.Taking.{vote_of, AreApart, AreHeld, AreMarked, AreReady, AreTold, AreVoting, CountsStops, HasGiven, HaveLogs, HeardSo, IsElsewhere, IsMarked, KeepPlaces, KeepsCores, UnlessLost, SameElsewhere, StaysWhole, StayWhole};
+ghost use Rattle.coco_vote.specs.Taking.{vote_of, AreApart, AreHeld, AreMarked, AreReady, AreTold, AreVoting, CountsStops, HasGiven, HaveLogs, HeardSo, IsMarked, KeepsCores, UnlessLost, StaysWhole, StayWhole};
 ghost use Rattle.coco_vote.specs.Voting.{PreparesOnly};
-ghost use Rattle.coco_host.specs.Files.{Become, Follows};
 ghost use Rattle.coco_vote.specs.declared.step.Stops.TheVariants.{Never as NoStop};
 
 use crate::forcing::{end_vote, force_and_vote};
@@ -75,7 +74,7 @@ fn vote_again<N: Net, P: Power>(
     ensures held { voter.new.held ≡ voter.old.held }
     // It stops only where it wasn't asked before.
     ensures once { IfOk result (λ step. has_stopped step ≡ true → voter.old.asked_after_vote ≡ false) }
-    ensures later { IsLater P.stops_seen P.early_stops P.stopped P.begun P.asked power.old power.new }
+    ensures later { IsLater P.Power power.old power.new }
     ensures stops { IfOk result (λ step. TellsStops step (P.stops_seen power.old) (P.early_stops power.old) (P.stops_seen power.new) (P.early_stops power.new)) }
     ensures asked { IsMarked node voter.old (P.asked power.old) → P.asked power.new node 5 ≡ true }
     ensures fresh { AreFresh (N.sent net.old) (N.fresh net.old) (N.sent net.new) (N.fresh net.new) }
@@ -125,20 +124,15 @@ fn take_letter<H: Host, N: Net, P: Power>(
     ensures files { (c : Contents) (hold : ℕ → List Bool) → let b : Ballot = record { epoch = epoch; pieces = pieces.now; held = hold } in
         hold node ≡ voter.old.held.items → MayForce c b → node < c.setting.entry.layout.nodes → IsNodeLog c node voter.old.log
         → RestsVoted c b (have_durable epoch cores.old) (H.reads host.old) (H.may_leave host.old)
-        → Votes H.moment H.observed H.said H.reads H.may_leave result c b (have_durable epoch cores.new) host.old host.new }
+        → Votes H.Host result c b (have_durable epoch cores.new) host.old host.new }
     ensures stands { OnOk result (Stands voter.new.log (H.reads host.new) (H.may_leave host.new)) }
     ensures unspent { OnOk result (voter.new.log.spent ≡ false) }
-    ensures log { (voter.new.log.file ≡ voter.old.log.file) × (voter.new.log.kind ≡ voter.old.log.kind) }
-    ensures others { (other : LogState) → other.file ≢ voter.old.log.file → Stands other (H.reads host.old) (H.may_leave host.old) → Stands other (H.reads host.new) (H.may_leave host.new) }
-    ensures read { Become (SameBut voter.old.log.file) (H.reads host.old) (H.reads host.new) }
-    ensures crash { Follows (SameBut voter.old.log.file) (H.may_leave host.old) (H.may_leave host.new) }
-    ensures said { H.said host.new ≡ H.said host.old }
+    ensures rest { WritesLog H.Host voter.old.log voter.new.log host.old host.new }
     ensures disk { CountsFault result (H.disk_faults host.old) (H.disk_faults host.new) }
-    ensures stream { H.say_faults host.new ≡ H.say_faults host.old }
     // The world.
     ensures world { OnOk result ((chief : ChiefState) → GoesBetween (P.stopped power.old) (P.stopped power.new) (PreparesOnly epoch) (record { cores = cores.old; chief = chief; sent = N.sent net.old }) (record { cores = cores.new; chief = chief; sent = N.sent net.new })) }
     // The counts.
-    ensures later { IsLater P.stops_seen P.early_stops P.stopped P.begun P.asked power.old power.new }
+    ensures later { IsLater P.Power power.old power.new }
     ensures stops { IfOk result (λ stops. CountsStops stops (P.stops_seen power.old) (P.early_stops power.old) (P.stops_seen power.new) (P.early_stops power.new)) }
     ensures fresh { AreFresh (N.sent net.old) (N.fresh net.old) (N.sent net.new) (N.fresh net.new) }
     ensures waiting { (p : ℕ) → N.waiting net.new p ≡ N.waiting net.old p }
@@ -196,20 +190,15 @@ pub(crate) fn take_letters<H: Host, N: Net, P: Power>(
     ensures files { (c : Contents) (hold : ℕ → List Bool) → let b : Ballot = record { epoch = epoch; pieces = pieces.now; held = hold } in
         hold node ≡ voter.old.held.items → MayForce c b → node < c.setting.entry.layout.nodes → IsNodeLog c node voter.old.log
         → RestsVoted c b (have_durable epoch cores.old) (H.reads host.old) (H.may_leave host.old)
-        → Votes H.moment H.observed H.said H.reads H.may_leave result c b (have_durable epoch cores.new) host.old host.new }
+        → Votes H.Host result c b (have_durable epoch cores.new) host.old host.new }
     ensures stands { OnOk result (Stands voter.new.log (H.reads host.new) (H.may_leave host.new)) }
     ensures unspent { OnOk result (voter.new.log.spent ≡ false) }
-    ensures log { (voter.new.log.file ≡ voter.old.log.file) × (voter.new.log.kind ≡ voter.old.log.kind) }
-    ensures others { (other : LogState) → other.file ≢ voter.old.log.file → Stands other (H.reads host.old) (H.may_leave host.old) → Stands other (H.reads host.new) (H.may_leave host.new) }
-    ensures read { Become (SameBut voter.old.log.file) (H.reads host.old) (H.reads host.new) }
-    ensures crash { Follows (SameBut voter.old.log.file) (H.may_leave host.old) (H.may_leave host.new) }
-    ensures said { H.said host.new ≡ H.said host.old }
+    ensures rest { WritesLog H.Host voter.old.log voter.new.log host.old host.new }
     ensures disk { CountsFault result (H.disk_faults host.old) (H.disk_faults host.new) }
-    ensures stream { H.say_faults host.new ≡ H.say_faults host.old }
     // The world.
     ensures world { OnOk result ((chief : ChiefState) → GoesBetween (P.stopped power.old) (P.stopped power.new) (PreparesOnly epoch) (record { cores = cores.old; chief = chief; sent = N.sent net.old }) (record { cores = cores.new; chief = chief; sent = N.sent net.new })) }
     // The counts.
-    ensures later { IsLater P.stops_seen P.early_stops P.stopped P.begun P.asked power.old power.new }
+    ensures later { IsLater P.Power power.old power.new }
     ensures stops { IfOk result (λ stops. CountsStops stops (P.stops_seen power.old) (P.early_stops power.old) (P.stops_seen power.new) (P.early_stops power.new)) }
     ensures fresh { AreFresh (N.sent net.old) (N.fresh net.old) (N.sent net.new) (N.fresh net.new) }
     ensures waiting { (p : ℕ) → p ≢ node → N.waiting net.new p ≡ N.waiting net.old p }
@@ -263,20 +252,14 @@ pub(crate) fn nodes_take<H: Host, N: Net, P: Power>(
     ensures files { (c : Contents) (hold : ℕ → List Bool) → let b : Ballot = record { epoch = epoch; pieces = pieces.now; held = hold } in
         AreHeld hold voters.old → MayForce c b → c.setting.entry.layout.nodes ≡ length cores.old → HaveLogs c voters.old
         → RestsVoted c b (have_durable epoch cores.old) (H.reads host.old) (H.may_leave host.old)
-        → Votes H.moment H.observed H.said H.reads H.may_leave result c b (have_durable epoch cores.new) host.old host.new }
+        → Votes H.Host result c b (have_durable epoch cores.new) host.old host.new }
     ensures ready { OnOk result (AreReady voters.new (H.reads host.new) (H.may_leave host.new)) }
-    ensures places { KeepPlaces voters.old voters.new }
     ensures whole { OnOk result (StayWhole (P.stops_seen power.old) (P.stops_seen power.new) voters.old voters.new) }
-    ensures others { (other : LogState) → IsElsewhere other voters.old → Stands other (H.reads host.old) (H.may_leave host.old) → Stands other (H.reads host.new) (H.may_leave host.new) }
-    ensures read { Become (SameElsewhere voters.old) (H.reads host.old) (H.reads host.new) }
-    ensures crash { Follows (SameElsewhere voters.old) (H.may_leave host.old) (H.may_leave host.new) }
-    ensures said { H.said host.new ≡ H.said host.old }
+    ensures rest { KeepsRest H.Host N.Net P.Power voters.old voters.new host.old host.new net.old net.new power.old power.new }
     ensures disk { CountsFault result (H.disk_faults host.old) (H.disk_faults host.new) }
-    ensures stream { H.say_faults host.new ≡ H.say_faults host.old }
     // The world.
     ensures world { OnOk result ((chief : ChiefState) → GoesBetween (P.stopped power.old) (P.stopped power.new) (PreparesOnly epoch) (record { cores = cores.old; chief = chief; sent = N.sent net.old }) (record { cores = cores.new; chief = chief; sent = N.sent net.new })) }
     // The counts.
-    ensures later { IsLater P.stops_seen P.early_stops P.stopped P.begun P.asked power.old power.new }
     ensures stops { IfOk result (λ stops. CountsStops stops (P.stops_seen power.old) (P.early_stops power.old) (P.stops_seen power.new) (P.early_stops power.new)) }
     ensures fresh { AreFresh (N.sent net.old) (N.fresh net.old) (N.sent net.new) (N.fresh net.new) }
     ensures waiting { (p : ℕ) → length cores.old ≤ p → N.waiting net.new p ≡ N.waiting net.old p }

@@ -1,7 +1,7 @@
 -- Requests that are worked off: one, and from one stretch to the next.
-use Rattle.std.proofs.Common.{◌≡◌, ℕ, ◌<◌, ◌≤◌, Bool, true, false, cond, ◌||◌, nat_lt, nat_le, MatchBool, List, [], ◌∷◌, ◌++◌, map, length, Option, None, Some, Result, Ok, Err, OnOk, refl, sym, ap, ◌∙◌, subst, append_assoc, slice_index_or}
-use Rattle.std.specs.List.{AllByRecursion, flat_map, list_any, slice_get}
-use Rattle.std.proofs.lemmas.Bool.{lt-ltb, le-ltb, leb-true}
+use Rattle.std.proofs.Common.{◌≡◌, ℕ, ◌<◌, ◌≤◌, Bool, true, false, cond, nat_lt, MatchBool, List, [], ◌∷◌, ◌++◌, map, length, Option, None, Some, Result, Ok, Err, OnOk, refl, sym, ap, ◌∙◌, subst, append_assoc, slice_index_or}
+use Rattle.std.specs.List.{AllByRecursion, flat_map, slice_get}
+use Rattle.std.proofs.lemmas.Bool.{lt-ltb, le-ltb}
 use Rattle.std.proofs.lemmas.List.Elements.{filter-append}
 use Rattle.std.proofs.lemmas.Option.{slice_get-get_or}
 use Rattle.std.proofs.lemmas.List.{append-nil, map-append}
@@ -11,7 +11,8 @@ use Rattle.coco_types.specs.declared.call.Request.{Request}
 use Rattle.coco_types.specs.declared.call.Write.{Write}
 use Rattle.coco_ast.proofs.Lists.{all_append}
 use Rattle.coco_ast.specs.Tree.{Procedures}
-use Rattle.coco_claim.specs.Seats.{Draws, Drawer, Round, has_ended}
+use Rattle.coco_claim.specs.Seats.{Draws, Drawer, has_ended}
+use Rattle.coco_claim.proofs.Drawing.{any_last}
 use Rattle.coco_desks.specs.Gains.{AreSame, Gain}
 use Rattle.coco_desks.proofs.GainLemmas.{gain_as, gain_none, gain_then}
 use Rattle.coco_occ.specs.Trying.{Trying}
@@ -196,30 +197,6 @@ all_among n (x ∷ xs) all = ap (λ b. cond b (x ∷ places_among n xs) (places_
 
 among_more : (n : ℕ) (xs : List ℕ) (x : ℕ) → n ≤ x → places_among n (xs ++ x ∷ []) ≡ places_among n xs
 among_more n xs x le = filter-append (λ y. nat_lt y n) xs (x ∷ []) ∙ ap (λ b. places_among n xs ++ cond b (x ∷ []) []) (le-ltb x n le) ∙ append-nil (places_among n xs)
-
-any_last : (n : ℕ) (xs : List ℕ) (x : ℕ) → list_any (λ y. nat_le n y) xs ≡ false → list_any (λ y. nat_le n y) (xs ++ x ∷ []) ≡ true → n ≤ x
-any_last n [] x none any = or_last (nat_le n x) refl
-  where
-    or_last : (b : Bool) → nat_le n x ≡ b → n ≤ x
-    or_last true is = leb-true n x is
-    or_last false is = absurd (let h : false ≡ true = sym (ap (λ b. b || false) is) ∙ any in cc)
-any_last n (y ∷ xs) x none any = by_first (any_last n xs x) (nat_le n y) refl
-  where
-    by_first : (list_any (λ y. nat_le n y) xs ≡ false → list_any (λ y. nat_le n y) (xs ++ x ∷ []) ≡ true → n ≤ x) → (b : Bool) → nat_le n y ≡ b → n ≤ x
-    by_first rest true is = absurd (let h : true ≡ false = sym (ap (λ b. b || list_any (λ y. nat_le n y) xs) is) ∙ none in cc)
-    by_first rest false is = rest (sym (ap (λ b. b || list_any (λ y. nat_le n y) xs) is) ∙ none) (sym (ap (λ b. b || list_any (λ y. nat_le n y) (xs ++ x ∷ [])) is) ∙ any)
-
--- the draw that gives this number
-pub drew : (old new : Drawer) (x : ℕ) → MatchBool (has_ended old) (new ≡ old) (Draws old new) → new.drawn ≡ old.drawn ++ x ∷ [] → new ≡ record old { drawn = old.drawn ++ x ∷ [] }
-drew old new x draws drawn = by_end (has_ended old) draws
-  where
-    by_end : (b : Bool) → MatchBool b (new ≡ old) (Draws old new) → new ≡ record old { drawn = old.drawn ++ x ∷ [] }
-    by_end true same = ap (λ (d : Drawer). record d { drawn = new.drawn }) same ∙ ap (λ (xs : List ℕ). record old { drawn = xs }) drawn
-    by_end false more = more.1 ∙ ap (λ (xs : List ℕ). record old { drawn = xs }) (sym (ap (λ (d : Drawer). d.drawn) more.1) ∙ drawn)
-
--- it leaves the claims
-pub same_claims : (old seat new : Drawer) (x : ℕ) (claims : Round) → new ≡ seat → seat ≡ record old { drawn = old.drawn ++ x ∷ [] } → old.claims ≡ claims → new.claims ≡ claims
-same_claims old seat new x claims kept draws is = ap (λ (d : Drawer). d.claims) (kept ∙ draws) ∙ is
 
 -- the draw that ends it
 pub works_drawn : (j : Job) (a b : Slot) (seat : Drawer) (so : WorksSoFar j a b) → b.seat.claims.n ≡ length j.requests → MatchBool (has_ended b.seat) (seat ≡ b.seat) (Draws b.seat seat) → has_ended seat ≡ true

@@ -10,8 +10,8 @@ at_ok P r x is p = subst (λ q. IfOk q P) (sym is) p
 pub returns-in-Ok-host-clause-obeys : goal.returns-in-Ok-host-clause-obeys
 returns-in-Ok-host-clause-obeys g c =
     let was = c.in-Ok-host.host in
-    let before : Outside = record { source = record { given = g.I.Source.given c.args.input.now; left = g.I.Source.remaining c.args.input.now; at_end = g.I.Source.at_end c.args.input.now }; source_faults = g.I.Source.faults c.args.input.now; say_faults = g.H.Host.say_faults was; disk_faults = g.H.Host.disk_faults was; around = around g.N.Net.sent g.N.Net.given g.N.Net.faults g.N.Net.last_seed g.P.Power.stops_seen g.P.Power.early_stops g.P.Power.stopped g.P.Power.begun g.P.Power.asked c.args.net.now c.args.power.now } in
-    let after : Outside = record { source = record { given = g.I.Source.given c.coco.new.input; left = g.I.Source.remaining c.coco.new.input; at_end = g.I.Source.at_end c.coco.new.input }; source_faults = g.I.Source.faults c.coco.new.input; say_faults = g.H.Host.say_faults c.coco.new.host; disk_faults = g.H.Host.disk_faults c.coco.new.host; around = around g.N.Net.sent g.N.Net.given g.N.Net.faults g.N.Net.last_seed g.P.Power.stops_seen g.P.Power.early_stops g.P.Power.stopped g.P.Power.begun g.P.Power.asked c.coco.new.net c.coco.new.power } in
+    let before : Outside = record { source = record { given = g.I.Source.given c.args.input.now; left = g.I.Source.remaining c.args.input.now; at_end = g.I.Source.at_end c.args.input.now }; source_faults = g.I.Source.faults c.args.input.now; say_faults = g.H.Host.say_faults was; disk_faults = g.H.Host.disk_faults was; around = around g.N.Net g.P.Power c.args.net.now c.args.power.now } in
+    let after : Outside = record { source = record { given = g.I.Source.given c.coco.new.input; left = g.I.Source.remaining c.coco.new.input; at_end = g.I.Source.at_end c.coco.new.input }; source_faults = g.I.Source.faults c.coco.new.input; say_faults = g.H.Host.say_faults c.coco.new.host; disk_faults = g.H.Host.disk_faults c.coco.new.host; around = around g.N.Net g.P.Power c.coco.new.net c.coco.new.power } in
     let obeys = c.coco.ensures.obeys in
     let words = c.words_of.ensures ∙ ap (drop 2) c.as_slice.ensures.value in
-    at_ok _ _ _ c.in-Ok.is (at_ok _ _ _ c.in-Ok-host.is (c.coco.new.host, refl, (obeys.0, obeys.1, subst (λ ws. Obeys g.H.Host.moment g.H.Host.observed g.H.Host.said g.H.Host.reads g.H.Host.may_leave (map string_bytes ws) obeys.0 before after was c.coco.new.host) words obeys.2)))
+    at_ok _ _ _ c.in-Ok.is (at_ok _ _ _ c.in-Ok-host.is (c.coco.new.host, refl, (obeys.0, obeys.1, subst (λ ws. Obeys g.H.Host (map string_bytes ws) obeys.0 before after was c.coco.new.host) words obeys.2)))

@@ -12,11 +12,11 @@ execute-requires-clause-agree g c _ _ = c.in-Ok.ensures.ok.is.3
 
 pub returns-in-Ok-clause-obeys : goal.returns-in-Ok-clause-obeys
 returns-in-Ok-clause-obeys g c =
-    let before : Outside = record { source = record { given = g.I.Source.given c.args.input.now; left = g.I.Source.remaining c.args.input.now; at_end = g.I.Source.at_end c.args.input.now }; source_faults = g.I.Source.faults c.args.input.now; say_faults = g.H.Host.say_faults c.args.host.now; disk_faults = g.H.Host.disk_faults c.args.host.now; around = around g.N.Net.sent g.N.Net.given g.N.Net.faults g.N.Net.last_seed g.P.Power.stops_seen g.P.Power.early_stops g.P.Power.stopped g.P.Power.begun g.P.Power.asked c.args.net.now c.args.power.now } in
-    let after : Outside = record { source = record { given = g.I.Source.given c.execute.new.input; left = g.I.Source.remaining c.execute.new.input; at_end = g.I.Source.at_end c.execute.new.input }; source_faults = g.I.Source.faults c.execute.new.input; say_faults = g.H.Host.say_faults c.execute.new.host; disk_faults = g.H.Host.disk_faults c.execute.new.host; around = around g.N.Net.sent g.N.Net.given g.N.Net.faults g.N.Net.last_seed g.P.Power.stops_seen g.P.Power.early_stops g.P.Power.stopped g.P.Power.begun g.P.Power.asked c.execute.new.net c.execute.new.power } in
+    let before : Outside = record { source = record { given = g.I.Source.given c.args.input.now; left = g.I.Source.remaining c.args.input.now; at_end = g.I.Source.at_end c.args.input.now }; source_faults = g.I.Source.faults c.args.input.now; say_faults = g.H.Host.say_faults c.args.host.now; disk_faults = g.H.Host.disk_faults c.args.host.now; around = around g.N.Net g.P.Power c.args.net.now c.args.power.now } in
+    let after : Outside = record { source = record { given = g.I.Source.given c.execute.new.input; left = g.I.Source.remaining c.execute.new.input; at_end = g.I.Source.at_end c.execute.new.input }; source_faults = g.I.Source.faults c.execute.new.input; say_faults = g.H.Host.say_faults c.execute.new.host; disk_faults = g.H.Host.disk_faults c.execute.new.host; around = around g.N.Net g.P.Power c.execute.new.net c.execute.new.power } in
     record {
       command = λ command is.
-          inl (subst (λ (k : Command). Does g.H.Host.moment g.H.Host.observed g.H.Host.said g.H.Host.reads g.H.Host.may_leave k c.execute.result before after c.args.host.now c.execute.new.host)
+          inl (subst (λ (k : Command). Does g.H.Host k c.execute.result before after c.args.host.now c.execute.new.host)
           (sym (c.in-Ok.ensures.ok.only command is)) c.execute.ensures);
       only = needs c.execute.result ((command : Command) × IsOnlyCommand (map string_bytes c.args.words.now) command) (c.in-Ok.command, c.in-Ok.ensures.ok);
       none = λ none. absurd (none c.in-Ok.command c.in-Ok.ensures.ok.is);

@@ -9,7 +9,7 @@ use Rattle.coco_append.proofs.adding.add.Goals as goal
 
 pub returns-then-body-gt-MOST-clause-gains : goal.returns-then-body-gt-MOST-clause-gains
 returns-then-body-gt-MOST-clause-gains g c before after rests grows =
-    nothing_gained g.H.Host.moment g.H.Host.observed g.H.Host.said g.H.Host.reads g.H.Host.may_leave _ (HasStore before) (HasStore after) g.met.H.Host.only_now c.args.host.now _ refl rests
+    nothing_gained g.H.Host _ (HasStore before) (HasStore after) g.met.H.Host.only_now c.args.host.now _ refl rests
 
 pub returns-then-body-gt-MOST-clause-files : goal.returns-then-body-gt-MOST-clause-files
 returns-then-body-gt-MOST-clause-files g c = same_files c.args.log.now.file (g.H.Host.reads c.args.host.now)
@@ -26,7 +26,7 @@ append-requires-clause-rest g c = at_rest c.args.log.now (g.H.Host.reads c.args.
 pub returns-in_err-append-clause-gains : goal.returns-in_err-append-clause-gains
 returns-in_err-append-clause-gains g c before after rests grows =
     let p = err_from_is_err_and c.from_residual.result c.from_residual.ensures.1 in
-    gained g.H.Host.moment g.H.Host.observed g.H.Host.said g.H.Host.reads g.H.Host.may_leave c.from_residual.result (HasStore before) (HasStore after) c.args.host.now c.append.new.host c.args.log.now c.append.new.self c.args.body.now
+    gained g.H.Host c.from_residual.result (HasStore before) (HasStore after) c.args.host.now c.append.new.host c.args.log.now c.append.new.self c.args.body.now
     rests c.requires.stands grows g.met.H.Host.seen_now c.append.ensures.moments (none_ok c.from_residual.result p.0 _ p.1) (none_ok c.from_residual.result p.0 _ p.1) c.append.ensures.crash c.append.ensures.said
 
 pub returns-in_err-append-clause-err : goal.returns-in_err-append-clause-err
@@ -49,7 +49,7 @@ returns-in_err-append-clause-long g c =
 
 pub returns-clause-gains : goal.returns-clause-gains
 returns-clause-gains g c before after rests grows =
-    gained g.H.Host.moment g.H.Host.observed g.H.Host.said g.H.Host.reads g.H.Host.may_leave _ (HasStore before) (HasStore after) c.args.host.now c.append.new.host c.args.log.now c.append.new.self c.args.body.now
+    gained g.H.Host _ (HasStore before) (HasStore after) c.args.host.now c.append.new.host c.args.log.now c.append.new.self c.args.body.now
     rests c.requires.stands grows g.met.H.Host.seen_now c.append.ensures.moments c.in_ok-append.ensures.ok c.in_ok-append.ensures.log c.append.ensures.crash c.append.ensures.said
 
 pub returns-clause-stands : goal.returns-clause-stands

@@ -10,7 +10,7 @@ use Rattle.coco_append.proofs.adding.add_prepared.Goals as goal
 pub returns-in_err-put_prepared-clause-gains : goal.returns-in_err-put_prepared-clause-gains
 returns-in_err-put_prepared-clause-gains g c before n rests of may =
     let p = err_from_is_err_and c.from_residual.result c.from_residual.ensures.1 in
-    nothing_gained g.H.Host.moment g.H.Host.observed g.H.Host.said g.H.Host.reads g.H.Host.may_leave c.from_residual.result (HasStore before) _ g.met.H.Host.only_now c.args.host.now p.0 p.1 rests
+    nothing_gained g.H.Host c.from_residual.result (HasStore before) _ g.met.H.Host.only_now c.args.host.now p.0 p.1 rests
 
 pub returns-in_err-put_prepared-clause-err : goal.returns-in_err-put_prepared-clause-err
 returns-in_err-put_prepared-clause-err g c = at_err c.from_residual.result _ (inl (refl, refl))

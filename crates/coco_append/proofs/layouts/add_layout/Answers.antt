@@ -13,7 +13,7 @@ pub returns-in_err-put_layout-clause-gains : goal.returns-in_err-put_layout-clau
 returns-in_err-put_layout-clause-gains g c before after go same rests =
     let host = c.args.host.now in
     let p = err_from_is_err_and c.from_residual.result c.from_residual.ensures.1 in
-    nothing_gained g.H.Host.moment g.H.Host.observed g.H.Host.said g.H.Host.reads g.H.Host.may_leave c.from_residual.result (HasLogsOf (g.H.Host.may_leave host)) (HasStore after) g.met.H.Host.only_now host p.0 p.1
+    nothing_gained g.H.Host c.from_residual.result (HasLogsOf (g.H.Host.may_leave host)) (HasStore after) g.met.H.Host.only_now host p.0 p.1
     (logs_rest before after (g.H.Host.reads host) (g.H.Host.may_leave host) (g.met.H.Host.reads_left host) rests)
 
 pub returns-in_err-put_layout-clause-err : goal.returns-in_err-put_layout-clause-err
@@ -40,7 +40,7 @@ returns-clause-gains g c before after go same rests =
     let is = body_is _ _ c.as_slice.result.now (layout_bytes entry) c.new-body.ensures.items c.in_ok-put_layout.ensures.ok c.as_slice.ensures.value in
     let host = c.args.host.now in
     let left = g.H.Host.may_leave host in
-    gained g.H.Host.moment g.H.Host.observed g.H.Host.said g.H.Host.reads g.H.Host.may_leave c.append.result (HasLogsOf left) (HasStore after) host c.append.new.host c.args.log.now c.append.new.self c.as_slice.result.now
+    gained g.H.Host c.append.result (HasLogsOf left) (HasStore after) host c.append.new.host c.args.log.now c.append.new.self c.as_slice.result.now
     (logs_rest before after (g.H.Host.reads host) left (g.met.H.Host.reads_left host) rests) c.requires.stands
     (layout_grows before after left go rests.left c.args.log.now c.as_slice.result.now c.requires.log (is ∙ ap layout_bytes (sym same))) g.met.H.Host.seen_now
     c.append.ensures.moments c.append.ensures.ok c.append.ensures.log c.append.ensures.crash c.append.ensures.said

@@ -12,7 +12,7 @@ use Rattle.coco_asks.proofs.input.answer_asks.Goals as goal
 
 pub batches-init : goal.batches-init
 batches-init g c = record {
-  asking = asking_new g.H.Host.moment g.H.Host.observed g.H.Host.said g.H.Host.reads g.H.Host.may_leave c.args.procs.now c.args.tables.items c.args.bounds.epoch g.met.H.Host.only_now c.new-reader.result (record { given = g.S.Source.given c.args.input.now; left = g.S.Source.remaining c.args.input.now; at_end = g.S.Source.at_end c.args.input.now }) c.args.host.now c.new-reader.ensures;
+  asking = asking_new g.H.Host c.args.procs.now c.args.tables.items c.args.bounds.epoch g.met.H.Host.only_now c.new-reader.result (record { given = g.S.Source.given c.args.input.now; left = g.S.Source.remaining c.args.input.now; at_end = g.S.Source.at_end c.args.input.now }) c.args.host.now c.new-reader.ensures;
   tables = refl;
   within = subst (λ (r : ReaderState). r.given ≤ most_input_bytes) (sym c.new-reader.ensures) (lit≤ tt);
   end = λ met. absurd (true≢false (sym met ∙ ap (λ r. r.ended) c.new-reader.ensures));
@@ -35,9 +35,9 @@ returns-in-Err-NoMemory-clause-answers g c =
     let m2 : SourceMoment = (record { given = g.S.Source.given c.read_lines.new.source; left = g.S.Source.remaining c.read_lines.new.source; at_end = g.S.Source.at_end c.read_lines.new.source }) in
     let before : Streams = record { source = (record { given = g.S.Source.given c.args.input.now; left = g.S.Source.remaining c.args.input.now; at_end = g.S.Source.at_end c.args.input.now }); source_faults = g.S.Source.faults c.args.input.now; say_faults = g.H.Host.say_faults c.args.host.now } in
     let after : Streams = record { source = (record { given = g.S.Source.given c.read_lines.new.source; left = g.S.Source.remaining c.read_lines.new.source; at_end = g.S.Source.at_end c.read_lines.new.source }); source_faults = g.S.Source.faults c.read_lines.new.source; say_faults = g.H.Host.say_faults c.batches.host } in
-    let to = broken_memory g.H.Host.moment g.H.Host.observed g.H.Host.said g.H.Host.reads g.H.Host.may_leave c.args.procs.now c.args.tables.items c.args.bounds.epoch c.batches.reader c.read_lines.new.reader m0 m1 m2 c.args.host.now c.batches.host inv.asking c.in-Err-NoMemory.field-0 c.in-Err-NoMemory.ensures.breaks in
+    let to = broken_memory g.H.Host c.args.procs.now c.args.tables.items c.args.bounds.epoch c.batches.reader c.read_lines.new.reader m0 m1 m2 c.args.host.now c.batches.host inv.asking c.in-Err-NoMemory.field-0 c.in-Err-NoMemory.ensures.breaks in
     let counts = rw c.in-Err-NoMemory.field-0-is at c.in-Err-NoMemory.ensures.counts in
-    answers_so g.H.Host.moment g.H.Host.observed g.H.Host.said g.H.Host.reads g.H.Host.may_leave c.args.procs.now c.args.tables.items c.args.bounds.epoch c.read_lines.new.reader before after ending.NoMemory c.args.host.now c.batches.host to (counts ∙ inv.reads, inv.says)
+    answers_so g.H.Host c.args.procs.now c.args.tables.items c.args.bounds.epoch c.read_lines.new.reader before after ending.NoMemory c.args.host.now c.batches.host to (counts ∙ inv.reads, inv.says)
 
 pub returns-in-Err-Failed-clause-answers : goal.returns-in-Err-Failed-clause-answers
 returns-in-Err-Failed-clause-answers g c =
@@ -47,9 +47,9 @@ returns-in-Err-Failed-clause-answers g c =
     let m2 : SourceMoment = (record { given = g.S.Source.given c.read_lines.new.source; left = g.S.Source.remaining c.read_lines.new.source; at_end = g.S.Source.at_end c.read_lines.new.source }) in
     let before : Streams = record { source = (record { given = g.S.Source.given c.args.input.now; left = g.S.Source.remaining c.args.input.now; at_end = g.S.Source.at_end c.args.input.now }); source_faults = g.S.Source.faults c.args.input.now; say_faults = g.H.Host.say_faults c.args.host.now } in
     let after : Streams = record { source = (record { given = g.S.Source.given c.read_lines.new.source; left = g.S.Source.remaining c.read_lines.new.source; at_end = g.S.Source.at_end c.read_lines.new.source }); source_faults = g.S.Source.faults c.read_lines.new.source; say_faults = g.H.Host.say_faults c.batches.host } in
-    let to = broken_failed g.H.Host.moment g.H.Host.observed g.H.Host.said g.H.Host.reads g.H.Host.may_leave c.args.procs.now c.args.tables.items c.args.bounds.epoch c.batches.reader c.read_lines.new.reader m0 m1 m2 c.args.host.now c.batches.host inv.asking c.in-Err-Failed.field-0 c.in-Err-Failed.ensures.breaks c.in-Err-Failed.field-0-is in
+    let to = broken_failed g.H.Host c.args.procs.now c.args.tables.items c.args.bounds.epoch c.batches.reader c.read_lines.new.reader m0 m1 m2 c.args.host.now c.batches.host inv.asking c.in-Err-Failed.field-0 c.in-Err-Failed.ensures.breaks c.in-Err-Failed.field-0-is in
     let counts = rw c.in-Err-Failed.field-0-is at c.in-Err-Failed.ensures.counts in
-    answers_so g.H.Host.moment g.H.Host.observed g.H.Host.said g.H.Host.reads g.H.Host.may_leave c.args.procs.now c.args.tables.items c.args.bounds.epoch c.read_lines.new.reader before after ending.ReadFault c.args.host.now c.batches.host to (inl (subst (λ k. Rose k (g.S.Source.faults c.read_lines.new.source)) inv.reads counts), inv.says)
+    answers_so g.H.Host c.args.procs.now c.args.tables.items c.args.bounds.epoch c.read_lines.new.reader before after ending.ReadFault c.args.host.now c.batches.host to (inl (subst (λ k. Rose k (g.S.Source.faults c.read_lines.new.source)) inv.reads counts), inv.says)
 
 pub returns-in-Err-TooMuch-clause-answers : goal.returns-in-Err-TooMuch-clause-answers
 returns-in-Err-TooMuch-clause-answers g c =
@@ -59,8 +59,8 @@ returns-in-Err-TooMuch-clause-answers g c =
     let m2 : SourceMoment = (record { given = g.S.Source.given c.read_lines.new.source; left = g.S.Source.remaining c.read_lines.new.source; at_end = g.S.Source.at_end c.read_lines.new.source }) in
     let before : Streams = record { source = (record { given = g.S.Source.given c.args.input.now; left = g.S.Source.remaining c.args.input.now; at_end = g.S.Source.at_end c.args.input.now }); source_faults = g.S.Source.faults c.args.input.now; say_faults = g.H.Host.say_faults c.args.host.now } in
     let after : Streams = record { source = (record { given = g.S.Source.given c.read_lines.new.source; left = g.S.Source.remaining c.read_lines.new.source; at_end = g.S.Source.at_end c.read_lines.new.source }); source_faults = g.S.Source.faults c.read_lines.new.source; say_faults = g.H.Host.say_faults c.batches.host } in
-    let to = broken_much g.H.Host.moment g.H.Host.observed g.H.Host.said g.H.Host.reads g.H.Host.may_leave c.args.procs.now c.args.tables.items c.args.bounds.epoch c.batches.reader c.read_lines.new.reader m0 m1 m2 c.args.host.now c.batches.host inv.asking c.in-Err-TooMuch.field-0 c.in-Err-TooMuch.ensures.breaks c.in-Err-TooMuch.field-0-is in
-    answers_so g.H.Host.moment g.H.Host.observed g.H.Host.said g.H.Host.reads g.H.Host.may_leave c.args.procs.now c.args.tables.items c.args.bounds.epoch c.read_lines.new.reader before after ending.ReadFault c.args.host.now c.batches.host to (inr (sym to.count ∙ c.in-Err-TooMuch.ensures.too_much (ap Err c.in-Err-TooMuch.field-0-is)), inv.says)
+    let to = broken_much g.H.Host c.args.procs.now c.args.tables.items c.args.bounds.epoch c.batches.reader c.read_lines.new.reader m0 m1 m2 c.args.host.now c.batches.host inv.asking c.in-Err-TooMuch.field-0 c.in-Err-TooMuch.ensures.breaks c.in-Err-TooMuch.field-0-is in
+    answers_so g.H.Host c.args.procs.now c.args.tables.items c.args.bounds.epoch c.read_lines.new.reader before after ending.ReadFault c.args.host.now c.batches.host to (inr (sym to.count ∙ c.in-Err-TooMuch.ensures.too_much (ap Err c.in-Err-TooMuch.field-0-is)), inv.says)
 
 pub returns-in_default-clause-answers : goal.returns-in_default-clause-answers
 returns-in_default-clause-answers g c =
@@ -70,8 +70,8 @@ returns-in_default-clause-answers g c =
     let m2 : SourceMoment = (record { given = g.S.Source.given c.read_lines.new.source; left = g.S.Source.remaining c.read_lines.new.source; at_end = g.S.Source.at_end c.read_lines.new.source }) in
     let before : Streams = record { source = (record { given = g.S.Source.given c.args.input.now; left = g.S.Source.remaining c.args.input.now; at_end = g.S.Source.at_end c.args.input.now }); source_faults = g.S.Source.faults c.args.input.now; say_faults = g.H.Host.say_faults c.args.host.now } in
     let after : Streams = record { source = (record { given = g.S.Source.given c.read_lines.new.source; left = g.S.Source.remaining c.read_lines.new.source; at_end = g.S.Source.at_end c.read_lines.new.source }); source_faults = g.S.Source.faults c.read_lines.new.source; say_faults = g.H.Host.say_faults c.batches.host } in
-    let to = unanswered g.H.Host.moment g.H.Host.observed g.H.Host.said g.H.Host.reads g.H.Host.may_leave c.args.procs.now c.args.tables.items c.args.bounds.epoch c.batches.reader c.read_lines.new.reader m0 m1 m2 c.args.host.now c.batches.host inv.asking c.in-Ok.lines.items c.in-Ok.ensures.lines in
-    answers_so g.H.Host.moment g.H.Host.observed g.H.Host.said g.H.Host.reads g.H.Host.may_leave c.args.procs.now c.args.tables.items c.args.bounds.epoch c.read_lines.new.reader before after ending.NoMemory c.args.host.now c.batches.host to (c.in-Ok.ensures.counts ∙ inv.reads, inv.says)
+    let to = unanswered g.H.Host c.args.procs.now c.args.tables.items c.args.bounds.epoch c.batches.reader c.read_lines.new.reader m0 m1 m2 c.args.host.now c.batches.host inv.asking c.in-Ok.lines.items c.in-Ok.ensures.lines in
+    answers_so g.H.Host c.args.procs.now c.args.tables.items c.args.bounds.epoch c.read_lines.new.reader before after ending.NoMemory c.args.host.now c.batches.host to (c.in-Ok.ensures.counts ∙ inv.reads, inv.says)
 
 pub returns-in-Err-Failed-say_all-clause-answers : goal.returns-in-Err-Failed-say_all-clause-answers
 returns-in-Err-Failed-say_all-clause-answers g c =
@@ -84,11 +84,11 @@ returns-in-Err-Failed-say_all-clause-answers g c =
     let said = c.in-Err-Failed-say_all.ensures.err in
     let text = c.in-Ok-answered.texts.items in
     let part = part_said (g.H.Host.said c.batches.host) (g.H.Host.said c.say_all.new.host) c.as_slice.result.now c.in-Ok-answered.texts.items said.0 c.as_slice.ensures.value said.2 in
-    let only = says_more g.H.Host.moment g.H.Host.observed g.H.Host.said g.H.Host.reads g.H.Host.may_leave c.args.host.now c.batches.host c.say_all.new.host inv.asking.text (take said.0 text) inv.asking.only part c.say_all.ensures.same c.say_all.ensures.crash c.say_all.ensures.sees in
-    let to = said_in_part g.H.Host.moment g.H.Host.observed g.H.Host.said g.H.Host.reads g.H.Host.may_leave c.args.procs.now c.args.tables.items c.args.bounds.epoch c.batches.reader c.read_lines.new.reader m0 m1 m2 c.args.host.now c.batches.host inv.asking c.in-Ok.lines.items c.in-Ok.ensures.lines text
+    let only = says_more g.H.Host c.args.host.now c.batches.host c.say_all.new.host inv.asking.text (take said.0 text) inv.asking.only part c.say_all.ensures.same c.say_all.ensures.crash c.say_all.ensures.sees in
+    let to = said_in_part g.H.Host c.args.procs.now c.args.tables.items c.args.bounds.epoch c.batches.reader c.read_lines.new.reader m0 m1 m2 c.args.host.now c.batches.host inv.asking c.in-Ok.lines.items c.in-Ok.ensures.lines text
     (λ rows k of holds. c.in-Ok-answered.ensures.texts rows k of (subst (HoldsFrozen rows) (sym inv.tables) holds)) ending.SayFault said.0 c.say_all.new.host only (inl refl) in
     let counts = rw c.in-Err-Failed-say_all.field-0-is at c.in-Err-Failed-say_all.ensures.counts in
-    answers_so g.H.Host.moment g.H.Host.observed g.H.Host.said g.H.Host.reads g.H.Host.may_leave c.args.procs.now c.args.tables.items c.args.bounds.epoch c.read_lines.new.reader before after ending.SayFault c.args.host.now c.say_all.new.host to (subst (λ k. Rose k (g.H.Host.say_faults c.say_all.new.host)) inv.says counts, c.in-Ok.ensures.counts ∙ inv.reads)
+    answers_so g.H.Host c.args.procs.now c.args.tables.items c.args.bounds.epoch c.read_lines.new.reader before after ending.SayFault c.args.host.now c.say_all.new.host to (subst (λ k. Rose k (g.H.Host.say_faults c.say_all.new.host)) inv.says counts, c.in-Ok.ensures.counts ∙ inv.reads)
 
 pub returns-in-Err-NoMemory-say_all-clause-answers : goal.returns-in-Err-NoMemory-say_all-clause-answers
 returns-in-Err-NoMemory-say_all-clause-answers g c =
@@ -101,11 +101,11 @@ returns-in-Err-NoMemory-say_all-clause-answers g c =
     let said = c.in-Err-NoMemory-say_all.ensures.err in
     let text = c.in-Ok-answered.texts.items in
     let part = part_said (g.H.Host.said c.batches.host) (g.H.Host.said c.say_all.new.host) c.as_slice.result.now c.in-Ok-answered.texts.items said.0 c.as_slice.ensures.value said.2 in
-    let only = says_more g.H.Host.moment g.H.Host.observed g.H.Host.said g.H.Host.reads g.H.Host.may_leave c.args.host.now c.batches.host c.say_all.new.host inv.asking.text (take said.0 text) inv.asking.only part c.say_all.ensures.same c.say_all.ensures.crash c.say_all.ensures.sees in
-    let to = said_in_part g.H.Host.moment g.H.Host.observed g.H.Host.said g.H.Host.reads g.H.Host.may_leave c.args.procs.now c.args.tables.items c.args.bounds.epoch c.batches.reader c.read_lines.new.reader m0 m1 m2 c.args.host.now c.batches.host inv.asking c.in-Ok.lines.items c.in-Ok.ensures.lines text
+    let only = says_more g.H.Host c.args.host.now c.batches.host c.say_all.new.host inv.asking.text (take said.0 text) inv.asking.only part c.say_all.ensures.same c.say_all.ensures.crash c.say_all.ensures.sees in
+    let to = said_in_part g.H.Host c.args.procs.now c.args.tables.items c.args.bounds.epoch c.batches.reader c.read_lines.new.reader m0 m1 m2 c.args.host.now c.batches.host inv.asking c.in-Ok.lines.items c.in-Ok.ensures.lines text
     (λ rows k of holds. c.in-Ok-answered.ensures.texts rows k of (subst (HoldsFrozen rows) (sym inv.tables) holds)) ending.NoMemory said.0 c.say_all.new.host only (inr refl) in
     let counts = rw c.in-Err-NoMemory-say_all.field-0-is at c.in-Err-NoMemory-say_all.ensures.counts in
-    answers_so g.H.Host.moment g.H.Host.observed g.H.Host.said g.H.Host.reads g.H.Host.may_leave c.args.procs.now c.args.tables.items c.args.bounds.epoch c.read_lines.new.reader before after ending.NoMemory c.args.host.now c.say_all.new.host to (c.in-Ok.ensures.counts ∙ inv.reads, counts ∙ inv.says)
+    answers_so g.H.Host c.args.procs.now c.args.tables.items c.args.bounds.epoch c.read_lines.new.reader before after ending.NoMemory c.args.host.now c.say_all.new.host to (c.in-Ok.ensures.counts ∙ inv.reads, counts ∙ inv.says)
 
 pub returns-then-count-lt-MOST_BATCH_LINES-clause-answers : goal.returns-then-count-lt-MOST_BATCH_LINES-clause-answers
 returns-then-count-lt-MOST_BATCH_LINES-clause-answers g c =
@@ -117,12 +117,12 @@ returns-then-count-lt-MOST_BATCH_LINES-clause-answers g c =
     let after : Streams = record { source = (record { given = g.S.Source.given c.read_lines.new.source; left = g.S.Source.remaining c.read_lines.new.source; at_end = g.S.Source.at_end c.read_lines.new.source }); source_faults = g.S.Source.faults c.read_lines.new.source; say_faults = g.H.Host.say_faults c.say_all.new.host } in
     let text = c.in-Ok-answered.texts.items in
     let all = all_said (g.H.Host.said c.batches.host) (g.H.Host.said c.say_all.new.host) c.as_slice.result.now c.in-Ok-answered.texts.items c.as_slice.ensures.value c.in-Ok-say_all.ensures.ok in
-    let only = says_more g.H.Host.moment g.H.Host.observed g.H.Host.said g.H.Host.reads g.H.Host.may_leave c.args.host.now c.batches.host c.say_all.new.host inv.asking.text text inv.asking.only all c.say_all.ensures.same c.say_all.ensures.crash c.say_all.ensures.sees in
+    let only = says_more g.H.Host c.args.host.now c.batches.host c.say_all.new.host inv.asking.text text inv.asking.only all c.say_all.ensures.same c.say_all.ensures.crash c.say_all.ensures.sees in
     let short : length c.in-Ok.lines.items < most_batch_lines = omega (arith, c.len-count.ensures, c.in-Ok.lines.ok.0, c.if-count-lt-MOST_BATCH_LINES.true) in
-    let to = finished g.H.Host.moment g.H.Host.observed g.H.Host.said g.H.Host.reads g.H.Host.may_leave c.args.procs.now c.args.tables.items c.args.bounds.epoch c.batches.reader c.read_lines.new.reader m0 m1 m2 c.args.host.now c.batches.host inv.asking c.in-Ok.lines.items c.in-Ok.ensures.lines text
+    let to = finished g.H.Host c.args.procs.now c.args.tables.items c.args.bounds.epoch c.batches.reader c.read_lines.new.reader m0 m1 m2 c.args.host.now c.batches.host inv.asking c.in-Ok.lines.items c.in-Ok.ensures.lines text
     (λ rows k of holds. c.in-Ok-answered.ensures.texts rows k of (subst (HoldsFrozen rows) (sym inv.tables) holds)) short c.say_all.new.host only in
     let end = c.in-Ok.ensures.end inv.end (c.in-Ok.ensures.lines.ends short).0 in
-    answers_so g.H.Host.moment g.H.Host.observed g.H.Host.said g.H.Host.reads g.H.Host.may_leave c.args.procs.now c.args.tables.items c.args.bounds.epoch c.read_lines.new.reader before after ending.Finished c.args.host.now c.say_all.new.host to (end, c.in-Ok.ensures.counts ∙ inv.reads, c.in-Ok-say_all.ensures.counts ∙ inv.says)
+    answers_so g.H.Host c.args.procs.now c.args.tables.items c.args.bounds.epoch c.read_lines.new.reader before after ending.Finished c.args.host.now c.say_all.new.host to (end, c.in-Ok.ensures.counts ∙ inv.reads, c.in-Ok-say_all.ensures.counts ∙ inv.says)
 
 pub batches-smaller : goal.batches-smaller
 batches-smaller g c = (let given = c.in-Ok.ensures.given in let within = c.in-Ok.ensures.within in omega (arith, given, within, c.len-count.ensures, c.in-Ok.lines.ok.0, c.if-count-lt-MOST_BATCH_LINES.false))
@@ -135,10 +135,10 @@ batches-preserved g c =
     let m2 : SourceMoment = (record { given = g.S.Source.given c.read_lines.new.source; left = g.S.Source.remaining c.read_lines.new.source; at_end = g.S.Source.at_end c.read_lines.new.source }) in
     let text = c.in-Ok-answered.texts.items in
     let all = all_said (g.H.Host.said c.batches.host) (g.H.Host.said c.say_all.new.host) c.as_slice.result.now c.in-Ok-answered.texts.items c.as_slice.ensures.value c.in-Ok-say_all.ensures.ok in
-    let only = says_more g.H.Host.moment g.H.Host.observed g.H.Host.said g.H.Host.reads g.H.Host.may_leave c.args.host.now c.batches.host c.say_all.new.host inv.asking.text text inv.asking.only all c.say_all.ensures.same c.say_all.ensures.crash c.say_all.ensures.sees in
+    let only = says_more g.H.Host c.args.host.now c.batches.host c.say_all.new.host inv.asking.text text inv.asking.only all c.say_all.ensures.same c.say_all.ensures.crash c.say_all.ensures.sees in
     let full : most_batch_lines ≤ length c.in-Ok.lines.items = omega (arith, c.len-count.ensures, c.in-Ok.lines.ok.0, c.if-count-lt-MOST_BATCH_LINES.false) in
     record {
-      asking = asking_more g.H.Host.moment g.H.Host.observed g.H.Host.said g.H.Host.reads g.H.Host.may_leave c.args.procs.now c.args.tables.items c.args.bounds.epoch c.batches.reader c.read_lines.new.reader m0 m1 m2 c.args.host.now c.batches.host inv.asking c.in-Ok.lines.items c.in-Ok.ensures.lines text
+      asking = asking_more g.H.Host c.args.procs.now c.args.tables.items c.args.bounds.epoch c.batches.reader c.read_lines.new.reader m0 m1 m2 c.args.host.now c.batches.host inv.asking c.in-Ok.lines.items c.in-Ok.ensures.lines text
           (λ rows k of holds. c.in-Ok-answered.ensures.texts rows k of (subst (HoldsFrozen rows) (sym inv.tables) holds)) full c.in-Ok.ensures.given c.say_all.new.host only;
       tables = c.in-Ok-answered.ensures.back ∙ inv.tables;
       within = c.in-Ok.ensures.within;

@@ -6,7 +6,7 @@ use Rattle.coco_asks.proofs.input.answer_asks.Given as goal
 
 abbrev pub invariant-batches : goal.invariant-batches
 invariant-batches g l = record {
-  asking : IsAsking g.H.Host.moment g.H.Host.observed g.H.Host.said g.H.Host.reads g.H.Host.may_leave l.procs l.fn.tables.items l.bounds.epoch l.reader
+  asking : IsAsking g.H.Host l.procs l.fn.tables.items l.bounds.epoch l.reader
       (record { given = g.S.Source.given l.fn.input; left = g.S.Source.remaining l.fn.input; at_end = g.S.Source.at_end l.fn.input })
       (record { given = g.S.Source.given l.input; left = g.S.Source.remaining l.input; at_end = g.S.Source.at_end l.input }) l.fn.host l.host;
   tables : l.tables.items ≡ l.fn.tables.items;

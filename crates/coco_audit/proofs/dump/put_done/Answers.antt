@@ -1,5 +1,6 @@
 use Rattle.std.proofs.Common.{refl, ◌∙◌}
-use Rattle.coco_audit.proofs.Tokens.{behind, on_ok}
+use Rattle.coco_lines.proofs.TextLemmas.{on_ok}
+use Rattle.coco_audit.proofs.Tokens.{behind}
 use Rattle.coco_audit.proofs.dump.put_done.Goals as goal
 
 pub returns-clause-ok : goal.returns-clause-ok

@@ -1,9 +1,10 @@
 use Rattle.std.proofs.Common.{◌++◌, ap, ◌∙◌}
+use Rattle.coco_lines.proofs.TextLemmas.{on_ok}
 use Rattle.json.specs.Tree.{json_tokens}
 use Rattle.serde_json.specs.Written.{outline}
 use Rattle.coco_types.specs.RowKey.{RowKey}
 use Rattle.coco_audit.specs.Texts.{dump_row_json}
-use Rattle.coco_audit.proofs.Tokens.{behind, on_ok}
+use Rattle.coco_audit.proofs.Tokens.{behind}
 use Rattle.coco_audit.proofs.dump.put_row.Goals as goal
 
 pub returns-clause-ok : goal.returns-clause-ok

@@ -1,5 +1,4 @@
-use Rattle.std.proofs.Common.{◌≡◌, ℕ, length, subst, sym, arith}
-use Rattle.coco_shard.specs.RowState.{ListsRows, stable_at}
+use Rattle.std.proofs.Common.{◌≡◌, ℕ, length, subst, arith}
 use Rattle.coco_audit.specs.Dumping.{HasKeys}
 use Rattle.coco_audit.proofs.DumpLemmas.{has_more, has_none, shard_is}
 use Rattle.coco_audit.proofs.pieces.gathered.Goals as goal
@@ -11,9 +10,8 @@ pub loop-shard-preserved : goal.loop-shard-preserved
 loop-shard-preserved c =
     let shards = c.args.shards.now in
     let n = c.loop-shard.shard-index in
-    let shard = c.shard-item.result in
-    let lists : ListsRows (stable_at shard) c.as_slice.result.now = subst (ListsRows (stable_at shard)) (sym c.as_slice.ensures) c.in_ok-rows.ensures in
-    has_more shards n shard c.loop-shard.keys.items c.add_keys.new.keys.items c.as_slice.result.now (shard_is shards n shard c.loop-shard-test.true c.shard-item.is) c.loop-shard.invariant lists c.in_ok-add_keys.ensures
+    let (rows, lists, added) = c.in_ok-add_keys.ensures in
+    has_more shards n c.shard-item.result c.loop-shard.keys.items c.add_keys.new.keys.items rows (shard_is shards n c.shard-item.result c.loop-shard-test.true c.shard-item.is) c.loop-shard.invariant lists added
 
 pub returns : goal.returns
 returns c =

@@ -3,4 +3,4 @@ use Rattle.coco_log.proofs.Changing.{changes_none}
 use Rattle.coco_ckpt.proofs.base.add_entry.Goals as goal
 
 pub returns-then-body-gt-MOST_BYTES-clause-changes : goal.returns-then-body-gt-MOST_BYTES-clause-changes
-returns-then-body-gt-MOST_BYTES-clause-changes g c = changes_none g.H.Host.moment g.H.Host.observed g.H.Host.said g.H.Host.reads g.H.Host.may_leave g.met.H.Host.only_now (c.args.draft.now.file ∷ []) c.args.host.now
+returns-then-body-gt-MOST_BYTES-clause-changes g c = changes_none g.H.Host g.met.H.Host.only_now (c.args.draft.now.file ∷ []) c.args.host.now

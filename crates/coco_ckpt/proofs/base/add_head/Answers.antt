@@ -6,7 +6,7 @@ use Rattle.coco_store.specs.Entries.{Head, base_bytes}
 use Rattle.coco_ckpt.proofs.base.add_head.Goals as goal
 
 pub returns-in_err-put_head-clause-changes : goal.returns-in_err-put_head-clause-changes
-returns-in_err-put_head-clause-changes g c = changes_none g.H.Host.moment g.H.Host.observed g.H.Host.said g.H.Host.reads g.H.Host.may_leave g.met.H.Host.only_now (c.args.draft.now.file ∷ []) c.args.host.now
+returns-in_err-put_head-clause-changes g c = changes_none g.H.Host g.met.H.Host.only_now (c.args.draft.now.file ∷ []) c.args.host.now
 
 pub returns-clause-drafts : goal.returns-clause-drafts
 returns-clause-drafts g c =

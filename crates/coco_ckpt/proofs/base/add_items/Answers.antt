@@ -22,11 +22,6 @@ returns-clause-of g c = on_ok c.write_rows.result _ _ (λ of. (of.0 ∙ c.in_ok-
 
 pub returns-clause-changes : goal.returns-clause-changes
 returns-clause-changes g c =
-    let M = g.H.Host.moment in
-    let O = g.H.Host.observed in
-    let S = g.H.Host.said in
-    let R = g.H.Host.reads in
-    let L = g.H.Host.may_leave in
     let file = c.args.draft.now.file in
-    changes_then M O S R L (file ∷ []) c.args.host.now c.write_dones.new.host c.write_rows.new.host c.write_dones.ensures.changes
-    (subst (λ (f : ℕ). ChangesOnly M O S R L (f ∷ []) c.write_dones.new.host c.write_rows.new.host) c.in_ok-write_dones.ensures.of.0 c.write_rows.ensures.changes)
+    changes_then g.H.Host (file ∷ []) c.args.host.now c.write_dones.new.host c.write_rows.new.host c.write_dones.ensures.changes
+    (subst (λ (f : ℕ). ChangesOnly g.H.Host (f ∷ []) c.write_dones.new.host c.write_rows.new.host) c.in_ok-write_dones.ensures.of.0 c.write_rows.ensures.changes)

@@ -36,11 +36,6 @@ returns-clause-of g c = on_ok c.add_items.result _ _ (λ of. (of.0 ∙ c.in_ok-a
 
 pub returns-clause-changes : goal.returns-clause-changes
 returns-clause-changes g c =
-    let M = g.H.Host.moment in
-    let O = g.H.Host.observed in
-    let S = g.H.Host.said in
-    let R = g.H.Host.reads in
-    let L = g.H.Host.may_leave in
     let file = c.args.draft.now.file in
-    changes_then M O S R L (file ∷ []) c.args.host.now c.add_head.new.host c.add_items.new.host c.add_head.ensures.changes
-    (subst (λ (f : ℕ). ChangesOnly M O S R L (f ∷ []) c.add_head.new.host c.add_items.new.host) c.in_ok-add_head.ensures.of.0 c.add_items.ensures.changes)
+    changes_then g.H.Host (file ∷ []) c.args.host.now c.add_head.new.host c.add_items.new.host c.add_head.ensures.changes
+    (subst (λ (f : ℕ). ChangesOnly g.H.Host (f ∷ []) c.add_head.new.host c.add_items.new.host) c.in_ok-add_head.ensures.of.0 c.add_items.ensures.changes)

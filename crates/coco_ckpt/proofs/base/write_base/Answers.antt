@@ -7,7 +7,7 @@ use Rattle.coco_store.specs.Entries.{base_bytes, base_kind}
 use Rattle.coco_ckpt.proofs.base.write_base.Goals as goal
 
 pub returns-in_err-draft-clause-changes : goal.returns-in_err-draft-clause-changes
-returns-in_err-draft-clause-changes g c = changes_none g.H.Host.moment g.H.Host.observed g.H.Host.said g.H.Host.reads g.H.Host.may_leave g.met.H.Host.only_now (c.args.file ∷ []) c.args.host.now
+returns-in_err-draft-clause-changes g c = changes_none g.H.Host g.met.H.Host.only_now (c.args.file ∷ []) c.args.host.now
 
 pub fill-requires-clause-drafts : goal.fill-requires-clause-drafts
 fill-requires-clause-drafts g c = c.in_ok-draft.ensures.none (g.H.Host.reads c.args.host.now)
@@ -17,12 +17,7 @@ finish-requires g c = record { drafts = (_, c.in_ok-fill.ensures.drafts.drafts) 
 
 pub returns-in_err-fill-clause-changes : goal.returns-in_err-fill-clause-changes
 returns-in_err-fill-clause-changes g c =
-    let M = g.H.Host.moment in
-    let O = g.H.Host.observed in
-    let S = g.H.Host.said in
-    let R = g.H.Host.reads in
-    let L = g.H.Host.may_leave in
-    subst (λ (d : Drafted). ChangesOnly M O S R L (d.file ∷ []) c.args.host.now c.fill.new.host) c.in_ok-draft.ensures.draft c.fill.ensures.changes
+    subst (λ (d : Drafted). ChangesOnly g.H.Host (d.file ∷ []) c.args.host.now c.fill.new.host) c.in_ok-draft.ensures.draft c.fill.ensures.changes
 
 pub returns-clause-base : goal.returns-clause-base
 returns-clause-base g c =
@@ -40,12 +35,7 @@ returns-clause-base g c =
 
 pub returns-clause-changes : goal.returns-clause-changes
 returns-clause-changes g c =
-    let M = g.H.Host.moment in
-    let O = g.H.Host.observed in
-    let S = g.H.Host.said in
-    let R = g.H.Host.reads in
-    let L = g.H.Host.may_leave in
     let file = c.in_ok-fill.ensures.of.0 ∙ ap (λ (d : Drafted). d.file) c.in_ok-draft.ensures.draft in
-    changes_then M O S R L (c.args.file ∷ []) c.args.host.now c.fill.new.host c.finish.new.host
-    (subst (λ (d : Drafted). ChangesOnly M O S R L (d.file ∷ []) c.args.host.now c.fill.new.host) c.in_ok-draft.ensures.draft c.fill.ensures.changes)
-    (subst (λ (f : ℕ). ChangesOnly M O S R L (f ∷ []) c.fill.new.host c.finish.new.host) file c.finish.ensures.changes)
+    changes_then g.H.Host (c.args.file ∷ []) c.args.host.now c.fill.new.host c.finish.new.host
+    (subst (λ (d : Drafted). ChangesOnly g.H.Host (d.file ∷ []) c.args.host.now c.fill.new.host) c.in_ok-draft.ensures.draft c.fill.ensures.changes)
+    (subst (λ (f : ℕ). ChangesOnly g.H.Host (f ∷ []) c.fill.new.host c.finish.new.host) file c.finish.ensures.changes)

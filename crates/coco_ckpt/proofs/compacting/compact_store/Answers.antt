@@ -13,13 +13,13 @@ use Rattle.coco_store.specs.Entries.{files_of}
 use Rattle.coco_ckpt.specs.Compacting.{HasCompacted, compact_files, compacted_with}
 use Rattle.coco_ckpt.proofs.Compacts.{compaction, is_from, ready_rests, still_good, still_logged}
 use Rattle.coco_ckpt.proofs.NewFiles.{epoch_is, file_apart, free, free_of_old, same_text, wider}
-use Rattle.coco_ckpt.proofs.Steps.{become_more, become_one, become_still, become_then, follows_more, follows_one, follows_then, stands_besides}
+use Rattle.coco_make.proofs.Besides.{become_more, become_one, become_still, become_then, follows_more, follows_one, follows_then, stands_besides}
 use Rattle.coco_ckpt.proofs.compacting.compact_store.Goals as goal
 
 pub returns-in_err-entry-clause-gains : goal.returns-in_err-entry-clause-gains
 returns-in_err-entry-clause-gains g c d has rests =
     let p = err_from_is_err_and c.from_residual.result c.from_residual.ensures.1 in
-    nothing_gained g.H.Host.moment g.H.Host.observed g.H.Host.said g.H.Host.reads g.H.Host.may_leave c.from_residual.result (HasStore d) (HasCompacted d) g.met.H.Host.only_now c.args.host.now p.0 p.1 rests
+    nothing_gained g.H.Host c.from_residual.result (HasStore d) (HasCompacted d) g.met.H.Host.only_now c.args.host.now p.0 p.1 rests
 
 pub returns-in_err-entry-clause-files : goal.returns-in_err-entry-clause-files
 returns-in_err-entry-clause-files g c = become_still (compact_files (entry_in c.args.store)) (g.H.Host.reads c.args.host.now)
@@ -47,11 +47,6 @@ write_files-requires-clause-apart g c =
 
 pub returns-in_err-write_files-clause-gains : goal.returns-in_err-write_files-clause-gains
 returns-in_err-write_files-clause-gains g c d has rests =
-    let M = g.H.Host.moment in
-    let O = g.H.Host.observed in
-    let S = g.H.Host.said in
-    let R = g.H.Host.reads in
-    let L = g.H.Host.may_leave in
     let store = c.args.store in
     let sound = c.requires.sound in
     let old = entry_in store in
@@ -65,7 +60,7 @@ returns-in_err-write_files-clause-gains g c d has rests =
     let mid = c.write_files.new.host in
     let still = still_good named d (λ n is. free old sound.is sound.limits entry (store.next_epoch - 1) end compact base is_base n (subst (λ (e : LayoutEntry). is_named (files_of e) n ≡ true) (sym has.layout) is)) in
     let p = err_from_is_err_and c.from_residual-in_err-write_files.result c.from_residual-in_err-write_files.ensures.1 in
-    nothing_gained_past M O S R L named (HasStore d) still first mid rests c.write_files.ensures.changes c.from_residual-in_err-write_files.result (HasCompacted d) p.0 p.1
+    nothing_gained_past g.H.Host named (HasStore d) still first mid rests c.write_files.ensures.changes c.from_residual-in_err-write_files.result (HasCompacted d) p.0 p.1
 
 pub returns-in_err-write_files-clause-files : goal.returns-in_err-write_files-clause-files
 returns-in_err-write_files-clause-files g c =
@@ -130,9 +125,6 @@ add_layout-requires-clause-text g c =
 
 pub returns-clause-gains : goal.returns-clause-gains
 returns-clause-gains g c d has rests =
-    let M = g.H.Host.moment in
-    let O = g.H.Host.observed in
-    let S = g.H.Host.said in
     let R = g.H.Host.reads in
     let L = g.H.Host.may_leave in
     let store = c.args.store in
@@ -158,12 +150,12 @@ returns-clause-gains g c d has rests =
     let at_epoch = epoch_is old sound.is sound.limits entry (store.next_epoch - 1) end compact in
     let into = is_from store sound d has rests.files rests.good entry compact is limits law at_epoch made.entries made.is in
     let after = compacted_with entry made.entries d in
-    let past = rests_past M O S R L named (HasStore d) still first mid rests c.write_files.ensures.changes in
+    let past = rests_past g.H.Host named (HasStore d) still first mid rests c.write_files.ensures.changes in
     let ready = ready_rests d entry made.entries base is_base (R mid) (L mid) (g.met.H.Host.reads_left mid) past made.log made.are into.base c.in_ok-write_files.ensures.empty in
     let gains = c.add_layout.ensures.gains d after into.switches refl ready in
     let small = compaction store sound d has rests.files rests.good entry compact is limits law at_epoch made.entries made.is c.compacted_alike.ensures c.alike_lines.ensures in
-    gained_past M O S R L named (HasStore d) still first mid rests c.write_files.ensures.changes c.add_layout.result (HasCompacted d) new
-    (gains_weaker M O S R L c.add_layout.result (HasLogsOf (L mid)) (HasStore after) (HasStore d) (HasCompacted d) mid new
+    gained_past g.H.Host named (HasStore d) still first mid rests c.write_files.ensures.changes c.add_layout.result (HasCompacted d) new
+    (gains_weaker g.H.Host c.add_layout.result (HasLogsOf (L mid)) (HasStore after) (HasStore d) (HasCompacted d) mid new
     (such_of_logs (HasStore d) (L mid) (still_logged d) past.left) (λ image now. (after, small, now)) gains)
 
 pub returns-clause-files : goal.returns-clause-files

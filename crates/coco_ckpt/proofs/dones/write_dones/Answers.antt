@@ -16,11 +16,7 @@ use Rattle.coco_ckpt.proofs.dones.write_dones.Goals as goal
 
 pub loop-done-init : goal.loop-done-init
 loop-done-init g c =
-    let M = g.H.Host.moment in
-    let O = g.H.Host.observed in
-    let S = g.H.Host.said in
     let R = g.H.Host.reads in
-    let L = g.H.Host.may_leave in
     let draft = c.args.draft.now in
     let host = c.args.host.now in
     let all : deque_iter_rest c.into_iter-done-iterator.result ≡ c.args.kept.now.dones = search rules in
@@ -31,7 +27,7 @@ loop-done-init g c =
       kind = refl;
       put = λ bodies drafts. subst (λ (l : List Done). HasPut Dones c.args.kept.now.dones (l ++ deque_iter_rest c.into_iter-done-iterator.result) bodies draft (R host)) (sym none)
           (subst (λ (l : List Done). HasPut Dones c.args.kept.now.dones l bodies draft (R host)) (sym all) (put_none Dones c.args.kept.now.dones bodies draft (R host) drafts));
-      changes = changes_none M O S R L g.met.H.Host.only_now (draft.file ∷ []) host;
+      changes = changes_none g.H.Host g.met.H.Host.only_now (draft.file ∷ []) host;
       counts = refl;
     }
 
@@ -50,11 +46,7 @@ put_done-requires-clause-drafts g c = let was = c.loop-done.invariant.put c.requ
 
 pub loop-done-preserved : goal.loop-done-preserved
 loop-done-preserved g c =
-    let M = g.H.Host.moment in
-    let O = g.H.Host.observed in
-    let S = g.H.Host.said in
     let R = g.H.Host.reads in
-    let L = g.H.Host.may_leave in
     let first = c.args.host.now in
     let file = c.args.draft.now.file in
     let inv = c.loop-done.invariant in
@@ -68,21 +60,16 @@ loop-done-preserved g c =
       kind = put.of.1 ∙ inv.kind;
       put = λ bodies drafts. put.put c.args.kept.now.dones (deque_iter_rest c.next.new.self) bodies
           (subst (λ (l : List Done). HasPut Dones c.args.kept.now.dones (batch ++ l) bodies c.loop-done.draft (R c.loop-done.host)) step (inv.put bodies drafts));
-      changes = changes_then M O S R L (file ∷ []) first c.loop-done.host c.put_done.new.host inv.changes
-          (subst (λ (f : ℕ). ChangesOnly M O S R L (f ∷ []) c.loop-done.host c.put_done.new.host) inv.file c.put_done.ensures.changes);
+      changes = changes_then g.H.Host (file ∷ []) first c.loop-done.host c.put_done.new.host inv.changes
+          (subst (λ (f : ℕ). ChangesOnly g.H.Host (f ∷ []) c.loop-done.host c.put_done.new.host) inv.file c.put_done.ensures.changes);
       counts = put.counts ∙ inv.counts;
     }
 
 pub returns-in_err-put_done-clause-changes : goal.returns-in_err-put_done-clause-changes
 returns-in_err-put_done-clause-changes g c =
-    let M = g.H.Host.moment in
-    let O = g.H.Host.observed in
-    let S = g.H.Host.said in
-    let R = g.H.Host.reads in
-    let L = g.H.Host.may_leave in
     let inv = c.loop-done.invariant in
-    changes_then M O S R L (c.args.draft.now.file ∷ []) c.args.host.now c.loop-done.host c.put_done.new.host inv.changes
-    (subst (λ (f : ℕ). ChangesOnly M O S R L (f ∷ []) c.loop-done.host c.put_done.new.host) inv.file c.put_done.ensures.changes)
+    changes_then g.H.Host (c.args.draft.now.file ∷ []) c.args.host.now c.loop-done.host c.put_done.new.host inv.changes
+    (subst (λ (f : ℕ). ChangesOnly g.H.Host (f ∷ []) c.loop-done.host c.put_done.new.host) inv.file c.put_done.ensures.changes)
 
 pub end_dones-requires-clause-few : goal.end_dones-requires-clause-few
 end_dones-requires-clause-few g c = subst (λ (l : List Done). length l < MOST_ITEMS) (sym c.as_slice.ensures.value) c.loop-done.invariant.few
@@ -110,14 +97,9 @@ returns-clause-of g c = on_ok c.end_dones.result _ _ (λ of. (of.0 ∙ c.loop-do
 
 pub returns-clause-changes : goal.returns-clause-changes
 returns-clause-changes g c =
-    let M = g.H.Host.moment in
-    let O = g.H.Host.observed in
-    let S = g.H.Host.said in
-    let R = g.H.Host.reads in
-    let L = g.H.Host.may_leave in
     let inv = c.loop-done.invariant in
-    changes_then M O S R L (c.args.draft.now.file ∷ []) c.args.host.now c.loop-done.host c.end_dones.new.host inv.changes
-    (subst (λ (f : ℕ). ChangesOnly M O S R L (f ∷ []) c.loop-done.host c.end_dones.new.host) inv.file c.end_dones.ensures.changes)
+    changes_then g.H.Host (c.args.draft.now.file ∷ []) c.args.host.now c.loop-done.host c.end_dones.new.host inv.changes
+    (subst (λ (f : ℕ). ChangesOnly g.H.Host (f ∷ []) c.loop-done.host c.end_dones.new.host) inv.file c.end_dones.ensures.changes)
 
 pub returns-clause-counts : goal.returns-clause-counts
 returns-clause-counts g c = subst (λ (n : ℕ). CountsFault c.end_dones.result n (g.H.Host.disk_faults c.end_dones.new.host)) c.loop-done.invariant.counts c.end_dones.ensures.counts

@@ -14,6 +14,6 @@ invariant-loop-done g l = record {
   file : l.draft.file ≡ l.initial.draft.file;
   kind : l.draft.kind ≡ l.initial.draft.kind;
   put : (bodies : List (List ℕ)) → Drafts l.initial.draft bodies (g.H.Host.reads l.initial.host) → HasPut Dones l.kept.dones (l.batch.items ++ deque_iter_rest l.done-iterator) bodies l.draft (g.H.Host.reads l.host);
-  changes : ChangesOnly g.H.Host.moment g.H.Host.observed g.H.Host.said g.H.Host.reads g.H.Host.may_leave (l.initial.draft.file ∷ []) l.initial.host l.host;
+  changes : ChangesOnly g.H.Host (l.initial.draft.file ∷ []) l.initial.host l.host;
   counts : g.H.Host.disk_faults l.host ≡ g.H.Host.disk_faults l.initial.host;
 }

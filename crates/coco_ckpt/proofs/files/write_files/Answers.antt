@@ -10,10 +10,10 @@ use Rattle.coco_ckpt.specs.Writing.{HasBase}
 use Rattle.coco_ckpt.proofs.files.write_files.Goals as goal
 
 pub returns-in_err-lists-clause-changes : goal.returns-in_err-lists-clause-changes
-returns-in_err-lists-clause-changes g c = changes_none g.H.Host.moment g.H.Host.observed g.H.Host.said g.H.Host.reads g.H.Host.may_leave g.met.H.Host.only_now _ c.args.host.now
+returns-in_err-lists-clause-changes g c = changes_none g.H.Host g.met.H.Host.only_now _ c.args.host.now
 
 pub returns-in_err-rows-clause-changes : goal.returns-in_err-rows-clause-changes
-returns-in_err-rows-clause-changes g c = changes_none g.H.Host.moment g.H.Host.observed g.H.Host.said g.H.Host.reads g.H.Host.may_leave g.met.H.Host.only_now _ c.args.host.now
+returns-in_err-rows-clause-changes g c = changes_none g.H.Host g.met.H.Host.only_now _ c.args.host.now
 
 pub returns-clause-base : goal.returns-clause-base
 returns-clause-base g c =

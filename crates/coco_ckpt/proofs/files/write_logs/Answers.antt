@@ -8,18 +8,10 @@ use Rattle.coco_ckpt.proofs.files.write_logs.Goals as goal
 
 pub returns-in_err-write_base-clause-changes : goal.returns-in_err-write_base-clause-changes
 returns-in_err-write_base-clause-changes g c =
-    let M = g.H.Host.moment in
-    let O = g.H.Host.observed in
-    let S = g.H.Host.said in
-    let R = g.H.Host.reads in
-    let L = g.H.Host.may_leave in
-    first_changes M O S R L c.args.base _ c.args.host.now c.write_base.new.host c.write_base.ensures.changes
+    first_changes g.H.Host c.args.base _ c.args.host.now c.write_base.new.host c.write_base.ensures.changes
 
 pub returns-clause-base : goal.returns-clause-base
 returns-clause-base g c =
-    let M = g.H.Host.moment in
-    let O = g.H.Host.observed in
-    let S = g.H.Host.said in
     let R = g.H.Host.reads in
     let L = g.H.Host.may_leave in
     let mid = c.write_base.new.host in
@@ -35,21 +27,13 @@ returns-clause-base g c =
 
 pub returns-clause-empty : goal.returns-clause-empty
 returns-clause-empty g c =
-    let M = g.H.Host.moment in
-    let O = g.H.Host.observed in
-    let S = g.H.Host.said in
     let R = g.H.Host.reads in
     let L = g.H.Host.may_leave in
     on_ok c.make_empty_logs.result _ _ (λ made. empty_logs c.args.layout.now (R c.write_base.new.host) (R c.make_empty_logs.new.host) (L c.make_empty_logs.new.host) (c.args.layout.now.chief_file ∷ c.args.layout.now.node_files) c.make_empty_logs.ensures.changes.files made) c.make_empty_logs.ensures.ok
 
 pub returns-clause-changes : goal.returns-clause-changes
 returns-clause-changes g c =
-    let M = g.H.Host.moment in
-    let O = g.H.Host.observed in
-    let S = g.H.Host.said in
-    let R = g.H.Host.reads in
-    let L = g.H.Host.may_leave in
     let mid = c.write_base.new.host in
     let new = c.make_empty_logs.new.host in
-    changes_then M O S R L _ c.args.host.now mid new (first_changes M O S R L c.args.base _ c.args.host.now mid c.write_base.ensures.changes)
-    (rest_changes M O S R L c.args.base _ mid new c.make_empty_logs.ensures.changes)
+    changes_then g.H.Host _ c.args.host.now mid new (first_changes g.H.Host c.args.base _ c.args.host.now mid c.write_base.ensures.changes)
+    (rest_changes g.H.Host c.args.base _ mid new c.make_empty_logs.ensures.changes)

@@ -6,7 +6,7 @@ use Rattle.coco_store.specs.Entries.{Values, base_bytes}
 use Rattle.coco_ckpt.proofs.rows.add_rows.Goals as goal
 
 pub returns-in_err-put_base_rows-clause-changes : goal.returns-in_err-put_base_rows-clause-changes
-returns-in_err-put_base_rows-clause-changes g c = changes_none g.H.Host.moment g.H.Host.observed g.H.Host.said g.H.Host.reads g.H.Host.may_leave g.met.H.Host.only_now (c.args.draft.now.file ∷ []) c.args.host.now
+returns-in_err-put_base_rows-clause-changes g c = changes_none g.H.Host g.met.H.Host.only_now (c.args.draft.now.file ∷ []) c.args.host.now
 
 pub returns-clause-drafts : goal.returns-clause-drafts
 returns-clause-drafts g c =

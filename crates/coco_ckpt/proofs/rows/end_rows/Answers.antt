@@ -7,7 +7,7 @@ use Rattle.coco_ckpt.proofs.Putting.{added_all, added_last, none_there, some_the
 use Rattle.coco_ckpt.proofs.rows.end_rows.Goals as goal
 
 pub returns-then-is_empty-clause-changes : goal.returns-then-is_empty-clause-changes
-returns-then-is_empty-clause-changes g c = changes_none g.H.Host.moment g.H.Host.observed g.H.Host.said g.H.Host.reads g.H.Host.may_leave g.met.H.Host.only_now (c.args.draft.now.file ∷ []) c.args.host.now
+returns-then-is_empty-clause-changes g c = changes_none g.H.Host g.met.H.Host.only_now (c.args.draft.now.file ∷ []) c.args.host.now
 
 pub returns-then-is_empty-clause-added : goal.returns-then-is_empty-clause-added
 returns-then-is_empty-clause-added g c items bodies put = added_all Values items bodies c.args.draft.now (g.H.Host.reads c.args.host.now) c.args.rows.now (none_there c.args.rows.now (sym c.is_empty.ensures ∙ c.if-is_empty.true)) put

@@ -11,10 +11,10 @@ use Rattle.coco_ckpt.proofs.Putting.{put_full, put_waits}
 use Rattle.coco_ckpt.proofs.rows.put_row.Goals as goal
 
 pub returns-in_err-push-clause-changes : goal.returns-in_err-push-clause-changes
-returns-in_err-push-clause-changes g c = changes_none g.H.Host.moment g.H.Host.observed g.H.Host.said g.H.Host.reads g.H.Host.may_leave g.met.H.Host.only_now (c.args.draft.now.file ∷ []) c.args.host.now
+returns-in_err-push-clause-changes g c = changes_none g.H.Host g.met.H.Host.only_now (c.args.draft.now.file ∷ []) c.args.host.now
 
 pub returns-then-len-lt-MOST-clause-changes : goal.returns-then-len-lt-MOST-clause-changes
-returns-then-len-lt-MOST-clause-changes g c = changes_none g.H.Host.moment g.H.Host.observed g.H.Host.said g.H.Host.reads g.H.Host.may_leave g.met.H.Host.only_now (c.args.draft.now.file ∷ []) c.args.host.now
+returns-then-len-lt-MOST-clause-changes g c = changes_none g.H.Host g.met.H.Host.only_now (c.args.draft.now.file ∷ []) c.args.host.now
 
 pub returns-then-len-lt-MOST-clause-put : goal.returns-then-len-lt-MOST-clause-put
 returns-then-len-lt-MOST-clause-put g c items rest bodies put =

@@ -22,11 +22,7 @@ use Rattle.coco_ckpt.proofs.rows.write_rows.Goals as goal
 
 pub loop-key-init : goal.loop-key-init
 loop-key-init g c =
-    let M = g.H.Host.moment in
-    let O = g.H.Host.observed in
-    let S = g.H.Host.said in
     let R = g.H.Host.reads in
-    let L = g.H.Host.may_leave in
     let draft = c.args.draft.now in
     let host = c.args.host.now in
     let rising : IsStrictlySortedBy key_cmp (keys_of c.args.rows.now.entries) = search rules in
@@ -39,7 +35,7 @@ loop-key-init g c =
       kind = refl;
       put = λ bodies drafts. subst (λ (l : List (RowKey × Value)). HasPut Values (entries (lent_map c.args.rows.now)) (l ++ map (λ e. (e.0, e.1.now)) c.into_iter-key-iterator.result) bodies draft (R host)) (sym none)
           (subst (λ (l : List (RowKey × Value)). HasPut Values (entries (lent_map c.args.rows.now)) l bodies draft (R host)) (sym all) (put_none Values (entries (lent_map c.args.rows.now)) bodies draft (R host) drafts));
-      changes = changes_none M O S R L g.met.H.Host.only_now (draft.file ∷ []) host;
+      changes = changes_none g.H.Host g.met.H.Host.only_now (draft.file ∷ []) host;
       counts = refl;
     }
 
@@ -58,11 +54,7 @@ put_row-requires-clause-drafts g c = let was = c.loop-key.invariant.put c.requir
 
 pub loop-key-preserved : goal.loop-key-preserved
 loop-key-preserved g c =
-    let M = g.H.Host.moment in
-    let O = g.H.Host.observed in
-    let S = g.H.Host.said in
     let R = g.H.Host.reads in
-    let L = g.H.Host.may_leave in
     let first = c.args.host.now in
     let file = c.args.draft.now.file in
     let inv = c.loop-key.invariant in
@@ -76,21 +68,16 @@ loop-key-preserved g c =
       kind = put.of.1 ∙ inv.kind;
       put = λ bodies drafts. put.put (entries (lent_map c.args.rows.now)) (map (λ e. (e.0, e.1.now)) c.next.new.self) bodies
           (subst (λ (l : List (RowKey × Value)). HasPut Values (entries (lent_map c.args.rows.now)) (batch ++ l) bodies c.loop-key.draft (R c.loop-key.host)) step (inv.put bodies drafts));
-      changes = changes_then M O S R L (file ∷ []) first c.loop-key.host c.put_row.new.host inv.changes
-          (subst (λ (f : ℕ). ChangesOnly M O S R L (f ∷ []) c.loop-key.host c.put_row.new.host) inv.file c.put_row.ensures.changes);
+      changes = changes_then g.H.Host (file ∷ []) first c.loop-key.host c.put_row.new.host inv.changes
+          (subst (λ (f : ℕ). ChangesOnly g.H.Host (f ∷ []) c.loop-key.host c.put_row.new.host) inv.file c.put_row.ensures.changes);
       counts = put.counts ∙ inv.counts;
     }
 
 pub returns-in_err-put_row-clause-changes : goal.returns-in_err-put_row-clause-changes
 returns-in_err-put_row-clause-changes g c =
-    let M = g.H.Host.moment in
-    let O = g.H.Host.observed in
-    let S = g.H.Host.said in
-    let R = g.H.Host.reads in
-    let L = g.H.Host.may_leave in
     let inv = c.loop-key.invariant in
-    changes_then M O S R L (c.args.draft.now.file ∷ []) c.args.host.now c.loop-key.host c.put_row.new.host inv.changes
-    (subst (λ (f : ℕ). ChangesOnly M O S R L (f ∷ []) c.loop-key.host c.put_row.new.host) inv.file c.put_row.ensures.changes)
+    changes_then g.H.Host (c.args.draft.now.file ∷ []) c.args.host.now c.loop-key.host c.put_row.new.host inv.changes
+    (subst (λ (f : ℕ). ChangesOnly g.H.Host (f ∷ []) c.loop-key.host c.put_row.new.host) inv.file c.put_row.ensures.changes)
 
 pub end_rows-requires-clause-few : goal.end_rows-requires-clause-few
 end_rows-requires-clause-few g c = subst (λ (l : List (RowKey × Value)). length l < MOST_ITEMS) (sym c.as_slice.ensures.value) c.loop-key.invariant.few
@@ -118,14 +105,9 @@ returns-clause-of g c = on_ok c.end_rows.result _ _ (λ of. (of.0 ∙ c.loop-key
 
 pub returns-clause-changes : goal.returns-clause-changes
 returns-clause-changes g c =
-    let M = g.H.Host.moment in
-    let O = g.H.Host.observed in
-    let S = g.H.Host.said in
-    let R = g.H.Host.reads in
-    let L = g.H.Host.may_leave in
     let inv = c.loop-key.invariant in
-    changes_then M O S R L (c.args.draft.now.file ∷ []) c.args.host.now c.loop-key.host c.end_rows.new.host inv.changes
-    (subst (λ (f : ℕ). ChangesOnly M O S R L (f ∷ []) c.loop-key.host c.end_rows.new.host) inv.file c.end_rows.ensures.changes)
+    changes_then g.H.Host (c.args.draft.now.file ∷ []) c.args.host.now c.loop-key.host c.end_rows.new.host inv.changes
+    (subst (λ (f : ℕ). ChangesOnly g.H.Host (f ∷ []) c.loop-key.host c.end_rows.new.host) inv.file c.end_rows.ensures.changes)
 
 pub returns-clause-counts : goal.returns-clause-counts
 returns-clause-counts g c = subst (λ (n : ℕ). CountsFault c.end_rows.result n (g.H.Host.disk_faults c.end_rows.new.host)) c.loop-key.invariant.counts c.end_rows.ensures.counts

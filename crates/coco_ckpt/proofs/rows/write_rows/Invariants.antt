@@ -16,6 +16,6 @@ invariant-loop-key g l = record {
   kind : l.draft.kind ≡ l.initial.draft.kind;
   put : (bodies : List (List ℕ)) → Drafts l.initial.draft bodies (g.H.Host.reads l.initial.host)
       → HasPut Values (entries (lent_map l.rows)) (l.batch.items ++ map (λ e. (e.0, e.1.now)) l.key-iterator) bodies l.draft (g.H.Host.reads l.host);
-  changes : ChangesOnly g.H.Host.moment g.H.Host.observed g.H.Host.said g.H.Host.reads g.H.Host.may_leave (l.initial.draft.file ∷ []) l.initial.host l.host;
+  changes : ChangesOnly g.H.Host (l.initial.draft.file ∷ []) l.initial.host l.host;
   counts : g.H.Host.disk_faults l.host ≡ g.H.Host.disk_faults l.initial.host;
 }

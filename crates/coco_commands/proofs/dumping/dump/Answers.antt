@@ -11,8 +11,8 @@ use Rattle.coco_commands.proofs.dumping.dump.Goals as goal
 pub returns-in-Ok-new : goal.returns-in-Ok-new
 returns-in-Ok-new g c =
     let said = c.say_pieces.ensures in
-    inr (tells g.H.Host.moment g.H.Host.observed g.H.Host.said g.H.Host.reads g.H.Host.may_leave g.H.Host.say_faults g.H.Host.disk_faults HaveRows IsDump EndsDump
-    c.args.host.now c.recover_whole.new.host c.in-Ok.ensures.read c.in-Ok.ensures.stream c.in-Ok.ensures.counts (λ files told. let opening = c.in-Ok.ensures.ok files told in (opening.contents, opening.holds))
+    inr (tells g.H.Host g.H.Host.say_faults g.H.Host.disk_faults HaveRows IsDump EndsDump
+    c.args.host.now c.recover_whole.new.host c.in-Ok.ensures.read c.in-Ok.ensures.read.stream c.in-Ok.ensures.counts (λ files told. let opening = c.in-Ok.ensures.ok files told in (opening.contents, opening.holds))
     (text_of c.in-Ok-new.dump) ending.Finished refl
     (λ files d told holds rows.
     let has = (c.in-Ok.ensures.ok files told).has d holds in

@@ -8,12 +8,12 @@ use Rattle.coco_commands.proofs.dumping.say_pieces.Goals as goal
 
 pub pieces-init : goal.pieces-init
 pieces-init g c =
-    saying_new g.H.Host.moment g.H.Host.observed g.H.Host.said g.H.Host.reads g.H.Host.may_leave g.H.Host.say_faults g.H.Host.disk_faults c.args.host.now (text_of c.args.dump)
+    saying_new g.H.Host g.H.Host.say_faults g.H.Host.disk_faults c.args.host.now (text_of c.args.dump)
     g.met.H.Host.only_now c.args.dump refl
 
 pub returns-in-Err : goal.returns-in-Err
 returns-in-Err g c =
-    ends_between g.H.Host.moment g.H.Host.observed g.H.Host.said g.H.Host.reads g.H.Host.may_leave g.H.Host.say_faults g.H.Host.disk_faults c.args.host.now (text_of c.args.dump)
+    ends_between g.H.Host g.H.Host.say_faults g.H.Host.disk_faults c.args.host.now (text_of c.args.dump)
     c.pieces.dump c.pieces.host c.pieces.invariant
 
 pub returns-then-is_empty : goal.returns-then-is_empty
@@ -22,7 +22,7 @@ returns-then-is_empty g c =
     let count = eqb-true piece.len 0 (sym c.is_empty.ensures ∙ c.if-is_empty.true) in
     let none : piece.items ≡ [] = nil_from_length piece.items (omega (arith, count, piece.ok.0)) in
     let others : text_of c.next.new.self ≡ [] = ap text_of (c.in-Ok.ensures.end none) in
-    ends_whole g.H.Host.moment g.H.Host.observed g.H.Host.said g.H.Host.reads g.H.Host.may_leave g.H.Host.say_faults g.H.Host.disk_faults c.args.host.now (text_of c.args.dump)
+    ends_whole g.H.Host g.H.Host.say_faults g.H.Host.disk_faults c.args.host.now (text_of c.args.dump)
     c.pieces.dump c.pieces.host c.pieces.invariant (c.in-Ok.ensures.given ∙ ap (λ (p : List ℕ). p ++ text_of c.next.new.self) none ∙ others)
 
 pub returns-in-Err-Failed : goal.returns-in-Err-Failed
@@ -30,7 +30,7 @@ returns-in-Err-Failed g c =
     let given = c.in-Ok.ensures.given ∙ ap (λ (p : List ℕ). p ++ text_of c.next.new.self) (sym c.as_slice.ensures.value) in
     let front = c.in-Err-Failed.ensures.err in
     let rose = rw c.in-Err-Failed.field-0-is at c.in-Err-Failed.ensures.counts in
-    ends_failed g.H.Host.moment g.H.Host.observed g.H.Host.said g.H.Host.reads g.H.Host.may_leave g.H.Host.say_faults g.H.Host.disk_faults c.args.host.now (text_of c.args.dump)
+    ends_failed g.H.Host g.H.Host.say_faults g.H.Host.disk_faults c.args.host.now (text_of c.args.dump)
     c.pieces.dump c.pieces.host c.pieces.invariant c.as_slice.result.now c.next.new.self given c.say_all.new.host c.say_all.ensures.same c.say_all.ensures.crash c.say_all.ensures.sees c.say_all.ensures.others
     front.0 front.2 rose
 
@@ -38,7 +38,7 @@ pub returns-in-Err-NoMemory : goal.returns-in-Err-NoMemory
 returns-in-Err-NoMemory g c =
     let given = c.in-Ok.ensures.given ∙ ap (λ (p : List ℕ). p ++ text_of c.next.new.self) (sym c.as_slice.ensures.value) in
     let front = c.in-Err-NoMemory.ensures.err in
-    ends_without g.H.Host.moment g.H.Host.observed g.H.Host.said g.H.Host.reads g.H.Host.may_leave g.H.Host.say_faults g.H.Host.disk_faults c.args.host.now (text_of c.args.dump)
+    ends_without g.H.Host g.H.Host.say_faults g.H.Host.disk_faults c.args.host.now (text_of c.args.dump)
     c.pieces.dump c.pieces.host c.pieces.invariant c.as_slice.result.now c.next.new.self given c.say_all.new.host c.say_all.ensures.same c.say_all.ensures.crash c.say_all.ensures.sees c.say_all.ensures.others
     front.0 front.2
 
@@ -51,6 +51,6 @@ pieces-smaller g c =
 pub pieces-preserved : goal.pieces-preserved
 pieces-preserved g c =
     let given = c.in-Ok.ensures.given ∙ ap (λ (p : List ℕ). p ++ text_of c.next.new.self) (sym c.as_slice.ensures.value) in
-    says_piece g.H.Host.moment g.H.Host.observed g.H.Host.said g.H.Host.reads g.H.Host.may_leave g.H.Host.say_faults g.H.Host.disk_faults c.args.host.now (text_of c.args.dump)
+    says_piece g.H.Host g.H.Host.say_faults g.H.Host.disk_faults c.args.host.now (text_of c.args.dump)
     c.pieces.dump c.pieces.host c.pieces.invariant c.as_slice.result.now c.next.new.self given c.say_all.new.host c.say_all.ensures.same c.say_all.ensures.crash c.say_all.ensures.sees c.say_all.ensures.others
     c.in-Ok-say_all.ensures.ok c.in-Ok-say_all.ensures.counts

@@ -5,7 +5,7 @@ use Rattle.coco_commands.proofs.dumping.say_pieces.Given as goal
 
 -- the pieces so far were said, and the others are to come
 abbrev pub invariant-pieces : goal.invariant-pieces
-invariant-pieces g l = IsSaying g.H.Host.moment g.H.Host.observed g.H.Host.said g.H.Host.reads g.H.Host.may_leave g.H.Host.say_faults g.H.Host.disk_faults l.fn.host (text_of l.fn.dump) l.dump l.host
+invariant-pieces g l = IsSaying g.H.Host g.H.Host.say_faults g.H.Host.disk_faults l.fn.host (text_of l.fn.dump) l.dump l.host
 
 abbrev pub decreases-pieces : goal.decreases-pieces
 decreases-pieces g l = length (text_of l.dump)

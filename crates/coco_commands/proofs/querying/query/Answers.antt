@@ -28,7 +28,7 @@ returns-in-Ok-tables_at g c = λ around.
       asked = c.answer_asks.result;
       ends = c.ending_of_asking.ensures;
       cause = cause_since asks.bytes (record { given = g.S.Source.given c.args.input.now; left = g.S.Source.remaining c.args.input.now; at_end = g.S.Source.at_end c.args.input.now }) (g.S.Source.faults c.args.input.now)
-          (g.H.Host.say_faults c.args.host.now) (g.H.Host.say_faults c.recover_whole.new.host) after c.answer_asks.result c.in-Ok.ensures.stream asks.cause;
+          (g.H.Host.say_faults c.args.host.now) (g.H.Host.say_faults c.recover_whole.new.host) after c.answer_asks.result c.in-Ok.ensures.read.stream asks.cause;
       disk = c.answer_asks.ensures.disk ∙ c.in-Ok.ensures.counts;
       around = refl;
       same = asks.same ∙ read.same;
@@ -47,7 +47,7 @@ returns-in-Err-tables_at g c = λ around.
       holds = λ files told. (let opening = c.in-Ok.ensures.ok files told in (opening.contents, opening.holds));
       source = refl;
       reading = refl;
-      stream = c.in-Ok.ensures.stream;
+      stream = c.in-Ok.ensures.read.stream;
       disk = c.in-Ok.ensures.counts;
       around = refl;
       cause = unasked c.ranges_are_histories.ensures c.in-Ok.store c.args.bounds.epoch (g.H.Host.reads c.args.host.now) (λ files d told holds. (c.in-Ok.ensures.ok files told).has d holds)

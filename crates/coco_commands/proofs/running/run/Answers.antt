@@ -11,13 +11,13 @@ answer_lines-requires-clause-sound g c _ _ = subst (IsSound c.in-Ok.cluster) (sy
 pub returns-in-Ok : goal.returns-in-Ok
 returns-in-Ok g c =
     let runs = c.answer_lines.ensures in
-    let since : Around = around g.N.Net.sent g.N.Net.given g.N.Net.faults g.N.Net.last_seed g.P.Power.stops_seen g.P.Power.early_stops g.P.Power.stopped g.P.Power.begun g.P.Power.asked c.args.net.now c.args.power.now in
+    let since : Around = around g.N.Net g.P.Power c.args.net.now c.args.power.now in
     let after : Outside = record {
       source = record { given = g.S.Source.given c.answer_lines.new.input; left = g.S.Source.remaining c.answer_lines.new.input; at_end = g.S.Source.at_end c.answer_lines.new.input };
       source_faults = g.S.Source.faults c.answer_lines.new.input;
       say_faults = g.H.Host.say_faults c.answer_lines.new.host;
       disk_faults = g.H.Host.disk_faults c.answer_lines.new.host;
-      around = around g.N.Net.sent g.N.Net.given g.N.Net.faults g.N.Net.last_seed g.P.Power.stops_seen g.P.Power.early_stops g.P.Power.stopped g.P.Power.begun g.P.Power.asked c.answer_lines.new.net c.answer_lines.new.power;
+      around = around g.N.Net g.P.Power c.answer_lines.new.net c.answer_lines.new.power;
     } in
     inr (record {
       opened = c.open_cluster.new.host;
@@ -31,6 +31,6 @@ returns-in-Ok g c =
       ends = c.ending_of_run.ensures;
       later = runs.later;
       cause = cause_from c.in-Ok.cluster.next_epoch runs.bytes (record { given = g.S.Source.given c.args.input.now; left = g.S.Source.remaining c.args.input.now; at_end = g.S.Source.at_end c.args.input.now }) (g.S.Source.faults c.args.input.now)
-          (g.H.Host.say_faults c.args.host.now) (g.H.Host.disk_faults c.args.host.now) (g.H.Host.say_faults c.open_cluster.new.host) (g.H.Host.disk_faults c.open_cluster.new.host) since after c.answer_lines.result c.in-Ok.ensures.stream c.in-Ok.ensures.disk runs.cause;
+          (g.H.Host.say_faults c.args.host.now) (g.H.Host.disk_faults c.args.host.now) (g.H.Host.say_faults c.open_cluster.new.host) (g.H.Host.disk_faults c.open_cluster.new.host) since after c.answer_lines.result c.in-Ok.ensures.read.stream c.in-Ok.ensures.disk runs.cause;
       serves = λ files d are good. (let both = c.in-Ok.ensures.stands files d are good in runs.serves d both.0 both.1);
     })

@@ -12,10 +12,10 @@ try_calls-requires-clause-sound g c _ _ = subst (IsSound c.in-Ok.cluster) (sym c
 pub returns-in-Ok : goal.returns-in-Ok
 returns-in-Ok g c =
     let tries = c.try_calls.ensures in
-    let was : Around = around g.N.Net.sent g.N.Net.given g.N.Net.faults g.N.Net.last_seed g.P.Power.stops_seen g.P.Power.early_stops g.P.Power.stopped g.P.Power.begun g.P.Power.asked c.args.net.now c.args.power.now in
-    let now : Around = around g.N.Net.sent g.N.Net.given g.N.Net.faults g.N.Net.last_seed g.P.Power.stops_seen g.P.Power.early_stops g.P.Power.stopped g.P.Power.begun g.P.Power.asked c.try_calls.new.net c.try_calls.new.power in
+    let was : Around = around g.N.Net g.P.Power c.args.net.now c.args.power.now in
+    let now : Around = around g.N.Net g.P.Power c.try_calls.new.net c.try_calls.new.power in
     let after : Counts = record { say = g.H.Host.say_faults c.try_calls.new.host; disk = g.H.Host.disk_faults c.try_calls.new.host } in
-    let stream = c.in-Ok.ensures.stream in
+    let stream = c.in-Ok.ensures.read.stream in
     let disk = c.in-Ok.ensures.disk in
     inr (record {
       opened = c.open_cluster.new.host;

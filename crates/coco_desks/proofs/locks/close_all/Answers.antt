@@ -36,6 +36,23 @@ push_reserved-requires g c = let n = ap length c.in-Some.ensures.steps.0 in let 
 pub push_reserved-requires-in-loop-lock : goal.push_reserved-requires-in-loop-lock
 push_reserved-requires-in-loop-lock g c = let n = ap length c.in-Some.ensures.steps.0 in let room = c.loop-lock.invariant.journals in omega (arith, n, room)
 
+pub loop-lock-preserved-in-Some-next : goal.loop-lock-preserved-in-Some-next
+loop-lock-preserved-in-Some-next g c =
+    let n = ap length c.in-Some.ensures.steps.0 in
+    let room = c.loop-lock.invariant.machines in
+    let other = c.loop-lock.invariant.journals in
+    record {
+      back = (first_back c.in-Some.lock c.in-Some-next.tray c.next.new.self.rest.items c.loop-lock.lock-iterator.rest.items c.next-in-loop-lock.new.self.rest.items c.loop-lock.trays.rest.items c.in-Some.ensures.steps.0 c.in-Some-next.ensures.items c.loop-lock.invariant.back).1;
+      machines = omega (arith, n, room, c.push_reserved.ensures.len, c.push_reserved.ensures.capacity);
+      journals = omega (arith, n, other, c.push_reserved-in-loop-lock.ensures.len, c.push_reserved-in-loop-lock.ensures.capacity);
+      room = let kept = c.loop-lock.invariant.room in omega (arith, kept, c.push_reserved.ensures.capacity);
+      count = let count = c.loop-lock.invariant.count in omega (arith, n, count, c.push_reserved.ensures.len);
+      ended = λ ms js are. c.loop-lock.invariant.ended ms js
+          (ended_first g.M.Machine.answer_to g.M.Machine.state_after c.in-Some-next.tray c.next-in-loop-lock.new.self.rest.items c.loop-lock.trays.rest.items c.close-machine.result.machine c.close-machine.result.journal
+          c.loop-lock.ended.machines.items c.push_reserved.new.self.items ms c.loop-lock.ended.journals.items c.push_reserved-in-loop-lock.new.self.items js c.in-Some-next.ensures.items
+          (record { replays = c.close-machine.ensures.machine; passes = c.close-machine.ensures.passes; sized = c.close-machine.ensures.sized }) c.push_reserved.ensures.items c.push_reserved-in-loop-lock.ensures.items are);
+    }
+
 pub loop-lock-preserved : goal.loop-lock-preserved
 loop-lock-preserved g c =
     let n = ap length c.in-Some.ensures.steps.0 in

@@ -28,7 +28,7 @@ loop-node-init g c = record {
   can = λ can. can;
   in_step = λ chief marks step. step;
   early = refl;
-  later = later_same g.P.Power.stops_seen g.P.Power.early_stops g.P.Power.stopped g.P.Power.begun g.P.Power.asked c.args.power.now;
+  later = later_same g.P.Power c.args.power.now;
   asked = λ n less. absurd (omega (arith, less));
   world = λ chief. between_none (g.P.Power.stopped c.args.power.now) (g.P.Power.stopped c.args.power.now) (λ n lt. omega arith) SameEntries (record { cores = c.args.cores.now; chief = chief; sent = g.N.Net.sent c.args.net.now }) (λ w v same. same);
   fresh = fresh_none (g.N.Net.sent c.args.net.now) (g.N.Net.fresh c.args.net.now);
@@ -70,7 +70,7 @@ loop-node-preserved g c =
       can = λ can. can_step e k (g.P.Power.stopped now.power) (g.P.Power.stopped after.power) now.cores voter (g.N.Net.sent now.net) after.cores after.voter (g.N.Net.sent after.net) here did.stops (before.can can);
       in_step = λ chief marks step. in_step_step e k (g.P.Power.stopped now.power) (g.P.Power.stopped after.power) now.cores voter (g.N.Net.sent now.net) after.cores after.voter (g.N.Net.sent after.net) here did.stops chief marks fits (before.in_step chief marks step);
       early = c.stop_here.ensures.early ∙ before.early;
-      later = later_then g.P.Power.stops_seen g.P.Power.early_stops g.P.Power.stopped g.P.Power.begun g.P.Power.asked start.power.now now.power after.power before.later c.stop_here.ensures.later;
+      later = later_then g.P.Power start.power.now now.power after.power before.later c.stop_here.ensures.later;
       asked = asked_more k (g.P.Power.asked now.power) (g.P.Power.asked after.power) eight (λ n lt was. c.stop_here.ensures.later.asked_stays n 6 lt (lit≤ tt) was) before.asked c.stop_here.ensures.asked;
       world = λ chief. between_then SameEntries SameEntries SameEntries same_then (g.P.Power.stopped start.power.now) (g.P.Power.stopped now.power) (g.P.Power.stopped after.power)
           (scene start.cores.now chief (g.N.Net.sent start.net.now)) (scene now.cores chief (g.N.Net.sent now.net)) (scene after.cores chief (g.N.Net.sent after.net)) (before.world chief) (did.world chief);

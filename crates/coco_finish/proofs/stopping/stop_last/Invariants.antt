@@ -23,7 +23,7 @@ invariant-loop-node g l = record {
   can : AllCanFinish l.epoch l.initial.cores → AllCanFinish l.epoch l.cores;
   in_step : (chief : Chief) (marks : List Bool) → AreInStep l.epoch l.initial.cores chief (g.N.Net.sent l.initial.net) marks → AreInStep l.epoch l.cores chief (g.N.Net.sent l.net) marks;
   early : g.P.Power.early_stops l.power ≡ g.P.Power.early_stops l.initial.power;
-  later : IsLater g.P.Power.stops_seen g.P.Power.early_stops g.P.Power.stopped g.P.Power.begun g.P.Power.asked l.initial.power l.power;
+  later : IsLater g.P.Power l.initial.power l.power;
   asked : (n : ℕ) → n < l.node → g.P.Power.asked l.power n 6 ≡ true;
   world : (chief : Chief) → GoesBetween (g.P.Power.stopped l.initial.power) (g.P.Power.stopped l.power) SameEntries (record { cores = l.initial.cores; chief = chief; sent = g.N.Net.sent l.initial.net }) (record { cores = l.cores; chief = chief; sent = g.N.Net.sent l.net });
   fresh : AreFresh (g.N.Net.sent l.initial.net) (g.N.Net.fresh l.initial.net) (g.N.Net.sent l.net) (g.N.Net.fresh l.net);

@@ -12,7 +12,7 @@ loop-done-init g c =
       same = refl;
       others = refl;
       crash = λ files left. left;
-      sees = none_said g.H.Host.moment g.H.Host.observed g.H.Host.may_leave g.H.Host.said host (g.met.H.Host.only_now host);
+      sees = none_said g.H.Host host (g.met.H.Host.only_now host);
     }
 
 pub loop-done-preserved : goal.loop-done-preserved
@@ -24,11 +24,11 @@ loop-done-preserved g c =
       same = said.same ∙ before.same;
       others = said.others ∙ before.others;
       crash = λ files left. before.crash files (said.crash files left);
-      sees = more_said g.H.Host.moment g.H.Host.observed g.H.Host.may_leave g.H.Host.said _ _ _ _ _ before.sees before.took.taken said.bytes before.crash said.crash said.time;
+      sees = more_said g.H.Host _ _ _ _ _ before.sees before.took.taken said.bytes before.crash said.crash said.time;
     }
 
 pub returns-in_err-done-clause-sees : goal.returns-in_err-done-clause-sees
 returns-in_err-done-clause-sees g c =
     let before = c.loop-done.invariant in
     let said = c.in_err-done.ensures in
-    no_more_said g.H.Host.moment g.H.Host.observed g.H.Host.may_leave g.H.Host.said _ _ _ _ before.sees before.took.taken said.err before.crash said.crash said.time
+    no_more_said g.H.Host _ _ _ _ before.sees before.took.taken said.err before.crash said.crash said.time

@@ -10,7 +10,7 @@ invariant-loop-done g l = record {
   same : g.H.Host.reads l.host ≡ g.H.Host.reads l.initial.host;
   others : g.H.Host.disk_faults l.host ≡ g.H.Host.disk_faults l.initial.host;
   crash : NoMore (g.H.Host.may_leave l.initial.host) (g.H.Host.may_leave l.host);
-  sees : SeesSaid g.H.Host.moment g.H.Host.observed g.H.Host.may_leave g.H.Host.said l.initial.host l.host;
+  sees : SeesSaid g.H.Host l.initial.host l.host;
 }
 
 abbrev pub decreases-loop-done : goal.decreases-loop-done

@@ -16,7 +16,7 @@ returns-clause-initiates g c =
     let accepted = subst (λ l. IsAcceptedText l tree) c.as_slice.ensures c.in_ok-accepted.ensures in (
       text,
       gives_same {before = first} {after = last} taken.bytes text taken.reads.0 taken.gives,
-      initiates g.H.Host.moment g.H.Host.observed g.H.Host.said g.H.Host.reads g.H.Host.may_leave g.met.H.Host.only_now c.make.result
+      initiates g.H.Host g.met.H.Host.only_now c.make.result
           (new_layout c.args.nodes c.args.partitions c.args.copies text) text last tree c.args.host.now c.expect_no_store.new.host c.make.new.host taken.reads.2 accepted
           c.expect_no_store.ensures.read (c.make.ensures.makes tree accepted),
     )

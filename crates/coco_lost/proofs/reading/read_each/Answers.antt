@@ -2,6 +2,7 @@ use Rattle.std.proofs.Common.{◌≡◌, ◌+◌, ◌<◌, ℕ, Some, Err, false
 use Rattle.std.specs.List.{slice_get}
 use Rattle.std.proofs.lemmas.Option.{slice_get-get_or, slice_get_within}
 use Rattle.std.proofs.lemmas.Result.{err_from_is_err_and}
+use Rattle.coco_recover.proofs.Resting.{stands_still}
 use Rattle.coco_append.specs.Gaining.{Stands}
 use Rattle.coco_ast.specs.History.{RisesAbove}
 use Rattle.coco_entry.specs.declared.layout.Layout.{Layout}
@@ -11,7 +12,7 @@ use Rattle.coco_read.specs.declared.fault.OpenFault.TheVariants.{NotAStore}
 use Rattle.coco_recover.specs.Lost.{AreKnown}
 use Rattle.coco_lost.specs.Reading.{IsOf}
 use Rattle.coco_lost.proofs.Places.{each_set}
-use Rattle.coco_lost.proofs.ReadingLemmas.{is_of_other, lost_file, lost_refused, one_step, reads_same, reads_then, stands_read}
+use Rattle.coco_lost.proofs.ReadingLemmas.{is_of_other, lost_file, lost_refused, one_step, reads_same, reads_then}
 use Rattle.coco_lost.proofs.reading.read_each.Goals as goal
 
 pub loop-node-init : goal.loop-node-init
@@ -20,9 +21,8 @@ loop-node-init g c = record {
   none = λ n voter lt. absurd (omega (arith, lt));
   files = λ files d told good known are. are;
   stand = λ stand. stand;
-  read = read_first _ _ _ _ _ g.met.H.Host.only_now _;
+  read = read_first g.H.Host g.met.H.Host.only_now _;
   counts = refl;
-  stream = refl;
 }
 
 pub loop-node-preserved : goal.loop-node-preserved
@@ -46,10 +46,9 @@ loop-node-preserved g c =
           (λ i x other found kept. is_of_other d k i voter now.tables after.voter after.tables x other did.one (before.files files d told good known are i x found kept));
       stand = λ stand. each_set now.voters k after.voter inside (λ i x. Stands x.log (g.H.Host.reads after.host) (g.H.Host.may_leave after.host))
           (did.stand (before.stand stand k voter there))
-          (λ i x other found. stands_read x.log (g.H.Host.reads now.host) (g.H.Host.reads after.host) (g.H.Host.may_leave now.host) (g.H.Host.may_leave after.host) did.read.same did.read.crash (before.stand stand i x found));
-      read = read_then _ _ _ _ _ g.met.H.Host.only_now _ _ _ before.read did.read;
+          (λ i x other found. stands_still x.log (g.H.Host.reads now.host) (g.H.Host.reads after.host) (g.H.Host.may_leave now.host) (g.H.Host.may_leave after.host) did.read.same did.read.crash (before.stand stand i x found));
+      read = read_then g.H.Host g.met.H.Host.only_now _ _ _ before.read did.read;
       counts = ok.counts ∙ before.counts;
-      stream = did.stream ∙ before.stream;
     }
 
 pub returns-in_err-read_one-clause-reads : goal.returns-in_err-read_one-clause-reads
@@ -74,7 +73,7 @@ returns-in_err-read_one-clause-stand g c = λ stand.
     let there : slice_get c.loop-node.voters c.loop-node.node ≡ Some voter = slice_get-get_or c.loop-node.voters c.loop-node.node c.index-voters-node.result inside in
     each_set now.voters c.loop-node.node after.voter inside (λ i x. Stands x.log (g.H.Host.reads after.host) (g.H.Host.may_leave after.host))
     (did.stand (before.stand stand c.loop-node.node voter there))
-    (λ i x other found. stands_read x.log (g.H.Host.reads now.host) (g.H.Host.reads after.host) (g.H.Host.may_leave now.host) (g.H.Host.may_leave after.host) did.read.same did.read.crash (before.stand stand i x found))
+    (λ i x other found. stands_still x.log (g.H.Host.reads now.host) (g.H.Host.reads after.host) (g.H.Host.may_leave now.host) (g.H.Host.may_leave after.host) did.read.same did.read.crash (before.stand stand i x found))
 
 pub returns-in_err-read_one-clause-here : goal.returns-in_err-read_one-clause-here
 returns-in_err-read_one-clause-here g c file at is =
@@ -107,7 +106,7 @@ returns-in_err-read_one-clause-kept g c file at files d told holds known is =
     c.in_err-read_one.ensures.kept file at files d (before.read.same ∙ told) holds (subst (λ (l : Layout). AreKnown d l c.args.procs.now c.args.epochs.now c.args.base.now) (sym before.reads.layout) known) (ap Err same)
 
 pub returns-in_err-read_one-clause-read : goal.returns-in_err-read_one-clause-read
-returns-in_err-read_one-clause-read g c = read_then _ _ _ _ _ g.met.H.Host.only_now _ _ _ c.loop-node.invariant.read c.read_one.ensures.read
+returns-in_err-read_one-clause-read g c = read_then g.H.Host g.met.H.Host.only_now _ _ _ c.loop-node.invariant.read c.read_one.ensures.read
 
 pub read_one-requires-clause-rises : goal.read_one-requires-clause-rises
 read_one-requires-clause-rises g c = subst (λ (l : Layout). RisesAbove l.base_epoch c.args.epochs.now) (sym c.loop-node.invariant.reads.layout) c.requires.rises

@@ -16,7 +16,6 @@ invariant-loop-node g l = record {
   files : (files : Files) (c : Contents) → g.H.Host.reads l.initial.host ≡ Some files → IsGoodStore files c → AreKnown c l.initial.tables.layout l.procs l.epochs l.base
       → AreOf c l.initial.voters l.initial.tables → AreOf c l.voters l.tables;
   stand : AllStand l.initial.voters (g.H.Host.reads l.initial.host) (g.H.Host.may_leave l.initial.host) → AllStand l.voters (g.H.Host.reads l.host) (g.H.Host.may_leave l.host);
-  read : IsOnlyRead g.H.Host.moment g.H.Host.observed g.H.Host.said g.H.Host.reads g.H.Host.may_leave l.initial.host l.host;
+  read : IsOnlyRead g.H.Host l.initial.host l.host;
   counts : g.H.Host.disk_faults l.host ≡ g.H.Host.disk_faults l.initial.host;
-  stream : g.H.Host.say_faults l.host ≡ g.H.Host.say_faults l.initial.host;
 }

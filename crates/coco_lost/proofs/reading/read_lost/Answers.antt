@@ -2,6 +2,7 @@ use Rattle.std.proofs.Common.{◌≡◌, List, length, refl, sym, ap, subst, ◌
 use Rattle.std.specs.Vec.{with_items}
 use Rattle.std.specs.List.{list_any}
 use Rattle.std.proofs.lemmas.List.{with_items_is}
+use Rattle.coco_recover.proofs.Resting.{stands_still}
 use Rattle.coco_ast.specs.History.{RisesAbove}
 use Rattle.coco_entry.specs.declared.layout.Layout.{Layout}
 use Rattle.coco_letters.specs.declared.voter.Voter.{Voter}
@@ -12,7 +13,7 @@ use Rattle.coco_store.specs.Rules.{commit_epochs}
 use Rattle.coco_vote.specs.Taking.{HaveLogs}
 use Rattle.coco_lost.specs.Reading.{AllStand, AreOf, IsLostFile, IsLostRefused}
 use Rattle.coco_lost.proofs.MembersLemmas.{all_have, any_lost, epochs_rise, members_after, none_lost, rests_after, same_epochs, same_known}
-use Rattle.coco_lost.proofs.ReadingLemmas.{both_so, have_maps_after, maps_after, ok_so, reads_of, reads_same, stands_read}
+use Rattle.coco_lost.proofs.ReadingLemmas.{both_so, have_maps_after, maps_after, ok_so, reads_of, reads_same}
 use Rattle.coco_lost.proofs.reading.read_lost.Goals as goal
 
 -- ---- no node is lost
@@ -40,7 +41,7 @@ returns-then-not-one_is_lost-clause-files g c = λ files d told good known knows
     (none_lost k.voters.items (ap (list_any (λ (voter : Voter). voter.is_lost)) (sym c.as_slice.ensures.value) ∙ sym c.one_is_lost.ensures ∙ c.if-not-one_is_lost.true))
 
 pub returns-then-not-one_is_lost-clause-read : goal.returns-then-not-one_is_lost-clause-read
-returns-then-not-one_is_lost-clause-read g c = read_first _ _ _ _ _ g.met.H.Host.only_now _
+returns-then-not-one_is_lost-clause-read g c = read_first g.H.Host g.met.H.Host.only_now _
 
 -- ---- out of memory
 
@@ -61,7 +62,7 @@ pub returns-in_err-epochs-clause-rest : goal.returns-in_err-epochs-clause-rest
 returns-in_err-epochs-clause-rest g c = λ next sent files rest. rest
 
 pub returns-in_err-epochs-clause-read : goal.returns-in_err-epochs-clause-read
-returns-in_err-epochs-clause-read g c = read_first _ _ _ _ _ g.met.H.Host.only_now _
+returns-in_err-epochs-clause-read g c = read_first g.H.Host g.met.H.Host.only_now _
 
 -- ---- each lost node was read
 
@@ -140,7 +141,7 @@ returns-clause-stand g c = λ stand.
 
 pub returns-clause-others : goal.returns-clause-others
 returns-clause-others g c = λ log.
-    stands_read log (g.H.Host.reads c.args.host.now) (g.H.Host.reads c.read_each.new.host) (g.H.Host.may_leave c.args.host.now) (g.H.Host.may_leave c.read_each.new.host) c.read_each.ensures.read.same c.read_each.ensures.read.crash
+    stands_still log (g.H.Host.reads c.args.host.now) (g.H.Host.reads c.read_each.new.host) (g.H.Host.may_leave c.args.host.now) (g.H.Host.may_leave c.read_each.new.host) c.read_each.ensures.read.same c.read_each.ensures.read.crash
 
 pub returns-clause-here : goal.returns-clause-here
 returns-clause-here g c file at is =

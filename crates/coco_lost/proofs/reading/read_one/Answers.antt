@@ -1,8 +1,9 @@
 use Rattle.std.proofs.Common.{◌≡◌, inl, inr, ap, subst, sym}
+use Rattle.coco_recover.proofs.Resting.{stands_still}
 use Rattle.coco_append.specs.Gaining.{Stands}
 use Rattle.coco_letters.specs.declared.voter.Voter.{Voter}
 use Rattle.coco_lost.specs.Reading.{ReadsAnew, ReadsOne}
-use Rattle.coco_lost.proofs.ReadingLemmas.{either_way, ok_so, stands_read}
+use Rattle.coco_lost.proofs.ReadingLemmas.{either_way, ok_so}
 use Rattle.coco_lost.proofs.reading.read_one.Goals as goal
 
 pub returns-clause-one : goal.returns-clause-one
@@ -22,7 +23,7 @@ returns-clause-stand g c = λ was.
     let after = c.read_anew.new in
     let stands : Voter → Type 0 = λ v. Stands v.log (g.H.Host.reads after.host) (g.H.Host.may_leave after.host) in
     either_way c.read_anew.result (stands after.voter) ((after.voter ≡ c.args.voter.now) × (after.tables ≡ c.args.tables.now)) (stands after.voter) c.read_anew.ensures.stand c.read_anew.ensures.err (λ now. now)
-    (λ same. subst stands (sym same.0) (stands_read c.args.voter.now.log (g.H.Host.reads c.args.host.now) (g.H.Host.reads after.host) (g.H.Host.may_leave c.args.host.now) (g.H.Host.may_leave after.host)
+    (λ same. subst stands (sym same.0) (stands_still c.args.voter.now.log (g.H.Host.reads c.args.host.now) (g.H.Host.reads after.host) (g.H.Host.may_leave c.args.host.now) (g.H.Host.may_leave after.host)
     c.read_anew.ensures.read.same c.read_anew.ensures.read.crash was))
 
 pub returns-clause-here : goal.returns-clause-here

@@ -88,7 +88,7 @@ returns-then-stops-clause-begun g c =
 pub returns-then-stops-clause-later : goal.returns-then-stops-clause-later
 returns-then-stops-clause-later g c behind =
     let before = c.loop-node.invariant in
-    later_from g.P.Power.stops_seen g.P.Power.early_stops g.P.Power.stopped g.P.Power.begun g.P.Power.asked c.args.power.now c.stops.new.self (c.loop-node.node + 1) c.args.point behind (counts_asked (g.P.Power.stops_seen) (g.P.Power.early_stops) (g.P.Power.stopped) c.args.power.now c.loop-node.power c.stops.new.self before.seen before.early before.stopped true (nat_le c.args.point 3) (λ n. n == c.loop-node.node) c.if-stops.ensures.seen c.if-stops.ensures.early c.if-stops.ensures.stopped) (ask_step c.loop-node.node c.args.point (g.P.Power.begun c.args.power.now) (g.P.Power.begun c.loop-node.power) (g.P.Power.begun c.stops.new.self) (g.P.Power.asked c.args.power.now) (g.P.Power.asked c.loop-node.power) (g.P.Power.asked c.stops.new.self) before.asked c.stops.ensures.begun c.stops.ensures.asked).0 (ask_step c.loop-node.node c.args.point (g.P.Power.begun c.args.power.now) (g.P.Power.begun c.loop-node.power) (g.P.Power.begun c.stops.new.self) (g.P.Power.asked c.args.power.now) (g.P.Power.asked c.loop-node.power) (g.P.Power.asked c.stops.new.self) before.asked c.stops.ensures.begun c.stops.ensures.asked).1
+    later_from g.P.Power c.args.power.now c.stops.new.self (c.loop-node.node + 1) c.args.point behind (counts_asked (g.P.Power.stops_seen) (g.P.Power.early_stops) (g.P.Power.stopped) c.args.power.now c.loop-node.power c.stops.new.self before.seen before.early before.stopped true (nat_le c.args.point 3) (λ n. n == c.loop-node.node) c.if-stops.ensures.seen c.if-stops.ensures.early c.if-stops.ensures.stopped) (ask_step c.loop-node.node c.args.point (g.P.Power.begun c.args.power.now) (g.P.Power.begun c.loop-node.power) (g.P.Power.begun c.stops.new.self) (g.P.Power.asked c.args.power.now) (g.P.Power.asked c.loop-node.power) (g.P.Power.asked c.stops.new.self) before.asked c.stops.ensures.begun c.stops.ensures.asked).0 (ask_step c.loop-node.node c.args.point (g.P.Power.begun c.args.power.now) (g.P.Power.begun c.loop-node.power) (g.P.Power.begun c.stops.new.self) (g.P.Power.asked c.args.power.now) (g.P.Power.asked c.loop-node.power) (g.P.Power.asked c.stops.new.self) before.asked c.stops.ensures.begun c.stops.ensures.asked).1
 
 pub returns-in_err-lose_rows-clause-begun : goal.returns-in_err-lose_rows-clause-begun
 returns-in_err-lose_rows-clause-begun g c =
@@ -98,7 +98,7 @@ returns-in_err-lose_rows-clause-begun g c =
 pub returns-in_err-lose_rows-clause-later : goal.returns-in_err-lose_rows-clause-later
 returns-in_err-lose_rows-clause-later g c behind =
     let before = c.loop-node.invariant in
-    later_from g.P.Power.stops_seen g.P.Power.early_stops g.P.Power.stopped g.P.Power.begun g.P.Power.asked c.args.power.now c.stops.new.self (c.loop-node.node + 1) c.args.point behind (counts_asked (g.P.Power.stops_seen) (g.P.Power.early_stops) (g.P.Power.stopped) c.args.power.now c.loop-node.power c.stops.new.self before.seen before.early before.stopped true (nat_le c.args.point 3) (λ n. n == c.loop-node.node) c.if-stops.ensures.seen c.if-stops.ensures.early c.if-stops.ensures.stopped) (ask_step c.loop-node.node c.args.point (g.P.Power.begun c.args.power.now) (g.P.Power.begun c.loop-node.power) (g.P.Power.begun c.stops.new.self) (g.P.Power.asked c.args.power.now) (g.P.Power.asked c.loop-node.power) (g.P.Power.asked c.stops.new.self) before.asked c.stops.ensures.begun c.stops.ensures.asked).0 (ask_step c.loop-node.node c.args.point (g.P.Power.begun c.args.power.now) (g.P.Power.begun c.loop-node.power) (g.P.Power.begun c.stops.new.self) (g.P.Power.asked c.args.power.now) (g.P.Power.asked c.loop-node.power) (g.P.Power.asked c.stops.new.self) before.asked c.stops.ensures.begun c.stops.ensures.asked).1
+    later_from g.P.Power c.args.power.now c.stops.new.self (c.loop-node.node + 1) c.args.point behind (counts_asked (g.P.Power.stops_seen) (g.P.Power.early_stops) (g.P.Power.stopped) c.args.power.now c.loop-node.power c.stops.new.self before.seen before.early before.stopped true (nat_le c.args.point 3) (λ n. n == c.loop-node.node) c.if-stops.ensures.seen c.if-stops.ensures.early c.if-stops.ensures.stopped) (ask_step c.loop-node.node c.args.point (g.P.Power.begun c.args.power.now) (g.P.Power.begun c.loop-node.power) (g.P.Power.begun c.stops.new.self) (g.P.Power.asked c.args.power.now) (g.P.Power.asked c.loop-node.power) (g.P.Power.asked c.stops.new.self) before.asked c.stops.ensures.begun c.stops.ensures.asked).0 (ask_step c.loop-node.node c.args.point (g.P.Power.begun c.args.power.now) (g.P.Power.begun c.loop-node.power) (g.P.Power.begun c.stops.new.self) (g.P.Power.asked c.args.power.now) (g.P.Power.asked c.loop-node.power) (g.P.Power.asked c.stops.new.self) before.asked c.stops.ensures.begun c.stops.ensures.asked).1
 
 pub returns-then-stops-clause-asked : goal.returns-then-stops-clause-asked
 returns-then-stops-clause-asked g c =
@@ -118,7 +118,7 @@ pub returns-clause-later : goal.returns-clause-later
 returns-clause-later g c behind =
     let before = c.loop-node.invariant in
     let some : 0 < c.loop-node.node = omega (arith, c.loop-node-test.false, c.requires.some, c.requires.few, c.loop-node.auto.cores) in
-    later_from g.P.Power.stops_seen g.P.Power.early_stops g.P.Power.stopped g.P.Power.begun g.P.Power.asked c.args.power.now c.loop-node.power c.loop-node.node c.args.point behind (counts_same g.P.Power.stops_seen g.P.Power.early_stops g.P.Power.stopped c.args.power.now c.loop-node.power before.seen before.early before.stopped) (was_all c.loop-node.node c.args.point (g.P.Power.begun c.args.power.now) (g.P.Power.begun c.loop-node.power) (g.P.Power.asked c.args.power.now) (g.P.Power.asked c.loop-node.power) some before.asked).0 (was_all c.loop-node.node c.args.point (g.P.Power.begun c.args.power.now) (g.P.Power.begun c.loop-node.power) (g.P.Power.asked c.args.power.now) (g.P.Power.asked c.loop-node.power) some before.asked).1
+    later_from g.P.Power c.args.power.now c.loop-node.power c.loop-node.node c.args.point behind (counts_same g.P.Power.stops_seen g.P.Power.early_stops g.P.Power.stopped c.args.power.now c.loop-node.power before.seen before.early before.stopped) (was_all c.loop-node.node c.args.point (g.P.Power.begun c.args.power.now) (g.P.Power.begun c.loop-node.power) (g.P.Power.asked c.args.power.now) (g.P.Power.asked c.loop-node.power) some before.asked).0 (was_all c.loop-node.node c.args.point (g.P.Power.begun c.args.power.now) (g.P.Power.begun c.loop-node.power) (g.P.Power.asked c.args.power.now) (g.P.Power.asked c.loop-node.power) some before.asked).1
 
 pub returns-clause-asked : goal.returns-clause-asked
 returns-clause-asked g c =

@@ -9,13 +9,8 @@ use Rattle.coco_make.proofs.make.make_empty_logs.Goals as goal
 
 pub returns-in_err-make_logs-clause-changes : goal.returns-in_err-make_logs-clause-changes
 returns-in_err-make_logs-clause-changes g c =
-    let M = g.H.Host.moment in
-    let O = g.H.Host.observed in
-    let S = g.H.Host.said in
-    let R = g.H.Host.reads in
-    let L = g.H.Host.may_leave in
-    rest_changes M O S R L c.args.layout.now.chief_file c.args.layout.now.node_files c.args.host.now c.make_logs.new.host
-    (subst (λ (l : List ℕ). ChangesOnly M O S R L l c.args.host.now c.make_logs.new.host) c.as_slice.ensures c.make_logs.ensures.changes)
+    rest_changes g.H.Host c.args.layout.now.chief_file c.args.layout.now.node_files c.args.host.now c.make_logs.new.host
+    (subst (λ (l : List ℕ). ChangesOnly g.H.Host l c.args.host.now c.make_logs.new.host) c.as_slice.ensures c.make_logs.ensures.changes)
 
 pub returns-clause-ok : goal.returns-clause-ok
 returns-clause-ok g c =
@@ -28,15 +23,10 @@ returns-clause-ok g c =
 
 pub returns-clause-changes : goal.returns-clause-changes
 returns-clause-changes g c =
-    let M = g.H.Host.moment in
-    let O = g.H.Host.observed in
-    let S = g.H.Host.said in
-    let R = g.H.Host.reads in
-    let L = g.H.Host.may_leave in
     let chief = c.args.layout.now.chief_file in
     let nodes = c.args.layout.now.node_files in
     let first = c.args.host.now in
     let mid = c.make_logs.new.host in
     let new = c.make_logs-2.new.host in
-    let one = rest_changes M O S R L chief nodes first mid (subst (λ (l : List ℕ). ChangesOnly M O S R L l first mid) c.as_slice.ensures c.make_logs.ensures.changes) in
-    changes_then M O S R L _ first mid new one (first_changes M O S R L chief nodes mid new c.make_logs-2.ensures.changes)
+    let one = rest_changes g.H.Host chief nodes first mid (subst (λ (l : List ℕ). ChangesOnly g.H.Host l first mid) c.as_slice.ensures c.make_logs.ensures.changes) in
+    changes_then g.H.Host _ first mid new one (first_changes g.H.Host chief nodes mid new c.make_logs-2.ensures.changes)

@@ -7,11 +7,6 @@ use Rattle.coco_make.proofs.make.make_files.Goals as goal
 
 pub returns-in_err-make_empty_logs-clause-moments : goal.returns-in_err-make_empty_logs-clause-moments
 returns-in_err-make_empty_logs-clause-moments g c files tree told none text =
-    let M = g.H.Host.moment in
-    let O = g.H.Host.observed in
-    let S = g.H.Host.said in
-    let R = g.H.Host.reads in
-    let L = g.H.Host.may_leave in
     let N = g.met.H.Host.seen_now in
     let layout = c.args.layout.now in
     let is = c.requires.new in
@@ -22,8 +17,8 @@ returns-in_err-make_empty_logs-clause-moments g c files tree told none text =
     let first = c.args.host.now in
     let mid = c.make_empty_logs.new.host in
     let changes = c.make_empty_logs.ensures.changes in
-    shows layout fields is limits tree text body is_body M O S R L N first mid changes.quiet
-    (none_open layout fields is limits tree text body is_body M O S R L N _ first mid (own_apart layout fields) none (changes.moments files told))
+    shows layout fields is limits tree text body is_body g.H.Host N first mid changes.quiet
+    (none_open layout fields is limits tree text body is_body g.H.Host N _ first mid (own_apart layout fields) none (changes.moments files told))
 
 pub make_empty_logs-requires : goal.make_empty_logs-requires
 make_empty_logs-requires g c = fields_of c.args.layout.now c.requires.new c.requires.good
@@ -54,9 +49,6 @@ returns-clause-bytes g c =
 
 pub returns-clause-moments : goal.returns-clause-moments
 returns-clause-moments g c files tree told none text =
-    let M = g.H.Host.moment in
-    let O = g.H.Host.observed in
-    let S = g.H.Host.said in
     let R = g.H.Host.reads in
     let L = g.H.Host.may_leave in
     let N = g.met.H.Host.seen_now in
@@ -72,7 +64,7 @@ returns-clause-moments g c files tree told none text =
     let changes = c.make_empty_logs.ensures.changes in
     let empty = c.in_ok-make_empty_logs.ensures.ok files told in
     let still : LeavesEmpty 0 (L mid) = λ image left. let from = changes.crash image left in from.2 0 (own_apart layout fields) ∙ none from.0 from.1 in
-    shows layout fields is limits tree text body is_body M O S R L N first new (c.make_layouts.ensures.changes.quiet ∙ changes.quiet)
-    (then_open layout fields is limits tree text body is_body M O S R L N first mid new files (R mid) empty
-    (none_open layout fields is limits tree text body is_body M O S R L N _ first mid (own_apart layout fields) none (changes.moments files told))
+    shows layout fields is limits tree text body is_body g.H.Host N first new (c.make_layouts.ensures.changes.quiet ∙ changes.quiet)
+    (then_open layout fields is limits tree text body is_body g.H.Host N first mid new files (R mid) empty
+    (none_open layout fields is limits tree text body is_body g.H.Host N _ first mid (own_apart layout fields) none (changes.moments files told))
     (c.make_layouts.ensures.moments empty.files empty.are still))

@@ -6,7 +6,7 @@ use Rattle.coco_make.proofs.make.make_layouts.Goals as goal
 
 pub returns-in_err-layouts-clause-moments : goal.returns-in_err-layouts-clause-moments
 returns-in_err-layouts-clause-moments g c files told none =
-    sees_made g.H.Host.moment g.H.Host.observed g.H.Host.said g.H.Host.reads g.H.Host.may_leave c.args.body.now c.args.host.now c.make.new.host none c.make.ensures.moments
+    sees_made g.H.Host c.args.body.now c.args.host.now c.make.new.host none c.make.ensures.moments
 
 pub append-requires-clause-rest : goal.append-requires-clause-rest
 append-requires-clause-rest g c = at_rest _ _ _ (made_stands _ _ _ _ _ _ c.in_ok-layouts.ensures.files c.in_ok-layouts.ensures.ok)
@@ -20,24 +20,14 @@ returns-clause-ok g c =
 
 pub returns-clause-moments : goal.returns-clause-moments
 returns-clause-moments g c files told none =
-    let M = g.H.Host.moment in
-    let O = g.H.Host.observed in
-    let S = g.H.Host.said in
-    let R = g.H.Host.reads in
-    let L = g.H.Host.may_leave in
     let made = c.in_ok-layouts.ensures.ok files told in
-    sees_appended M O S R L c.args.body.now c.args.host.now c.make.new.host c.in_ok-layouts.layouts c.in_ok-layouts.ensures.log c.make.ensures.said c.make.ensures.crash c.append.new.host
-    (sees_made M O S R L c.args.body.now c.args.host.now c.make.new.host none c.make.ensures.moments)
+    sees_appended g.H.Host c.args.body.now c.args.host.now c.make.new.host c.in_ok-layouts.layouts c.in_ok-layouts.ensures.log c.make.ensures.said c.make.ensures.crash c.append.new.host
+    (sees_made g.H.Host c.args.body.now c.args.host.now c.make.new.host none c.make.ensures.moments)
     (c.append.ensures.moments made.files _ made.are made.rest)
 
 pub returns-clause-changes : goal.returns-clause-changes
 returns-clause-changes g c =
-    let M = g.H.Host.moment in
-    let O = g.H.Host.observed in
-    let S = g.H.Host.said in
-    let R = g.H.Host.reads in
-    let L = g.H.Host.may_leave in
-    changes_appended M O S R L c.args.body.now c.args.host.now c.make.new.host c.in_ok-layouts.layouts c.in_ok-layouts.ensures.log c.make.ensures.said c.make.ensures.crash c.append.new.host
-    (changes_made M O S R L _ 0 c.args.host.now c.make.new.host refl c.make.ensures.moments c.make.ensures.files c.make.ensures.crash c.make.ensures.said)
+    changes_appended g.H.Host c.args.body.now c.args.host.now c.make.new.host c.in_ok-layouts.layouts c.in_ok-layouts.ensures.log c.make.ensures.said c.make.ensures.crash c.append.new.host
+    (changes_made g.H.Host _ 0 c.args.host.now c.make.new.host refl c.make.ensures.moments c.make.ensures.files c.make.ensures.crash c.make.ensures.said)
     (λ files told. let made = c.in_ok-layouts.ensures.ok files told in c.append.ensures.moments made.files _ made.are made.rest)
     c.append.ensures.files c.append.ensures.crash c.append.ensures.said

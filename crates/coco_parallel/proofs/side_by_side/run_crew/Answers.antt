@@ -1,11 +1,11 @@
 use Rattle.std.proofs.Common.{◌≡◌, true, false, All, ◌++◌, length, take, drop, sym, ap, ◌∙◌, subst, arith}
+use Rattle.coco_claim.proofs.Drawing.{seats_count}
 use Rattle.coco_desks.specs.Desks.{AreEmpty}
 use Rattle.coco_desks.proofs.DeskLemmas.{as_many_started, written_back}
 use Rattle.coco_parallel.specs.Worked.{HaveWorked, KeepValues, emptied, start_of}
 use Rattle.coco_parallel.specs.declared.side_by_side.Worked.{Worked}
 use Rattle.coco_parallel.specs.declared.workers.Station.{Station}
 use Rattle.coco_parallel.proofs.RanLemmas.{all_seats, as_many_copies, as_many_shards, begun_count, begun_manned, closed_copies, closed_shards, copies_back, copies_notes, ended_seat, kept_maps, kept_values, shards_back, shards_notes, worked}
-use Rattle.coco_parallel.proofs.StationLemmas.{seats_count}
 use Rattle.coco_parallel.proofs.side_by_side.run_crew.Goals as goal
 use Rattle.coco_parallel.proofs.side_by_side.run_crew.Goals.{then-done, else-done}
 

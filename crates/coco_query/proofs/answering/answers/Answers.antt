@@ -1,4 +1,4 @@
-use Rattle.std.proofs.Common.{ℕ, length, refl, sym, ◌∙◌, subst, arith}
+use Rattle.std.proofs.Common.{ℕ, refl, sym, ◌∙◌, subst, arith}
 use Rattle.coco_desks.specs.Desks.{AreDealt}
 use Rattle.coco_desks.proofs.DeskLemmas.{as_many_started}
 use Rattle.coco_query.specs.Answers.{HaveRead}

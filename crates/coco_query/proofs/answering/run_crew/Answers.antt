@@ -1,11 +1,7 @@
-use Rattle.std.proofs.Common.{◌≡◌, ℕ, ◌<◌, true, false, All, List, ◌++◌, length, take, drop, vec_len, refl, sym, ap, ◌∙◌, subst, arith}
-use Rattle.std.specs.Global.{Vec}
-use Rattle.coco_claim.specs.Seats.{Drawer}
+use Rattle.std.proofs.Common.{◌≡◌, ℕ, ◌<◌, true, false, All, ◌++◌, length, take, drop, refl, sym, ap, ◌∙◌, subst, arith}
 use Rattle.coco_claim.proofs.Drawing.{seats_count}
-use Rattle.coco_desks.specs.Desks.{AreBackBy, AreEmpty}
+use Rattle.coco_desks.specs.Desks.{AreEmpty}
 use Rattle.coco_desks.proofs.DeskLemmas.{as_many_started, written_back}
-use Rattle.coco_query.specs.Frozen.{after_ask, answer_in}
-use Rattle.coco_query.specs.Reading.{FrozenPass}
 use Rattle.coco_query.specs.declared.answering.Ran.{Ran}
 use Rattle.coco_query.specs.declared.readers.Reader.{Reader}
 use Rattle.coco_query.proofs.CrewLemmas.{all_seats, begun_count, begun_seated, closed_so, ended_seat, have_left, have_run, many_back, notes_so, rows_so, seats_drawn, tables_back}

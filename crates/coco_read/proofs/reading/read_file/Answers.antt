@@ -17,9 +17,8 @@ loop-entries-init g c =
     record {
       of = begins.of;
       setting = refl;
-      read = read_first _ _ _ _ _ g.met.H.Host.only_now _;
+      read = read_first g.H.Host g.met.H.Host.only_now _;
       counts = refl;
-      others = refl;
       told = λ files told.
           let begun = begins.ok files (sym begins.read.same ∙ told) in
           way_first rules reads c.in_ok-entries.entries (g.R.Rules.taken c.args.rules.now) (files c.args.file) c.requires
@@ -34,9 +33,8 @@ loop-entries-preserved g c =
     record {
       of = record { in_file = next.of.in_file ∙ was.of.in_file; of_kind = next.of.of_kind ∙ was.of.of_kind };
       setting = next.setting ∙ was.setting;
-      read = read_then _ _ _ _ _ g.met.H.Host.only_now _ _ _ was.read next.read;
+      read = read_then g.H.Host g.met.H.Host.only_now _ _ _ was.read next.read;
       counts = next.counts ∙ was.counts;
-      others = next.others ∙ was.others;
       told = λ files told.
           subst (λ (b : Bool). IsStep rules (Ok b) c.read_next.new.entries (g.R.Rules.taken c.read_next.new.rules) (files c.args.file)) c.if-branch.true
           (step_under g.R.Rules.rules _ _ was.setting (Ok c.in_ok-read_next.field-0) _ c.read_next.new.entries _ (g.R.Rules.taken c.read_next.new.rules) _

@@ -35,11 +35,6 @@ returns-in_err-parts-clause-seen g c =
 
 pub returns-in_err-rebuild_store-clause-seen : goal.returns-in_err-rebuild_store-clause-seen
 returns-in_err-rebuild_store-clause-seen g c =
-    let M = g.H.Host.moment in
-    let O = g.H.Host.observed in
-    let S = g.H.Host.said in
-    let R = g.H.Host.reads in
-    let L = g.H.Host.may_leave in
     let node = c.args.node in
     let mid = c.read_without.new.host in
     let new = c.rebuild_store.new.host in
@@ -56,17 +51,12 @@ returns-in_err-rebuild_store-clause-seen g c =
       files = c.rebuild_store.ensures.files;
       crash = c.rebuild_store.ensures.crash;
       gains = λ files d told good.
-          gains_failed M O S R L c.rebuild_store.result p.0 (λ image. IsGoodBut node image d) (HasRebuilt node d) mid new
+          gains_failed g.H.Host c.rebuild_store.result p.0 (λ image. IsGoodBut node image d) (HasRebuilt node d) mid new
           (c.rebuild_store.ensures.gains d ((c.in_ok-parts.ensures.ok files told).has d good.holds) (c.in_ok-parts.ensures.rests files d told good)) c.from_residual-in_err-rebuild_store.result p.1;
     })
 
 pub returns-clause-seen : goal.returns-clause-seen
 returns-clause-seen g c =
-    let M = g.H.Host.moment in
-    let O = g.H.Host.observed in
-    let S = g.H.Host.said in
-    let R = g.H.Host.reads in
-    let L = g.H.Host.may_leave in
     let node = c.args.node in
     let mid = c.read_without.new.host in
     let new = c.rebuild_store.new.host in
@@ -82,7 +72,7 @@ returns-clause-seen g c =
       files = c.rebuild_store.ensures.files;
       crash = c.rebuild_store.ensures.crash;
       gains = λ files d told good.
-          gains_done M O S R L c.rebuild_store.result c.in_ok-rebuild_store.field-0 tt (λ image. IsGoodBut node image d) (HasRebuilt node d) mid new c.in_ok-rebuild_store.was
+          gains_done g.H.Host c.rebuild_store.result c.in_ok-rebuild_store.field-0 tt (λ image. IsGoodBut node image d) (HasRebuilt node d) mid new c.in_ok-rebuild_store.was
           (c.rebuild_store.ensures.gains d ((c.in_ok-parts.ensures.ok files told).has d good.holds) (c.in_ok-parts.ensures.rests files d told good));
     })
 

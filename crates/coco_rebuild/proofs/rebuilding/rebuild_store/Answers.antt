@@ -17,7 +17,7 @@ use Rattle.coco_store.specs.Rules.{IsWithinLimits}
 use Rattle.coco_rebuild.specs.Rebuilding.{HasRebuilt, IsHeldAlone, new_file, rebuild_files, rebuilt_with}
 use Rattle.coco_rebuild.proofs.NewNode.{is_layout, none_of_old, of_nodes, within_limits}
 use Rattle.coco_rebuild.proofs.Rebuilds.{gains_answered, its_switch, ready_rests, counts_answered, never_refused, rebuilt, same_entry, still_but, still_logged, wider}
-use Rattle.coco_rebuild.proofs.Steps.{become_more, become_one, become_still, become_then, follows_more, follows_one, follows_then, stands_besides}
+use Rattle.coco_make.proofs.Besides.{become_more, become_one, become_still, become_then, follows_more, follows_one, follows_then, stands_besides}
 use Rattle.coco_rebuild.proofs.rebuilding.rebuild_store.Goals as goal
 
 -- ---- memory runs out at first
@@ -25,7 +25,7 @@ use Rattle.coco_rebuild.proofs.rebuilding.rebuild_store.Goals as goal
 pub returns-in_err-file-clause-gains : goal.returns-in_err-file-clause-gains
 returns-in_err-file-clause-gains g c d has rests =
     let p = err_from_is_err_and c.from_residual.result c.from_residual.ensures.1 in
-    nothing_gained g.H.Host.moment g.H.Host.observed g.H.Host.said g.H.Host.reads g.H.Host.may_leave c.from_residual.result (λ image. IsGoodBut c.args.node image d) (HasRebuilt c.args.node d)
+    nothing_gained g.H.Host c.from_residual.result (λ image. IsGoodBut c.args.node image d) (HasRebuilt c.args.node d)
     g.met.H.Host.only_now c.args.host.now p.0 p.1 rests
 
 pub returns-in_err-file-clause-files : goal.returns-in_err-file-clause-files
@@ -98,11 +98,6 @@ add_layout-requires-clause-text g c = let short = c.requires.sound.accepted.shor
 
 pub returns-in_err-write_node-clause-gains : goal.returns-in_err-write_node-clause-gains
 returns-in_err-write_node-clause-gains g c d has rests =
-    let M = g.H.Host.moment in
-    let O = g.H.Host.observed in
-    let S = g.H.Host.said in
-    let R = g.H.Host.reads in
-    let L = g.H.Host.may_leave in
     let parts = c.args.parts in
     let sound = c.requires.sound in
     let old = entry_of_parts parts in
@@ -111,7 +106,7 @@ returns-in_err-write_node-clause-gains g c d has rests =
     (none_of_old c.args.node old sound.is sound.limits n (subst (λ (e : LayoutEntry). is_named (files_of e) n ≡ true) (sym has.layout) is)) in
     let still = still_but c.args.node (file ∷ []) d c.a_store_is_one_but_for_a_node.ensures.gates free in
     let p = err_from_is_err_and c.from_residual-in_err-write_node.result c.from_residual-in_err-write_node.ensures.1 in
-    nothing_gained_past M O S R L (file ∷ []) (λ image. IsGoodBut c.args.node image d) still c.args.host.now c.write_node.new.host rests c.write_node.ensures.changes c.from_residual-in_err-write_node.result
+    nothing_gained_past g.H.Host (file ∷ []) (λ image. IsGoodBut c.args.node image d) still c.args.host.now c.write_node.new.host rests c.write_node.ensures.changes c.from_residual-in_err-write_node.result
     (HasRebuilt c.args.node d) p.0 p.1
 
 pub returns-in_err-write_node-clause-files : goal.returns-in_err-write_node-clause-files
@@ -133,9 +128,6 @@ returns-in_err-write_node-clause-said g c = c.write_node.ensures.changes.quiet
 
 pub returns-clause-gains : goal.returns-clause-gains
 returns-clause-gains g c d has rests =
-    let M = g.H.Host.moment in
-    let O = g.H.Host.observed in
-    let S = g.H.Host.said in
     let R = g.H.Host.reads in
     let L = g.H.Host.may_leave in
     let node = c.args.node in
@@ -152,7 +144,7 @@ returns-clause-gains g c d has rests =
     let free : (n : ℕ) → is_named (files_of d.setting.entry) n ≡ true → is_named (file ∷ []) n ≡ false = λ n is. subst (λ (f : ℕ). is_named (f ∷ []) n ≡ false) (sym c.in_ok-file.ensures)
     (none_of_old node old sound.is sound.limits n (subst (λ (e : LayoutEntry). is_named (files_of e) n ≡ true) (sym has.layout) is)) in
     let still = still_but node (file ∷ []) d gates free in
-    let past = rests_past M O S R L (file ∷ []) such still first mid rests c.write_node.ensures.changes in
+    let past = rests_past g.H.Host (file ∷ []) such still first mid rests c.write_node.ensures.changes in
     let held = subst (λ (e : LayoutEntry). (p : ℕ) → ¬ (IsHeldAlone e.layout node p)) has.layout c.requires.held in
     let less : node < d.setting.entry.layout.nodes = subst (λ (e : LayoutEntry). node < e.layout.nodes) has.layout c.requires.node in
     let made = c.in_ok-write_node.ensures.made rests.files d rests.are (record {
@@ -168,9 +160,9 @@ returns-clause-gains g c d has rests =
     let ready = ready_rests node d made.entries law less held made.are (R mid) (L mid) past log in
     let same = same_entry node file old d.setting.entry c.with_file-layout.result has.layout c.in_ok-file.ensures c.with_file-layout.ensures in
     let gains = c.add_layout.ensures.gains d after switches same ready in
-    gains_answered M O S R L c.add_layout.result c.answer_to.result such (HasRebuilt node d) first new c.answer_to.ensures
-    (gained_past M O S R L (file ∷ []) such still first mid rests c.write_node.ensures.changes c.add_layout.result (HasRebuilt node d) new
-    (gains_weaker M O S R L c.add_layout.result (HasLogsOf (L mid)) (HasStore after) such (HasRebuilt node d) mid new (such_of_logs such (L mid) (still_logged node d gates) past.left)
+    gains_answered g.H.Host c.add_layout.result c.answer_to.result such (HasRebuilt node d) first new c.answer_to.ensures
+    (gained_past g.H.Host (file ∷ []) such still first mid rests c.write_node.ensures.changes c.add_layout.result (HasRebuilt node d) new
+    (gains_weaker g.H.Host c.add_layout.result (HasLogsOf (L mid)) (HasStore after) such (HasRebuilt node d) mid new (such_of_logs such (L mid) (still_logged node d gates) past.left)
     (rebuilt node d made.entries law less held made.are) gains))
 
 pub returns-clause-files : goal.returns-clause-files

@@ -27,7 +27,6 @@ loop-prepared-init g c =
           at_first all c.args.epoch (files c.args.file) has c.args.entries.now c.next_entry.new.entries last c.in_ok-prepared.prepared less upto (next.next all upto.done upto.rest files told has.are upto.are upto.reading);
       read = next.read;
       counts = next.counts;
-      stream = next.stream;
     }
 
 pub returns-in_err-prepared-2-clause-found : goal.returns-in_err-prepared-2-clause-found
@@ -56,9 +55,8 @@ loop-prepared-preserved g c =
           (let at = inv.at all last files told has less upto in
           at_next all c.args.epoch (files c.args.file) has c.loop-prepared.entries c.next_entry-in-loop-prepared.new.entries was c.in_ok-prepared-2.prepared c.loop-prepared-test.true at
           (next.next all (at.done ++ was ∷ []) at.rest files (inv.read.same ∙ told) has.are (at.are ∙ sym (append_assoc at.done (was ∷ []) at.rest)) at.reading));
-      read = read_then g.H.Host.moment g.H.Host.observed g.H.Host.said g.H.Host.reads g.H.Host.may_leave g.met.H.Host.only_now c.args.host.now c.loop-prepared.host c.next_entry-in-loop-prepared.new.host inv.read next.read;
+      read = read_then g.H.Host g.met.H.Host.only_now c.args.host.now c.loop-prepared.host c.next_entry-in-loop-prepared.new.host inv.read next.read;
       counts = next.counts ∙ inv.counts;
-      stream = next.stream ∙ inv.stream;
     }
 
 pub returns-then-prepared-epoch-clause-found : goal.returns-then-prepared-epoch-clause-found

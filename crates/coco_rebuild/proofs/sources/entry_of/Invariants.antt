@@ -16,9 +16,8 @@ invariant-loop-prepared g l = record {
   is : IsPrepared l.prepared;
   at : (all : List Prepared) (last : ℕ) (files : Files) → g.H.Host.reads l.fn.host ≡ Some files → HasEpoch all l.epoch (files l.file) → last < l.epoch → IsReadUpTo l.fn.entries all last (files l.file)
       → IsAt l.entries all l.prepared l.epoch (files l.file);
-  read : IsOnlyRead g.H.Host.moment g.H.Host.observed g.H.Host.said g.H.Host.reads g.H.Host.may_leave l.fn.host l.host;
+  read : IsOnlyRead g.H.Host l.fn.host l.host;
   counts : g.H.Host.disk_faults l.host ≡ g.H.Host.disk_faults l.fn.host;
-  stream : g.H.Host.say_faults l.host ≡ g.H.Host.say_faults l.fn.host;
 }
 
 abbrev pub decreases-loop-prepared : goal.decreases-loop-prepared

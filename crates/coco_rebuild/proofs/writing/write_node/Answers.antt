@@ -30,18 +30,14 @@ loop-epoch-init g c =
       written = λ files d told others.
           written_none c.args.layout.now c.args.node c.args.epochs.now d draft c.in_ok-sources.sources (g.H.Host.reads c.open.new.host) files (begun.read.same ∙ told) others c.args.layout.now.base_epoch
           (begun.begun c.args.epochs.now files d told others c.args.layout.now.base_epoch) c.requires.rise (c.in_ok-draft.ensures.none (g.H.Host.reads c.open.new.host));
-      changes = changes_read g.H.Host.moment g.H.Host.observed g.H.Host.said g.H.Host.reads g.H.Host.may_leave (c.args.file ∷ []) c.args.host.now c.open.new.host begun.read;
+      changes = changes_read g.H.Host (c.args.file ∷ []) c.args.host.now c.open.new.host begun.read;
       counts = begun.counts;
-      stream = begun.stream;
+      stream = begun.read.stream;
     }
 
 pub loop-epoch-preserved : goal.loop-epoch-preserved
 loop-epoch-preserved g c =
-    let M = g.H.Host.moment in
-    let O = g.H.Host.observed in
-    let S = g.H.Host.said in
     let R = g.H.Host.reads in
-    let L = g.H.Host.may_leave in
     let layout = c.args.layout.now in
     let node = c.args.node in
     let less = c.requires.node in
@@ -66,7 +62,7 @@ loop-epoch-preserved g c =
           written_more layout node epochs d i epoch c.loop-epoch.draft c.loop-epoch.sources (R mid) was next c.add_epoch.new.draft c.add_epoch.new.sources (R new) after.0 after.1 after.2 c.requires.count
           (subst (λ (f : ℕ). is_named layout.node_files f ≡ false) (sym inv.file) c.requires.apart) (mod_below (node + 1) layout.nodes some) (mod_below (node + layout.nodes - layout.copies) layout.nodes some)
           (add.added _ was.drafts));
-      changes = changes_then M O S R L (file ∷ []) c.args.host.now mid new inv.changes (subst (λ (f : ℕ). ChangesOnly M O S R L (f ∷ []) mid new) inv.file c.add_epoch.ensures.changes);
+      changes = changes_then g.H.Host (file ∷ []) c.args.host.now mid new inv.changes (subst (λ (f : ℕ). ChangesOnly g.H.Host (f ∷ []) mid new) inv.file c.add_epoch.ensures.changes);
       counts = add.counts ∙ inv.counts;
       stream = add.stream ∙ inv.stream;
     }
@@ -88,14 +84,9 @@ returns-in_err-add_epoch-clause-kept g c other at files d told others is =
 
 pub returns-in_err-add_epoch-clause-changes : goal.returns-in_err-add_epoch-clause-changes
 returns-in_err-add_epoch-clause-changes g c =
-    let M = g.H.Host.moment in
-    let O = g.H.Host.observed in
-    let S = g.H.Host.said in
-    let R = g.H.Host.reads in
-    let L = g.H.Host.may_leave in
     let inv = c.loop-epoch.invariant in
-    changes_then M O S R L (c.args.file ∷ []) c.args.host.now c.loop-epoch.host c.add_epoch.new.host inv.changes
-    (subst (λ (f : ℕ). ChangesOnly M O S R L (f ∷ []) c.loop-epoch.host c.add_epoch.new.host) inv.file c.add_epoch.ensures.changes)
+    changes_then g.H.Host (c.args.file ∷ []) c.args.host.now c.loop-epoch.host c.add_epoch.new.host inv.changes
+    (subst (λ (f : ℕ). ChangesOnly g.H.Host (f ∷ []) c.loop-epoch.host c.add_epoch.new.host) inv.file c.add_epoch.ensures.changes)
 
 -- ---- the draft is finished
 
@@ -117,11 +108,6 @@ returns-clause-made g c =
 
 pub returns-clause-changes : goal.returns-clause-changes
 returns-clause-changes g c =
-    let M = g.H.Host.moment in
-    let O = g.H.Host.observed in
-    let S = g.H.Host.said in
-    let R = g.H.Host.reads in
-    let L = g.H.Host.may_leave in
     let inv = c.loop-epoch.invariant in
-    changes_then M O S R L (c.args.file ∷ []) c.args.host.now c.loop-epoch.host c.finish.new.host inv.changes
-    (subst (λ (f : ℕ). ChangesOnly M O S R L (f ∷ []) c.loop-epoch.host c.finish.new.host) inv.file c.finish.ensures.changes)
+    changes_then g.H.Host (c.args.file ∷ []) c.args.host.now c.loop-epoch.host c.finish.new.host inv.changes
+    (subst (λ (f : ℕ). ChangesOnly g.H.Host (f ∷ []) c.loop-epoch.host c.finish.new.host) inv.file c.finish.ensures.changes)

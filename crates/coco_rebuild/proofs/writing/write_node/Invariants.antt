@@ -17,7 +17,7 @@ invariant-loop-epoch g l = record {
   drafts : (bodies : List (List ℕ)) × Drafts l.draft bodies (g.H.Host.reads l.host);
   written : (files : Files) (c : Contents) → g.H.Host.reads l.fn.host ≡ Some files → AreOthers l.layout l.node l.epochs files c
       → AreWritten l.layout l.node l.epochs c l.epoch-index l.draft l.sources (g.H.Host.reads l.host);
-  changes : ChangesOnly g.H.Host.moment g.H.Host.observed g.H.Host.said g.H.Host.reads g.H.Host.may_leave (l.file ∷ []) l.fn.host l.host;
+  changes : ChangesOnly g.H.Host (l.file ∷ []) l.fn.host l.host;
   counts : g.H.Host.disk_faults l.host ≡ g.H.Host.disk_faults l.fn.host;
   stream : g.H.Host.say_faults l.host ≡ g.H.Host.say_faults l.fn.host;
 }

@@ -15,7 +15,7 @@ use Rattle.coco_recover.proofs.lost.read_node.Goals as goal
 -- ---- out of memory
 
 pub returns-in_err-tables-clause-read : goal.returns-in_err-tables-clause-read
-returns-in_err-tables-clause-read g c = read_first _ _ _ _ _ g.met.H.Host.only_now _
+returns-in_err-tables-clause-read g c = read_first g.H.Host g.met.H.Host.only_now _
 
 -- ---- a refused file
 

@@ -21,8 +21,8 @@ use Rattle.coco_recover.proofs.opening.open_behind.Goals as goal
 
 pub returns-clause-read : goal.returns-clause-read
 returns-clause-read g c =
-    read_then _ _ _ _ _ g.met.H.Host.only_now _ _ _
-    (read_then _ _ _ _ _ g.met.H.Host.only_now _ _ _ c.in_ok-history.ensures.read c.in_ok-committed.ensures.read) c.in_ok-loaded.ensures.only
+    read_then g.H.Host g.met.H.Host.only_now _ _ _
+    (read_then g.H.Host g.met.H.Host.only_now _ _ _ c.in_ok-history.ensures.read c.in_ok-committed.ensures.read) c.in_ok-loaded.ensures.only
 
 pub returns-in_err-history-clause-refused : goal.returns-in_err-history-clause-refused
 returns-in_err-history-clause-refused g c file at files is told held =

@@ -7,7 +7,7 @@ use Rattle.coco_recover.specs.Layouts.{setting_of}
 use Rattle.coco_recover.proofs.without.read_other.Goals as goal
 
 pub returns-then-node-left_out-clause-read : goal.returns-then-node-left_out-clause-read
-returns-then-node-left_out-clause-read g c = read_first _ _ _ _ _ g.met.H.Host.only_now _
+returns-then-node-left_out-clause-read g c = read_first g.H.Host g.met.H.Host.only_now _
 
 pub returns-then-node-left_out-clause-ok : goal.returns-then-node-left_out-clause-ok
 returns-then-node-left_out-clause-ok g c =

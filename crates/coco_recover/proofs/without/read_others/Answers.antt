@@ -20,9 +20,8 @@ loop-node-preserved g c =
     let more = next.ok in
     record {
       read = other_read last committed c.args.left_out old c.in_ok-more.more more.0 logs c.add_log.new.logs.items c.in_ok-more.log n was.read more.1 next.log c.in_ok-add_log.ensures;
-      only = read_then _ _ _ _ _ g.met.H.Host.only_now _ _ _ was.only next.read;
+      only = read_then g.H.Host g.met.H.Host.only_now _ _ _ was.only next.read;
       counts = next.counts ∙ was.counts;
-      stream = next.stream ∙ was.stream;
       held = λ files told.
           let found = more.2 files (was.only.same ∙ told) in
           other_held last committed c.args.left_out files (g.H.Host.may_leave c.loop-node.host) (g.H.Host.may_leave c.read_other.new.host) (nodes_of old) (nodes_of c.in_ok-more.more) more.0 logs c.add_log.new.logs.items

@@ -69,15 +69,15 @@ returns-in_err-nodes-clause-kept g c file at files d told held is = held_or_refu
 
 pub returns-in_err-nodes-clause-read : goal.returns-in_err-nodes-clause-read
 returns-in_err-nodes-clause-read g c =
-    read_then _ _ _ _ _ g.met.H.Host.only_now _ _ _
-    (read_then _ _ _ _ _ g.met.H.Host.only_now _ _ _
-    (read_then _ _ _ _ _ g.met.H.Host.only_now _ _ _ c.in_ok-last.ensures.read c.in_ok-history.ensures.read) c.in_ok-committed.ensures.read) c.in_err-nodes.ensures.only
+    read_then g.H.Host g.met.H.Host.only_now _ _ _
+    (read_then g.H.Host g.met.H.Host.only_now _ _ _
+    (read_then g.H.Host g.met.H.Host.only_now _ _ _ c.in_ok-last.ensures.read c.in_ok-history.ensures.read) c.in_ok-committed.ensures.read) c.in_err-nodes.ensures.only
 
 pub returns-clause-read : goal.returns-clause-read
 returns-clause-read g c =
-    read_then _ _ _ _ _ g.met.H.Host.only_now _ _ _
-    (read_then _ _ _ _ _ g.met.H.Host.only_now _ _ _
-    (read_then _ _ _ _ _ g.met.H.Host.only_now _ _ _ c.in_ok-last.ensures.read c.in_ok-history.ensures.read) c.in_ok-committed.ensures.read) c.in_ok-nodes.ensures.only
+    read_then g.H.Host g.met.H.Host.only_now _ _ _
+    (read_then g.H.Host g.met.H.Host.only_now _ _ _
+    (read_then g.H.Host g.met.H.Host.only_now _ _ _ c.in_ok-last.ensures.read c.in_ok-history.ensures.read) c.in_ok-committed.ensures.read) c.in_ok-nodes.ensures.only
 
 pub returns-clause-ok : goal.returns-clause-ok
 returns-clause-ok g c files told =
@@ -122,7 +122,7 @@ returns-clause-stand g c =
     let based = c.in_ok-history.ensures in
     let committed = c.in_ok-committed.ensures in
     let others = c.in_ok-nodes.ensures in
-    let behind = read_then _ _ _ _ _ g.met.H.Host.only_now _ _ _ (read_then _ _ _ _ _ g.met.H.Host.only_now _ _ _ based.read committed.read) others.only in
+    let behind = read_then g.H.Host g.met.H.Host.only_now _ _ _ (read_then g.H.Host g.met.H.Host.only_now _ _ _ based.read committed.read) others.only in
     record {
       root = stands_still c.in_ok-last.root _ _ (may c.read_layouts.new.host) (may c.read_others.new.host) behind.same behind.crash
           (stands_so c.in_ok-last.root (reads c.read_layouts.new.host) (may c.read_layouts.new.host) (λ files told. (root.ok files (sym root.read.same ∙ told)).1));

@@ -15,7 +15,7 @@ use Rattle.coco_serve.proofs.all_batches.answer_lines.Goals as goal
 
 pub batches-init : goal.batches-init
 batches-init g c = record {
-  running = running_new g.H.Host.moment g.H.Host.observed g.H.Host.said g.H.Host.reads g.H.Host.may_leave g.met.H.Host.only_now c.args.bounds c.new-reader.result _ c.args.cluster.now c.args.host.now _ c.new-reader.ensures;
+  running = running_new g.H.Host g.met.H.Host.only_now c.args.bounds c.new-reader.result _ c.args.cluster.now c.args.host.now _ c.new-reader.ensures;
   later = later_same _;
   within = subst (λ (r : ReaderState). r.given ≤ most_input_bytes) (sym c.new-reader.ensures) (lit≤ tt);
   end = λ met. absurd (true≢false (sym met ∙ ap (λ r. r.ended) c.new-reader.ensures));
@@ -32,7 +32,7 @@ returns-in-Err-NoMemory g c =
     let m0 : SourceMoment = (record { given = g.S.Source.given c.args.input.now; left = g.S.Source.remaining c.args.input.now; at_end = g.S.Source.at_end c.args.input.now }) in
     let m1 : SourceMoment = (record { given = g.S.Source.given c.batches.input; left = g.S.Source.remaining c.batches.input; at_end = g.S.Source.at_end c.batches.input }) in
     let m2 : SourceMoment = (record { given = g.S.Source.given c.read_batch.new.source; left = g.S.Source.remaining c.read_batch.new.source; at_end = g.S.Source.at_end c.read_batch.new.source }) in
-    let w = broken_memory g.H.Host.moment g.H.Host.observed g.H.Host.said g.H.Host.reads g.H.Host.may_leave c.args.cluster.now.next_epoch _ c.args.bounds c.batches.reader c.read_batch.new.reader m0 m1 m2 c.args.cluster.now c.batches.cluster
+    let w = broken_memory g.H.Host c.args.cluster.now.next_epoch _ c.args.bounds c.batches.reader c.read_batch.new.reader m0 m1 m2 c.args.cluster.now c.batches.cluster
     c.args.host.now c.batches.host c.batches.invariant.running g.met.H.Host.seen_now c.in-Err-NoMemory.field-0 c.in-Err-NoMemory.ensures.breaks in
     record { bytes = w.bytes; gives = w.gives; later = c.batches.invariant.later; cause = tt; serves = w.serves }
 
@@ -41,7 +41,7 @@ returns-in-Err-Failed g c =
     let m0 : SourceMoment = (record { given = g.S.Source.given c.args.input.now; left = g.S.Source.remaining c.args.input.now; at_end = g.S.Source.at_end c.args.input.now }) in
     let m1 : SourceMoment = (record { given = g.S.Source.given c.batches.input; left = g.S.Source.remaining c.batches.input; at_end = g.S.Source.at_end c.batches.input }) in
     let m2 : SourceMoment = (record { given = g.S.Source.given c.read_batch.new.source; left = g.S.Source.remaining c.read_batch.new.source; at_end = g.S.Source.at_end c.read_batch.new.source }) in
-    let w = broken_failed g.H.Host.moment g.H.Host.observed g.H.Host.said g.H.Host.reads g.H.Host.may_leave c.args.cluster.now.next_epoch _ c.args.bounds c.batches.reader c.read_batch.new.reader m0 m1 m2 c.args.cluster.now c.batches.cluster
+    let w = broken_failed g.H.Host c.args.cluster.now.next_epoch _ c.args.bounds c.batches.reader c.read_batch.new.reader m0 m1 m2 c.args.cluster.now c.batches.cluster
     c.args.host.now c.batches.host c.batches.invariant.running g.met.H.Host.seen_now c.in-Err-Failed.field-0 c.in-Err-Failed.ensures.breaks c.in-Err-Failed.field-0-is in
     let rose = subst (λ k. Rose k (g.S.Source.faults c.read_batch.new.source)) c.batches.invariant.reads (rw c.in-Err-Failed.field-0-is at c.in-Err-Failed.ensures.counts) in
     record { bytes = w.bytes; gives = w.gives; later = c.batches.invariant.later; cause = inl rose; serves = w.serves }
@@ -51,7 +51,7 @@ returns-in-Err-TooMuch g c =
     let m0 : SourceMoment = (record { given = g.S.Source.given c.args.input.now; left = g.S.Source.remaining c.args.input.now; at_end = g.S.Source.at_end c.args.input.now }) in
     let m1 : SourceMoment = (record { given = g.S.Source.given c.batches.input; left = g.S.Source.remaining c.batches.input; at_end = g.S.Source.at_end c.batches.input }) in
     let m2 : SourceMoment = (record { given = g.S.Source.given c.read_batch.new.source; left = g.S.Source.remaining c.read_batch.new.source; at_end = g.S.Source.at_end c.read_batch.new.source }) in
-    let w = broken_much g.H.Host.moment g.H.Host.observed g.H.Host.said g.H.Host.reads g.H.Host.may_leave c.args.cluster.now.next_epoch _ c.args.bounds c.batches.reader c.read_batch.new.reader m0 m1 m2 c.args.cluster.now c.batches.cluster
+    let w = broken_much g.H.Host c.args.cluster.now.next_epoch _ c.args.bounds c.batches.reader c.read_batch.new.reader m0 m1 m2 c.args.cluster.now c.batches.cluster
     c.args.host.now c.batches.host c.batches.invariant.running g.met.H.Host.seen_now c.in-Err-TooMuch.field-0 c.in-Err-TooMuch.ensures.breaks c.in-Err-TooMuch.field-0-is in
     record { bytes = w.bytes; gives = w.gives; later = c.batches.invariant.later; cause = inr (sym w.count ∙ c.in-Err-TooMuch.ensures.too_much (ap Err c.in-Err-TooMuch.field-0-is)); serves = w.serves }
 
@@ -61,7 +61,7 @@ returns-then-count-eq0 g c =
     let m1 : SourceMoment = (record { given = g.S.Source.given c.batches.input; left = g.S.Source.remaining c.batches.input; at_end = g.S.Source.at_end c.batches.input }) in
     let m2 : SourceMoment = (record { given = g.S.Source.given c.read_batch.new.source; left = g.S.Source.remaining c.read_batch.new.source; at_end = g.S.Source.at_end c.read_batch.new.source }) in
     let r = c.in-Ok.ensures.batch in
-    let w = finished_empty g.H.Host.moment g.H.Host.observed g.H.Host.said g.H.Host.reads g.H.Host.may_leave c.args.cluster.now.next_epoch _ c.args.bounds c.batches.reader c.read_batch.new.reader m0 m1 m2 c.args.cluster.now c.batches.cluster c.args.host.now c.batches.host c.batches.invariant.running g.met.H.Host.seen_now
+    let w = finished_empty g.H.Host c.args.cluster.now.next_epoch _ c.args.bounds c.batches.reader c.read_batch.new.reader m0 m1 m2 c.args.cluster.now c.batches.cluster c.args.host.now c.batches.host c.batches.invariant.running g.met.H.Host.seen_now
     c.in-Ok.batch r (omega (arith, c.len-count.ensures, c.if-count-eq0.true)) c.requires.some in
     let end = c.in-Ok.ensures.end c.batches.invariant.end (r.ends (omega (arith, c.len-count.ensures, c.if-count-eq0.true, c.requires.some))).0 in
     record { bytes = w.bytes; gives = w.gives; later = c.batches.invariant.later; cause = end; serves = w.serves }
@@ -82,20 +82,20 @@ returns-in-Err g c =
     let m0 : SourceMoment = (record { given = g.S.Source.given c.args.input.now; left = g.S.Source.remaining c.args.input.now; at_end = g.S.Source.at_end c.args.input.now }) in
     let m1 : SourceMoment = (record { given = g.S.Source.given c.batches.input; left = g.S.Source.remaining c.batches.input; at_end = g.S.Source.at_end c.batches.input }) in
     let m2 : SourceMoment = (record { given = g.S.Source.given c.read_batch.new.source; left = g.S.Source.remaining c.read_batch.new.source; at_end = g.S.Source.at_end c.read_batch.new.source }) in
-    let a0 : Around = around g.N.Net.sent g.N.Net.given g.N.Net.faults g.N.Net.last_seed g.P.Power.stops_seen g.P.Power.early_stops g.P.Power.stopped g.P.Power.begun g.P.Power.asked c.args.net.now c.args.power.now in
-    let a1 : Around = around g.N.Net.sent g.N.Net.given g.N.Net.faults g.N.Net.last_seed g.P.Power.stops_seen g.P.Power.early_stops g.P.Power.stopped g.P.Power.begun g.P.Power.asked c.batches.net c.batches.power in
-    let a2 : Around = around g.N.Net.sent g.N.Net.given g.N.Net.faults g.N.Net.last_seed g.P.Power.stops_seen g.P.Power.early_stops g.P.Power.stopped g.P.Power.begun g.P.Power.asked c.turn_and_say.new.net c.turn_and_say.new.power in
+    let a0 : Around = around g.N.Net g.P.Power c.args.net.now c.args.power.now in
+    let a1 : Around = around g.N.Net g.P.Power c.batches.net c.batches.power in
+    let a2 : Around = around g.N.Net g.P.Power c.turn_and_say.new.net c.turn_and_say.new.power in
     let later = c.turn_and_say.ensures.later in
     let adds = spare_then a0 a1 a2 c.batches.invariant.later later in
     let n1 : Counts = (record { say = g.H.Host.say_faults c.batches.host; disk = g.H.Host.disk_faults c.batches.host }) in
     let n2 : Counts = (record { say = g.H.Host.say_faults c.turn_and_say.new.host; disk = g.H.Host.disk_faults c.turn_and_say.new.host }) in
     let r = c.in-Ok.ensures.batch in
-    let w = batch_broke g.H.Host.moment g.H.Host.observed g.H.Host.said g.H.Host.reads g.H.Host.may_leave c.args.cluster.now.next_epoch _ c.args.bounds c.batches.reader c.read_batch.new.reader m0 m1 m2 c.args.cluster.now c.batches.cluster c.args.host.now c.batches.host c.batches.invariant.running g.met.H.Host.seen_now
+    let w = batch_broke g.H.Host c.args.cluster.now.next_epoch _ c.args.bounds c.batches.reader c.read_batch.new.reader m0 m1 m2 c.args.cluster.now c.batches.cluster c.args.host.now c.batches.host c.batches.invariant.running g.met.H.Host.seen_now
     c.in-Ok.batch r (spare a1 a2) (spare a0 a2) c.turn_and_say.result c.in-Err.fault c.turn_and_say.new.cluster c.turn_and_say.new.host adds c.in-Err.is c.turn_and_say.ensures.answers
     (reason_of c.in-Err.fault c.batches.cluster.next_epoch (length c.in-Ok.batch.fresh) a1 a2 n1 n2 c.in-Err.ensures.counts) (omega (arith, c.len-count.ensures, c.if-count-eq0.false)) in
     let before : Outside = (record { source = record { given = g.S.Source.given c.args.input.now; left = g.S.Source.remaining c.args.input.now; at_end = g.S.Source.at_end c.args.input.now }; source_faults = g.S.Source.faults c.args.input.now; say_faults = g.H.Host.say_faults c.args.host.now; disk_faults = g.H.Host.disk_faults c.args.host.now; around = a0 }) in
     let after : Outside = (record { source = record { given = g.S.Source.given c.read_batch.new.source; left = g.S.Source.remaining c.read_batch.new.source; at_end = g.S.Source.at_end c.read_batch.new.source }; source_faults = g.S.Source.faults c.read_batch.new.source; say_faults = g.H.Host.say_faults c.turn_and_say.new.host; disk_faults = g.H.Host.disk_faults c.turn_and_say.new.host; around = a2 }) in
-    subst (λ e. Runs g.H.Host.moment g.H.Host.observed g.H.Host.said g.H.Host.reads g.H.Host.may_leave c.args.cluster.now c.args.bounds before after e c.args.host.now c.turn_and_say.new.host) (sym c.from.ensures) (record {
+    subst (λ e. Runs g.H.Host c.args.cluster.now c.args.bounds before after e c.args.host.now c.turn_and_say.new.host) (sym c.from.ensures) (record {
       bytes = w.bytes;
       gives = w.gives;
       later = later_then a0 a1 a2 c.batches.invariant.later later;
@@ -110,13 +110,13 @@ returns-then-count-bounds g c =
     let m1 : SourceMoment = (record { given = g.S.Source.given c.batches.input; left = g.S.Source.remaining c.batches.input; at_end = g.S.Source.at_end c.batches.input }) in
     let m2 : SourceMoment = (record { given = g.S.Source.given c.read_batch.new.source; left = g.S.Source.remaining c.read_batch.new.source; at_end = g.S.Source.at_end c.read_batch.new.source }) in
     let r = c.in-Ok.ensures.batch in
-    let a0 : Around = around g.N.Net.sent g.N.Net.given g.N.Net.faults g.N.Net.last_seed g.P.Power.stops_seen g.P.Power.early_stops g.P.Power.stopped g.P.Power.begun g.P.Power.asked c.args.net.now c.args.power.now in
-    let a1 : Around = around g.N.Net.sent g.N.Net.given g.N.Net.faults g.N.Net.last_seed g.P.Power.stops_seen g.P.Power.early_stops g.P.Power.stopped g.P.Power.begun g.P.Power.asked c.batches.net c.batches.power in
-    let a2 : Around = around g.N.Net.sent g.N.Net.given g.N.Net.faults g.N.Net.last_seed g.P.Power.stops_seen g.P.Power.early_stops g.P.Power.stopped g.P.Power.begun g.P.Power.asked c.turn_and_say.new.net c.turn_and_say.new.power in
+    let a0 : Around = around g.N.Net g.P.Power c.args.net.now c.args.power.now in
+    let a1 : Around = around g.N.Net g.P.Power c.batches.net c.batches.power in
+    let a2 : Around = around g.N.Net g.P.Power c.turn_and_say.new.net c.turn_and_say.new.power in
     let later = c.turn_and_say.ensures.later in
     let adds = spare_then a0 a1 a2 c.batches.invariant.later later in
     let short : length c.in-Ok.batch.answers.items < c.args.bounds.size = omega (arith, c.len-count.ensures, c.if-count-bounds.true) in
-    let w = finished_last g.H.Host.moment g.H.Host.observed g.H.Host.said g.H.Host.reads g.H.Host.may_leave c.args.cluster.now.next_epoch _ c.args.bounds c.batches.reader c.read_batch.new.reader m0 m1 m2 c.args.cluster.now c.batches.cluster c.args.host.now c.batches.host c.batches.invariant.running g.met.H.Host.seen_now
+    let w = finished_last g.H.Host c.args.cluster.now.next_epoch _ c.args.bounds c.batches.reader c.read_batch.new.reader m0 m1 m2 c.args.cluster.now c.batches.cluster c.args.host.now c.batches.host c.batches.invariant.running g.met.H.Host.seen_now
     c.in-Ok.batch r (spare a1 a2) (spare a0 a2) c.turn_and_say.result c.turn_and_say.new.cluster c.turn_and_say.new.host adds c.in-Ok-turn_and_say.is c.turn_and_say.ensures.answers short (omega (arith, c.len-count.ensures, c.if-count-eq0.false)) in
     record { bytes = w.bytes; gives = w.gives; later = later_then a0 a1 a2 c.batches.invariant.later later; cause = c.in-Ok.ensures.end c.batches.invariant.end (r.ends short).0; serves = w.serves }
 
@@ -126,15 +126,15 @@ batches-preserved g c =
     let m1 : SourceMoment = (record { given = g.S.Source.given c.batches.input; left = g.S.Source.remaining c.batches.input; at_end = g.S.Source.at_end c.batches.input }) in
     let m2 : SourceMoment = (record { given = g.S.Source.given c.read_batch.new.source; left = g.S.Source.remaining c.read_batch.new.source; at_end = g.S.Source.at_end c.read_batch.new.source }) in
     let r = c.in-Ok.ensures.batch in
-    let a0 : Around = around g.N.Net.sent g.N.Net.given g.N.Net.faults g.N.Net.last_seed g.P.Power.stops_seen g.P.Power.early_stops g.P.Power.stopped g.P.Power.begun g.P.Power.asked c.args.net.now c.args.power.now in
-    let a1 : Around = around g.N.Net.sent g.N.Net.given g.N.Net.faults g.N.Net.last_seed g.P.Power.stops_seen g.P.Power.early_stops g.P.Power.stopped g.P.Power.begun g.P.Power.asked c.batches.net c.batches.power in
-    let a2 : Around = around g.N.Net.sent g.N.Net.given g.N.Net.faults g.N.Net.last_seed g.P.Power.stops_seen g.P.Power.early_stops g.P.Power.stopped g.P.Power.begun g.P.Power.asked c.turn_and_say.new.net c.turn_and_say.new.power in
+    let a0 : Around = around g.N.Net g.P.Power c.args.net.now c.args.power.now in
+    let a1 : Around = around g.N.Net g.P.Power c.batches.net c.batches.power in
+    let a2 : Around = around g.N.Net g.P.Power c.turn_and_say.new.net c.turn_and_say.new.power in
     let later = c.turn_and_say.ensures.later in
     let adds = spare_then a0 a1 a2 c.batches.invariant.later later in
     let full : c.args.bounds.size ≤ length c.in-Ok.batch.answers.items = omega (arith, c.len-count.ensures, c.if-count-bounds.false) in
     let counts = c.in-Ok-turn_and_say.ensures.counts in
     record {
-      running = running_more g.H.Host.moment g.H.Host.observed g.H.Host.said g.H.Host.reads g.H.Host.may_leave c.args.cluster.now.next_epoch _ c.args.bounds c.batches.reader c.read_batch.new.reader m0 m1 m2 c.args.cluster.now c.batches.cluster c.args.host.now c.batches.host c.batches.invariant.running g.met.H.Host.seen_now
+      running = running_more g.H.Host c.args.cluster.now.next_epoch _ c.args.bounds c.batches.reader c.read_batch.new.reader m0 m1 m2 c.args.cluster.now c.batches.cluster c.args.host.now c.batches.host c.batches.invariant.running g.met.H.Host.seen_now
           c.in-Ok.batch r (spare a1 a2) (spare a0 a2) c.turn_and_say.result c.turn_and_say.new.cluster c.turn_and_say.new.host adds c.in-Ok-turn_and_say.is c.turn_and_say.ensures.answers full (omega (arith, c.len-count.ensures, c.if-count-eq0.false))
           c.in-Ok.ensures.given c.in-Ok-turn_and_say.ensures.next;
       later = later_then a0 a1 a2 c.batches.invariant.later later;

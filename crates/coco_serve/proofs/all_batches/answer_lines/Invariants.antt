@@ -8,15 +8,15 @@ use Rattle.coco_serve.proofs.all_batches.answer_lines.Given as goal
 
 abbrev pub invariant-batches : goal.invariant-batches
 invariant-batches g l = record {
-  running : IsRunning g.H.Host.moment g.H.Host.observed g.H.Host.said g.H.Host.reads g.H.Host.may_leave l.fn.cluster.next_epoch
-      (spare (around g.N.Net.sent g.N.Net.given g.N.Net.faults g.N.Net.last_seed g.P.Power.stops_seen g.P.Power.early_stops g.P.Power.stopped g.P.Power.begun g.P.Power.asked l.fn.net l.fn.power)
-      (around g.N.Net.sent g.N.Net.given g.N.Net.faults g.N.Net.last_seed g.P.Power.stops_seen g.P.Power.early_stops g.P.Power.stopped g.P.Power.begun g.P.Power.asked l.net l.power)) l.bounds l.reader
+  running : IsRunning g.H.Host l.fn.cluster.next_epoch
+      (spare (around g.N.Net g.P.Power l.fn.net l.fn.power)
+      (around g.N.Net g.P.Power l.net l.power)) l.bounds l.reader
       (record { given = g.S.Source.given l.fn.input; left = g.S.Source.remaining l.fn.input; at_end = g.S.Source.at_end l.fn.input })
       (record { given = g.S.Source.given l.input; left = g.S.Source.remaining l.input; at_end = g.S.Source.at_end l.input }) l.fn.cluster l.cluster l.fn.host l.host;
   within : l.reader.given ≤ most_input_bytes;
   end : l.reader.ended ≡ true → IsSpent (record { given = g.S.Source.given l.input; left = g.S.Source.remaining l.input; at_end = g.S.Source.at_end l.input });
-  later : IsLater (around g.N.Net.sent g.N.Net.given g.N.Net.faults g.N.Net.last_seed g.P.Power.stops_seen g.P.Power.early_stops g.P.Power.stopped g.P.Power.begun g.P.Power.asked l.fn.net l.fn.power)
-      (around g.N.Net.sent g.N.Net.given g.N.Net.faults g.N.Net.last_seed g.P.Power.stops_seen g.P.Power.early_stops g.P.Power.stopped g.P.Power.begun g.P.Power.asked l.net l.power);
+  later : IsLater (around g.N.Net g.P.Power l.fn.net l.fn.power)
+      (around g.N.Net g.P.Power l.net l.power);
   sound : IsSound l.cluster (g.N.Net.sent l.net);
   room : length l.cluster.kept.dones ≤ most_kept;
   stand : AllStand l.cluster (g.H.Host.reads l.host) (g.H.Host.may_leave l.host);

@@ -19,7 +19,7 @@ returns-in_err-turn-clause-answers g c k rests stands =
     let few : length c.args.cluster.now.kept.dones + length requests ≤ most_kept = omega (arith, c.requires.may.few, ap (length {A = Request}) c.in_ok-requests.ensures) in
     let turns = c.turn.ensures.turns k rests stands (has_room k c.args.cluster.now requests stands few) in
     let p = err_from_is_err_and c.from_residual-in_err-turn.result c.from_residual-in_err-turn.ensures.1 in
-    turn_failed g.H.Host.moment g.H.Host.observed g.H.Host.said g.H.Host.reads g.H.Host.may_leave c.in_err-turn.field-0.0 c.turn.result c.from_residual-in_err-turn.result c.args.batch requests c.args.bounds _ k
+    turn_failed g.H.Host c.in_err-turn.field-0.0 c.turn.result c.from_residual-in_err-turn.result c.args.batch requests c.args.bounds _ k
     c.args.cluster.now c.turn.new.self c.args.host.now c.turn.new.host c.in_err-turn.was (λ file at. c.turn.ensures.never file at k rests stands (has_room k c.args.cluster.now requests stands few)) (p.1 ∙ ap Err p.2) c.in_ok-requests.ensures c.turn.ensures.said turns
 
 pub returns-in_err-texts-clause-answers : goal.returns-in_err-texts-clause-answers
@@ -27,10 +27,10 @@ returns-in_err-texts-clause-answers g c k rests stands =
     let requests = c.in_ok-requests.requests.items in
     let few : length c.args.cluster.now.kept.dones + length requests ≤ most_kept = omega (arith, c.requires.may.few, ap (length {A = Request}) c.in_ok-requests.ensures) in
     let turns = c.turn.ensures.turns k rests stands (has_room k c.args.cluster.now requests stands few) in
-    let done = committed g.H.Host.moment g.H.Host.observed g.H.Host.said g.H.Host.reads g.H.Host.may_leave g.met.H.Host.only_now c.turn.result c.in_ok-turn.field-0 requests c.args.bounds _ k c.args.cluster.now c.turn.new.self
+    let done = committed g.H.Host g.met.H.Host.only_now c.turn.result c.in_ok-turn.field-0 requests c.args.bounds _ k c.args.cluster.now c.turn.new.self
     c.args.host.now c.turn.new.host c.in_ok-turn.was (λ none. let still = c.turn.ensures.nothing none in (still.1, still.3)) rests stands turns in
     let p = err_from_is_err_and c.from_residual-in_err-texts.result c.from_residual-in_err-texts.ensures.1 in
-    inr (unsaid g.H.Host.moment g.H.Host.observed g.H.Host.said g.H.Host.reads g.H.Host.may_leave c.args.batch requests c.args.bounds k c.args.cluster.now.next_epoch _ c.turn.new.self c.args.host.now c.turn.new.host c.in_ok-requests.ensures c.turn.ensures.said done
+    inr (unsaid g.H.Host c.args.batch requests c.args.bounds k c.args.cluster.now.next_epoch _ c.turn.new.self c.args.host.now c.turn.new.host c.in_ok-requests.ensures c.turn.ensures.said done
     c.from_residual-in_err-texts.result (p.1 ∙ ap Err p.2))
 
 pub returns-in_err-say_all-clause-answers : goal.returns-in_err-say_all-clause-answers
@@ -38,13 +38,13 @@ returns-in_err-say_all-clause-answers g c k rests stands =
     let requests = c.in_ok-requests.requests.items in
     let few : length c.args.cluster.now.kept.dones + length requests ≤ most_kept = omega (arith, c.requires.may.few, ap (length {A = Request}) c.in_ok-requests.ensures) in
     let turns = c.turn.ensures.turns k rests stands (has_room k c.args.cluster.now requests stands few) in
-    let done = committed g.H.Host.moment g.H.Host.observed g.H.Host.said g.H.Host.reads g.H.Host.may_leave g.met.H.Host.only_now c.turn.result c.in_ok-turn.field-0 requests c.args.bounds _ k c.args.cluster.now c.turn.new.self
+    let done = committed g.H.Host g.met.H.Host.only_now c.turn.result c.in_ok-turn.field-0 requests c.args.bounds _ k c.args.cluster.now c.turn.new.self
     c.args.host.now c.turn.new.host c.in_ok-turn.was (λ none. let still = c.turn.ensures.nothing none in (still.1, still.3)) rests stands turns in
     let p = err_from_is_err_and c.from_residual-in_err-say_all.result c.from_residual-in_err-say_all.ensures.1 in
     let early = subst (λ xs. map (option_map (λ t. t.items)) c.in_ok-early.early.items ≡ map (early_text c.args.cluster.now.kept.dones) xs) (c.as_slice.ensures.value ∙ sym c.as_slice-2.ensures.value) c.in_ok-early.ensures in
     let are = texts_are k done.d c.args.cluster.now c.turn.new.self c.args.batch c.args.cluster.now.kept.dones c.turn.new.self.kept.dones c.as_slice-2.result.now c.as_slice-3.result.now stands done.stands
     refl refl c.as_slice-2.ensures.value (c.as_slice-3.ensures.value ∙ c.in_ok-texts.ensures c.args.cluster.now.kept.dones early) in
-    inr (partly_said g.H.Host.moment g.H.Host.observed g.H.Host.said g.H.Host.reads g.H.Host.may_leave c.args.batch requests c.args.bounds k c.args.cluster.now.next_epoch _ c.turn.new.self c.args.host.now c.turn.new.host c.in_ok-requests.ensures c.turn.ensures.said done
+    inr (partly_said g.H.Host c.args.batch requests c.args.bounds k c.args.cluster.now.next_epoch _ c.turn.new.self c.args.host.now c.turn.new.host c.in_ok-requests.ensures c.turn.ensures.said done
     c.say_all.new.host c.as_slice-3.result.now are c.say_all.ensures.same c.say_all.ensures.crash c.say_all.ensures.sees
     (says_part c.say_all.result c.as_slice-3.result.now _ _ c.say_all.ensures.ok c.say_all.ensures.err) c.in_err-say_all.field-0.0 c.from_residual-in_err-say_all.result (p.1 ∙ ap Err p.2))
 
@@ -53,24 +53,24 @@ returns-clause-answers g c k rests stands =
     let requests = c.in_ok-requests.requests.items in
     let few : length c.args.cluster.now.kept.dones + length requests ≤ most_kept = omega (arith, c.requires.may.few, ap (length {A = Request}) c.in_ok-requests.ensures) in
     let turns = c.turn.ensures.turns k rests stands (has_room k c.args.cluster.now requests stands few) in
-    let done = committed g.H.Host.moment g.H.Host.observed g.H.Host.said g.H.Host.reads g.H.Host.may_leave g.met.H.Host.only_now c.turn.result c.in_ok-turn.field-0 requests c.args.bounds _ k c.args.cluster.now c.turn.new.self
+    let done = committed g.H.Host g.met.H.Host.only_now c.turn.result c.in_ok-turn.field-0 requests c.args.bounds _ k c.args.cluster.now c.turn.new.self
     c.args.host.now c.turn.new.host c.in_ok-turn.was (λ none. let still = c.turn.ensures.nothing none in (still.1, still.3)) rests stands turns in
     let early = subst (λ xs. map (option_map (λ t. t.items)) c.in_ok-early.early.items ≡ map (early_text c.args.cluster.now.kept.dones) xs) (c.as_slice.ensures.value ∙ sym c.as_slice-2.ensures.value) c.in_ok-early.ensures in
     let are = texts_are k done.d c.args.cluster.now c.turn.new.self c.args.batch c.args.cluster.now.kept.dones c.turn.new.self.kept.dones c.as_slice-2.result.now c.as_slice-3.result.now stands done.stands
     refl refl c.as_slice-2.ensures.value (c.as_slice-3.ensures.value ∙ c.in_ok-texts.ensures c.args.cluster.now.kept.dones early) in
-    inr (all_said g.H.Host.moment g.H.Host.observed g.H.Host.said g.H.Host.reads g.H.Host.may_leave c.args.batch requests c.args.bounds k c.args.cluster.now.next_epoch _ c.turn.new.self c.args.host.now c.turn.new.host c.in_ok-requests.ensures c.turn.ensures.said done
+    inr (all_said g.H.Host c.args.batch requests c.args.bounds k c.args.cluster.now.next_epoch _ c.turn.new.self c.args.host.now c.turn.new.host c.in_ok-requests.ensures c.turn.ensures.said done
     c.say_all.new.host c.as_slice-3.result.now are c.say_all.ensures.same c.say_all.ensures.crash c.say_all.ensures.sees
     (says_part c.say_all.result c.as_slice-3.result.now _ _ c.say_all.ensures.ok c.say_all.ensures.err) c.in_ok-say_all.ensures.ok)
 
 pub returns-in_err-early-clause-answers : goal.returns-in_err-early-clause-answers
 returns-in_err-early-clause-answers g c k rests stands =
     let p = err_from_is_err_and c.from_residual.result c.from_residual.ensures.1 in
-    inl (refused_early g.H.Host.moment g.H.Host.observed g.H.Host.said g.H.Host.reads g.H.Host.may_leave g.met.H.Host.only_now c.from_residual.result k c.args.cluster.now _ c.args.host.now (p.1 ∙ ap Err p.2) rests stands)
+    inl (refused_early g.H.Host g.met.H.Host.only_now c.from_residual.result k c.args.cluster.now _ c.args.host.now (p.1 ∙ ap Err p.2) rests stands)
 
 pub returns-in_err-requests-clause-answers : goal.returns-in_err-requests-clause-answers
 returns-in_err-requests-clause-answers g c k rests stands =
     let p = err_from_is_err_and c.from_residual-in_err-requests.result c.from_residual-in_err-requests.ensures.1 in
-    inl (refused_early g.H.Host.moment g.H.Host.observed g.H.Host.said g.H.Host.reads g.H.Host.may_leave g.met.H.Host.only_now c.from_residual-in_err-requests.result k c.args.cluster.now _ c.args.host.now (p.1 ∙ ap Err p.2) rests stands)
+    inl (refused_early g.H.Host g.met.H.Host.only_now c.from_residual-in_err-requests.result k c.args.cluster.now _ c.args.host.now (p.1 ∙ ap Err p.2) rests stands)
 
 pub returns-clause-stand : goal.returns-clause-stand
 returns-clause-stand g c = all_stand_still c.turn.new.self (g.H.Host.reads c.turn.new.host) (g.H.Host.reads c.say_all.new.host) (g.H.Host.may_leave c.turn.new.host) (g.H.Host.may_leave c.say_all.new.host)

@@ -7,18 +7,16 @@ use Rattle.coco_letters.specs.GivingUp.{since}
 use Rattle.coco_letters.specs.declared.voter.Voter.{Voter}
 use Rattle.coco_vote.specs.Outcomes.{Comes}
 use Rattle.coco_vote.specs.Preparing.{have_durable, Ballot, RestsVoted}
-use Rattle.coco_vote.specs.Taking.{AreMarked, AreReady, KeepPlaces, SameElsewhere, StayWhole}
+use Rattle.coco_vote.specs.Taking.{AreMarked, AreReady, KeepPlaces, StayWhole}
 use Rattle.coco_vote.specs.declared.phase.Votes.{Votes}
 use Rattle.coco_vote.specs.declared.phase.Votes.TheVariants.{All}
-use Rattle.coco_vote.proofs.GivingLemmas.{gives_then}
 use Rattle.coco_vote.proofs.PreparingLemmas.{none_ok}
 use Rattle.coco_vote.proofs.WholeLemmas.{all_whole_then}
-use Rattle.coco_vote.proofs.VoterLemmas.{apart_still, elsewhere_still, held_still, logs_still, places_then}
+use Rattle.coco_vote.proofs.VoterLemmas.{apart_still, held_still, logs_still}
 use Rattle.coco_trial.specs.Voting.{unmarked}
 use Rattle.coco_letters.proofs.TellingLemmas.{adds_then, adds_vote}
-use Rattle.coco_trial.proofs.VoteLemmas.{all_vote, can_given_up, can_voted, cause_is, durable_given_up, given_is, new_given_up, open_still, rests_told, unmarked_marked, unmarked_places, unmarked_ready, unmarked_whole, voted_then}
-use Rattle.coco_vote.proofs.FileLemmas.{become_wider, elsewhere_first, follow_wider}
-use Rattle.coco_letters.proofs.SendingLemmas.{sends_then}
+use Rattle.coco_trial.proofs.VoteLemmas.{all_vote, can_given_up, can_voted, cause_is, durable_given_up, given_is, new_given_up, open_still, rests_told, rest_unmarked, unmarked_marked, unmarked_places, unmarked_ready, unmarked_whole, voted_then}
+use Rattle.coco_vote.proofs.KeepingLemmas.{rest_net, rest_then}
 use Rattle.coco_trial.proofs.voting.decide.Goals as goal
 
 pub prepare-requires-clause-voters : goal.prepare-requires-clause-voters
@@ -45,19 +43,11 @@ returns-in_err-votes-clause-files g c k hold held may nodes logs rests =
       ok = none_ok c.from_residual.result p.0 (RestsVoted k b (have_durable c.args.epoch c.prepare.new.cores) (g.H.Host.reads c.prepare.new.host) (g.H.Host.may_leave c.prepare.new.host)) p.1;
     }
 
-pub returns-in_err-votes-clause-places : goal.returns-in_err-votes-clause-places
-returns-in_err-votes-clause-places g c = places_then c.args.voters.now c.unmark.new.voters c.prepare.new.voters (subst (KeepPlaces c.args.voters.now) (sym c.unmark.ensures) (unmarked_places c.args.voters.now)) c.prepare.ensures.places
-
-pub returns-in_err-votes-clause-others : goal.returns-in_err-votes-clause-others
-returns-in_err-votes-clause-others g c other away stands = c.prepare.ensures.others other (elsewhere_still c.args.voters.now c.unmark.new.voters other (subst (KeepPlaces c.args.voters.now) (sym c.unmark.ensures) (unmarked_places c.args.voters.now)) away) stands
-
--- ---- all have voted
-
 pub returns-then-is_all-clause-comes : goal.returns-then-is_all-clause-comes
 returns-then-is_all-clause-comes g c =
-    let a : Around = around g.N.Net.sent g.N.Net.given g.N.Net.faults g.N.Net.last_seed g.P.Power.stops_seen g.P.Power.early_stops g.P.Power.stopped g.P.Power.begun g.P.Power.asked c.args.net.now c.args.power.now in
-    let b : Around = around g.N.Net.sent g.N.Net.given g.N.Net.faults g.N.Net.last_seed g.P.Power.stops_seen g.P.Power.early_stops g.P.Power.stopped g.P.Power.begun g.P.Power.asked c.prepare.new.net c.prepare.new.power in
-    let given = given_is (g.N.Net.given c.args.net.now) (g.N.Net.faults c.args.net.now) (g.N.Net.last_seed c.args.net.now) (g.N.Net.given c.prepare.new.net) (g.N.Net.faults c.prepare.new.net) (g.N.Net.last_seed c.prepare.new.net) c.prepare.ensures.net in
+    let a : Around = around g.N.Net g.P.Power c.args.net.now c.args.power.now in
+    let b : Around = around g.N.Net g.P.Power c.prepare.new.net c.prepare.new.power in
+    let given = given_is (g.N.Net.given c.args.net.now) (g.N.Net.faults c.args.net.now) (g.N.Net.last_seed c.args.net.now) (g.N.Net.given c.prepare.new.net) (g.N.Net.faults c.prepare.new.net) (g.N.Net.last_seed c.prepare.new.net) c.prepare.ensures.rest.net in
     let few : length c.prepare.new.cores ≤ 8 = omega (arith, c.requires.few, c.prepare.auto.cores) in
     let nodes : (chief_of c.prepare.new.chief).nodes ≡ length c.prepare.new.cores = omega (arith, c.prepare.ensures.nodes, c.requires.nodes, c.prepare.auto.cores) in
     let all : c.in_ok-votes.votes ≡ All = c.is_all.ensures.all c.if-is_all.true in
@@ -75,29 +65,21 @@ returns-then-is_all-clause-files g c k hold held may nodes logs rests =
     let kept = c.in_ok-votes.ensures.files k hold (held_still hold c.args.voters.now c.unmark.new.voters places held) may nodes (logs_still k c.args.voters.now c.unmark.new.voters places logs) rests in
     record { keeps = kept.keeps; ok = kept.ok }
 
-pub returns-then-is_all-clause-places : goal.returns-then-is_all-clause-places
-returns-then-is_all-clause-places g c = places_then c.args.voters.now c.unmark.new.voters c.prepare.new.voters (subst (KeepPlaces c.args.voters.now) (sym c.unmark.ensures) (unmarked_places c.args.voters.now)) c.prepare.ensures.places
-
-pub returns-then-is_all-clause-others : goal.returns-then-is_all-clause-others
-returns-then-is_all-clause-others g c other away stands = c.prepare.ensures.others other (elsewhere_still c.args.voters.now c.unmark.new.voters other (subst (KeepPlaces c.args.voters.now) (sym c.unmark.ensures) (unmarked_places c.args.voters.now)) away) stands
-
--- ---- the epoch is given up
-
 pub give_up-requires-clause-nodes : goal.give_up-requires-clause-nodes
 give_up-requires-clause-nodes g c = let nodes : (chief_of c.prepare.new.chief).nodes ≡ length c.prepare.new.cores = omega (arith, c.prepare.ensures.nodes, c.requires.nodes, c.prepare.auto.cores) in nodes
 
 pub give_up-requires-clause-current : goal.give_up-requires-clause-current
 give_up-requires-clause-current g c =
-    let a : Around = around g.N.Net.sent g.N.Net.given g.N.Net.faults g.N.Net.last_seed g.P.Power.stops_seen g.P.Power.early_stops g.P.Power.stopped g.P.Power.begun g.P.Power.asked c.args.net.now c.args.power.now in
-    let b : Around = around g.N.Net.sent g.N.Net.given g.N.Net.faults g.N.Net.last_seed g.P.Power.stops_seen g.P.Power.early_stops g.P.Power.stopped g.P.Power.begun g.P.Power.asked c.prepare.new.net c.prepare.new.power in
-    let given = given_is (g.N.Net.given c.args.net.now) (g.N.Net.faults c.args.net.now) (g.N.Net.last_seed c.args.net.now) (g.N.Net.given c.prepare.new.net) (g.N.Net.faults c.prepare.new.net) (g.N.Net.last_seed c.prepare.new.net) c.prepare.ensures.net in
+    let a : Around = around g.N.Net g.P.Power c.args.net.now c.args.power.now in
+    let b : Around = around g.N.Net g.P.Power c.prepare.new.net c.prepare.new.power in
+    let given = given_is (g.N.Net.given c.args.net.now) (g.N.Net.faults c.args.net.now) (g.N.Net.last_seed c.args.net.now) (g.N.Net.given c.prepare.new.net) (g.N.Net.faults c.prepare.new.net) (g.N.Net.last_seed c.prepare.new.net) c.prepare.ensures.rest.net in
     (open_still c.in_ok-votes.votes c.args.epoch c.prepare.new.cores (chief_of c.prepare.new.chief) (since a.given b.given) a.faults b.faults a.early b.early (c.is_all.ensures.others c.if-is_all.false) (c.in_ok-votes.ensures.answer (since a.given b.given) given)).current
 
 pub give_up-requires-clause-undecided : goal.give_up-requires-clause-undecided
 give_up-requires-clause-undecided g c =
-    let a : Around = around g.N.Net.sent g.N.Net.given g.N.Net.faults g.N.Net.last_seed g.P.Power.stops_seen g.P.Power.early_stops g.P.Power.stopped g.P.Power.begun g.P.Power.asked c.args.net.now c.args.power.now in
-    let b : Around = around g.N.Net.sent g.N.Net.given g.N.Net.faults g.N.Net.last_seed g.P.Power.stops_seen g.P.Power.early_stops g.P.Power.stopped g.P.Power.begun g.P.Power.asked c.prepare.new.net c.prepare.new.power in
-    let given = given_is (g.N.Net.given c.args.net.now) (g.N.Net.faults c.args.net.now) (g.N.Net.last_seed c.args.net.now) (g.N.Net.given c.prepare.new.net) (g.N.Net.faults c.prepare.new.net) (g.N.Net.last_seed c.prepare.new.net) c.prepare.ensures.net in
+    let a : Around = around g.N.Net g.P.Power c.args.net.now c.args.power.now in
+    let b : Around = around g.N.Net g.P.Power c.prepare.new.net c.prepare.new.power in
+    let given = given_is (g.N.Net.given c.args.net.now) (g.N.Net.faults c.args.net.now) (g.N.Net.last_seed c.args.net.now) (g.N.Net.given c.prepare.new.net) (g.N.Net.faults c.prepare.new.net) (g.N.Net.last_seed c.prepare.new.net) c.prepare.ensures.rest.net in
     (open_still c.in_ok-votes.votes c.args.epoch c.prepare.new.cores (chief_of c.prepare.new.chief) (since a.given b.given) a.faults b.faults a.early b.early (c.is_all.ensures.others c.if-is_all.false) (c.in_ok-votes.ensures.answer (since a.given b.given) given)).undecided
 
 pub returns-in_err-give_up-clause-nodes : goal.returns-in_err-give_up-clause-nodes
@@ -113,24 +95,15 @@ returns-in_err-give_up-clause-files g c k hold held may nodes logs rests =
       ok = none_ok c.from_residual-in_err-give_up.result p.0 (RestsVoted k b (have_durable c.args.epoch c.give_up.new.cores) (g.H.Host.reads c.prepare.new.host) (g.H.Host.may_leave c.prepare.new.host)) p.1;
     }
 
-pub returns-in_err-give_up-clause-places : goal.returns-in_err-give_up-clause-places
-returns-in_err-give_up-clause-places g c = places_then c.args.voters.now c.unmark.new.voters c.prepare.new.voters (subst (KeepPlaces c.args.voters.now) (sym c.unmark.ensures) (unmarked_places c.args.voters.now)) c.prepare.ensures.places
-
-pub returns-in_err-give_up-clause-others : goal.returns-in_err-give_up-clause-others
-returns-in_err-give_up-clause-others g c other away stands = c.prepare.ensures.others other (elsewhere_still c.args.voters.now c.unmark.new.voters other (subst (KeepPlaces c.args.voters.now) (sym c.unmark.ensures) (unmarked_places c.args.voters.now)) away) stands
-
-pub returns-in_err-give_up-clause-net : goal.returns-in_err-give_up-clause-net
-returns-in_err-give_up-clause-net g c = gives_then (g.N.Net.given c.args.net.now) (g.N.Net.faults c.args.net.now) (g.N.Net.last_seed c.args.net.now) (g.N.Net.given c.prepare.new.net) (g.N.Net.faults c.prepare.new.net) (g.N.Net.last_seed c.prepare.new.net) (g.N.Net.given c.give_up.new.net) (g.N.Net.faults c.give_up.new.net) (g.N.Net.last_seed c.give_up.new.net) c.prepare.ensures.net c.give_up.ensures.net
-
 pub returns-clause-comes : goal.returns-clause-comes
 returns-clause-comes g c =
-    let a : Around = around g.N.Net.sent g.N.Net.given g.N.Net.faults g.N.Net.last_seed g.P.Power.stops_seen g.P.Power.early_stops g.P.Power.stopped g.P.Power.begun g.P.Power.asked c.args.net.now c.args.power.now in
-    let m : Around = around g.N.Net.sent g.N.Net.given g.N.Net.faults g.N.Net.last_seed g.P.Power.stops_seen g.P.Power.early_stops g.P.Power.stopped g.P.Power.begun g.P.Power.asked c.prepare.new.net c.prepare.new.power in
-    let b : Around = around g.N.Net.sent g.N.Net.given g.N.Net.faults g.N.Net.last_seed g.P.Power.stops_seen g.P.Power.early_stops g.P.Power.stopped g.P.Power.begun g.P.Power.asked c.give_up.new.net c.prepare.new.power in
-    let given = given_is (g.N.Net.given c.args.net.now) (g.N.Net.faults c.args.net.now) (g.N.Net.last_seed c.args.net.now) (g.N.Net.given c.prepare.new.net) (g.N.Net.faults c.prepare.new.net) (g.N.Net.last_seed c.prepare.new.net) c.prepare.ensures.net in
+    let a : Around = around g.N.Net g.P.Power c.args.net.now c.args.power.now in
+    let m : Around = around g.N.Net g.P.Power c.prepare.new.net c.prepare.new.power in
+    let b : Around = around g.N.Net g.P.Power c.give_up.new.net c.prepare.new.power in
+    let given = given_is (g.N.Net.given c.args.net.now) (g.N.Net.faults c.args.net.now) (g.N.Net.last_seed c.args.net.now) (g.N.Net.given c.prepare.new.net) (g.N.Net.faults c.prepare.new.net) (g.N.Net.last_seed c.prepare.new.net) c.prepare.ensures.rest.net in
     let says = c.in_ok-votes.ensures.says in
     let fits : c.args.epoch < 2 ^ 64 = omega (arith, c.ranges.epoch.fits) in
-    let first : IsLater a m = record { sent = (says.posts, says.sent_is); given = (c.prepare.ensures.net.more, c.prepare.ensures.net.gives); faults = c.prepare.ensures.net.faults_rise; early = c.prepare.ensures.later.early_rises; seed = c.prepare.ensures.net.seed_stays } in
+    let first : IsLater a m = record { sent = (says.posts, says.sent_is); given = (c.prepare.ensures.rest.net.more, c.prepare.ensures.rest.net.gives); faults = c.prepare.ensures.rest.net.faults_rise; early = c.prepare.ensures.rest.later.early_rises; seed = c.prepare.ensures.rest.net.seed_stays } in
     let next : IsLater m b = record { sent = (c.in_ok-give_up.ensures.said.posts, c.in_ok-give_up.ensures.said.sent_is); given = (c.give_up.ensures.net.more, c.give_up.ensures.net.gives); faults = c.give_up.ensures.net.faults_rise; early = omega arith; seed = c.give_up.ensures.net.seed_stays } in
     record {
       phase = c.in_ok-give_up.ensures.rest;
@@ -165,70 +138,29 @@ returns-clause-files g c k hold held may nodes logs rests =
       ok = rests_told k b (have_durable c.args.epoch c.prepare.new.cores) (have_durable c.args.epoch c.give_up.new.cores) (g.H.Host.reads c.prepare.new.host) (g.H.Host.may_leave c.prepare.new.host) (durable_given_up c.args.epoch c.prepare.new.cores c.give_up.new.cores c.in_ok-give_up.ensures.give_up) kept.ok;
     }
 
-pub returns-clause-places : goal.returns-clause-places
-returns-clause-places g c = places_then c.args.voters.now c.unmark.new.voters c.prepare.new.voters (subst (KeepPlaces c.args.voters.now) (sym c.unmark.ensures) (unmarked_places c.args.voters.now)) c.prepare.ensures.places
-
-pub returns-clause-others : goal.returns-clause-others
-returns-clause-others g c other away stands = c.prepare.ensures.others other (elsewhere_still c.args.voters.now c.unmark.new.voters other (subst (KeepPlaces c.args.voters.now) (sym c.unmark.ensures) (unmarked_places c.args.voters.now)) away) stands
-
 pub returns-clause-world : goal.returns-clause-world
 returns-clause-world g c =
     voted_then c.args.epoch (g.P.Power.stopped c.args.power.now) (g.P.Power.stopped c.prepare.new.power) (record { cores = c.args.cores.now; chief = chief_of c.args.chief.now; sent = g.N.Net.sent c.args.net.now }) (record { cores = c.prepare.new.cores; chief = chief_of c.prepare.new.chief; sent = g.N.Net.sent c.prepare.new.net }) (record { cores = c.give_up.new.cores; chief = chief_of c.give_up.new.chief; sent = g.N.Net.sent c.give_up.new.net })
     c.in_ok-votes.ensures.world c.in_ok-give_up.ensures.world
 
-pub returns-clause-net : goal.returns-clause-net
-returns-clause-net g c = gives_then (g.N.Net.given c.args.net.now) (g.N.Net.faults c.args.net.now) (g.N.Net.last_seed c.args.net.now) (g.N.Net.given c.prepare.new.net) (g.N.Net.faults c.prepare.new.net) (g.N.Net.last_seed c.prepare.new.net) (g.N.Net.given c.give_up.new.net) (g.N.Net.faults c.give_up.new.net) (g.N.Net.last_seed c.give_up.new.net) c.prepare.ensures.net c.give_up.ensures.net
-
-pub returns-in_err-votes-clause-read : goal.returns-in_err-votes-clause-read
-returns-in_err-votes-clause-read g c =
-    become_wider (SameElsewhere c.unmark.new.voters) (SameElsewhere c.args.voters.now) (elsewhere_first c.args.voters.now c.unmark.new.voters (subst (KeepPlaces c.args.voters.now) (sym c.unmark.ensures) (unmarked_places c.args.voters.now)))
-    (g.H.Host.reads c.args.host.now) (g.H.Host.reads c.prepare.new.host) c.prepare.ensures.read
-
-pub returns-in_err-votes-clause-crash : goal.returns-in_err-votes-clause-crash
-returns-in_err-votes-clause-crash g c =
-    follow_wider (SameElsewhere c.unmark.new.voters) (SameElsewhere c.args.voters.now) (elsewhere_first c.args.voters.now c.unmark.new.voters (subst (KeepPlaces c.args.voters.now) (sym c.unmark.ensures) (unmarked_places c.args.voters.now)))
-    (g.H.Host.may_leave c.args.host.now) (g.H.Host.may_leave c.prepare.new.host) c.prepare.ensures.crash
-
-pub returns-then-is_all-clause-read : goal.returns-then-is_all-clause-read
-returns-then-is_all-clause-read g c =
-    become_wider (SameElsewhere c.unmark.new.voters) (SameElsewhere c.args.voters.now) (elsewhere_first c.args.voters.now c.unmark.new.voters (subst (KeepPlaces c.args.voters.now) (sym c.unmark.ensures) (unmarked_places c.args.voters.now)))
-    (g.H.Host.reads c.args.host.now) (g.H.Host.reads c.prepare.new.host) c.prepare.ensures.read
-
-pub returns-then-is_all-clause-crash : goal.returns-then-is_all-clause-crash
-returns-then-is_all-clause-crash g c =
-    follow_wider (SameElsewhere c.unmark.new.voters) (SameElsewhere c.args.voters.now) (elsewhere_first c.args.voters.now c.unmark.new.voters (subst (KeepPlaces c.args.voters.now) (sym c.unmark.ensures) (unmarked_places c.args.voters.now)))
-    (g.H.Host.may_leave c.args.host.now) (g.H.Host.may_leave c.prepare.new.host) c.prepare.ensures.crash
-
-pub returns-in_err-give_up-clause-read : goal.returns-in_err-give_up-clause-read
-returns-in_err-give_up-clause-read g c =
-    become_wider (SameElsewhere c.unmark.new.voters) (SameElsewhere c.args.voters.now) (elsewhere_first c.args.voters.now c.unmark.new.voters (subst (KeepPlaces c.args.voters.now) (sym c.unmark.ensures) (unmarked_places c.args.voters.now)))
-    (g.H.Host.reads c.args.host.now) (g.H.Host.reads c.prepare.new.host) c.prepare.ensures.read
-
-pub returns-in_err-give_up-clause-crash : goal.returns-in_err-give_up-clause-crash
-returns-in_err-give_up-clause-crash g c =
-    follow_wider (SameElsewhere c.unmark.new.voters) (SameElsewhere c.args.voters.now) (elsewhere_first c.args.voters.now c.unmark.new.voters (subst (KeepPlaces c.args.voters.now) (sym c.unmark.ensures) (unmarked_places c.args.voters.now)))
-    (g.H.Host.may_leave c.args.host.now) (g.H.Host.may_leave c.prepare.new.host) c.prepare.ensures.crash
-
-pub returns-clause-read : goal.returns-clause-read
-returns-clause-read g c =
-    become_wider (SameElsewhere c.unmark.new.voters) (SameElsewhere c.args.voters.now) (elsewhere_first c.args.voters.now c.unmark.new.voters (subst (KeepPlaces c.args.voters.now) (sym c.unmark.ensures) (unmarked_places c.args.voters.now)))
-    (g.H.Host.reads c.args.host.now) (g.H.Host.reads c.prepare.new.host) c.prepare.ensures.read
-
-pub returns-clause-crash : goal.returns-clause-crash
-returns-clause-crash g c =
-    follow_wider (SameElsewhere c.unmark.new.voters) (SameElsewhere c.args.voters.now) (elsewhere_first c.args.voters.now c.unmark.new.voters (subst (KeepPlaces c.args.voters.now) (sym c.unmark.ensures) (unmarked_places c.args.voters.now)))
-    (g.H.Host.may_leave c.args.host.now) (g.H.Host.may_leave c.prepare.new.host) c.prepare.ensures.crash
-
-pub returns-in_err-give_up-clause-sent : goal.returns-in_err-give_up-clause-sent
-returns-in_err-give_up-clause-sent g c =
-    sends_then (g.N.Net.sent c.args.net.now) (g.N.Net.sent c.prepare.new.net) (g.N.Net.sent c.give_up.new.net) (c.prepare.ensures.sent) (c.give_up.ensures.sent)
-
-pub returns-clause-sent : goal.returns-clause-sent
-returns-clause-sent g c =
-    sends_then (g.N.Net.sent c.args.net.now) (g.N.Net.sent c.prepare.new.net) (g.N.Net.sent c.give_up.new.net) (c.prepare.ensures.sent) (c.give_up.ensures.sent)
-
 pub returns-then-is_all-clause-whole : goal.returns-then-is_all-clause-whole
-returns-then-is_all-clause-whole g c = all_whole_then (g.P.Power.stops_seen c.args.power.now) (g.P.Power.stops_seen c.args.power.now) (g.P.Power.stops_seen c.prepare.new.power) c.args.voters.now c.unmark.new.voters c.prepare.new.voters (omega arith) c.prepare.ensures.later.seen_rises (subst (StayWhole (g.P.Power.stops_seen c.args.power.now) (g.P.Power.stops_seen c.args.power.now) c.args.voters.now) (sym c.unmark.ensures) (unmarked_whole (g.P.Power.stops_seen c.args.power.now) c.args.voters.now)) c.in_ok-votes.ensures.whole
+returns-then-is_all-clause-whole g c = all_whole_then (g.P.Power.stops_seen c.args.power.now) (g.P.Power.stops_seen c.args.power.now) (g.P.Power.stops_seen c.prepare.new.power) c.args.voters.now c.unmark.new.voters c.prepare.new.voters (omega arith) c.prepare.ensures.rest.later.seen_rises (subst (StayWhole (g.P.Power.stops_seen c.args.power.now) (g.P.Power.stops_seen c.args.power.now) c.args.voters.now) (sym c.unmark.ensures) (unmarked_whole (g.P.Power.stops_seen c.args.power.now) c.args.voters.now)) c.in_ok-votes.ensures.whole
 
 pub returns-clause-whole : goal.returns-clause-whole
-returns-clause-whole g c = all_whole_then (g.P.Power.stops_seen c.args.power.now) (g.P.Power.stops_seen c.args.power.now) (g.P.Power.stops_seen c.prepare.new.power) c.args.voters.now c.unmark.new.voters c.prepare.new.voters (omega arith) c.prepare.ensures.later.seen_rises (subst (StayWhole (g.P.Power.stops_seen c.args.power.now) (g.P.Power.stops_seen c.args.power.now) c.args.voters.now) (sym c.unmark.ensures) (unmarked_whole (g.P.Power.stops_seen c.args.power.now) c.args.voters.now)) c.in_ok-votes.ensures.whole
+returns-clause-whole g c = all_whole_then (g.P.Power.stops_seen c.args.power.now) (g.P.Power.stops_seen c.args.power.now) (g.P.Power.stops_seen c.prepare.new.power) c.args.voters.now c.unmark.new.voters c.prepare.new.voters (omega arith) c.prepare.ensures.rest.later.seen_rises (subst (StayWhole (g.P.Power.stops_seen c.args.power.now) (g.P.Power.stops_seen c.args.power.now) c.args.voters.now) (sym c.unmark.ensures) (unmarked_whole (g.P.Power.stops_seen c.args.power.now) c.args.voters.now)) c.in_ok-votes.ensures.whole
+
+pub returns-in_err-votes-clause-rest : goal.returns-in_err-votes-clause-rest
+returns-in_err-votes-clause-rest g c = rest_then (rest_unmarked c.args.voters.now c.unmark.new.voters c.args.host.now c.args.net.now c.args.power.now c.unmark.ensures) c.prepare.ensures.rest
+
+pub returns-then-is_all-clause-rest : goal.returns-then-is_all-clause-rest
+returns-then-is_all-clause-rest g c = rest_then (rest_unmarked c.args.voters.now c.unmark.new.voters c.args.host.now c.args.net.now c.args.power.now c.unmark.ensures) c.prepare.ensures.rest
+
+pub returns-in_err-give_up-clause-rest : goal.returns-in_err-give_up-clause-rest
+returns-in_err-give_up-clause-rest g c =
+    rest_then (rest_then (rest_unmarked c.args.voters.now c.unmark.new.voters c.args.host.now c.args.net.now c.args.power.now c.unmark.ensures) c.prepare.ensures.rest)
+    (rest_net c.prepare.new.voters c.prepare.new.host c.prepare.new.net c.give_up.new.net c.prepare.new.power c.give_up.ensures.sent c.give_up.ensures.net)
+
+pub returns-clause-rest : goal.returns-clause-rest
+returns-clause-rest g c =
+    rest_then (rest_then (rest_unmarked c.args.voters.now c.unmark.new.voters c.args.host.now c.args.net.now c.args.power.now c.unmark.ensures) c.prepare.ensures.rest)
+    (rest_net c.prepare.new.voters c.prepare.new.host c.prepare.new.net c.give_up.new.net c.prepare.new.power c.give_up.ensures.sent c.give_up.ensures.net)

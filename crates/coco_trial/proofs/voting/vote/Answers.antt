@@ -6,14 +6,14 @@ use Rattle.coco_letters.specs.Around.{Around, around}
 use Rattle.coco_letters.specs.declared.voter.Voter.{Voter}
 use Rattle.coco_node.specs.Node.{Node}
 use Rattle.coco_vote.specs.Beginning.{AreNew, GoesOnVoted}
-use Rattle.coco_vote.specs.Taking.{AreApart, AreHeld, AreReady, HaveLogs, IsElsewhere, KeepPlaces, SameElsewhere, StayWhole}
+use Rattle.coco_vote.specs.Taking.{AreApart, AreHeld, AreReady, HaveLogs, KeepPlaces, StayWhole}
 use Rattle.coco_finish.specs.Finishing.{AllCanFinish}
 use Rattle.coco_vote.specs.Preparing.{have_durable, Ballot, RestsVoted}
 use Rattle.coco_vote.proofs.PreparingLemmas.{none_ok}
 use Rattle.std.proofs.lemmas.Result.{err_from_is_err_and}
 use Rattle.coco_trial.specs.Voting.{ComesOf}
 use Rattle.coco_trial.proofs.VoteLemmas.{decided_by}
-use Rattle.coco_host.specs.Files.{Become, Follows}
+use Rattle.coco_vote.proofs.KeepingLemmas.{rest_of}
 use Rattle.coco_trial.proofs.voting.vote.Goals as goal
 
 pub decide-requires-clause-few : goal.decide-requires-clause-few
@@ -62,19 +62,8 @@ returns-in_err-all-clause-keeps g c =
       log = refl;
       tables = refl;
       count = ap length cores_are ∙ (let many : length c.decide.new.cores ≡ length c.as_mut_slice.result.now = omega (arith, c.decide.auto.cores) in many) ∙ ap length c.as_mut_slice.ensures.value;
-      places = subst (KeepPlaces k.voters.items) (sym voters_are) (subst (λ (x : List Voter). KeepPlaces x voters) c.as_mut_slice-2.ensures.value c.decide.ensures.places);
+      places = subst (KeepPlaces k.voters.items) (sym voters_are) (subst (λ (x : List Voter). KeepPlaces x voters) c.as_mut_slice-2.ensures.value c.decide.ensures.rest.places);
     }
-
-pub returns-in_err-all-clause-others : goal.returns-in_err-all-clause-others
-returns-in_err-all-clause-others g c other away stands =
-    let k = c.args.members.now in
-    let cores : List Node = c.decide.new.cores in
-    let voters : List Voter = c.decide.new.voters in
-    let cores_are : take k.cores.len (cores ++ drop (length cores) k.cores.items) ≡ cores = back cores k.cores.items k.cores.len (sym c.as_mut_slice.ensures.len ∙ ap length c.as_mut_slice.ensures.value) ((let many : length c.decide.new.cores ≡ length c.as_mut_slice.result.now = omega (arith, c.decide.auto.cores) in many) ∙ ap length c.as_mut_slice.ensures.value) in
-    let voters_are : take k.voters.len (voters ++ drop (length voters) k.voters.items) ≡ voters = back voters k.voters.items k.voters.len (sym c.as_mut_slice-2.ensures.len ∙ ap length c.as_mut_slice-2.ensures.value) ((let many : length c.decide.new.voters ≡ length c.as_mut_slice-2.result.now = omega (arith, c.decide.auto.voters) in many) ∙ ap length c.as_mut_slice-2.ensures.value) in
-    c.decide.ensures.others other (subst (λ (x : List Voter). IsElsewhere other x) (sym c.as_mut_slice-2.ensures.value) away) stands
-
--- ---- decided
 
 pub returns-clause-keeps : goal.returns-clause-keeps
 returns-clause-keeps g c =
@@ -87,7 +76,7 @@ returns-clause-keeps g c =
       log = refl;
       tables = refl;
       count = ap length cores_are ∙ (let many : length c.decide.new.cores ≡ length c.as_mut_slice.result.now = omega (arith, c.decide.auto.cores) in many) ∙ ap length c.as_mut_slice.ensures.value;
-      places = subst (KeepPlaces k.voters.items) (sym voters_are) (subst (λ (x : List Voter). KeepPlaces x voters) c.as_mut_slice-2.ensures.value c.decide.ensures.places);
+      places = subst (KeepPlaces k.voters.items) (sym voters_are) (subst (λ (x : List Voter). KeepPlaces x voters) c.as_mut_slice-2.ensures.value c.decide.ensures.rest.places);
     }
 
 pub returns-clause-comes : goal.returns-clause-comes
@@ -97,18 +86,9 @@ returns-clause-comes g c =
     let voters : List Voter = c.decide.new.voters in
     let cores_are : take k.cores.len (cores ++ drop (length cores) k.cores.items) ≡ cores = back cores k.cores.items k.cores.len (sym c.as_mut_slice.ensures.len ∙ ap length c.as_mut_slice.ensures.value) ((let many : length c.decide.new.cores ≡ length c.as_mut_slice.result.now = omega (arith, c.decide.auto.cores) in many) ∙ ap length c.as_mut_slice.ensures.value) in
     let voters_are : take k.voters.len (voters ++ drop (length voters) k.voters.items) ≡ voters = back voters k.voters.items k.voters.len (sym c.as_mut_slice-2.ensures.len ∙ ap length c.as_mut_slice-2.ensures.value) ((let many : length c.decide.new.voters ≡ length c.as_mut_slice-2.result.now = omega (arith, c.decide.auto.voters) in many) ∙ ap length c.as_mut_slice-2.ensures.value) in
-    let a : Around = around g.N.Net.sent g.N.Net.given g.N.Net.faults g.N.Net.last_seed g.P.Power.stops_seen g.P.Power.early_stops g.P.Power.stopped g.P.Power.begun g.P.Power.asked c.args.net.now c.args.power.now in
-    let b : Around = around g.N.Net.sent g.N.Net.given g.N.Net.faults g.N.Net.last_seed g.P.Power.stops_seen g.P.Power.early_stops g.P.Power.stopped g.P.Power.begun g.P.Power.asked c.decide.new.net c.decide.new.power in
+    let a : Around = around g.N.Net g.P.Power c.args.net.now c.args.power.now in
+    let b : Around = around g.N.Net g.P.Power c.decide.new.net c.decide.new.power in
     subst (λ (x : List Node). ComesOf c.in_ok-all.all c.args.epoch x (chief_of c.decide.new.chief) a b) (sym cores_are) c.in_ok-all.ensures.comes
-
-pub returns-clause-others : goal.returns-clause-others
-returns-clause-others g c other away stands =
-    let k = c.args.members.now in
-    let cores : List Node = c.decide.new.cores in
-    let voters : List Voter = c.decide.new.voters in
-    let cores_are : take k.cores.len (cores ++ drop (length cores) k.cores.items) ≡ cores = back cores k.cores.items k.cores.len (sym c.as_mut_slice.ensures.len ∙ ap length c.as_mut_slice.ensures.value) ((let many : length c.decide.new.cores ≡ length c.as_mut_slice.result.now = omega (arith, c.decide.auto.cores) in many) ∙ ap length c.as_mut_slice.ensures.value) in
-    let voters_are : take k.voters.len (voters ++ drop (length voters) k.voters.items) ≡ voters = back voters k.voters.items k.voters.len (sym c.as_mut_slice-2.ensures.len ∙ ap length c.as_mut_slice-2.ensures.value) ((let many : length c.decide.new.voters ≡ length c.as_mut_slice-2.result.now = omega (arith, c.decide.auto.voters) in many) ∙ ap length c.as_mut_slice-2.ensures.value) in
-    c.decide.ensures.others other (subst (λ (x : List Voter). IsElsewhere other x) (sym c.as_mut_slice-2.ensures.value) away) stands
 
 pub returns-clause-ready : goal.returns-clause-ready
 returns-clause-ready g c =
@@ -164,28 +144,12 @@ returns-clause-decided g c =
     let voters : List Voter = c.decide.new.voters in
     let cores_are : take k.cores.len (cores ++ drop (length cores) k.cores.items) ≡ cores = back cores k.cores.items k.cores.len (sym c.as_mut_slice.ensures.len ∙ ap length c.as_mut_slice.ensures.value) ((let many : length c.decide.new.cores ≡ length c.as_mut_slice.result.now = omega (arith, c.decide.auto.cores) in many) ∙ ap length c.as_mut_slice.ensures.value) in
     let voters_are : take k.voters.len (voters ++ drop (length voters) k.voters.items) ≡ voters = back voters k.voters.items k.voters.len (sym c.as_mut_slice-2.ensures.len ∙ ap length c.as_mut_slice-2.ensures.value) ((let many : length c.decide.new.voters ≡ length c.as_mut_slice-2.result.now = omega (arith, c.decide.auto.voters) in many) ∙ ap length c.as_mut_slice-2.ensures.value) in
-    let a : Around = around g.N.Net.sent g.N.Net.given g.N.Net.faults g.N.Net.last_seed g.P.Power.stops_seen g.P.Power.early_stops g.P.Power.stopped g.P.Power.begun g.P.Power.asked c.args.net.now c.args.power.now in
-    let b : Around = around g.N.Net.sent g.N.Net.given g.N.Net.faults g.N.Net.last_seed g.P.Power.stops_seen g.P.Power.early_stops g.P.Power.stopped g.P.Power.begun g.P.Power.asked c.decide.new.net c.decide.new.power in
+    let a : Around = around g.N.Net g.P.Power c.args.net.now c.args.power.now in
+    let b : Around = around g.N.Net g.P.Power c.decide.new.net c.decide.new.power in
     let can : AllCanFinish (chief_of k.chief).last (take k.cores.len (cores ++ drop (length cores) k.cores.items)) = subst (AllCanFinish (chief_of k.chief).last) (sym cores_are) (c.in_ok-all.ensures.can (chief_of k.chief).last c.requires.may.rest.committed (subst (AllCanFinish (chief_of k.chief).last) (sym c.as_mut_slice.ensures.value) c.requires.may.rest.can)) in
     decided_by c.in_ok-all.all c.args.epoch (g.N.Net.sent c.args.net.now) (g.N.Net.sent c.decide.new.net) k a b (let fits : c.args.epoch < 2 ^ 64 = omega (arith, c.ranges.epoch.fits) in fits) c.requires.may
     (returns-clause-keeps g c) c.decide.ensures.nodes (ap length voters_are ∙ (let many : length c.decide.new.voters ≡ length c.as_mut_slice-2.result.now = omega (arith, c.decide.auto.voters) in many) ∙ ap length c.as_mut_slice-2.ensures.value) c.in_ok-all.ensures.last can c.in_ok-all.ensures.says
     (subst (λ (x : List Node). ComesOf c.in_ok-all.all c.args.epoch x (chief_of c.decide.new.chief) a b) (sym cores_are) c.in_ok-all.ensures.comes)
-
-pub returns-in_err-all-clause-read : goal.returns-in_err-all-clause-read
-returns-in_err-all-clause-read g c =
-    subst (λ (vs : List Voter). Become (SameElsewhere vs) (g.H.Host.reads c.args.host.now) (g.H.Host.reads c.decide.new.host)) c.as_mut_slice-2.ensures.value c.decide.ensures.read
-
-pub returns-in_err-all-clause-crash : goal.returns-in_err-all-clause-crash
-returns-in_err-all-clause-crash g c =
-    subst (λ (vs : List Voter). Follows (SameElsewhere vs) (g.H.Host.may_leave c.args.host.now) (g.H.Host.may_leave c.decide.new.host)) c.as_mut_slice-2.ensures.value c.decide.ensures.crash
-
-pub returns-clause-read : goal.returns-clause-read
-returns-clause-read g c =
-    subst (λ (vs : List Voter). Become (SameElsewhere vs) (g.H.Host.reads c.args.host.now) (g.H.Host.reads c.decide.new.host)) c.as_mut_slice-2.ensures.value c.decide.ensures.read
-
-pub returns-clause-crash : goal.returns-clause-crash
-returns-clause-crash g c =
-    subst (λ (vs : List Voter). Follows (SameElsewhere vs) (g.H.Host.may_leave c.args.host.now) (g.H.Host.may_leave c.decide.new.host)) c.as_mut_slice-2.ensures.value c.decide.ensures.crash
 
 pub returns-clause-whole : goal.returns-clause-whole
 returns-clause-whole g c =
@@ -196,3 +160,17 @@ returns-clause-whole g c =
     let voters_are : take k.voters.len (voters ++ drop (length voters) k.voters.items) ≡ voters = back voters k.voters.items k.voters.len (sym c.as_mut_slice-2.ensures.len ∙ ap length c.as_mut_slice-2.ensures.value) ((let many : length c.decide.new.voters ≡ length c.as_mut_slice-2.result.now = omega (arith, c.decide.auto.voters) in many) ∙ ap length c.as_mut_slice-2.ensures.value) in
     subst (StayWhole (g.P.Power.stops_seen c.args.power.now) (g.P.Power.stops_seen c.decide.new.power) k.voters.items) (sym voters_are)
     (subst (λ (x : List Voter). StayWhole (g.P.Power.stops_seen c.args.power.now) (g.P.Power.stops_seen c.decide.new.power) x voters) c.as_mut_slice-2.ensures.value c.in_ok-all.ensures.whole)
+
+pub returns-in_err-all-clause-rest : goal.returns-in_err-all-clause-rest
+returns-in_err-all-clause-rest g c =
+    let k = c.args.members.now in
+    let voters : List Voter = c.decide.new.voters in
+    let voters_are : take k.voters.len (voters ++ drop (length voters) k.voters.items) ≡ voters = back voters k.voters.items k.voters.len (sym c.as_mut_slice-2.ensures.len ∙ ap length c.as_mut_slice-2.ensures.value) ((let many : length c.decide.new.voters ≡ length c.as_mut_slice-2.result.now = omega (arith, c.decide.auto.voters) in many) ∙ ap length c.as_mut_slice-2.ensures.value) in
+    rest_of c.as_mut_slice-2.ensures.value voters_are c.decide.ensures.rest
+
+pub returns-clause-rest : goal.returns-clause-rest
+returns-clause-rest g c =
+    let k = c.args.members.now in
+    let voters : List Voter = c.decide.new.voters in
+    let voters_are : take k.voters.len (voters ++ drop (length voters) k.voters.items) ≡ voters = back voters k.voters.items k.voters.len (sym c.as_mut_slice-2.ensures.len ∙ ap length c.as_mut_slice-2.ensures.value) ((let many : length c.decide.new.voters ≡ length c.as_mut_slice-2.result.now = omega (arith, c.decide.auto.voters) in many) ∙ ap length c.as_mut_slice-2.ensures.value) in
+    rest_of c.as_mut_slice-2.ensures.value voters_are c.decide.ensures.rest

@@ -18,13 +18,13 @@ use Rattle.coco_try.proofs.all_parts.work_off.Goals as goal
 
 pub loop-part-init : goal.loop-part-init
 loop-part-init g c =
-    let a0 : Around = around g.N.Net.sent g.N.Net.given g.N.Net.faults g.N.Net.last_seed g.P.Power.stops_seen g.P.Power.early_stops g.P.Power.stopped g.P.Power.begun g.P.Power.asked c.args.net.now c.args.power.now in
+    let a0 : Around = around g.N.Net g.P.Power c.args.net.now c.args.power.now in
     let same = c.into_iter-part-iterator.ensures.into_iter_gives in
     let all : chunks_rest c.into_iter-part-iterator.result ≡ c.args.requests.now = ap chunks_rest same ∙ c.chunks-part-items.ensures.rest in
     let count = ap (length {A = Request}) all in
     record {
-      works = λ k rests stands. subst (λ l. AreWorkedOff g.H.Host.moment g.H.Host.observed g.H.Host.said g.H.Host.reads g.H.Host.may_leave k c.args.cluster.now.next_epoch (spare a0 a0) c.args.bounds c.args.requests.now l (record { answered = 0; epochs = 0 }) c.args.cluster.now c.args.host.now c.args.host.now) (sym all)
-          (worked_new g.H.Host.moment g.H.Host.observed g.H.Host.said g.H.Host.reads g.H.Host.may_leave g.met.H.Host.only_now k (spare a0 a0) c.args.bounds c.args.requests.now (record { answered = 0; epochs = 0 }) c.args.cluster.now c.args.host.now refl refl rests stands);
+      works = λ k rests stands. subst (λ l. AreWorkedOff g.H.Host k c.args.cluster.now.next_epoch (spare a0 a0) c.args.bounds c.args.requests.now l (record { answered = 0; epochs = 0 }) c.args.cluster.now c.args.host.now c.args.host.now) (sym all)
+          (worked_new g.H.Host g.met.H.Host.only_now k (spare a0 a0) c.args.bounds c.args.requests.now (record { answered = 0; epochs = 0 }) c.args.cluster.now c.args.host.now refl refl rests stands);
       size = ap chunks_size same ∙ c.chunks-part-items.ensures.size;
       answered = omega (arith, count);
       epochs = omega (arith, count);
@@ -41,9 +41,9 @@ loop-part-init g c =
 
 pub loop-part-preserved : goal.loop-part-preserved
 loop-part-preserved g c =
-    let a0 : Around = around g.N.Net.sent g.N.Net.given g.N.Net.faults g.N.Net.last_seed g.P.Power.stops_seen g.P.Power.early_stops g.P.Power.stopped g.P.Power.begun g.P.Power.asked c.args.net.now c.args.power.now in
-    let a1 : Around = around g.N.Net.sent g.N.Net.given g.N.Net.faults g.N.Net.last_seed g.P.Power.stops_seen g.P.Power.early_stops g.P.Power.stopped g.P.Power.begun g.P.Power.asked c.loop-part.net c.loop-part.power in
-    let a2 : Around = around g.N.Net.sent g.N.Net.given g.N.Net.faults g.N.Net.last_seed g.P.Power.stops_seen g.P.Power.early_stops g.P.Power.stopped g.P.Power.begun g.P.Power.asked c.work_part.new.net c.work_part.new.power in
+    let a0 : Around = around g.N.Net g.P.Power c.args.net.now c.args.power.now in
+    let a1 : Around = around g.N.Net g.P.Power c.loop-part.net c.loop-part.power in
+    let a2 : Around = around g.N.Net g.P.Power c.work_part.new.net c.work_part.new.power in
     let old = c.loop-part.invariant in
     let adds = spare_then a0 a1 a2 old.later c.work_part.ensures.later in
     let steps = c.in-Some.ensures.steps.1 in
@@ -54,7 +54,7 @@ loop-part-preserved g c =
     let counts = c.in_ok-more.ensures.counts in
     record {
       works = λ k rests stands. (let a = old.works k rests stands in
-          worked_on g.H.Host.moment g.H.Host.observed g.H.Host.said g.H.Host.reads g.H.Host.may_leave k c.args.cluster.now.next_epoch (spare a0 a1) (spare a1 a2) (spare a0 a2) c.args.bounds c.args.requests.now (chunks_rest c.loop-part.part-iterator) c.loop-part.worked c.loop-part.cluster
+          worked_on g.H.Host k c.args.cluster.now.next_epoch (spare a0 a1) (spare a1 a2) (spare a0 a2) c.args.bounds c.args.requests.now (chunks_rest c.loop-part.part-iterator) c.loop-part.worked c.loop-part.cluster
           c.work_part.new.cluster c.args.host.now c.loop-part.host c.work_part.new.host c.in-Some.part.now c.work_part.result adds a old.quiet taken.0 (c.work_part.ensures.comes a.d a.rests a.stands) c.in_ok-more.more _
           (chunks_rest c.next.new.self) c.in_ok-more.was refl refl taken.1);
       size = c.in-Some.ensures.steps.0 ∙ old.size;
@@ -79,16 +79,16 @@ work_part-requires-clause-fit g c κs within =
 
 pub returns-in_err-more-clause-later : goal.returns-in_err-more-clause-later
 returns-in_err-more-clause-later g c =
-    let a0 : Around = around g.N.Net.sent g.N.Net.given g.N.Net.faults g.N.Net.last_seed g.P.Power.stops_seen g.P.Power.early_stops g.P.Power.stopped g.P.Power.begun g.P.Power.asked c.args.net.now c.args.power.now in
-    let a1 : Around = around g.N.Net.sent g.N.Net.given g.N.Net.faults g.N.Net.last_seed g.P.Power.stops_seen g.P.Power.early_stops g.P.Power.stopped g.P.Power.begun g.P.Power.asked c.loop-part.net c.loop-part.power in
-    let a2 : Around = around g.N.Net.sent g.N.Net.given g.N.Net.faults g.N.Net.last_seed g.P.Power.stops_seen g.P.Power.early_stops g.P.Power.stopped g.P.Power.begun g.P.Power.asked c.work_part.new.net c.work_part.new.power in
+    let a0 : Around = around g.N.Net g.P.Power c.args.net.now c.args.power.now in
+    let a1 : Around = around g.N.Net g.P.Power c.loop-part.net c.loop-part.power in
+    let a2 : Around = around g.N.Net g.P.Power c.work_part.new.net c.work_part.new.power in
     later_then a0 a1 a2 c.loop-part.invariant.later c.work_part.ensures.later
 
 pub returns-in_err-more-clause-works : goal.returns-in_err-more-clause-works
 returns-in_err-more-clause-works g c k rests stands =
-    let a0 : Around = around g.N.Net.sent g.N.Net.given g.N.Net.faults g.N.Net.last_seed g.P.Power.stops_seen g.P.Power.early_stops g.P.Power.stopped g.P.Power.begun g.P.Power.asked c.args.net.now c.args.power.now in
-    let a1 : Around = around g.N.Net.sent g.N.Net.given g.N.Net.faults g.N.Net.last_seed g.P.Power.stops_seen g.P.Power.early_stops g.P.Power.stopped g.P.Power.begun g.P.Power.asked c.loop-part.net c.loop-part.power in
-    let a2 : Around = around g.N.Net.sent g.N.Net.given g.N.Net.faults g.N.Net.last_seed g.P.Power.stops_seen g.P.Power.early_stops g.P.Power.stopped g.P.Power.begun g.P.Power.asked c.work_part.new.net c.work_part.new.power in
+    let a0 : Around = around g.N.Net g.P.Power c.args.net.now c.args.power.now in
+    let a1 : Around = around g.N.Net g.P.Power c.loop-part.net c.loop-part.power in
+    let a2 : Around = around g.N.Net g.P.Power c.work_part.new.net c.work_part.new.power in
     let n1 : Counts = record { say = g.H.Host.say_faults c.loop-part.host; disk = g.H.Host.disk_faults c.loop-part.host } in
     let n2 : Counts = record { say = g.H.Host.say_faults c.work_part.new.host; disk = g.H.Host.disk_faults c.work_part.new.host } in
     let a = c.loop-part.invariant.works k rests stands in
@@ -96,8 +96,8 @@ returns-in_err-more-clause-works g c k rests stands =
     let taken = part_taken c.args.bounds.size (chunks_rest c.loop-part.part-iterator) (chunks_rest c.next.new.self) c.in-Some.part.now steps.0 (steps.1 ∙ ap (λ n. min n (length (chunks_rest c.loop-part.part-iterator))) c.loop-part.invariant.size) in
     let f = c.in_err-more.field-0.0 in
     let p = err_from_is_err_and c.from_residual.result c.from_residual.ensures.1 in
-    subst (λ r. Works g.H.Host.moment g.H.Host.observed g.H.Host.said g.H.Host.reads g.H.Host.may_leave k c.args.cluster.now.next_epoch (spare a0 a2) c.args.bounds c.args.requests.now r c.work_part.new.cluster c.args.host.now c.work_part.new.host) (sym (p.1 ∙ ap Err p.2))
-    (worked_off g.H.Host.moment g.H.Host.observed g.H.Host.said g.H.Host.reads g.H.Host.may_leave k c.args.cluster.now.next_epoch (spare a0 a1) (spare a1 a2) (spare a0 a2) c.args.bounds c.args.requests.now (chunks_rest c.loop-part.part-iterator) c.loop-part.worked c.loop-part.cluster c.work_part.new.cluster
+    subst (λ r. Works g.H.Host k c.args.cluster.now.next_epoch (spare a0 a2) c.args.bounds c.args.requests.now r c.work_part.new.cluster c.args.host.now c.work_part.new.host) (sym (p.1 ∙ ap Err p.2))
+    (worked_off g.H.Host k c.args.cluster.now.next_epoch (spare a0 a1) (spare a1 a2) (spare a0 a2) c.args.bounds c.args.requests.now (chunks_rest c.loop-part.part-iterator) c.loop-part.worked c.loop-part.cluster c.work_part.new.cluster
     c.args.host.now c.loop-part.host c.work_part.new.host c.in-Some.part.now c.work_part.result (spare_then a0 a1 a2 c.loop-part.invariant.later c.work_part.ensures.later) a c.loop-part.invariant.quiet taken.0
     (c.work_part.ensures.comes a.d a.rests a.stands) f c.in_err-more.was
     (reason_of f (known_of c.loop-part.cluster.kept []) c.in-Some.part.now c.loop-part.cluster.next_epoch a1 a2 n1 n2 c.in_err-more.ensures.counts))
@@ -105,5 +105,5 @@ returns-in_err-more-clause-works g c k rests stands =
 pub returns-clause-works : goal.returns-clause-works
 returns-clause-works g c k rests stands =
     let none : chunks_rest c.loop-part.part-iterator ≡ [] = grind (arith, common_steps) in
-    works_done g.H.Host.moment g.H.Host.observed g.H.Host.said g.H.Host.reads g.H.Host.may_leave k c.args.cluster.now.next_epoch _ c.args.bounds c.args.requests.now (chunks_rest c.loop-part.part-iterator) c.loop-part.worked c.loop-part.cluster c.args.host.now c.loop-part.host
+    works_done g.H.Host k c.args.cluster.now.next_epoch _ c.args.bounds c.args.requests.now (chunks_rest c.loop-part.part-iterator) c.loop-part.worked c.loop-part.cluster c.args.host.now c.loop-part.host
     (c.loop-part.invariant.works k rests stands) none

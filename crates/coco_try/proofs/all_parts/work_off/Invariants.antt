@@ -15,19 +15,19 @@ use Rattle.coco_try.proofs.all_parts.work_off.Given as goal
 abbrev pub invariant-loop-part : goal.invariant-loop-part
 invariant-loop-part g l = record {
   works : (c : Contents) → RestsOn c (g.H.Host.reads l.fn.host) (g.H.Host.may_leave l.fn.host) → StandsAt c l.fn.cluster
-      → AreWorkedOff g.H.Host.moment g.H.Host.observed g.H.Host.said g.H.Host.reads g.H.Host.may_leave c l.fn.cluster.next_epoch
-      (spare (around g.N.Net.sent g.N.Net.given g.N.Net.faults g.N.Net.last_seed g.P.Power.stops_seen g.P.Power.early_stops g.P.Power.stopped g.P.Power.begun g.P.Power.asked l.fn.net l.fn.power)
-      (around g.N.Net.sent g.N.Net.given g.N.Net.faults g.N.Net.last_seed g.P.Power.stops_seen g.P.Power.early_stops g.P.Power.stopped g.P.Power.begun g.P.Power.asked l.net l.power))
+      → AreWorkedOff g.H.Host c l.fn.cluster.next_epoch
+      (spare (around g.N.Net g.P.Power l.fn.net l.fn.power)
+      (around g.N.Net g.P.Power l.net l.power))
       l.bounds l.requests (chunks_rest l.part-iterator) l.worked l.cluster l.fn.host l.host;
   size : chunks_size l.part-iterator ≡ l.bounds.size;
   answered : l.worked.answered + length (chunks_rest l.part-iterator) ≤ length l.requests;
   epochs : l.worked.epochs + length (chunks_rest l.part-iterator) ≤ length l.requests;
   fit : AllByRecursion (λ (r : Request). Fits l.cluster.procs r.call) (chunks_rest l.part-iterator);
   low : SkipsFew l.fn.cluster.next_epoch l.cluster.next_epoch l.worked.epochs
-      (spare (around g.N.Net.sent g.N.Net.given g.N.Net.faults g.N.Net.last_seed g.P.Power.stops_seen g.P.Power.early_stops g.P.Power.stopped g.P.Power.begun g.P.Power.asked l.fn.net l.fn.power)
-      (around g.N.Net.sent g.N.Net.given g.N.Net.faults g.N.Net.last_seed g.P.Power.stops_seen g.P.Power.early_stops g.P.Power.stopped g.P.Power.begun g.P.Power.asked l.net l.power));
-  later : IsLater (around g.N.Net.sent g.N.Net.given g.N.Net.faults g.N.Net.last_seed g.P.Power.stops_seen g.P.Power.early_stops g.P.Power.stopped g.P.Power.begun g.P.Power.asked l.fn.net l.fn.power)
-      (around g.N.Net.sent g.N.Net.given g.N.Net.faults g.N.Net.last_seed g.P.Power.stops_seen g.P.Power.early_stops g.P.Power.stopped g.P.Power.begun g.P.Power.asked l.net l.power);
+      (spare (around g.N.Net g.P.Power l.fn.net l.fn.power)
+      (around g.N.Net g.P.Power l.net l.power));
+  later : IsLater (around g.N.Net g.P.Power l.fn.net l.fn.power)
+      (around g.N.Net g.P.Power l.net l.power);
   sound : IsSound l.cluster (g.N.Net.sent l.net);
   room : length l.cluster.kept.dones ≤ most_kept;
   stand : AllStand l.cluster (g.H.Host.reads l.host) (g.H.Host.may_leave l.host);

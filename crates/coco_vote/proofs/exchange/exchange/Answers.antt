@@ -13,18 +13,15 @@ use Rattle.coco_letters.proofs.TellingLemmas.{adds_left, adds_then, adds_vote}
 use Rattle.coco_letters.proofs.WorldLemmas.{between_on, between_then}
 use Rattle.coco_vote.specs.Counting.{prepare_of, HasCounted, IsAye}
 use Rattle.coco_vote.specs.Preparing.{have_durable, Ballot, RestsVoted}
-use Rattle.coco_vote.specs.Taking.{has_lost, vote_of, AreTold, SameElsewhere}
+use Rattle.coco_vote.specs.Taking.{has_lost, vote_of, AreTold}
 use Rattle.coco_vote.specs.Voting.{PreparesOnly}
 use Rattle.coco_vote.proofs.CountingLemmas.{asked_from, exchange_counted, told_still}
-use Rattle.coco_vote.proofs.GivingLemmas.{fresh_given, given_since, given_waits, gives_counts, gives_round, gives_then, sent_still, since_both, waits_given}
-use Rattle.coco_vote.proofs.PowerLemmas.{later_same}
+use Rattle.coco_vote.proofs.GivingLemmas.{fresh_given, given_since, given_waits, gives_round, sent_still, since_both, waits_given}
 use Rattle.coco_vote.proofs.PreparingLemmas.{keeps_same, none_ok}
 use Rattle.coco_vote.proofs.StepLemmas.{only_same, only_then}
 use Rattle.coco_vote.proofs.StopLemmas.{never_lost, unless_lost}
 use Rattle.coco_vote.proofs.TakingLemmas.{unless_any}
-use Rattle.coco_vote.proofs.VoterLemmas.{places_same}
-use Rattle.coco_letters.proofs.SendingLemmas.{sends_fresh, sends_none, sends_then}
-use Rattle.coco_vote.proofs.FileLemmas.{become_none, elsewhere_same, follow_none}
+use Rattle.coco_vote.proofs.KeepingLemmas.{rest_net, rest_round, rest_then}
 use Rattle.coco_vote.proofs.exchange.exchange.Goals as goal
 
 pub nodes_take-requires-clause-sent : goal.nodes_take-requires-clause-sent
@@ -36,21 +33,9 @@ returns-in_err-round-clause-files g c k hold held may nodes logs rests =
     let b : Ballot = record { epoch = c.args.epoch; pieces = c.args.pieces.now; held = hold } in
     let p = err_from_is_err_and c.from_residual.result c.from_residual.ensures.1 in
     record {
-      keeps = keeps_same g.H.Host.moment g.H.Host.observed g.H.Host.said g.H.Host.reads g.H.Host.may_leave k b g.met.H.Host.only_now (have_durable c.args.epoch c.args.cores.now) c.args.host.now rests;
+      keeps = keeps_same g.H.Host k b g.met.H.Host.only_now (have_durable c.args.epoch c.args.cores.now) c.args.host.now rests;
       ok = none_ok c.from_residual.result p.0 (RestsVoted k b (have_durable c.args.epoch c.args.cores.now) (g.H.Host.reads c.args.host.now) (g.H.Host.may_leave c.args.host.now)) p.1;
     }
-
-pub returns-in_err-round-clause-places : goal.returns-in_err-round-clause-places
-returns-in_err-round-clause-places g c =
-    places_same c.args.voters.now
-
-pub returns-in_err-round-clause-later : goal.returns-in_err-round-clause-later
-returns-in_err-round-clause-later g c =
-    later_same g.P.Power.stops_seen g.P.Power.early_stops g.P.Power.stopped g.P.Power.begun g.P.Power.asked c.args.power.now
-
-pub returns-in_err-round-clause-net : goal.returns-in_err-round-clause-net
-returns-in_err-round-clause-net g c =
-    (gives_round c.round.result (g.N.Net.sent c.args.net.now) (g.N.Net.fresh c.args.net.now) (g.N.Net.waiting c.round.new.self) (g.N.Net.given c.args.net.now) (g.N.Net.faults c.args.net.now) (g.N.Net.last_seed c.args.net.now) (g.N.Net.given c.round.new.self) (g.N.Net.faults c.round.new.self) (g.N.Net.last_seed c.round.new.self) (g.N.Net.fresh c.round.new.self) c.round.ensures.ok c.round.ensures.faults c.round.ensures.err c.round.ensures.seed)
 
 pub returns-in_err-stops-clause-files : goal.returns-in_err-stops-clause-files
 returns-in_err-stops-clause-files g c k hold held may nodes logs rests =
@@ -60,10 +45,6 @@ returns-in_err-stops-clause-files g c k hold held may nodes logs rests =
       keeps = (c.nodes_take.ensures.files k hold held may nodes logs rests).keeps;
       ok = none_ok c.from_residual-in_err-stops.result p.0 (RestsVoted k b (have_durable c.args.epoch c.nodes_take.new.cores) (g.H.Host.reads c.nodes_take.new.host) (g.H.Host.may_leave c.nodes_take.new.host)) p.1;
     }
-
-pub returns-in_err-stops-clause-net : goal.returns-in_err-stops-clause-net
-returns-in_err-stops-clause-net g c =
-    (gives_then (g.N.Net.given c.args.net.now) (g.N.Net.faults c.args.net.now) (g.N.Net.last_seed c.args.net.now) (g.N.Net.given c.round.new.self) (g.N.Net.faults c.round.new.self) (g.N.Net.last_seed c.round.new.self) (g.N.Net.given c.nodes_take.new.net) (g.N.Net.faults c.nodes_take.new.net) (g.N.Net.last_seed c.nodes_take.new.net) (gives_round c.round.result (g.N.Net.sent c.args.net.now) (g.N.Net.fresh c.args.net.now) (g.N.Net.waiting c.round.new.self) (g.N.Net.given c.args.net.now) (g.N.Net.faults c.args.net.now) (g.N.Net.last_seed c.args.net.now) (g.N.Net.given c.round.new.self) (g.N.Net.faults c.round.new.self) (g.N.Net.last_seed c.round.new.self) (g.N.Net.fresh c.round.new.self) c.round.ensures.ok c.round.ensures.faults c.round.ensures.err c.round.ensures.seed) (gives_counts (g.N.Net.given c.round.new.self) (g.N.Net.faults c.round.new.self) (g.N.Net.last_seed c.round.new.self) (g.N.Net.given c.nodes_take.new.net) (g.N.Net.faults c.nodes_take.new.net) (g.N.Net.last_seed c.nodes_take.new.net) c.nodes_take.ensures.counts))
 
 pub returns-then-is_early-clause-told : goal.returns-then-is_early-clause-told
 returns-then-is_early-clause-told g c =
@@ -89,10 +70,6 @@ pub returns-then-is_early-clause-world : goal.returns-then-is_early-clause-world
 returns-then-is_early-clause-world g c =
     (subst (λ (ps : List Posted). GoesBetween (g.P.Power.stopped c.args.power.now) (g.P.Power.stopped c.nodes_take.new.power) (PreparesOnly c.args.epoch) (record { cores = c.args.cores.now; chief = chief_of c.args.chief.now; sent = ps }) (record { cores = c.nodes_take.new.cores; chief = chief_of c.args.chief.now; sent = (g.N.Net.sent c.nodes_take.new.net) })) c.round.ensures.sent (c.in_ok-stops.ensures.world (chief_of c.args.chief.now)))
 
-pub returns-then-is_early-clause-net : goal.returns-then-is_early-clause-net
-returns-then-is_early-clause-net g c =
-    (gives_then (g.N.Net.given c.args.net.now) (g.N.Net.faults c.args.net.now) (g.N.Net.last_seed c.args.net.now) (g.N.Net.given c.round.new.self) (g.N.Net.faults c.round.new.self) (g.N.Net.last_seed c.round.new.self) (g.N.Net.given c.nodes_take.new.net) (g.N.Net.faults c.nodes_take.new.net) (g.N.Net.last_seed c.nodes_take.new.net) (gives_round c.round.result (g.N.Net.sent c.args.net.now) (g.N.Net.fresh c.args.net.now) (g.N.Net.waiting c.round.new.self) (g.N.Net.given c.args.net.now) (g.N.Net.faults c.args.net.now) (g.N.Net.last_seed c.args.net.now) (g.N.Net.given c.round.new.self) (g.N.Net.faults c.round.new.self) (g.N.Net.last_seed c.round.new.self) (g.N.Net.fresh c.round.new.self) c.round.ensures.ok c.round.ensures.faults c.round.ensures.err c.round.ensures.seed) (gives_counts (g.N.Net.given c.round.new.self) (g.N.Net.faults c.round.new.self) (g.N.Net.last_seed c.round.new.self) (g.N.Net.given c.nodes_take.new.net) (g.N.Net.faults c.nodes_take.new.net) (g.N.Net.last_seed c.nodes_take.new.net) c.nodes_take.ensures.counts))
-
 pub returns-in_err-collect-clause-files : goal.returns-in_err-collect-clause-files
 returns-in_err-collect-clause-files g c k hold held may nodes logs rests =
     let b : Ballot = record { epoch = c.args.epoch; pieces = c.args.pieces.now; held = hold } in
@@ -101,10 +78,6 @@ returns-in_err-collect-clause-files g c k hold held may nodes logs rests =
       keeps = (c.nodes_take.ensures.files k hold held may nodes logs rests).keeps;
       ok = none_ok c.from_residual-in_err-collect.result p.0 (RestsVoted k b (have_durable c.args.epoch c.nodes_take.new.cores) (g.H.Host.reads c.nodes_take.new.host) (g.H.Host.may_leave c.nodes_take.new.host)) p.1;
     }
-
-pub returns-in_err-collect-clause-net : goal.returns-in_err-collect-clause-net
-returns-in_err-collect-clause-net g c =
-    (gives_then (g.N.Net.given c.args.net.now) (g.N.Net.faults c.args.net.now) (g.N.Net.last_seed c.args.net.now) (g.N.Net.given c.nodes_take.new.net) (g.N.Net.faults c.nodes_take.new.net) (g.N.Net.last_seed c.nodes_take.new.net) (g.N.Net.given c.collect.new.net) (g.N.Net.faults c.collect.new.net) (g.N.Net.last_seed c.collect.new.net) (gives_then (g.N.Net.given c.args.net.now) (g.N.Net.faults c.args.net.now) (g.N.Net.last_seed c.args.net.now) (g.N.Net.given c.round.new.self) (g.N.Net.faults c.round.new.self) (g.N.Net.last_seed c.round.new.self) (g.N.Net.given c.nodes_take.new.net) (g.N.Net.faults c.nodes_take.new.net) (g.N.Net.last_seed c.nodes_take.new.net) (gives_round c.round.result (g.N.Net.sent c.args.net.now) (g.N.Net.fresh c.args.net.now) (g.N.Net.waiting c.round.new.self) (g.N.Net.given c.args.net.now) (g.N.Net.faults c.args.net.now) (g.N.Net.last_seed c.args.net.now) (g.N.Net.given c.round.new.self) (g.N.Net.faults c.round.new.self) (g.N.Net.last_seed c.round.new.self) (g.N.Net.fresh c.round.new.self) c.round.ensures.ok c.round.ensures.faults c.round.ensures.err c.round.ensures.seed) (gives_counts (g.N.Net.given c.round.new.self) (g.N.Net.faults c.round.new.self) (g.N.Net.last_seed c.round.new.self) (g.N.Net.given c.nodes_take.new.net) (g.N.Net.faults c.nodes_take.new.net) (g.N.Net.last_seed c.nodes_take.new.net) c.nodes_take.ensures.counts)) c.collect.ensures.net)
 
 pub returns-clause-told : goal.returns-clause-told
 returns-clause-told g c =
@@ -155,10 +128,6 @@ returns-clause-world g c =
     (subst (λ (ps : List Posted). GoesBetween (g.P.Power.stopped c.args.power.now) (g.P.Power.stopped c.nodes_take.new.power) (PreparesOnly c.args.epoch) (record { cores = c.args.cores.now; chief = chief_of c.args.chief.now; sent = ps }) (record { cores = c.nodes_take.new.cores; chief = chief_of c.args.chief.now; sent = (g.N.Net.sent c.nodes_take.new.net) })) c.round.ensures.sent (c.in_ok-stops.ensures.world (chief_of c.args.chief.now)))
     (between_on SameEntries SameEntries (g.P.Power.stopped c.nodes_take.new.power) (g.P.Power.stopped c.nodes_take.new.power) (record { cores = c.nodes_take.new.cores; chief = chief_of c.args.chief.now; sent = (g.N.Net.sent c.nodes_take.new.net) }) (record { cores = c.nodes_take.new.cores; chief = chief_of c.collect.new.chief; sent = (g.N.Net.sent c.collect.new.net) }) (λ w v _ same. same) (λ n lt. omega arith) (c.in_ok-collect.ensures.world c.nodes_take.new.cores))
 
-pub returns-clause-net : goal.returns-clause-net
-returns-clause-net g c =
-    (gives_then (g.N.Net.given c.args.net.now) (g.N.Net.faults c.args.net.now) (g.N.Net.last_seed c.args.net.now) (g.N.Net.given c.nodes_take.new.net) (g.N.Net.faults c.nodes_take.new.net) (g.N.Net.last_seed c.nodes_take.new.net) (g.N.Net.given c.collect.new.net) (g.N.Net.faults c.collect.new.net) (g.N.Net.last_seed c.collect.new.net) (gives_then (g.N.Net.given c.args.net.now) (g.N.Net.faults c.args.net.now) (g.N.Net.last_seed c.args.net.now) (g.N.Net.given c.round.new.self) (g.N.Net.faults c.round.new.self) (g.N.Net.last_seed c.round.new.self) (g.N.Net.given c.nodes_take.new.net) (g.N.Net.faults c.nodes_take.new.net) (g.N.Net.last_seed c.nodes_take.new.net) (gives_round c.round.result (g.N.Net.sent c.args.net.now) (g.N.Net.fresh c.args.net.now) (g.N.Net.waiting c.round.new.self) (g.N.Net.given c.args.net.now) (g.N.Net.faults c.args.net.now) (g.N.Net.last_seed c.args.net.now) (g.N.Net.given c.round.new.self) (g.N.Net.faults c.round.new.self) (g.N.Net.last_seed c.round.new.self) (g.N.Net.fresh c.round.new.self) c.round.ensures.ok c.round.ensures.faults c.round.ensures.err c.round.ensures.seed) (gives_counts (g.N.Net.given c.round.new.self) (g.N.Net.faults c.round.new.self) (g.N.Net.last_seed c.round.new.self) (g.N.Net.given c.nodes_take.new.net) (g.N.Net.faults c.nodes_take.new.net) (g.N.Net.last_seed c.nodes_take.new.net) c.nodes_take.ensures.counts)) c.collect.ensures.net)
-
 pub returns-then-is_early-clause-were_sent : goal.returns-then-is_early-clause-were_sent
 returns-then-is_early-clause-were_sent g c more p is among =
     let gives = c.in_ok-round.ensures.ok in
@@ -173,28 +142,22 @@ returns-clause-were_sent g c more p is among =
       | inr second ↦ c.in_ok-collect.ensures.were_sent c.collect.ensures.net.more p c.collect.ensures.net.gives second
     ]
 
-pub returns-in_err-round-clause-sent : goal.returns-in_err-round-clause-sent
-returns-in_err-round-clause-sent g c =
-    sends_none (g.N.Net.sent c.args.net.now) (g.N.Net.sent c.round.new.self) c.round.ensures.sent
+pub returns-in_err-round-clause-rest : goal.returns-in_err-round-clause-rest
+returns-in_err-round-clause-rest g c =
+    rest_round c.args.voters.now c.args.host.now c.args.net.now c.round.new.self c.args.power.now c.round.result c.round.ensures.sent c.round.ensures.ok c.round.ensures.faults c.round.ensures.err c.round.ensures.seed
 
-pub returns-in_err-stops-clause-sent : goal.returns-in_err-stops-clause-sent
-returns-in_err-stops-clause-sent g c =
-    sends_then (g.N.Net.sent c.args.net.now) (g.N.Net.sent c.round.new.self) (g.N.Net.sent c.nodes_take.new.net) (sends_none (g.N.Net.sent c.args.net.now) (g.N.Net.sent c.round.new.self) c.round.ensures.sent) (sends_fresh (g.N.Net.sent c.round.new.self) (g.N.Net.fresh c.round.new.self) (g.N.Net.sent c.nodes_take.new.net) (g.N.Net.fresh c.nodes_take.new.net) c.nodes_take.ensures.fresh)
+pub returns-in_err-stops-clause-rest : goal.returns-in_err-stops-clause-rest
+returns-in_err-stops-clause-rest g c =
+    rest_then (rest_round c.args.voters.now c.args.host.now c.args.net.now c.round.new.self c.args.power.now c.round.result c.round.ensures.sent c.round.ensures.ok c.round.ensures.faults c.round.ensures.err c.round.ensures.seed) c.nodes_take.ensures.rest
 
-pub returns-then-is_early-clause-sent : goal.returns-then-is_early-clause-sent
-returns-then-is_early-clause-sent g c =
-    sends_then (g.N.Net.sent c.args.net.now) (g.N.Net.sent c.round.new.self) (g.N.Net.sent c.nodes_take.new.net) (sends_none (g.N.Net.sent c.args.net.now) (g.N.Net.sent c.round.new.self) c.round.ensures.sent) (sends_fresh (g.N.Net.sent c.round.new.self) (g.N.Net.fresh c.round.new.self) (g.N.Net.sent c.nodes_take.new.net) (g.N.Net.fresh c.nodes_take.new.net) c.nodes_take.ensures.fresh)
+pub returns-then-is_early-clause-rest : goal.returns-then-is_early-clause-rest
+returns-then-is_early-clause-rest g c =
+    rest_then (rest_round c.args.voters.now c.args.host.now c.args.net.now c.round.new.self c.args.power.now c.round.result c.round.ensures.sent c.round.ensures.ok c.round.ensures.faults c.round.ensures.err c.round.ensures.seed) c.nodes_take.ensures.rest
 
-pub returns-in_err-collect-clause-sent : goal.returns-in_err-collect-clause-sent
-returns-in_err-collect-clause-sent g c =
-    sends_then (g.N.Net.sent c.args.net.now) (g.N.Net.sent c.nodes_take.new.net) (g.N.Net.sent c.collect.new.net) (sends_then (g.N.Net.sent c.args.net.now) (g.N.Net.sent c.round.new.self) (g.N.Net.sent c.nodes_take.new.net) (sends_none (g.N.Net.sent c.args.net.now) (g.N.Net.sent c.round.new.self) c.round.ensures.sent) (sends_fresh (g.N.Net.sent c.round.new.self) (g.N.Net.fresh c.round.new.self) (g.N.Net.sent c.nodes_take.new.net) (g.N.Net.fresh c.nodes_take.new.net) c.nodes_take.ensures.fresh)) (c.collect.ensures.sent)
+pub returns-in_err-collect-clause-rest : goal.returns-in_err-collect-clause-rest
+returns-in_err-collect-clause-rest g c =
+    rest_then (rest_then (rest_round c.args.voters.now c.args.host.now c.args.net.now c.round.new.self c.args.power.now c.round.result c.round.ensures.sent c.round.ensures.ok c.round.ensures.faults c.round.ensures.err c.round.ensures.seed) c.nodes_take.ensures.rest) (rest_net c.nodes_take.new.voters c.nodes_take.new.host c.nodes_take.new.net c.collect.new.net c.nodes_take.new.power c.collect.ensures.sent c.collect.ensures.net)
 
-pub returns-clause-sent : goal.returns-clause-sent
-returns-clause-sent g c =
-    sends_then (g.N.Net.sent c.args.net.now) (g.N.Net.sent c.nodes_take.new.net) (g.N.Net.sent c.collect.new.net) (sends_then (g.N.Net.sent c.args.net.now) (g.N.Net.sent c.round.new.self) (g.N.Net.sent c.nodes_take.new.net) (sends_none (g.N.Net.sent c.args.net.now) (g.N.Net.sent c.round.new.self) c.round.ensures.sent) (sends_fresh (g.N.Net.sent c.round.new.self) (g.N.Net.fresh c.round.new.self) (g.N.Net.sent c.nodes_take.new.net) (g.N.Net.fresh c.nodes_take.new.net) c.nodes_take.ensures.fresh)) (c.collect.ensures.sent)
-
-pub returns-in_err-round-clause-read : goal.returns-in_err-round-clause-read
-returns-in_err-round-clause-read g c = become_none (SameElsewhere c.args.voters.now) (elsewhere_same c.args.voters.now) (g.H.Host.reads c.args.host.now)
-
-pub returns-in_err-round-clause-crash : goal.returns-in_err-round-clause-crash
-returns-in_err-round-clause-crash g c = follow_none (SameElsewhere c.args.voters.now) (elsewhere_same c.args.voters.now) (g.H.Host.may_leave c.args.host.now)
+pub returns-clause-rest : goal.returns-clause-rest
+returns-clause-rest g c =
+    rest_then (rest_then (rest_round c.args.voters.now c.args.host.now c.args.net.now c.round.new.self c.args.power.now c.round.result c.round.ensures.sent c.round.ensures.ok c.round.ensures.faults c.round.ensures.err c.round.ensures.seed) c.nodes_take.ensures.rest) (rest_net c.nodes_take.new.voters c.nodes_take.new.host c.nodes_take.new.net c.collect.new.net c.nodes_take.new.power c.collect.ensures.sent c.collect.ensures.net)

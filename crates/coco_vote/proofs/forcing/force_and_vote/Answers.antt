@@ -1,7 +1,7 @@
 use Rattle.std.proofs.Common.{◌≡◌, ◌<◌, ℕ, Bool, List, Some, [], ◌∷◌, ap, arith, false, inl, inr, lit<, lit≤, refl, subst, sym, true, ◌∙◌}
 use Rattle.std.proofs.lemmas.Bool.{eq-eqb}
 use Rattle.std.proofs.lemmas.Result.{err_from_is_err_and}
-use Rattle.coco_log.specs.LogState.{LogState, SameBut}
+use Rattle.coco_log.specs.LogState.{LogState}
 use Rattle.coco_node.specs.Node.{restarted, Node}
 use Rattle.coco_world.specs.World.{put}
 use Rattle.coco_vote.specs.Preparing.{have_durable, AddsEntry, Ballot, RestsVoted}
@@ -10,14 +10,14 @@ use Rattle.coco_vote.proofs.PlaceLemmas.{has_older, have_same}
 use Rattle.coco_vote.proofs.PowerLemmas.{asked_here}
 use Rattle.coco_vote.proofs.PreparingLemmas.{none_ok, rests_same, votes_same}
 use Rattle.coco_vote.proofs.StepLemmas.{between_later, between_lost, have_behind, max_none, only_same}
-use Rattle.coco_vote.proofs.FileLemmas.{become_none, but_same, follow_none}
+use Rattle.coco_vote.proofs.KeepingLemmas.{writes_none, writes_then}
 use Rattle.coco_vote.proofs.forcing.force_and_vote.Goals as goal
 
 pub returns-then-stops-clause-files : goal.returns-then-stops-clause-files
 returns-then-stops-clause-files g c k hold same may node log rests =
     let b : Ballot = record { epoch = c.args.epoch; pieces = c.args.pieces.now; held = hold } in
     let lost = c.in_ok-lose_rows.ensures.core in
-    votes_same g.H.Host.moment g.H.Host.observed g.H.Host.said g.H.Host.reads g.H.Host.may_leave k b _ g.met.H.Host.only_now (have_durable c.args.epoch c.args.cores.now) (have_durable c.args.epoch c.lose_rows.new.cores) c.args.host.now
+    votes_same g.H.Host k b _ g.met.H.Host.only_now (have_durable c.args.epoch c.args.cores.now) (have_durable c.args.epoch c.lose_rows.new.cores) c.args.host.now
     (λ n. ap (λ (cs : List Node). have_durable c.args.epoch cs n) lost.2 ∙ have_same c.args.epoch c.args.cores.now c.args.node lost.0 (restarted c.args.node (lost.0.durable ∷ []) (Some c.args.epoch)) c.requires.node lost.1 (max_none lost.0.durable) n)
     rests
 
@@ -35,7 +35,7 @@ returns-then-stops-clause-stops g c = record { stops = c.if-stops.ensures.seen.1
 pub returns-then-stops-clause-asked : goal.returns-then-stops-clause-asked
 returns-then-stops-clause-asked g c =
     let eight : c.args.node < 8 = omega (arith, c.requires.node, c.requires.few) in
-    asked_here g.P.Power.stops_seen g.P.Power.early_stops g.P.Power.stopped g.P.Power.begun g.P.Power.asked c.args.power.now c.stops.new.self c.stops.result c.args.node 3 (lit< tt) c.stops.ensures.seen c.stops.ensures.early c.stops.ensures.stopped c.stops.ensures.begun c.stops.ensures.asked eight (lit≤ tt)
+    asked_here g.P.Power c.args.power.now c.stops.new.self c.stops.result c.args.node 3 (lit< tt) c.stops.ensures.seen c.stops.ensures.early c.stops.ensures.stopped c.stops.ensures.begun c.stops.ensures.asked eight (lit≤ tt)
 
 pub returns-in_err-prepare_entry-clause-files : goal.returns-in_err-prepare_entry-clause-files
 returns-in_err-prepare_entry-clause-files g c k hold same may node log rests =
@@ -90,14 +90,14 @@ returns-clause-behind g c =
     inr (subst (λ (log : LogState). AddsEntry c.args.epoch c.args.pieces.now c.args.voter.now.held.items c.args.voter.now.log log) (sym c.vote.ensures.log)
     (subst (λ (held : List Bool). AddsEntry c.args.epoch c.args.pieces.now held c.args.voter.now.log c.prepare_entry.new.log) c.as_slice-held.ensures.value c.in_ok-prepare_entry.ensures.entry))
 
-pub returns-then-stops-clause-read : goal.returns-then-stops-clause-read
-returns-then-stops-clause-read g c = become_none (SameBut c.args.voter.now.log.file) (but_same c.args.voter.now.log.file) (g.H.Host.reads c.args.host.now)
+pub returns-in_err-lose_rows-clause-rest : goal.returns-in_err-lose_rows-clause-rest
+returns-in_err-lose_rows-clause-rest g c = writes_none c.args.voter.now.log c.lose_rows.new.voter.log c.args.host.now c.lose_rows.ensures.log
 
-pub returns-then-stops-clause-crash : goal.returns-then-stops-clause-crash
-returns-then-stops-clause-crash g c = follow_none (SameBut c.args.voter.now.log.file) (but_same c.args.voter.now.log.file) (g.H.Host.may_leave c.args.host.now)
+pub returns-then-stops-clause-rest : goal.returns-then-stops-clause-rest
+returns-then-stops-clause-rest g c = writes_none c.args.voter.now.log c.lose_rows.new.voter.log c.args.host.now c.lose_rows.ensures.log
 
-pub returns-in_err-lose_rows-clause-read : goal.returns-in_err-lose_rows-clause-read
-returns-in_err-lose_rows-clause-read g c = become_none (SameBut c.args.voter.now.log.file) (but_same c.args.voter.now.log.file) (g.H.Host.reads c.args.host.now)
+pub returns-in_err-vote-clause-rest : goal.returns-in_err-vote-clause-rest
+returns-in_err-vote-clause-rest g c = writes_then c.prepare_entry.ensures.rest (writes_none c.prepare_entry.new.log c.vote.new.voter.log c.prepare_entry.new.host c.vote.ensures.log)
 
-pub returns-in_err-lose_rows-clause-crash : goal.returns-in_err-lose_rows-clause-crash
-returns-in_err-lose_rows-clause-crash g c = follow_none (SameBut c.args.voter.now.log.file) (but_same c.args.voter.now.log.file) (g.H.Host.may_leave c.args.host.now)
+pub returns-clause-rest : goal.returns-clause-rest
+returns-clause-rest g c = writes_then c.prepare_entry.ensures.rest (writes_none c.prepare_entry.new.log c.vote.new.voter.log c.prepare_entry.new.host c.vote.ensures.log)

@@ -21,7 +21,7 @@ returns-then-stops-clause-stops g c = record {
 pub returns-then-stops-clause-asked : goal.returns-then-stops-clause-asked
 returns-then-stops-clause-asked g c =
     let eight : c.args.node < 8 = omega (arith, c.requires.node, c.requires.few) in
-    λ three. ((later_asked g.P.Power.stops_seen g.P.Power.early_stops g.P.Power.stopped g.P.Power.begun g.P.Power.asked c.args.power.now c.stops.new.self c.stops.result c.args.node 4 (lit< tt) c.stops.ensures.seen c.stops.ensures.early c.stops.ensures.stopped c.stops.ensures.begun c.stops.ensures.asked).asked_stays c.args.node 3 eight (lit≤ tt) three, asked_here g.P.Power.stops_seen g.P.Power.early_stops g.P.Power.stopped g.P.Power.begun g.P.Power.asked c.args.power.now c.stops.new.self c.stops.result c.args.node 4 (lit< tt) c.stops.ensures.seen c.stops.ensures.early c.stops.ensures.stopped c.stops.ensures.begun c.stops.ensures.asked eight (lit≤ tt))
+    λ three. ((later_asked g.P.Power c.args.power.now c.stops.new.self c.stops.result c.args.node 4 (lit< tt) c.stops.ensures.seen c.stops.ensures.early c.stops.ensures.stopped c.stops.ensures.begun c.stops.ensures.asked).asked_stays c.args.node 3 eight (lit≤ tt) three, asked_here g.P.Power c.args.power.now c.stops.new.self c.stops.result c.args.node 4 (lit< tt) c.stops.ensures.seen c.stops.ensures.early c.stops.ensures.stopped c.stops.ensures.begun c.stops.ensures.asked eight (lit≤ tt))
 
 pub end_vote-requires-clause-newest : goal.end_vote-requires-clause-newest
 end_vote-requires-clause-newest g c =
@@ -46,7 +46,7 @@ returns-clause-asked g c =
     let eight : c.args.node < 8 = omega (arith, c.requires.node, c.requires.few) in
     IfOk-weaker c.end_vote.result _ _
     (λ step ends. λ three. asked_all step c.args.node c.args.epoch c.node_forced.new.cores c.end_vote.new.cores (g.N.Net.sent c.node_forced.new.net) (g.N.Net.sent c.end_vote.new.net) (g.P.Power.asked c.end_vote.new.power c.args.node) ends
-    (c.end_vote.ensures.later.asked_stays c.args.node 3 eight (lit≤ tt) ((later_asked g.P.Power.stops_seen g.P.Power.early_stops g.P.Power.stopped g.P.Power.begun g.P.Power.asked c.args.power.now c.stops.new.self c.stops.result c.args.node 4 (lit< tt) c.stops.ensures.seen c.stops.ensures.early c.stops.ensures.stopped c.stops.ensures.begun c.stops.ensures.asked).asked_stays c.args.node 3 eight (lit≤ tt) three))
-    (c.end_vote.ensures.later.asked_stays c.args.node 4 eight (lit≤ tt) (asked_here g.P.Power.stops_seen g.P.Power.early_stops g.P.Power.stopped g.P.Power.begun g.P.Power.asked c.args.power.now c.stops.new.self c.stops.result c.args.node 4 (lit< tt) c.stops.ensures.seen c.stops.ensures.early c.stops.ensures.stopped c.stops.ensures.begun c.stops.ensures.asked eight (lit≤ tt)))
+    (c.end_vote.ensures.later.asked_stays c.args.node 3 eight (lit≤ tt) ((later_asked g.P.Power c.args.power.now c.stops.new.self c.stops.result c.args.node 4 (lit< tt) c.stops.ensures.seen c.stops.ensures.early c.stops.ensures.stopped c.stops.ensures.begun c.stops.ensures.asked).asked_stays c.args.node 3 eight (lit≤ tt) three))
+    (c.end_vote.ensures.later.asked_stays c.args.node 4 eight (lit≤ tt) (asked_here g.P.Power c.args.power.now c.stops.new.self c.stops.result c.args.node 4 (lit< tt) c.stops.ensures.seen c.stops.ensures.early c.stops.ensures.stopped c.stops.ensures.begun c.stops.ensures.asked eight (lit≤ tt)))
     c.end_vote.ensures.asked)
     c.end_vote.ensures.ends

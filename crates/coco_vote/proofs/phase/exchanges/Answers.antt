@@ -13,20 +13,18 @@ use Rattle.coco_vote.specs.Counting.{prepare_of, HasCounted, IsAye}
 use Rattle.coco_vote.specs.Nearing.{all_ahead, Nears}
 use Rattle.coco_vote.specs.Outcomes.{exchanges_in, IsMissing}
 use Rattle.coco_vote.specs.Preparing.{have_durable, Ballot, RestsVoted}
-use Rattle.coco_vote.specs.Taking.{has_lost, vote_of, AreVoting, SameElsewhere}
+use Rattle.coco_vote.specs.Taking.{has_lost, vote_of, AreVoting}
 use Rattle.coco_vote.specs.Voting.{PreparesOnly}
 use Rattle.coco_vote.proofs.CountingLemmas.{told_still}
-use Rattle.coco_vote.proofs.GivingLemmas.{gives_counts, gives_same, gives_then, nothing_given, same_more, since_both}
-use Rattle.coco_vote.proofs.PowerLemmas.{later_same, later_then}
+use Rattle.coco_vote.proofs.GivingLemmas.{nothing_given, same_more, since_both}
 use Rattle.coco_vote.proofs.PrepareLemmas.{at_most_one, comes_by, early_more, early_same, few_more, less_left, lost_more, not_more, open_by, was_missing}
 use Rattle.coco_vote.proofs.PreparingLemmas.{keeps_same, keeps_then, none_ok}
 use Rattle.coco_vote.proofs.StepLemmas.{between_none, only_same, only_then}
 use Rattle.coco_vote.proofs.StopLemmas.{unless_kept}
 use Rattle.coco_vote.proofs.TakingLemmas.{cores_then, cores_voting, knows_same}
-use Rattle.coco_vote.proofs.VoterLemmas.{apart_still, elsewhere_still, held_still, logs_still, places_same, places_then}
+use Rattle.coco_vote.proofs.VoterLemmas.{apart_still, held_still, logs_still}
 use Rattle.coco_vote.proofs.WholeLemmas.{all_whole_same, all_whole_then}
-use Rattle.coco_vote.proofs.FileLemmas.{become_none, become_then, become_wider, elsewhere_both, elsewhere_first, elsewhere_same, follow_none, follow_then, follow_wider}
-use Rattle.coco_letters.proofs.SendingLemmas.{sends_such, sends_then}
+use Rattle.coco_vote.proofs.KeepingLemmas.{rest_same, rest_sends, rest_then}
 use Rattle.coco_vote.proofs.phase.exchanges.Goals as goal
 
 pub asking-init : goal.asking-init
@@ -49,19 +47,12 @@ asking-init g c =
       says = adds_same (g.N.Net.sent c.args.net.now);
       files = λ k hold held may nodes logs rests.
           let b : Ballot = record { epoch = c.args.epoch; pieces = c.args.pieces.now; held = hold } in
-          (keeps_same g.H.Host.moment g.H.Host.observed g.H.Host.said g.H.Host.reads g.H.Host.may_leave k b g.met.H.Host.only_now (have_durable c.args.epoch c.args.cores.now) c.args.host.now rests, rests);
+          (keeps_same g.H.Host k b g.met.H.Host.only_now (have_durable c.args.epoch c.args.cores.now) c.args.host.now rests, rests);
       ready = c.requires.ready;
-      places = places_same c.args.voters.now;
+      rest = rest_same c.args.voters.now c.args.host.now c.args.net.now c.args.power.now;
       whole = all_whole_same (g.P.Power.stops_seen c.args.power.now) c.args.voters.now;
-      others = λ other away stands. stands;
-      read = become_none (SameElsewhere c.args.voters.now) (elsewhere_same c.args.voters.now) (g.H.Host.reads c.args.host.now);
-      crash = follow_none (SameElsewhere c.args.voters.now) (elsewhere_same c.args.voters.now) (g.H.Host.may_leave c.args.host.now);
-      said = refl;
       disk = refl;
-      stream = refl;
       world = between_none (g.P.Power.stopped c.args.power.now) (g.P.Power.stopped c.args.power.now) (λ n lt. omega arith) (PreparesOnly c.args.epoch) (record { cores = c.args.cores.now; chief = chief_of c.args.chief.now; sent = (g.N.Net.sent c.args.net.now) }) (only_same c.args.epoch);
-      later = later_same g.P.Power.stops_seen g.P.Power.early_stops g.P.Power.stopped g.P.Power.begun g.P.Power.asked c.args.power.now;
-      net = gives_same (g.N.Net.given c.args.net.now) (g.N.Net.faults c.args.net.now) (g.N.Net.last_seed c.args.net.now);
     }
 
 pub exchange-requires-clause-voters : goal.exchange-requires-clause-voters
@@ -94,7 +85,7 @@ exchange-requires-clause-few g c =
 
 pub exchange-requires-clause-apart : goal.exchange-requires-clause-apart
 exchange-requires-clause-apart g c =
-    apart_still c.args.voters.now c.asking.voters c.asking.invariant.places c.requires.apart
+    apart_still c.args.voters.now c.asking.voters c.asking.invariant.rest.places c.requires.apart
 
 pub ask_again-requires-clause-asked : goal.ask_again-requires-clause-asked
 ask_again-requires-clause-asked g c =
@@ -106,8 +97,8 @@ asking-preserved g c =
     let before = c.asking.invariant in
     let going : has_lost c.in_ok-stops.stops ≡ false = sym c.is_early.ensures ∙ c.if-is_early.false in
     let voting : AreVoting c.args.epoch c.exchange.new.cores = unless_kept c.in_ok-stops.stops (AreVoting c.args.epoch c.exchange.new.cores) going c.in_ok-stops.ensures.voting in
-    let was : HasCounted c.args.epoch (IsAye c.args.epoch before.net.more) (chief_of c.asking.chief) = before.counting before.net.more before.net.gives in
-    let now : HasCounted c.args.epoch (IsAye c.args.epoch (before.net.more ++ c.exchange.ensures.net.more)) (chief_of c.exchange.new.chief) = unless_kept c.in_ok-stops.stops ((given more : List Posted) → HasCounted c.args.epoch (IsAye c.args.epoch given) (chief_of c.asking.chief) → (g.N.Net.given c.exchange.new.net) ≡ (g.N.Net.given c.asking.net) ++ more → HasCounted c.args.epoch (IsAye c.args.epoch (given ++ more)) (chief_of c.exchange.new.chief)) going c.in_ok-stops.ensures.counted before.net.more c.exchange.ensures.net.more was c.exchange.ensures.net.gives in
+    let was : HasCounted c.args.epoch (IsAye c.args.epoch before.rest.net.more) (chief_of c.asking.chief) = before.counting before.rest.net.more before.rest.net.gives in
+    let now : HasCounted c.args.epoch (IsAye c.args.epoch (before.rest.net.more ++ c.exchange.ensures.rest.net.more)) (chief_of c.exchange.new.chief) = unless_kept c.in_ok-stops.stops ((given more : List Posted) → HasCounted c.args.epoch (IsAye c.args.epoch given) (chief_of c.asking.chief) → (g.N.Net.given c.exchange.new.net) ≡ (g.N.Net.given c.asking.net) ++ more → HasCounted c.args.epoch (IsAye c.args.epoch (given ++ more)) (chief_of c.exchange.new.chief)) going c.in_ok-stops.ensures.counted before.rest.net.more c.exchange.ensures.rest.net.more was c.exchange.ensures.rest.net.gives in
     let nodes : (chief_of c.exchange.new.chief).nodes ≡ length c.args.cores.now = omega (arith, c.exchange.ensures.nodes, before.nodes, c.requires.nodes) in
     let many : length c.asking.cores ≡ length c.args.cores.now = omega (arith, c.asking.auto.cores) in
     let miss : IsMissing c.args.nodes (chief_of c.exchange.new.chief) = c.in-None.ensures.1 in
@@ -118,14 +109,14 @@ asking-preserved g c =
       cores = cores_then c.args.epoch c.args.cores.now c.asking.cores c.exchange.new.cores before.cores c.in_ok-stops.ensures.cores;
       told = told_still c.args.epoch c.exchange.new.cores (g.N.Net.sent c.exchange.new.net) (g.N.Net.sent c.ask_again.new.net) (g.P.Power.asked c.exchange.new.power) c.in_ok-ask_again-in-None.ensures.says c.in_ok-stops.ensures.told;
       marked = c.in_ok-stops.ensures.marked;
-      counting = λ given is. subst (λ (ps : List Posted). HasCounted c.args.epoch (IsAye c.args.epoch ps) (chief_of c.exchange.new.chief)) (sym (since_both (g.N.Net.given c.args.net.now) (g.N.Net.given c.asking.net) (g.N.Net.given c.exchange.new.net) before.net.more c.exchange.ensures.net.more given before.net.gives c.exchange.ensures.net.gives (sym c.ask_again.ensures.counts.given_stays ∙ is))) now;
+      counting = λ given is. subst (λ (ps : List Posted). HasCounted c.args.epoch (IsAye c.args.epoch ps) (chief_of c.exchange.new.chief)) (sym (since_both (g.N.Net.given c.args.net.now) (g.N.Net.given c.asking.net) (g.N.Net.given c.exchange.new.net) before.rest.net.more c.exchange.ensures.rest.net.more given before.rest.net.gives c.exchange.ensures.rest.net.gives (sym c.ask_again.ensures.counts.given_stays ∙ is))) now;
       fresh = λ n small lacking. c.in_ok-ask_again-in-None.ensures.asked n (omega (arith, small, c.requires.count)) lacking;
       asked = λ n small. adds_left (g.N.Net.sent c.exchange.new.net) (g.N.Net.sent c.ask_again.new.net) (prepare_of n c.args.epoch) c.in_ok-ask_again-in-None.ensures.says (adds_left (g.N.Net.sent c.asking.net) (g.N.Net.sent c.exchange.new.net) (prepare_of n c.args.epoch) c.in_ok-stops.ensures.says (before.asked n small));
-      were_sent = λ given p is among. adds_left (g.N.Net.sent c.exchange.new.net) (g.N.Net.sent c.ask_again.new.net) p c.in_ok-ask_again-in-None.ensures.says (elim (Contains-append_cases before.net.more c.exchange.ensures.net.more p (subst (λ (ps : List Posted). Contains ps p) (since_both (g.N.Net.given c.args.net.now) (g.N.Net.given c.asking.net) (g.N.Net.given c.exchange.new.net) before.net.more c.exchange.ensures.net.more given before.net.gives c.exchange.ensures.net.gives (sym c.ask_again.ensures.counts.given_stays ∙ is)) among)) [
-        | inl first ↦ adds_left (g.N.Net.sent c.asking.net) (g.N.Net.sent c.exchange.new.net) p c.in_ok-stops.ensures.says (before.were_sent before.net.more p before.net.gives first)
-        | inr second ↦ c.in_ok-stops.ensures.were_sent c.exchange.ensures.net.more p c.exchange.ensures.net.gives second
+      were_sent = λ given p is among. adds_left (g.N.Net.sent c.exchange.new.net) (g.N.Net.sent c.ask_again.new.net) p c.in_ok-ask_again-in-None.ensures.says (elim (Contains-append_cases before.rest.net.more c.exchange.ensures.rest.net.more p (subst (λ (ps : List Posted). Contains ps p) (since_both (g.N.Net.given c.args.net.now) (g.N.Net.given c.asking.net) (g.N.Net.given c.exchange.new.net) before.rest.net.more c.exchange.ensures.rest.net.more given before.rest.net.gives c.exchange.ensures.rest.net.gives (sym c.ask_again.ensures.counts.given_stays ∙ is)) among)) [
+        | inl first ↦ adds_left (g.N.Net.sent c.asking.net) (g.N.Net.sent c.exchange.new.net) p c.in_ok-stops.ensures.says (before.were_sent before.rest.net.more p before.rest.net.gives first)
+        | inr second ↦ c.in_ok-stops.ensures.were_sent c.exchange.ensures.rest.net.more p c.exchange.ensures.rest.net.gives second
       ]);
-      lost = subst (λ (x : ℕ). (g.N.Net.faults c.args.net.now) + (c.asking.counted + c.exchanges-counted.result) ≤ x) (sym c.ask_again.ensures.counts.faults_stay) (subst (λ (x : ℕ). (g.N.Net.faults c.args.net.now) + (c.asking.counted + x) ≤ (g.N.Net.faults c.exchange.new.net)) (sym c.exchanges-counted.ensures) (lost_more c.in_ok-stops.stops (g.N.Net.faults c.args.net.now) c.asking.counted (g.N.Net.faults c.asking.net) (g.N.Net.faults c.exchange.new.net) before.lost c.exchange.ensures.net.faults_rise (λ never same. not_more c.args.epoch before.net.more c.exchange.ensures.net.more (chief_of c.asking.chief) (chief_of c.exchange.new.chief) was now miss.node less miss.missing (c.in_ok-stops.ensures.votes never c.exchange.ensures.net.more c.exchange.ensures.net.gives same miss.node (omega (arith, first, many)) (before.fresh miss.node first (was_missing c.args.epoch before.net.more c.exchange.ensures.net.more (chief_of c.asking.chief) (chief_of c.exchange.new.chief) was now miss.node less miss.missing))))));
+      lost = subst (λ (x : ℕ). (g.N.Net.faults c.args.net.now) + (c.asking.counted + c.exchanges-counted.result) ≤ x) (sym c.ask_again.ensures.counts.faults_stay) (subst (λ (x : ℕ). (g.N.Net.faults c.args.net.now) + (c.asking.counted + x) ≤ (g.N.Net.faults c.exchange.new.net)) (sym c.exchanges-counted.ensures) (lost_more c.in_ok-stops.stops (g.N.Net.faults c.args.net.now) c.asking.counted (g.N.Net.faults c.asking.net) (g.N.Net.faults c.exchange.new.net) before.lost c.exchange.ensures.rest.net.faults_rise (λ never same. not_more c.args.epoch before.rest.net.more c.exchange.ensures.rest.net.more (chief_of c.asking.chief) (chief_of c.exchange.new.chief) was now miss.node less miss.missing (c.in_ok-stops.ensures.votes never c.exchange.ensures.rest.net.more c.exchange.ensures.rest.net.gives same miss.node (omega (arith, first, many)) (before.fresh miss.node first (was_missing c.args.epoch before.rest.net.more c.exchange.ensures.rest.net.more (chief_of c.asking.chief) (chief_of c.exchange.new.chief) was now miss.node less miss.missing))))));
       counted = few_more c.in_ok-stops.stops c.asking.counted c.exchanges-counted.result (c.asking.counted + c.exchanges-counted.result) before.counted c.exchanges-counted.ensures refl c.in-None.ensures.0;
       nodes = c.exchange.ensures.nodes ∙ before.nodes;
       last = c.in_ok-stops.ensures.last ∙ before.last;
@@ -135,22 +126,13 @@ asking-preserved g c =
       files = λ k hold held may nodes logs rests.
           let b : Ballot = record { epoch = c.args.epoch; pieces = c.args.pieces.now; held = hold } in
           let one = before.files k hold held may nodes logs rests in
-          (keeps_then g.H.Host.moment g.H.Host.observed g.H.Host.said g.H.Host.reads g.H.Host.may_leave k b c.args.host.now c.asking.host c.exchange.new.host one.0 (c.exchange.ensures.files k hold (held_still hold c.args.voters.now c.asking.voters before.places held) may (nodes ∙ sym many) (logs_still k c.args.voters.now c.asking.voters before.places logs) one.1).keeps, (c.in_ok-stops.ensures.files k hold (held_still hold c.args.voters.now c.asking.voters before.places held) may (nodes ∙ sym many) (logs_still k c.args.voters.now c.asking.voters before.places logs) one.1).ok);
+          (keeps_then g.H.Host k b c.args.host.now c.asking.host c.exchange.new.host one.0 (c.exchange.ensures.files k hold (held_still hold c.args.voters.now c.asking.voters before.rest.places held) may (nodes ∙ sym many) (logs_still k c.args.voters.now c.asking.voters before.rest.places logs) one.1).keeps, (c.in_ok-stops.ensures.files k hold (held_still hold c.args.voters.now c.asking.voters before.rest.places held) may (nodes ∙ sym many) (logs_still k c.args.voters.now c.asking.voters before.rest.places logs) one.1).ok);
       ready = c.in_ok-stops.ensures.ready;
-      places = places_then c.args.voters.now c.asking.voters c.exchange.new.voters before.places c.exchange.ensures.places;
-      whole = all_whole_then (g.P.Power.stops_seen c.args.power.now) (g.P.Power.stops_seen c.asking.power) (g.P.Power.stops_seen c.exchange.new.power) c.args.voters.now c.asking.voters c.exchange.new.voters before.later.seen_rises c.exchange.ensures.later.seen_rises before.whole c.in_ok-stops.ensures.whole;
-      others = λ other away stands. c.exchange.ensures.others other (elsewhere_still c.args.voters.now c.asking.voters other before.places away) (before.others other away stands);
-      read = become_then (SameElsewhere c.args.voters.now) (elsewhere_both c.args.voters.now) (g.H.Host.reads c.args.host.now) (g.H.Host.reads c.asking.host) (g.H.Host.reads c.exchange.new.host) before.read
-          (become_wider (SameElsewhere c.asking.voters) (SameElsewhere c.args.voters.now) (elsewhere_first c.args.voters.now c.asking.voters before.places) (g.H.Host.reads c.asking.host) (g.H.Host.reads c.exchange.new.host) c.exchange.ensures.read);
-      crash = follow_then (SameElsewhere c.args.voters.now) (elsewhere_both c.args.voters.now) (g.H.Host.may_leave c.args.host.now) (g.H.Host.may_leave c.asking.host) (g.H.Host.may_leave c.exchange.new.host) before.crash
-          (follow_wider (SameElsewhere c.asking.voters) (SameElsewhere c.args.voters.now) (elsewhere_first c.args.voters.now c.asking.voters before.places) (g.H.Host.may_leave c.asking.host) (g.H.Host.may_leave c.exchange.new.host) c.exchange.ensures.crash);
-      said = c.exchange.ensures.said ∙ before.said;
+      rest = rest_then (rest_then before.rest c.exchange.ensures.rest) (rest_sends c.exchange.new.voters c.exchange.new.host c.exchange.new.net c.ask_again.new.net c.exchange.new.power c.ask_again.ensures.sent c.ask_again.ensures.counts);
+      whole = all_whole_then (g.P.Power.stops_seen c.args.power.now) (g.P.Power.stops_seen c.asking.power) (g.P.Power.stops_seen c.exchange.new.power) c.args.voters.now c.asking.voters c.exchange.new.voters before.rest.later.seen_rises c.exchange.ensures.rest.later.seen_rises before.whole c.in_ok-stops.ensures.whole;
       disk = c.in_ok-stops.ensures.disk ∙ before.disk;
-      stream = c.exchange.ensures.stream ∙ before.stream;
       world = between_then (PreparesOnly c.args.epoch) SameEntries (PreparesOnly c.args.epoch) (λ w v u one two. only_then c.args.epoch w v u one (only_same c.args.epoch v u two)) (g.P.Power.stopped c.args.power.now) (g.P.Power.stopped c.exchange.new.power) (g.P.Power.stopped c.exchange.new.power) (record { cores = c.args.cores.now; chief = chief_of c.args.chief.now; sent = (g.N.Net.sent c.args.net.now) }) (record { cores = c.exchange.new.cores; chief = chief_of c.exchange.new.chief; sent = (g.N.Net.sent c.exchange.new.net) }) (record { cores = c.exchange.new.cores; chief = chief_of c.exchange.new.chief; sent = (g.N.Net.sent c.ask_again.new.net) }) (between_then (PreparesOnly c.args.epoch) (PreparesOnly c.args.epoch) (PreparesOnly c.args.epoch) (only_then c.args.epoch) (g.P.Power.stopped c.args.power.now) (g.P.Power.stopped c.asking.power) (g.P.Power.stopped c.exchange.new.power) (record { cores = c.args.cores.now; chief = chief_of c.args.chief.now; sent = (g.N.Net.sent c.args.net.now) }) (record { cores = c.asking.cores; chief = chief_of c.asking.chief; sent = (g.N.Net.sent c.asking.net) }) (record { cores = c.exchange.new.cores; chief = chief_of c.exchange.new.chief; sent = (g.N.Net.sent c.exchange.new.net) }) before.world c.in_ok-stops.ensures.world)
           (between_on SameEntries SameEntries (g.P.Power.stopped c.exchange.new.power) (g.P.Power.stopped c.exchange.new.power) (record { cores = c.exchange.new.cores; chief = chief_of c.exchange.new.chief; sent = (g.N.Net.sent c.exchange.new.net) }) (record { cores = c.exchange.new.cores; chief = chief_of c.exchange.new.chief; sent = (g.N.Net.sent c.ask_again.new.net) }) (λ w v _ same. same) (λ n lt. omega arith) (c.in_ok-ask_again-in-None.ensures.world c.exchange.new.cores (chief_of c.exchange.new.chief)));
-      later = later_then g.P.Power.stops_seen g.P.Power.early_stops g.P.Power.stopped g.P.Power.begun g.P.Power.asked c.args.power.now c.asking.power c.exchange.new.power before.later c.exchange.ensures.later;
-      net = (gives_then (g.N.Net.given c.args.net.now) (g.N.Net.faults c.args.net.now) (g.N.Net.last_seed c.args.net.now) (g.N.Net.given c.exchange.new.net) (g.N.Net.faults c.exchange.new.net) (g.N.Net.last_seed c.exchange.new.net) (g.N.Net.given c.ask_again.new.net) (g.N.Net.faults c.ask_again.new.net) (g.N.Net.last_seed c.ask_again.new.net) (gives_then (g.N.Net.given c.args.net.now) (g.N.Net.faults c.args.net.now) (g.N.Net.last_seed c.args.net.now) (g.N.Net.given c.asking.net) (g.N.Net.faults c.asking.net) (g.N.Net.last_seed c.asking.net) (g.N.Net.given c.exchange.new.net) (g.N.Net.faults c.exchange.new.net) (g.N.Net.last_seed c.exchange.new.net) before.net c.exchange.ensures.net) (gives_counts (g.N.Net.given c.exchange.new.net) (g.N.Net.faults c.exchange.new.net) (g.N.Net.last_seed c.exchange.new.net) (g.N.Net.given c.ask_again.new.net) (g.N.Net.faults c.ask_again.new.net) (g.N.Net.last_seed c.ask_again.new.net) c.ask_again.ensures.counts));
     }
 
 pub asking-smaller : goal.asking-smaller
@@ -175,45 +157,15 @@ returns-in_err-stops-clause-files g c k hold held may nodes logs rests =
     let one = before.files k hold held may nodes logs rests in
     let p = err_from_is_err_and c.from_residual.result c.from_residual.ensures.1 in
     record {
-      keeps = keeps_then g.H.Host.moment g.H.Host.observed g.H.Host.said g.H.Host.reads g.H.Host.may_leave k b c.args.host.now c.asking.host c.exchange.new.host one.0 (c.exchange.ensures.files k hold (held_still hold c.args.voters.now c.asking.voters before.places held) may (nodes ∙ sym many) (logs_still k c.args.voters.now c.asking.voters before.places logs) one.1).keeps;
+      keeps = keeps_then g.H.Host k b c.args.host.now c.asking.host c.exchange.new.host one.0 (c.exchange.ensures.files k hold (held_still hold c.args.voters.now c.asking.voters before.rest.places held) may (nodes ∙ sym many) (logs_still k c.args.voters.now c.asking.voters before.rest.places logs) one.1).keeps;
       ok = none_ok c.from_residual.result p.0 (RestsVoted k b (have_durable c.args.epoch c.exchange.new.cores) (g.H.Host.reads c.exchange.new.host) (g.H.Host.may_leave c.exchange.new.host)) p.1;
     }
-
-pub returns-in_err-stops-clause-places : goal.returns-in_err-stops-clause-places
-returns-in_err-stops-clause-places g c =
-    let before = c.asking.invariant in
-    places_then c.args.voters.now c.asking.voters c.exchange.new.voters before.places c.exchange.ensures.places
-
-pub returns-in_err-stops-clause-others : goal.returns-in_err-stops-clause-others
-returns-in_err-stops-clause-others g c =
-    let before = c.asking.invariant in
-    λ other away stands. c.exchange.ensures.others other (elsewhere_still c.args.voters.now c.asking.voters other before.places away) (before.others other away stands)
-
-pub returns-in_err-stops-clause-said : goal.returns-in_err-stops-clause-said
-returns-in_err-stops-clause-said g c =
-    let before = c.asking.invariant in
-    c.exchange.ensures.said ∙ before.said
-
-pub returns-in_err-stops-clause-stream : goal.returns-in_err-stops-clause-stream
-returns-in_err-stops-clause-stream g c =
-    let before = c.asking.invariant in
-    c.exchange.ensures.stream ∙ before.stream
-
-pub returns-in_err-stops-clause-later : goal.returns-in_err-stops-clause-later
-returns-in_err-stops-clause-later g c =
-    let before = c.asking.invariant in
-    later_then g.P.Power.stops_seen g.P.Power.early_stops g.P.Power.stopped g.P.Power.begun g.P.Power.asked c.args.power.now c.asking.power c.exchange.new.power before.later c.exchange.ensures.later
-
-pub returns-in_err-stops-clause-net : goal.returns-in_err-stops-clause-net
-returns-in_err-stops-clause-net g c =
-    let before = c.asking.invariant in
-    (gives_then (g.N.Net.given c.args.net.now) (g.N.Net.faults c.args.net.now) (g.N.Net.last_seed c.args.net.now) (g.N.Net.given c.asking.net) (g.N.Net.faults c.asking.net) (g.N.Net.last_seed c.asking.net) (g.N.Net.given c.exchange.new.net) (g.N.Net.faults c.exchange.new.net) (g.N.Net.last_seed c.exchange.new.net) before.net c.exchange.ensures.net)
 
 pub returns-then-is_early-clause-answer : goal.returns-then-is_early-clause-answer
 returns-then-is_early-clause-answer g c =
     let before = c.asking.invariant in
     let lost : has_lost c.in_ok-stops.stops ≡ true = sym c.is_early.ensures ∙ c.if-is_early.true in
-    let was : HasCounted c.args.epoch (IsAye c.args.epoch before.net.more) (chief_of c.asking.chief) = before.counting before.net.more before.net.gives in
+    let was : HasCounted c.args.epoch (IsAye c.args.epoch before.rest.net.more) (chief_of c.asking.chief) = before.counting before.rest.net.more before.rest.net.gives in
     λ given is. (
       subst (λ (x : ℕ). x < g.P.Power.early_stops c.exchange.new.power) before.early (early_more c.in_ok-stops.stops (g.P.Power.stops_seen c.asking.power) (g.P.Power.early_stops c.asking.power) (g.P.Power.stops_seen c.exchange.new.power) (g.P.Power.early_stops c.exchange.new.power) lost c.in_ok-stops.ensures.stops),
       ap (λ (x : Chief). x.current) (c.in_ok-stops.ensures.lost lost) ∙ was.current,
@@ -228,9 +180,9 @@ returns-then-is_early-clause-nodes g c =
 pub returns-then-is_early-clause-were_sent : goal.returns-then-is_early-clause-were_sent
 returns-then-is_early-clause-were_sent g c given p is among =
     let before = c.asking.invariant in
-    elim (Contains-append_cases before.net.more c.exchange.ensures.net.more p (subst (λ (ps : List Posted). Contains ps p) (since_both (g.N.Net.given c.args.net.now) (g.N.Net.given c.asking.net) (g.N.Net.given c.exchange.new.net) before.net.more c.exchange.ensures.net.more given before.net.gives c.exchange.ensures.net.gives is) among)) [
-      | inl first ↦ adds_left (g.N.Net.sent c.asking.net) (g.N.Net.sent c.exchange.new.net) p c.in_ok-stops.ensures.says (before.were_sent before.net.more p before.net.gives first)
-      | inr second ↦ c.in_ok-stops.ensures.were_sent c.exchange.ensures.net.more p c.exchange.ensures.net.gives second
+    elim (Contains-append_cases before.rest.net.more c.exchange.ensures.rest.net.more p (subst (λ (ps : List Posted). Contains ps p) (since_both (g.N.Net.given c.args.net.now) (g.N.Net.given c.asking.net) (g.N.Net.given c.exchange.new.net) before.rest.net.more c.exchange.ensures.rest.net.more given before.rest.net.gives c.exchange.ensures.rest.net.gives is) among)) [
+      | inl first ↦ adds_left (g.N.Net.sent c.asking.net) (g.N.Net.sent c.exchange.new.net) p c.in_ok-stops.ensures.says (before.were_sent before.rest.net.more p before.rest.net.gives first)
+      | inr second ↦ c.in_ok-stops.ensures.were_sent c.exchange.ensures.rest.net.more p c.exchange.ensures.rest.net.gives second
     ]
 
 pub returns-then-is_early-clause-says : goal.returns-then-is_early-clause-says
@@ -244,66 +196,36 @@ returns-then-is_early-clause-files g c k hold held may nodes logs rests =
     let b : Ballot = record { epoch = c.args.epoch; pieces = c.args.pieces.now; held = hold } in
     let many : length c.asking.cores ≡ length c.args.cores.now = omega (arith, c.asking.auto.cores) in
     let one = before.files k hold held may nodes logs rests in
-    record { keeps = keeps_then g.H.Host.moment g.H.Host.observed g.H.Host.said g.H.Host.reads g.H.Host.may_leave k b c.args.host.now c.asking.host c.exchange.new.host one.0 (c.exchange.ensures.files k hold (held_still hold c.args.voters.now c.asking.voters before.places held) may (nodes ∙ sym many) (logs_still k c.args.voters.now c.asking.voters before.places logs) one.1).keeps; ok = (c.in_ok-stops.ensures.files k hold (held_still hold c.args.voters.now c.asking.voters before.places held) may (nodes ∙ sym many) (logs_still k c.args.voters.now c.asking.voters before.places logs) one.1).ok }
-
-pub returns-then-is_early-clause-places : goal.returns-then-is_early-clause-places
-returns-then-is_early-clause-places g c =
-    let before = c.asking.invariant in
-    places_then c.args.voters.now c.asking.voters c.exchange.new.voters before.places c.exchange.ensures.places
-
-pub returns-then-is_early-clause-others : goal.returns-then-is_early-clause-others
-returns-then-is_early-clause-others g c =
-    let before = c.asking.invariant in
-    λ other away stands. c.exchange.ensures.others other (elsewhere_still c.args.voters.now c.asking.voters other before.places away) (before.others other away stands)
-
-pub returns-then-is_early-clause-said : goal.returns-then-is_early-clause-said
-returns-then-is_early-clause-said g c =
-    let before = c.asking.invariant in
-    c.exchange.ensures.said ∙ before.said
+    record { keeps = keeps_then g.H.Host k b c.args.host.now c.asking.host c.exchange.new.host one.0 (c.exchange.ensures.files k hold (held_still hold c.args.voters.now c.asking.voters before.rest.places held) may (nodes ∙ sym many) (logs_still k c.args.voters.now c.asking.voters before.rest.places logs) one.1).keeps; ok = (c.in_ok-stops.ensures.files k hold (held_still hold c.args.voters.now c.asking.voters before.rest.places held) may (nodes ∙ sym many) (logs_still k c.args.voters.now c.asking.voters before.rest.places logs) one.1).ok }
 
 pub returns-then-is_early-clause-disk : goal.returns-then-is_early-clause-disk
 returns-then-is_early-clause-disk g c =
     let before = c.asking.invariant in
     c.in_ok-stops.ensures.disk ∙ before.disk
 
-pub returns-then-is_early-clause-stream : goal.returns-then-is_early-clause-stream
-returns-then-is_early-clause-stream g c =
-    let before = c.asking.invariant in
-    c.exchange.ensures.stream ∙ before.stream
-
 pub returns-then-is_early-clause-world : goal.returns-then-is_early-clause-world
 returns-then-is_early-clause-world g c =
     let before = c.asking.invariant in
     (between_then (PreparesOnly c.args.epoch) (PreparesOnly c.args.epoch) (PreparesOnly c.args.epoch) (only_then c.args.epoch) (g.P.Power.stopped c.args.power.now) (g.P.Power.stopped c.asking.power) (g.P.Power.stopped c.exchange.new.power) (record { cores = c.args.cores.now; chief = chief_of c.args.chief.now; sent = (g.N.Net.sent c.args.net.now) }) (record { cores = c.asking.cores; chief = chief_of c.asking.chief; sent = (g.N.Net.sent c.asking.net) }) (record { cores = c.exchange.new.cores; chief = chief_of c.exchange.new.chief; sent = (g.N.Net.sent c.exchange.new.net) }) before.world c.in_ok-stops.ensures.world)
-
-pub returns-then-is_early-clause-later : goal.returns-then-is_early-clause-later
-returns-then-is_early-clause-later g c =
-    let before = c.asking.invariant in
-    later_then g.P.Power.stops_seen g.P.Power.early_stops g.P.Power.stopped g.P.Power.begun g.P.Power.asked c.args.power.now c.asking.power c.exchange.new.power before.later c.exchange.ensures.later
-
-pub returns-then-is_early-clause-net : goal.returns-then-is_early-clause-net
-returns-then-is_early-clause-net g c =
-    let before = c.asking.invariant in
-    (gives_then (g.N.Net.given c.args.net.now) (g.N.Net.faults c.args.net.now) (g.N.Net.last_seed c.args.net.now) (g.N.Net.given c.asking.net) (g.N.Net.faults c.asking.net) (g.N.Net.last_seed c.asking.net) (g.N.Net.given c.exchange.new.net) (g.N.Net.faults c.exchange.new.net) (g.N.Net.last_seed c.exchange.new.net) before.net c.exchange.ensures.net)
 
 pub returns-in-Some-clause-answer : goal.returns-in-Some-clause-answer
 returns-in-Some-clause-answer g c =
     let before = c.asking.invariant in
     let going : has_lost c.in_ok-stops.stops ≡ false = sym c.is_early.ensures ∙ c.if-is_early.false in
     let voting : AreVoting c.args.epoch c.exchange.new.cores = unless_kept c.in_ok-stops.stops (AreVoting c.args.epoch c.exchange.new.cores) going c.in_ok-stops.ensures.voting in
-    let was : HasCounted c.args.epoch (IsAye c.args.epoch before.net.more) (chief_of c.asking.chief) = before.counting before.net.more before.net.gives in
-    let now : HasCounted c.args.epoch (IsAye c.args.epoch (before.net.more ++ c.exchange.ensures.net.more)) (chief_of c.exchange.new.chief) = unless_kept c.in_ok-stops.stops ((given more : List Posted) → HasCounted c.args.epoch (IsAye c.args.epoch given) (chief_of c.asking.chief) → (g.N.Net.given c.exchange.new.net) ≡ (g.N.Net.given c.asking.net) ++ more → HasCounted c.args.epoch (IsAye c.args.epoch (given ++ more)) (chief_of c.exchange.new.chief)) going c.in_ok-stops.ensures.counted before.net.more c.exchange.ensures.net.more was c.exchange.ensures.net.gives in
+    let was : HasCounted c.args.epoch (IsAye c.args.epoch before.rest.net.more) (chief_of c.asking.chief) = before.counting before.rest.net.more before.rest.net.gives in
+    let now : HasCounted c.args.epoch (IsAye c.args.epoch (before.rest.net.more ++ c.exchange.ensures.rest.net.more)) (chief_of c.exchange.new.chief) = unless_kept c.in_ok-stops.stops ((given more : List Posted) → HasCounted c.args.epoch (IsAye c.args.epoch given) (chief_of c.asking.chief) → (g.N.Net.given c.exchange.new.net) ≡ (g.N.Net.given c.asking.net) ++ more → HasCounted c.args.epoch (IsAye c.args.epoch (given ++ more)) (chief_of c.exchange.new.chief)) going c.in_ok-stops.ensures.counted before.rest.net.more c.exchange.ensures.rest.net.more was c.exchange.ensures.rest.net.gives in
     let nodes : (chief_of c.exchange.new.chief).nodes ≡ length c.args.cores.now = omega (arith, c.exchange.ensures.nodes, before.nodes, c.requires.nodes) in
     let many : length c.asking.cores ≡ length c.args.cores.now = omega (arith, c.asking.auto.cores) in
     λ given is.
-    let both : given ≡ before.net.more ++ c.exchange.ensures.net.more = (since_both (g.N.Net.given c.args.net.now) (g.N.Net.given c.asking.net) (g.N.Net.given c.exchange.new.net) before.net.more c.exchange.ensures.net.more given before.net.gives c.exchange.ensures.net.gives is) in
+    let both : given ≡ before.rest.net.more ++ c.exchange.ensures.rest.net.more = (since_both (g.N.Net.given c.args.net.now) (g.N.Net.given c.asking.net) (g.N.Net.given c.exchange.new.net) before.rest.net.more c.exchange.ensures.rest.net.more given before.rest.net.gives c.exchange.ensures.rest.net.gives is) in
     comes_by c.in-Some.votes c.args.epoch c.args.nodes (c.asking.counted + c.exchanges-counted.result) c.exchange.new.cores (g.N.Net.sent c.exchange.new.net) given (g.P.Power.asked c.exchange.new.power) (chief_of c.exchange.new.chief) (g.N.Net.faults c.args.net.now) (g.N.Net.faults c.exchange.new.net) (g.P.Power.early_stops c.args.power.now) (g.P.Power.early_stops c.exchange.new.power) c.in-Some.ensures (nodes ∙ sym c.requires.count)
     (subst (λ (ps : List Posted). HasCounted c.args.epoch (IsAye c.args.epoch ps) (chief_of c.exchange.new.chief)) (sym both) now) voting c.in_ok-stops.ensures.told
-    (λ n among. elim (Contains-append_cases before.net.more c.exchange.ensures.net.more (vote_of n c.args.epoch true) (subst (λ (ps : List Posted). Contains ps (vote_of n c.args.epoch true)) both among)) [
-      | inl first ↦ adds_left (g.N.Net.sent c.asking.net) (g.N.Net.sent c.exchange.new.net) (vote_of n c.args.epoch true) c.in_ok-stops.ensures.says (before.were_sent before.net.more (vote_of n c.args.epoch true) before.net.gives first)
-      | inr second ↦ c.in_ok-stops.ensures.were_sent c.exchange.ensures.net.more (vote_of n c.args.epoch true) c.exchange.ensures.net.gives second
+    (λ n among. elim (Contains-append_cases before.rest.net.more c.exchange.ensures.rest.net.more (vote_of n c.args.epoch true) (subst (λ (ps : List Posted). Contains ps (vote_of n c.args.epoch true)) both among)) [
+      | inl first ↦ adds_left (g.N.Net.sent c.asking.net) (g.N.Net.sent c.exchange.new.net) (vote_of n c.args.epoch true) c.in_ok-stops.ensures.says (before.were_sent before.rest.net.more (vote_of n c.args.epoch true) before.rest.net.gives first)
+      | inr second ↦ c.in_ok-stops.ensures.were_sent c.exchange.ensures.rest.net.more (vote_of n c.args.epoch true) c.exchange.ensures.rest.net.gives second
     ])
-    (λ node within missing. let first : node < length c.args.cores.now = omega (arith, within, c.requires.count) in let less : node < (chief_of c.exchange.new.chief).nodes = omega (arith, first, nodes) in subst (λ (x : ℕ). (g.N.Net.faults c.args.net.now) + (c.asking.counted + x) ≤ (g.N.Net.faults c.exchange.new.net)) (sym c.exchanges-counted.ensures) (lost_more c.in_ok-stops.stops (g.N.Net.faults c.args.net.now) c.asking.counted (g.N.Net.faults c.asking.net) (g.N.Net.faults c.exchange.new.net) before.lost c.exchange.ensures.net.faults_rise (λ never same. not_more c.args.epoch before.net.more c.exchange.ensures.net.more (chief_of c.asking.chief) (chief_of c.exchange.new.chief) was now node less missing (c.in_ok-stops.ensures.votes never c.exchange.ensures.net.more c.exchange.ensures.net.gives same node (omega (arith, first, many)) (before.fresh node first (was_missing c.args.epoch before.net.more c.exchange.ensures.net.more (chief_of c.asking.chief) (chief_of c.exchange.new.chief) was now node less missing))))))
+    (λ node within missing. let first : node < length c.args.cores.now = omega (arith, within, c.requires.count) in let less : node < (chief_of c.exchange.new.chief).nodes = omega (arith, first, nodes) in subst (λ (x : ℕ). (g.N.Net.faults c.args.net.now) + (c.asking.counted + x) ≤ (g.N.Net.faults c.exchange.new.net)) (sym c.exchanges-counted.ensures) (lost_more c.in_ok-stops.stops (g.N.Net.faults c.args.net.now) c.asking.counted (g.N.Net.faults c.asking.net) (g.N.Net.faults c.exchange.new.net) before.lost c.exchange.ensures.rest.net.faults_rise (λ never same. not_more c.args.epoch before.rest.net.more c.exchange.ensures.rest.net.more (chief_of c.asking.chief) (chief_of c.exchange.new.chief) was now node less missing (c.in_ok-stops.ensures.votes never c.exchange.ensures.rest.net.more c.exchange.ensures.rest.net.gives same node (omega (arith, first, many)) (before.fresh node first (was_missing c.args.epoch before.rest.net.more c.exchange.ensures.rest.net.more (chief_of c.asking.chief) (chief_of c.exchange.new.chief) was now node less missing))))))
     (early_same c.in_ok-stops.stops (g.P.Power.stops_seen c.asking.power) (g.P.Power.early_stops c.asking.power) (g.P.Power.stops_seen c.exchange.new.power) (g.P.Power.early_stops c.exchange.new.power) going c.in_ok-stops.ensures.stops ∙ before.early)
 
 pub returns-in-Some-clause-nodes : goal.returns-in-Some-clause-nodes
@@ -314,9 +236,9 @@ returns-in-Some-clause-nodes g c =
 pub returns-in-Some-clause-were_sent : goal.returns-in-Some-clause-were_sent
 returns-in-Some-clause-were_sent g c given p is among =
     let before = c.asking.invariant in
-    elim (Contains-append_cases before.net.more c.exchange.ensures.net.more p (subst (λ (ps : List Posted). Contains ps p) (since_both (g.N.Net.given c.args.net.now) (g.N.Net.given c.asking.net) (g.N.Net.given c.exchange.new.net) before.net.more c.exchange.ensures.net.more given before.net.gives c.exchange.ensures.net.gives is) among)) [
-      | inl first ↦ adds_left (g.N.Net.sent c.asking.net) (g.N.Net.sent c.exchange.new.net) p c.in_ok-stops.ensures.says (before.were_sent before.net.more p before.net.gives first)
-      | inr second ↦ c.in_ok-stops.ensures.were_sent c.exchange.ensures.net.more p c.exchange.ensures.net.gives second
+    elim (Contains-append_cases before.rest.net.more c.exchange.ensures.rest.net.more p (subst (λ (ps : List Posted). Contains ps p) (since_both (g.N.Net.given c.args.net.now) (g.N.Net.given c.asking.net) (g.N.Net.given c.exchange.new.net) before.rest.net.more c.exchange.ensures.rest.net.more given before.rest.net.gives c.exchange.ensures.rest.net.gives is) among)) [
+      | inl first ↦ adds_left (g.N.Net.sent c.asking.net) (g.N.Net.sent c.exchange.new.net) p c.in_ok-stops.ensures.says (before.were_sent before.rest.net.more p before.rest.net.gives first)
+      | inr second ↦ c.in_ok-stops.ensures.were_sent c.exchange.ensures.rest.net.more p c.exchange.ensures.rest.net.gives second
     ]
 
 pub returns-in-Some-clause-says : goal.returns-in-Some-clause-says
@@ -330,47 +252,17 @@ returns-in-Some-clause-files g c k hold held may nodes logs rests =
     let b : Ballot = record { epoch = c.args.epoch; pieces = c.args.pieces.now; held = hold } in
     let many : length c.asking.cores ≡ length c.args.cores.now = omega (arith, c.asking.auto.cores) in
     let one = before.files k hold held may nodes logs rests in
-    record { keeps = keeps_then g.H.Host.moment g.H.Host.observed g.H.Host.said g.H.Host.reads g.H.Host.may_leave k b c.args.host.now c.asking.host c.exchange.new.host one.0 (c.exchange.ensures.files k hold (held_still hold c.args.voters.now c.asking.voters before.places held) may (nodes ∙ sym many) (logs_still k c.args.voters.now c.asking.voters before.places logs) one.1).keeps; ok = (c.in_ok-stops.ensures.files k hold (held_still hold c.args.voters.now c.asking.voters before.places held) may (nodes ∙ sym many) (logs_still k c.args.voters.now c.asking.voters before.places logs) one.1).ok }
-
-pub returns-in-Some-clause-places : goal.returns-in-Some-clause-places
-returns-in-Some-clause-places g c =
-    let before = c.asking.invariant in
-    places_then c.args.voters.now c.asking.voters c.exchange.new.voters before.places c.exchange.ensures.places
-
-pub returns-in-Some-clause-others : goal.returns-in-Some-clause-others
-returns-in-Some-clause-others g c =
-    let before = c.asking.invariant in
-    λ other away stands. c.exchange.ensures.others other (elsewhere_still c.args.voters.now c.asking.voters other before.places away) (before.others other away stands)
-
-pub returns-in-Some-clause-said : goal.returns-in-Some-clause-said
-returns-in-Some-clause-said g c =
-    let before = c.asking.invariant in
-    c.exchange.ensures.said ∙ before.said
+    record { keeps = keeps_then g.H.Host k b c.args.host.now c.asking.host c.exchange.new.host one.0 (c.exchange.ensures.files k hold (held_still hold c.args.voters.now c.asking.voters before.rest.places held) may (nodes ∙ sym many) (logs_still k c.args.voters.now c.asking.voters before.rest.places logs) one.1).keeps; ok = (c.in_ok-stops.ensures.files k hold (held_still hold c.args.voters.now c.asking.voters before.rest.places held) may (nodes ∙ sym many) (logs_still k c.args.voters.now c.asking.voters before.rest.places logs) one.1).ok }
 
 pub returns-in-Some-clause-disk : goal.returns-in-Some-clause-disk
 returns-in-Some-clause-disk g c =
     let before = c.asking.invariant in
     c.in_ok-stops.ensures.disk ∙ before.disk
 
-pub returns-in-Some-clause-stream : goal.returns-in-Some-clause-stream
-returns-in-Some-clause-stream g c =
-    let before = c.asking.invariant in
-    c.exchange.ensures.stream ∙ before.stream
-
 pub returns-in-Some-clause-world : goal.returns-in-Some-clause-world
 returns-in-Some-clause-world g c =
     let before = c.asking.invariant in
     (between_then (PreparesOnly c.args.epoch) (PreparesOnly c.args.epoch) (PreparesOnly c.args.epoch) (only_then c.args.epoch) (g.P.Power.stopped c.args.power.now) (g.P.Power.stopped c.asking.power) (g.P.Power.stopped c.exchange.new.power) (record { cores = c.args.cores.now; chief = chief_of c.args.chief.now; sent = (g.N.Net.sent c.args.net.now) }) (record { cores = c.asking.cores; chief = chief_of c.asking.chief; sent = (g.N.Net.sent c.asking.net) }) (record { cores = c.exchange.new.cores; chief = chief_of c.exchange.new.chief; sent = (g.N.Net.sent c.exchange.new.net) }) before.world c.in_ok-stops.ensures.world)
-
-pub returns-in-Some-clause-later : goal.returns-in-Some-clause-later
-returns-in-Some-clause-later g c =
-    let before = c.asking.invariant in
-    later_then g.P.Power.stops_seen g.P.Power.early_stops g.P.Power.stopped g.P.Power.begun g.P.Power.asked c.args.power.now c.asking.power c.exchange.new.power before.later c.exchange.ensures.later
-
-pub returns-in-Some-clause-net : goal.returns-in-Some-clause-net
-returns-in-Some-clause-net g c =
-    let before = c.asking.invariant in
-    (gives_then (g.N.Net.given c.args.net.now) (g.N.Net.faults c.args.net.now) (g.N.Net.last_seed c.args.net.now) (g.N.Net.given c.asking.net) (g.N.Net.faults c.asking.net) (g.N.Net.last_seed c.asking.net) (g.N.Net.given c.exchange.new.net) (g.N.Net.faults c.exchange.new.net) (g.N.Net.last_seed c.exchange.new.net) before.net c.exchange.ensures.net)
 
 pub returns-in_err-ask_again-in-None-clause-nodes : goal.returns-in_err-ask_again-in-None-clause-nodes
 returns-in_err-ask_again-in-None-clause-nodes g c =
@@ -385,39 +277,9 @@ returns-in_err-ask_again-in-None-clause-files g c k hold held may nodes logs res
     let one = before.files k hold held may nodes logs rests in
     let p = err_from_is_err_and c.from_residual-in_err-ask_again-in-None.result c.from_residual-in_err-ask_again-in-None.ensures.1 in
     record {
-      keeps = keeps_then g.H.Host.moment g.H.Host.observed g.H.Host.said g.H.Host.reads g.H.Host.may_leave k b c.args.host.now c.asking.host c.exchange.new.host one.0 (c.exchange.ensures.files k hold (held_still hold c.args.voters.now c.asking.voters before.places held) may (nodes ∙ sym many) (logs_still k c.args.voters.now c.asking.voters before.places logs) one.1).keeps;
+      keeps = keeps_then g.H.Host k b c.args.host.now c.asking.host c.exchange.new.host one.0 (c.exchange.ensures.files k hold (held_still hold c.args.voters.now c.asking.voters before.rest.places held) may (nodes ∙ sym many) (logs_still k c.args.voters.now c.asking.voters before.rest.places logs) one.1).keeps;
       ok = none_ok c.from_residual-in_err-ask_again-in-None.result p.0 (RestsVoted k b (have_durable c.args.epoch c.exchange.new.cores) (g.H.Host.reads c.exchange.new.host) (g.H.Host.may_leave c.exchange.new.host)) p.1;
     }
-
-pub returns-in_err-ask_again-in-None-clause-places : goal.returns-in_err-ask_again-in-None-clause-places
-returns-in_err-ask_again-in-None-clause-places g c =
-    let before = c.asking.invariant in
-    places_then c.args.voters.now c.asking.voters c.exchange.new.voters before.places c.exchange.ensures.places
-
-pub returns-in_err-ask_again-in-None-clause-others : goal.returns-in_err-ask_again-in-None-clause-others
-returns-in_err-ask_again-in-None-clause-others g c =
-    let before = c.asking.invariant in
-    λ other away stands. c.exchange.ensures.others other (elsewhere_still c.args.voters.now c.asking.voters other before.places away) (before.others other away stands)
-
-pub returns-in_err-ask_again-in-None-clause-said : goal.returns-in_err-ask_again-in-None-clause-said
-returns-in_err-ask_again-in-None-clause-said g c =
-    let before = c.asking.invariant in
-    c.exchange.ensures.said ∙ before.said
-
-pub returns-in_err-ask_again-in-None-clause-stream : goal.returns-in_err-ask_again-in-None-clause-stream
-returns-in_err-ask_again-in-None-clause-stream g c =
-    let before = c.asking.invariant in
-    c.exchange.ensures.stream ∙ before.stream
-
-pub returns-in_err-ask_again-in-None-clause-later : goal.returns-in_err-ask_again-in-None-clause-later
-returns-in_err-ask_again-in-None-clause-later g c =
-    let before = c.asking.invariant in
-    later_then g.P.Power.stops_seen g.P.Power.early_stops g.P.Power.stopped g.P.Power.begun g.P.Power.asked c.args.power.now c.asking.power c.exchange.new.power before.later c.exchange.ensures.later
-
-pub returns-in_err-ask_again-in-None-clause-net : goal.returns-in_err-ask_again-in-None-clause-net
-returns-in_err-ask_again-in-None-clause-net g c =
-    let before = c.asking.invariant in
-    (gives_then (g.N.Net.given c.args.net.now) (g.N.Net.faults c.args.net.now) (g.N.Net.last_seed c.args.net.now) (g.N.Net.given c.exchange.new.net) (g.N.Net.faults c.exchange.new.net) (g.N.Net.last_seed c.exchange.new.net) (g.N.Net.given c.ask_again.new.net) (g.N.Net.faults c.ask_again.new.net) (g.N.Net.last_seed c.ask_again.new.net) (gives_then (g.N.Net.given c.args.net.now) (g.N.Net.faults c.args.net.now) (g.N.Net.last_seed c.args.net.now) (g.N.Net.given c.asking.net) (g.N.Net.faults c.asking.net) (g.N.Net.last_seed c.asking.net) (g.N.Net.given c.exchange.new.net) (g.N.Net.faults c.exchange.new.net) (g.N.Net.last_seed c.exchange.new.net) before.net c.exchange.ensures.net) (gives_counts (g.N.Net.given c.exchange.new.net) (g.N.Net.faults c.exchange.new.net) (g.N.Net.last_seed c.exchange.new.net) (g.N.Net.given c.ask_again.new.net) (g.N.Net.faults c.ask_again.new.net) (g.N.Net.last_seed c.ask_again.new.net) c.ask_again.ensures.counts))
 
 pub overflow_add-counted : goal.overflow_add-counted
 overflow_add-counted g c =
@@ -431,80 +293,25 @@ returns-then-is_early-clause-cores g c = cores_then c.args.epoch c.args.cores.no
 pub returns-in-Some-clause-cores : goal.returns-in-Some-clause-cores
 returns-in-Some-clause-cores g c = cores_then c.args.epoch c.args.cores.now c.asking.cores c.exchange.new.cores c.asking.invariant.cores c.in_ok-stops.ensures.cores
 
-pub returns-in_err-stops-clause-read : goal.returns-in_err-stops-clause-read
-returns-in_err-stops-clause-read g c =
-    let before = c.asking.invariant in
-    become_then (SameElsewhere c.args.voters.now) (elsewhere_both c.args.voters.now) (g.H.Host.reads c.args.host.now) (g.H.Host.reads c.asking.host) (g.H.Host.reads c.exchange.new.host) before.read
-    (become_wider (SameElsewhere c.asking.voters) (SameElsewhere c.args.voters.now) (elsewhere_first c.args.voters.now c.asking.voters before.places) (g.H.Host.reads c.asking.host) (g.H.Host.reads c.exchange.new.host) c.exchange.ensures.read)
-
-pub returns-in_err-stops-clause-crash : goal.returns-in_err-stops-clause-crash
-returns-in_err-stops-clause-crash g c =
-    let before = c.asking.invariant in
-    follow_then (SameElsewhere c.args.voters.now) (elsewhere_both c.args.voters.now) (g.H.Host.may_leave c.args.host.now) (g.H.Host.may_leave c.asking.host) (g.H.Host.may_leave c.exchange.new.host) before.crash
-    (follow_wider (SameElsewhere c.asking.voters) (SameElsewhere c.args.voters.now) (elsewhere_first c.args.voters.now c.asking.voters before.places) (g.H.Host.may_leave c.asking.host) (g.H.Host.may_leave c.exchange.new.host) c.exchange.ensures.crash)
-
-pub returns-in_err-stops-clause-sent : goal.returns-in_err-stops-clause-sent
-returns-in_err-stops-clause-sent g c =
-    let before = c.asking.invariant in
-    sends_then (g.N.Net.sent c.args.net.now) (g.N.Net.sent c.asking.net) (g.N.Net.sent c.exchange.new.net) (sends_such (g.N.Net.sent c.args.net.now) (g.N.Net.sent c.asking.net) before.says) (c.exchange.ensures.sent)
-
-pub returns-then-is_early-clause-read : goal.returns-then-is_early-clause-read
-returns-then-is_early-clause-read g c =
-    let before = c.asking.invariant in
-    become_then (SameElsewhere c.args.voters.now) (elsewhere_both c.args.voters.now) (g.H.Host.reads c.args.host.now) (g.H.Host.reads c.asking.host) (g.H.Host.reads c.exchange.new.host) before.read
-    (become_wider (SameElsewhere c.asking.voters) (SameElsewhere c.args.voters.now) (elsewhere_first c.args.voters.now c.asking.voters before.places) (g.H.Host.reads c.asking.host) (g.H.Host.reads c.exchange.new.host) c.exchange.ensures.read)
-
-pub returns-then-is_early-clause-crash : goal.returns-then-is_early-clause-crash
-returns-then-is_early-clause-crash g c =
-    let before = c.asking.invariant in
-    follow_then (SameElsewhere c.args.voters.now) (elsewhere_both c.args.voters.now) (g.H.Host.may_leave c.args.host.now) (g.H.Host.may_leave c.asking.host) (g.H.Host.may_leave c.exchange.new.host) before.crash
-    (follow_wider (SameElsewhere c.asking.voters) (SameElsewhere c.args.voters.now) (elsewhere_first c.args.voters.now c.asking.voters before.places) (g.H.Host.may_leave c.asking.host) (g.H.Host.may_leave c.exchange.new.host) c.exchange.ensures.crash)
-
-pub returns-then-is_early-clause-sent : goal.returns-then-is_early-clause-sent
-returns-then-is_early-clause-sent g c =
-    let before = c.asking.invariant in
-    sends_then (g.N.Net.sent c.args.net.now) (g.N.Net.sent c.asking.net) (g.N.Net.sent c.exchange.new.net) (sends_such (g.N.Net.sent c.args.net.now) (g.N.Net.sent c.asking.net) before.says) (c.exchange.ensures.sent)
-
-pub returns-in-Some-clause-read : goal.returns-in-Some-clause-read
-returns-in-Some-clause-read g c =
-    let before = c.asking.invariant in
-    become_then (SameElsewhere c.args.voters.now) (elsewhere_both c.args.voters.now) (g.H.Host.reads c.args.host.now) (g.H.Host.reads c.asking.host) (g.H.Host.reads c.exchange.new.host) before.read
-    (become_wider (SameElsewhere c.asking.voters) (SameElsewhere c.args.voters.now) (elsewhere_first c.args.voters.now c.asking.voters before.places) (g.H.Host.reads c.asking.host) (g.H.Host.reads c.exchange.new.host) c.exchange.ensures.read)
-
-pub returns-in-Some-clause-crash : goal.returns-in-Some-clause-crash
-returns-in-Some-clause-crash g c =
-    let before = c.asking.invariant in
-    follow_then (SameElsewhere c.args.voters.now) (elsewhere_both c.args.voters.now) (g.H.Host.may_leave c.args.host.now) (g.H.Host.may_leave c.asking.host) (g.H.Host.may_leave c.exchange.new.host) before.crash
-    (follow_wider (SameElsewhere c.asking.voters) (SameElsewhere c.args.voters.now) (elsewhere_first c.args.voters.now c.asking.voters before.places) (g.H.Host.may_leave c.asking.host) (g.H.Host.may_leave c.exchange.new.host) c.exchange.ensures.crash)
-
-pub returns-in-Some-clause-sent : goal.returns-in-Some-clause-sent
-returns-in-Some-clause-sent g c =
-    let before = c.asking.invariant in
-    sends_then (g.N.Net.sent c.args.net.now) (g.N.Net.sent c.asking.net) (g.N.Net.sent c.exchange.new.net) (sends_such (g.N.Net.sent c.args.net.now) (g.N.Net.sent c.asking.net) before.says) (c.exchange.ensures.sent)
-
-pub returns-in_err-ask_again-in-None-clause-read : goal.returns-in_err-ask_again-in-None-clause-read
-returns-in_err-ask_again-in-None-clause-read g c =
-    let before = c.asking.invariant in
-    become_then (SameElsewhere c.args.voters.now) (elsewhere_both c.args.voters.now) (g.H.Host.reads c.args.host.now) (g.H.Host.reads c.asking.host) (g.H.Host.reads c.exchange.new.host) before.read
-    (become_wider (SameElsewhere c.asking.voters) (SameElsewhere c.args.voters.now) (elsewhere_first c.args.voters.now c.asking.voters before.places) (g.H.Host.reads c.asking.host) (g.H.Host.reads c.exchange.new.host) c.exchange.ensures.read)
-
-pub returns-in_err-ask_again-in-None-clause-crash : goal.returns-in_err-ask_again-in-None-clause-crash
-returns-in_err-ask_again-in-None-clause-crash g c =
-    let before = c.asking.invariant in
-    follow_then (SameElsewhere c.args.voters.now) (elsewhere_both c.args.voters.now) (g.H.Host.may_leave c.args.host.now) (g.H.Host.may_leave c.asking.host) (g.H.Host.may_leave c.exchange.new.host) before.crash
-    (follow_wider (SameElsewhere c.asking.voters) (SameElsewhere c.args.voters.now) (elsewhere_first c.args.voters.now c.asking.voters before.places) (g.H.Host.may_leave c.asking.host) (g.H.Host.may_leave c.exchange.new.host) c.exchange.ensures.crash)
-
-pub returns-in_err-ask_again-in-None-clause-sent : goal.returns-in_err-ask_again-in-None-clause-sent
-returns-in_err-ask_again-in-None-clause-sent g c =
-    let before = c.asking.invariant in
-    sends_then (g.N.Net.sent c.args.net.now) (g.N.Net.sent c.exchange.new.net) (g.N.Net.sent c.ask_again.new.net) (sends_then (g.N.Net.sent c.args.net.now) (g.N.Net.sent c.asking.net) (g.N.Net.sent c.exchange.new.net) (sends_such (g.N.Net.sent c.args.net.now) (g.N.Net.sent c.asking.net) before.says) (c.exchange.ensures.sent)) (c.ask_again.ensures.sent)
-
 pub returns-then-is_early-clause-whole : goal.returns-then-is_early-clause-whole
 returns-then-is_early-clause-whole g c =
     let before = c.asking.invariant in
-    all_whole_then (g.P.Power.stops_seen c.args.power.now) (g.P.Power.stops_seen c.asking.power) (g.P.Power.stops_seen c.exchange.new.power) c.args.voters.now c.asking.voters c.exchange.new.voters before.later.seen_rises c.exchange.ensures.later.seen_rises before.whole c.in_ok-stops.ensures.whole
+    all_whole_then (g.P.Power.stops_seen c.args.power.now) (g.P.Power.stops_seen c.asking.power) (g.P.Power.stops_seen c.exchange.new.power) c.args.voters.now c.asking.voters c.exchange.new.voters before.rest.later.seen_rises c.exchange.ensures.rest.later.seen_rises before.whole c.in_ok-stops.ensures.whole
 
 pub returns-in-Some-clause-whole : goal.returns-in-Some-clause-whole
 returns-in-Some-clause-whole g c =
     let before = c.asking.invariant in
-    all_whole_then (g.P.Power.stops_seen c.args.power.now) (g.P.Power.stops_seen c.asking.power) (g.P.Power.stops_seen c.exchange.new.power) c.args.voters.now c.asking.voters c.exchange.new.voters before.later.seen_rises c.exchange.ensures.later.seen_rises before.whole c.in_ok-stops.ensures.whole
+    all_whole_then (g.P.Power.stops_seen c.args.power.now) (g.P.Power.stops_seen c.asking.power) (g.P.Power.stops_seen c.exchange.new.power) c.args.voters.now c.asking.voters c.exchange.new.voters before.rest.later.seen_rises c.exchange.ensures.rest.later.seen_rises before.whole c.in_ok-stops.ensures.whole
+
+pub returns-in_err-stops-clause-rest : goal.returns-in_err-stops-clause-rest
+returns-in_err-stops-clause-rest g c = rest_then c.asking.invariant.rest c.exchange.ensures.rest
+
+pub returns-then-is_early-clause-rest : goal.returns-then-is_early-clause-rest
+returns-then-is_early-clause-rest g c = rest_then c.asking.invariant.rest c.exchange.ensures.rest
+
+pub returns-in-Some-clause-rest : goal.returns-in-Some-clause-rest
+returns-in-Some-clause-rest g c = rest_then c.asking.invariant.rest c.exchange.ensures.rest
+
+pub returns-in_err-ask_again-in-None-clause-rest : goal.returns-in_err-ask_again-in-None-clause-rest
+returns-in_err-ask_again-in-None-clause-rest g c =
+    rest_then (rest_then c.asking.invariant.rest c.exchange.ensures.rest) (rest_sends c.exchange.new.voters c.exchange.new.host c.exchange.new.net c.ask_again.new.net c.exchange.new.power c.ask_again.ensures.sent c.ask_again.ensures.counts)

@@ -5,16 +5,13 @@ use Rattle.coco_chief.specs.Table.{has_voted}
 use Rattle.coco_net.specs.declared.letter.Posted.{Posted}
 use Rattle.coco_letters.specs.Telling.{Adds, IsOfVote}
 use Rattle.coco_letters.specs.Worlds.{GoesBetween}
-use Rattle.coco_log.specs.LogState.{LogState}
-use Rattle.coco_host.specs.Files.{Become, Follows}
 use Rattle.coco_store.specs.Contents.{Contents}
-use Rattle.coco_append.specs.Gaining.{Stands}
-use Rattle.coco_vote.specs.Asking.{IsLater}
-use Rattle.coco_vote.specs.Counting.{prepare_of, GivesOn, HasCounted, IsAye}
+use Rattle.coco_vote.specs.Counting.{prepare_of, HasCounted, IsAye}
 use Rattle.coco_vote.specs.Nearing.{all_ahead}
 use Rattle.coco_vote.specs.Preparing.{have_durable, Ballot, KeepsVoted, MayForce, RestsVoted}
-use Rattle.coco_vote.specs.Taking.{AreHeld, AreMarked, AreReady, AreTold, AreVoting, HaveLogs, IsElsewhere, KeepPlaces, KeepsCores, SameElsewhere, StayWhole}
+use Rattle.coco_vote.specs.Taking.{AreHeld, AreMarked, AreReady, AreTold, AreVoting, HaveLogs, KeepsCores, StayWhole}
 use Rattle.coco_vote.specs.Voting.{PreparesOnly}
+use Rattle.coco_vote.specs.Keeping.{KeepsRest}
 use Rattle.coco_vote.proofs.phase.exchanges.Given as goal
 
 -- what came of the exchanges so far, and who is asked once more
@@ -37,19 +34,12 @@ invariant-asking g l = record {
   says : Adds (IsOfVote l.epoch) (g.N.Net.sent l.initial.net) (g.N.Net.sent l.net);
   files : (c : Contents) (hold : ℕ → List Bool) → let b : Ballot = record { epoch = l.epoch; pieces = l.pieces; held = hold } in
       AreHeld hold l.initial.voters → MayForce c b → c.setting.entry.layout.nodes ≡ length l.initial.cores → HaveLogs c l.initial.voters → RestsVoted c b (have_durable l.epoch l.initial.cores) (g.H.Host.reads l.initial.host) (g.H.Host.may_leave l.initial.host)
-      → KeepsVoted g.H.Host.moment g.H.Host.observed g.H.Host.said g.H.Host.may_leave c b l.initial.host l.host × RestsVoted c b (have_durable l.epoch l.cores) (g.H.Host.reads l.host) (g.H.Host.may_leave l.host);
+      → KeepsVoted g.H.Host c b l.initial.host l.host × RestsVoted c b (have_durable l.epoch l.cores) (g.H.Host.reads l.host) (g.H.Host.may_leave l.host);
   ready : AreReady l.voters (g.H.Host.reads l.host) (g.H.Host.may_leave l.host);
-  places : KeepPlaces l.initial.voters l.voters;
+  rest : KeepsRest g.H.Host g.N.Net g.P.Power l.initial.voters l.voters l.initial.host l.host l.initial.net l.net l.initial.power l.power;
   whole : StayWhole (g.P.Power.stops_seen l.initial.power) (g.P.Power.stops_seen l.power) l.initial.voters l.voters;
-  others : (other : LogState) → IsElsewhere other l.initial.voters → Stands other (g.H.Host.reads l.initial.host) (g.H.Host.may_leave l.initial.host) → Stands other (g.H.Host.reads l.host) (g.H.Host.may_leave l.host);
-  read : Become (SameElsewhere l.initial.voters) (g.H.Host.reads l.initial.host) (g.H.Host.reads l.host);
-  crash : Follows (SameElsewhere l.initial.voters) (g.H.Host.may_leave l.initial.host) (g.H.Host.may_leave l.host);
-  said : g.H.Host.said l.host ≡ g.H.Host.said l.initial.host;
   disk : g.H.Host.disk_faults l.host ≡ g.H.Host.disk_faults l.initial.host;
-  stream : g.H.Host.say_faults l.host ≡ g.H.Host.say_faults l.initial.host;
   world : GoesBetween (g.P.Power.stopped l.initial.power) (g.P.Power.stopped l.power) (PreparesOnly l.epoch) (record { cores = l.initial.cores; chief = chief_of l.initial.chief; sent = g.N.Net.sent l.initial.net }) (record { cores = l.cores; chief = chief_of l.chief; sent = g.N.Net.sent l.net });
-  later : IsLater g.P.Power.stops_seen g.P.Power.early_stops g.P.Power.stopped g.P.Power.begun g.P.Power.asked l.initial.power l.power;
-  net : GivesOn (g.N.Net.given l.initial.net) (g.N.Net.faults l.initial.net) (g.N.Net.last_seed l.initial.net) (g.N.Net.given l.net) (g.N.Net.faults l.net) (g.N.Net.last_seed l.net);
 }
 
 -- exchanges that are left to count, and what is ahead of the nodes

@@ -13,14 +13,11 @@ use Rattle.coco_vote.specs.Outcomes.{Comes}
 use Rattle.coco_vote.specs.Preparing.{have_durable, Ballot, RestsVoted}
 use Rattle.coco_vote.proofs.BeginningLemmas.{asks_each, begun_then, counted_begun, rests_new, told_new, voting_new}
 use Rattle.coco_vote.proofs.CountingLemmas.{told_still}
-use Rattle.coco_vote.proofs.GivingLemmas.{gives_counts, gives_then, since_both}
-use Rattle.coco_vote.proofs.PowerLemmas.{later_same}
+use Rattle.coco_vote.proofs.GivingLemmas.{since_both}
 use Rattle.coco_vote.proofs.PreparingLemmas.{keeps_same, none_ok}
 use Rattle.coco_vote.proofs.TakingLemmas.{fresh_has}
-use Rattle.coco_vote.proofs.VoterLemmas.{places_same}
-use Rattle.coco_letters.proofs.SendingLemmas.{sends_fresh, sends_then}
-use Rattle.coco_vote.proofs.FileLemmas.{become_none, elsewhere_same, follow_none}
-use Rattle.coco_vote.specs.Taking.{SameElsewhere}
+use Rattle.coco_letters.proofs.SendingLemmas.{sends_fresh}
+use Rattle.coco_vote.proofs.KeepingLemmas.{rest_sends, rest_then}
 use Rattle.coco_vote.proofs.phase.prepare.Goals as goal
 
 pub exchanges-requires-clause-nodes : goal.exchanges-requires-clause-nodes
@@ -52,21 +49,9 @@ returns-in_err-chief_begins-clause-files g c k hold held may nodes logs rests =
     let b : Ballot = record { epoch = c.args.epoch; pieces = c.args.pieces.now; held = hold } in
     let p = err_from_is_err_and c.from_residual.result c.from_residual.ensures.1 in
     record {
-      keeps = keeps_same g.H.Host.moment g.H.Host.observed g.H.Host.said g.H.Host.reads g.H.Host.may_leave k b g.met.H.Host.only_now (have_durable c.args.epoch c.args.cores.now) c.args.host.now (rests_new k b c.args.cores.now (g.H.Host.reads c.args.host.now) (g.H.Host.may_leave c.args.host.now) c.requires.some c.requires.new rests);
+      keeps = keeps_same g.H.Host k b g.met.H.Host.only_now (have_durable c.args.epoch c.args.cores.now) c.args.host.now (rests_new k b c.args.cores.now (g.H.Host.reads c.args.host.now) (g.H.Host.may_leave c.args.host.now) c.requires.some c.requires.new rests);
       ok = none_ok c.from_residual.result p.0 (RestsVoted k b (have_durable c.args.epoch c.args.cores.now) (g.H.Host.reads c.args.host.now) (g.H.Host.may_leave c.args.host.now)) p.1;
     }
-
-pub returns-in_err-chief_begins-clause-places : goal.returns-in_err-chief_begins-clause-places
-returns-in_err-chief_begins-clause-places g c =
-    places_same c.args.voters.now
-
-pub returns-in_err-chief_begins-clause-later : goal.returns-in_err-chief_begins-clause-later
-returns-in_err-chief_begins-clause-later g c =
-    later_same g.P.Power.stops_seen g.P.Power.early_stops g.P.Power.stopped g.P.Power.begun g.P.Power.asked c.args.power.now
-
-pub returns-in_err-chief_begins-clause-net : goal.returns-in_err-chief_begins-clause-net
-returns-in_err-chief_begins-clause-net g c =
-    (gives_counts (g.N.Net.given c.args.net.now) (g.N.Net.faults c.args.net.now) (g.N.Net.last_seed c.args.net.now) (g.N.Net.given c.chief_begins.new.net) (g.N.Net.faults c.chief_begins.new.net) (g.N.Net.last_seed c.chief_begins.new.net) c.chief_begins.ensures.counts)
 
 pub returns-in_err-votes-clause-nodes : goal.returns-in_err-votes-clause-nodes
 returns-in_err-votes-clause-nodes g c =
@@ -80,10 +65,6 @@ returns-in_err-votes-clause-files g c k hold held may nodes logs rests =
       keeps = (c.exchanges.ensures.files k hold held may nodes logs (rests_new k b c.args.cores.now (g.H.Host.reads c.args.host.now) (g.H.Host.may_leave c.args.host.now) c.requires.some c.requires.new rests)).keeps;
       ok = none_ok c.from_residual-in_err-votes.result p.0 (RestsVoted k b (have_durable c.args.epoch c.exchanges.new.cores) (g.H.Host.reads c.exchanges.new.host) (g.H.Host.may_leave c.exchanges.new.host)) p.1;
     }
-
-pub returns-in_err-votes-clause-net : goal.returns-in_err-votes-clause-net
-returns-in_err-votes-clause-net g c =
-    (gives_then (g.N.Net.given c.args.net.now) (g.N.Net.faults c.args.net.now) (g.N.Net.last_seed c.args.net.now) (g.N.Net.given c.chief_begins.new.net) (g.N.Net.faults c.chief_begins.new.net) (g.N.Net.last_seed c.chief_begins.new.net) (g.N.Net.given c.exchanges.new.net) (g.N.Net.faults c.exchanges.new.net) (g.N.Net.last_seed c.exchanges.new.net) (gives_counts (g.N.Net.given c.args.net.now) (g.N.Net.faults c.args.net.now) (g.N.Net.last_seed c.args.net.now) (g.N.Net.given c.chief_begins.new.net) (g.N.Net.faults c.chief_begins.new.net) (g.N.Net.last_seed c.chief_begins.new.net) c.chief_begins.ensures.counts) c.exchanges.ensures.net)
 
 pub returns-clause-answer : goal.returns-clause-answer
 returns-clause-answer g c =
@@ -119,24 +100,14 @@ returns-clause-world g c =
     begun_then (g.P.Power.stopped c.args.power.now) (g.P.Power.stopped c.exchanges.new.power) c.args.epoch (record { cores = c.args.cores.now; chief = chief_of c.args.chief.now; sent = (g.N.Net.sent c.args.net.now) }) (record { cores = c.args.cores.now; chief = chief_of c.chief_begins.new.chief; sent = (g.N.Net.sent c.chief_begins.new.net) }) (record { cores = c.exchanges.new.cores; chief = chief_of c.exchanges.new.chief; sent = (g.N.Net.sent c.exchanges.new.net) })
     (c.in_ok-chief_begins.ensures.world c.args.cores.now) c.in_ok-votes.ensures.world
 
-pub returns-clause-net : goal.returns-clause-net
-returns-clause-net g c =
-    (gives_then (g.N.Net.given c.args.net.now) (g.N.Net.faults c.args.net.now) (g.N.Net.last_seed c.args.net.now) (g.N.Net.given c.chief_begins.new.net) (g.N.Net.faults c.chief_begins.new.net) (g.N.Net.last_seed c.chief_begins.new.net) (g.N.Net.given c.exchanges.new.net) (g.N.Net.faults c.exchanges.new.net) (g.N.Net.last_seed c.exchanges.new.net) (gives_counts (g.N.Net.given c.args.net.now) (g.N.Net.faults c.args.net.now) (g.N.Net.last_seed c.args.net.now) (g.N.Net.given c.chief_begins.new.net) (g.N.Net.faults c.chief_begins.new.net) (g.N.Net.last_seed c.chief_begins.new.net) c.chief_begins.ensures.counts) c.exchanges.ensures.net)
+pub returns-in_err-chief_begins-clause-rest : goal.returns-in_err-chief_begins-clause-rest
+returns-in_err-chief_begins-clause-rest g c =
+    rest_sends c.args.voters.now c.args.host.now c.args.net.now c.chief_begins.new.net c.args.power.now (sends_fresh (g.N.Net.sent c.args.net.now) (g.N.Net.fresh c.args.net.now) (g.N.Net.sent c.chief_begins.new.net) (g.N.Net.fresh c.chief_begins.new.net) c.chief_begins.ensures.fresh) c.chief_begins.ensures.counts
 
-pub returns-in_err-chief_begins-clause-sent : goal.returns-in_err-chief_begins-clause-sent
-returns-in_err-chief_begins-clause-sent g c =
-    sends_fresh (g.N.Net.sent c.args.net.now) (g.N.Net.fresh c.args.net.now) (g.N.Net.sent c.chief_begins.new.net) (g.N.Net.fresh c.chief_begins.new.net) c.chief_begins.ensures.fresh
+pub returns-in_err-votes-clause-rest : goal.returns-in_err-votes-clause-rest
+returns-in_err-votes-clause-rest g c =
+    rest_then (rest_sends c.args.voters.now c.args.host.now c.args.net.now c.chief_begins.new.net c.args.power.now (sends_fresh (g.N.Net.sent c.args.net.now) (g.N.Net.fresh c.args.net.now) (g.N.Net.sent c.chief_begins.new.net) (g.N.Net.fresh c.chief_begins.new.net) c.chief_begins.ensures.fresh) c.chief_begins.ensures.counts) c.exchanges.ensures.rest
 
-pub returns-in_err-votes-clause-sent : goal.returns-in_err-votes-clause-sent
-returns-in_err-votes-clause-sent g c =
-    sends_then (g.N.Net.sent c.args.net.now) (g.N.Net.sent c.chief_begins.new.net) (g.N.Net.sent c.exchanges.new.net) (sends_fresh (g.N.Net.sent c.args.net.now) (g.N.Net.fresh c.args.net.now) (g.N.Net.sent c.chief_begins.new.net) (g.N.Net.fresh c.chief_begins.new.net) c.chief_begins.ensures.fresh) (c.exchanges.ensures.sent)
-
-pub returns-clause-sent : goal.returns-clause-sent
-returns-clause-sent g c =
-    sends_then (g.N.Net.sent c.args.net.now) (g.N.Net.sent c.chief_begins.new.net) (g.N.Net.sent c.exchanges.new.net) (sends_fresh (g.N.Net.sent c.args.net.now) (g.N.Net.fresh c.args.net.now) (g.N.Net.sent c.chief_begins.new.net) (g.N.Net.fresh c.chief_begins.new.net) c.chief_begins.ensures.fresh) (c.exchanges.ensures.sent)
-
-pub returns-in_err-chief_begins-clause-read : goal.returns-in_err-chief_begins-clause-read
-returns-in_err-chief_begins-clause-read g c = become_none (SameElsewhere c.args.voters.now) (elsewhere_same c.args.voters.now) (g.H.Host.reads c.args.host.now)
-
-pub returns-in_err-chief_begins-clause-crash : goal.returns-in_err-chief_begins-clause-crash
-returns-in_err-chief_begins-clause-crash g c = follow_none (SameElsewhere c.args.voters.now) (elsewhere_same c.args.voters.now) (g.H.Host.may_leave c.args.host.now)
+pub returns-clause-rest : goal.returns-clause-rest
+returns-clause-rest g c =
+    rest_then (rest_sends c.args.voters.now c.args.host.now c.args.net.now c.chief_begins.new.net c.args.power.now (sends_fresh (g.N.Net.sent c.args.net.now) (g.N.Net.fresh c.args.net.now) (g.N.Net.sent c.chief_begins.new.net) (g.N.Net.fresh c.chief_begins.new.net) c.chief_begins.ensures.fresh) c.chief_begins.ensures.counts) c.exchanges.ensures.rest

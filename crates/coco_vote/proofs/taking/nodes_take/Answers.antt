@@ -8,18 +8,16 @@ use Rattle.coco_letters.proofs.TellingLemmas.{adds_same, adds_then}
 use Rattle.coco_letters.proofs.WorldLemmas.{between_then}
 use Rattle.coco_vote.specs.Nearing.{all_ahead, Nears}
 use Rattle.coco_vote.specs.Preparing.{have_durable, Ballot, RestsVoted}
-use Rattle.coco_vote.specs.Taking.{has_lost, AreVoting, CountsStops, UnlessLost, SameElsewhere}
+use Rattle.coco_vote.specs.Taking.{has_lost, AreVoting, CountsStops, UnlessLost}
 use Rattle.coco_vote.specs.Voting.{PreparesOnly}
 use Rattle.coco_vote.proofs.NearLemmas.{near_one, nears_both}
-use Rattle.coco_vote.proofs.PowerLemmas.{later_same, later_then}
 use Rattle.coco_vote.proofs.PreparingLemmas.{keeps_same, keeps_then, none_ok}
 use Rattle.coco_vote.proofs.StepLemmas.{between_none, fresh_then, only_same, only_then}
 use Rattle.coco_vote.proofs.StopLemmas.{counts_both, never_both, stops_at, unless_both, unless_kept}
 use Rattle.coco_vote.proofs.TakingLemmas.{cores_then, cores_voting, knows_same}
-use Rattle.coco_vote.proofs.VoterLemmas.{apart_still, elsewhere_still, given_more, held_still, log_is_still, marked_set, places_same, places_set, places_then, ready_set}
+use Rattle.coco_vote.proofs.VoterLemmas.{apart_still, given_more, held_still, log_is_still, marked_set, ready_set}
 use Rattle.coco_vote.proofs.WholeLemmas.{all_whole_same, all_whole_then, whole_set}
-use Rattle.coco_vote.proofs.FileLemmas.{become_none, become_then, become_wider, but_elsewhere, elsewhere_both, elsewhere_same, follow_none, follow_then, follow_wider}
-use Rattle.coco_log.specs.LogState.{SameBut}
+use Rattle.coco_vote.proofs.KeepingLemmas.{rest_one, rest_same, rest_then}
 use Rattle.coco_vote.proofs.taking.nodes_take.Goals as goal
 
 pub loop-node-init : goal.loop-node-init
@@ -35,18 +33,12 @@ loop-node-init g c = record {
   sent = c.requires.sent;
   files = λ k hold held may nodes logs rests.
       let b : Ballot = record { epoch = c.args.epoch; pieces = c.args.pieces.now; held = hold } in
-      (keeps_same g.H.Host.moment g.H.Host.observed g.H.Host.said g.H.Host.reads g.H.Host.may_leave k b g.met.H.Host.only_now (have_durable c.args.epoch c.args.cores.now) c.args.host.now rests, rests);
+      (keeps_same g.H.Host k b g.met.H.Host.only_now (have_durable c.args.epoch c.args.cores.now) c.args.host.now rests, rests);
   ready = c.requires.ready;
-  places = places_same c.args.voters.now;
+  rest = rest_same c.args.voters.now c.args.host.now c.args.net.now c.args.power.now;
   whole = all_whole_same (g.P.Power.stops_seen c.args.power.now) c.args.voters.now;
-  others = λ other away stands. stands;
-  read = become_none (SameElsewhere c.args.voters.now) (elsewhere_same c.args.voters.now) (g.H.Host.reads c.args.host.now);
-  crash = follow_none (SameElsewhere c.args.voters.now) (elsewhere_same c.args.voters.now) (g.H.Host.may_leave c.args.host.now);
-  said = refl;
   disk = refl;
-  stream = refl;
   world = λ chief. between_none (g.P.Power.stopped c.args.power.now) (g.P.Power.stopped c.args.power.now) (λ n lt. omega arith) (PreparesOnly c.args.epoch) (record { cores = c.args.cores.now; chief = chief; sent = g.N.Net.sent c.args.net.now }) (only_same c.args.epoch);
-  later = later_same g.P.Power.stops_seen g.P.Power.early_stops g.P.Power.stopped g.P.Power.begun g.P.Power.asked c.args.power.now;
   stops = (refl, refl);
   fresh = fresh_none (g.N.Net.sent c.args.net.now) (g.N.Net.fresh c.args.net.now);
   counts = record { given_stays = refl; faults_stay = refl; seed_stays = refl };
@@ -104,21 +96,13 @@ loop-node-preserved g c =
           let b : Ballot = record { epoch = c.args.epoch; pieces = c.args.pieces.now; held = hold } in
           let one = before.files k hold held may nodes logs rests in
           let inside : c.loop-node.node < k.setting.entry.layout.nodes = omega (arith, nodes, c.requires.voters, c.loop-node.auto.voters, within) in
-          (keeps_then g.H.Host.moment g.H.Host.observed g.H.Host.said g.H.Host.reads g.H.Host.may_leave k b c.args.host.now c.loop-node.host c.take_letters.new.host one.0 (c.take_letters.ensures.files k hold (held_still hold c.args.voters.now c.loop-node.voters before.places held c.loop-node.node (get_or c.loop-node.voters c.loop-node.node c.index-voters-node.result) there) may inside (log_is_still k c.args.voters.now c.loop-node.voters c.loop-node.node (get_or c.loop-node.voters c.loop-node.node c.index-voters-node.result) before.places logs there) one.1).keeps, (c.in_ok-taken.ensures.files k hold (held_still hold c.args.voters.now c.loop-node.voters before.places held c.loop-node.node (get_or c.loop-node.voters c.loop-node.node c.index-voters-node.result) there) may inside (log_is_still k c.args.voters.now c.loop-node.voters c.loop-node.node (get_or c.loop-node.voters c.loop-node.node c.index-voters-node.result) before.places logs there) one.1).ok);
-      ready = ready_set c.loop-node.voters c.loop-node.node (get_or c.loop-node.voters c.loop-node.node c.index-voters-node.result) c.take_letters.new.voter there (g.H.Host.reads c.loop-node.host) (g.H.Host.reads c.take_letters.new.host) (g.H.Host.may_leave c.loop-node.host) (g.H.Host.may_leave c.take_letters.new.host) (apart_still c.args.voters.now c.loop-node.voters before.places c.requires.apart) before.ready c.take_letters.ensures.others c.in_ok-taken.ensures.unspent c.in_ok-taken.ensures.stands;
-      places = places_then c.args.voters.now c.loop-node.voters (set c.loop-node.voters c.loop-node.node c.take_letters.new.voter) before.places (places_set c.loop-node.voters c.loop-node.node (get_or c.loop-node.voters c.loop-node.node c.index-voters-node.result) c.take_letters.new.voter there (record { held = c.take_letters.ensures.held; file = c.take_letters.ensures.log.0; kind = c.take_letters.ensures.log.1 }));
-      whole = all_whole_then (g.P.Power.stops_seen c.args.power.now) (g.P.Power.stops_seen c.loop-node.power) (g.P.Power.stops_seen c.take_letters.new.power) c.args.voters.now c.loop-node.voters (set c.loop-node.voters c.loop-node.node c.take_letters.new.voter) before.later.seen_rises c.take_letters.ensures.later.seen_rises before.whole
+          (keeps_then g.H.Host k b c.args.host.now c.loop-node.host c.take_letters.new.host one.0 (c.take_letters.ensures.files k hold (held_still hold c.args.voters.now c.loop-node.voters before.rest.places held c.loop-node.node (get_or c.loop-node.voters c.loop-node.node c.index-voters-node.result) there) may inside (log_is_still k c.args.voters.now c.loop-node.voters c.loop-node.node (get_or c.loop-node.voters c.loop-node.node c.index-voters-node.result) before.rest.places logs there) one.1).keeps, (c.in_ok-taken.ensures.files k hold (held_still hold c.args.voters.now c.loop-node.voters before.rest.places held c.loop-node.node (get_or c.loop-node.voters c.loop-node.node c.index-voters-node.result) there) may inside (log_is_still k c.args.voters.now c.loop-node.voters c.loop-node.node (get_or c.loop-node.voters c.loop-node.node c.index-voters-node.result) before.rest.places logs there) one.1).ok);
+      ready = ready_set c.loop-node.voters c.loop-node.node (get_or c.loop-node.voters c.loop-node.node c.index-voters-node.result) c.take_letters.new.voter there (g.H.Host.reads c.loop-node.host) (g.H.Host.reads c.take_letters.new.host) (g.H.Host.may_leave c.loop-node.host) (g.H.Host.may_leave c.take_letters.new.host) (apart_still c.args.voters.now c.loop-node.voters before.rest.places c.requires.apart) before.ready c.take_letters.ensures.rest.others c.in_ok-taken.ensures.unspent c.in_ok-taken.ensures.stands;
+      rest = rest_then before.rest (rest_one c.loop-node.voters c.loop-node.node (get_or c.loop-node.voters c.loop-node.node c.index-voters-node.result) c.take_letters.new.voter c.loop-node.net c.take_letters.new.net there c.take_letters.ensures.held c.take_letters.ensures.rest c.take_letters.ensures.fresh c.take_letters.ensures.later c.take_letters.ensures.counts);
+      whole = all_whole_then (g.P.Power.stops_seen c.args.power.now) (g.P.Power.stops_seen c.loop-node.power) (g.P.Power.stops_seen c.take_letters.new.power) c.args.voters.now c.loop-node.voters (set c.loop-node.voters c.loop-node.node c.take_letters.new.voter) before.rest.later.seen_rises c.take_letters.ensures.later.seen_rises before.whole
           (whole_set (g.P.Power.stops_seen c.loop-node.power) (g.P.Power.stops_seen c.take_letters.new.power) c.loop-node.voters c.loop-node.node (get_or c.loop-node.voters c.loop-node.node c.index-voters-node.result) c.take_letters.new.voter there c.in_ok-taken.ensures.whole);
-      others = λ other away stands. c.take_letters.ensures.others other (elsewhere_still c.args.voters.now c.loop-node.voters other before.places away c.loop-node.node (get_or c.loop-node.voters c.loop-node.node c.index-voters-node.result) there) (before.others other away stands);
-      read = become_then (SameElsewhere c.args.voters.now) (elsewhere_both c.args.voters.now) (g.H.Host.reads c.args.host.now) (g.H.Host.reads c.loop-node.host) (g.H.Host.reads c.take_letters.new.host) before.read
-          (become_wider (SameBut (get_or c.loop-node.voters c.loop-node.node c.index-voters-node.result).log.file) (SameElsewhere c.args.voters.now) (but_elsewhere c.args.voters.now c.loop-node.voters before.places c.loop-node.node (get_or c.loop-node.voters c.loop-node.node c.index-voters-node.result) there) (g.H.Host.reads c.loop-node.host) (g.H.Host.reads c.take_letters.new.host) c.take_letters.ensures.read);
-      crash = follow_then (SameElsewhere c.args.voters.now) (elsewhere_both c.args.voters.now) (g.H.Host.may_leave c.args.host.now) (g.H.Host.may_leave c.loop-node.host) (g.H.Host.may_leave c.take_letters.new.host) before.crash
-          (follow_wider (SameBut (get_or c.loop-node.voters c.loop-node.node c.index-voters-node.result).log.file) (SameElsewhere c.args.voters.now) (but_elsewhere c.args.voters.now c.loop-node.voters before.places c.loop-node.node (get_or c.loop-node.voters c.loop-node.node c.index-voters-node.result) there) (g.H.Host.may_leave c.loop-node.host) (g.H.Host.may_leave c.take_letters.new.host) c.take_letters.ensures.crash);
-      said = c.take_letters.ensures.said ∙ before.said;
       disk = c.in_ok-taken.ensures.disk ∙ before.disk;
-      stream = c.take_letters.ensures.stream ∙ before.stream;
       world = λ chief. between_then (PreparesOnly c.args.epoch) (PreparesOnly c.args.epoch) (PreparesOnly c.args.epoch) (only_then c.args.epoch) (g.P.Power.stopped c.args.power.now) (g.P.Power.stopped c.loop-node.power) (g.P.Power.stopped c.take_letters.new.power) (record { cores = c.args.cores.now; chief = chief; sent = g.N.Net.sent c.args.net.now }) (record { cores = c.loop-node.cores; chief = chief; sent = g.N.Net.sent c.loop-node.net }) (record { cores = c.take_letters.new.cores; chief = chief; sent = g.N.Net.sent c.take_letters.new.net }) (before.world chief) (c.in_ok-taken.ensures.world chief);
-      later = later_then g.P.Power.stops_seen g.P.Power.early_stops g.P.Power.stopped g.P.Power.begun g.P.Power.asked c.args.power.now c.loop-node.power c.take_letters.new.power before.later c.take_letters.ensures.later;
       stops = stops_at c.and-stops.result c.loop-node.stops taken (λ stops. CountsStops stops (g.P.Power.stops_seen c.args.power.now) (g.P.Power.early_stops c.args.power.now) (g.P.Power.stops_seen c.take_letters.new.power) (g.P.Power.early_stops c.take_letters.new.power)) both
           (counts_both c.loop-node.stops taken (g.P.Power.stops_seen c.args.power.now) (g.P.Power.early_stops c.args.power.now) (g.P.Power.stops_seen c.loop-node.power) (g.P.Power.early_stops c.loop-node.power) (g.P.Power.stops_seen c.take_letters.new.power) (g.P.Power.early_stops c.take_letters.new.power) before.stops c.in_ok-taken.ensures.stops);
       fresh = fresh_then (g.N.Net.sent c.args.net.now) (g.N.Net.fresh c.args.net.now) (g.N.Net.sent c.loop-node.net) (g.N.Net.fresh c.loop-node.net) (g.N.Net.sent c.take_letters.new.net) (g.N.Net.fresh c.take_letters.new.net) before.fresh c.in_ok-taken.ensures.fresh;
@@ -135,38 +119,9 @@ returns-in_err-taken-clause-files g c k hold held may nodes logs rests =
     let one = before.files k hold held may nodes logs rests in
     let inside : c.loop-node.node < k.setting.entry.layout.nodes = omega (arith, nodes, c.requires.voters, c.loop-node.auto.voters, within) in
     record {
-      keeps = keeps_then g.H.Host.moment g.H.Host.observed g.H.Host.said g.H.Host.reads g.H.Host.may_leave k b c.args.host.now c.loop-node.host c.take_letters.new.host one.0 (c.take_letters.ensures.files k hold (held_still hold c.args.voters.now c.loop-node.voters before.places held c.loop-node.node (get_or c.loop-node.voters c.loop-node.node c.index-voters-node.result) there) may inside (log_is_still k c.args.voters.now c.loop-node.voters c.loop-node.node (get_or c.loop-node.voters c.loop-node.node c.index-voters-node.result) before.places logs there) one.1).keeps;
+      keeps = keeps_then g.H.Host k b c.args.host.now c.loop-node.host c.take_letters.new.host one.0 (c.take_letters.ensures.files k hold (held_still hold c.args.voters.now c.loop-node.voters before.rest.places held c.loop-node.node (get_or c.loop-node.voters c.loop-node.node c.index-voters-node.result) there) may inside (log_is_still k c.args.voters.now c.loop-node.voters c.loop-node.node (get_or c.loop-node.voters c.loop-node.node c.index-voters-node.result) before.rest.places logs there) one.1).keeps;
       ok = none_ok c.from_residual.result p.0 (RestsVoted k b (have_durable c.args.epoch c.take_letters.new.cores) (g.H.Host.reads c.take_letters.new.host) (g.H.Host.may_leave c.take_letters.new.host)) p.1;
     }
-
-pub returns-in_err-taken-clause-places : goal.returns-in_err-taken-clause-places
-returns-in_err-taken-clause-places g c =
-    let before = c.loop-node.invariant in
-    let within : c.loop-node.node < length c.loop-node.voters = omega (arith, c.loop-node-test.true, c.requires.voters, c.loop-node.auto.voters, c.requires.few) in
-    let there : slice_get c.loop-node.voters c.loop-node.node ≡ Some (get_or c.loop-node.voters c.loop-node.node c.index-voters-node.result) = slice_get-get_or c.loop-node.voters c.loop-node.node c.index-voters-node.result within in
-    places_then c.args.voters.now c.loop-node.voters (set c.loop-node.voters c.loop-node.node c.take_letters.new.voter) before.places (places_set c.loop-node.voters c.loop-node.node (get_or c.loop-node.voters c.loop-node.node c.index-voters-node.result) c.take_letters.new.voter there (record { held = c.take_letters.ensures.held; file = c.take_letters.ensures.log.0; kind = c.take_letters.ensures.log.1 }))
-
-pub returns-in_err-taken-clause-others : goal.returns-in_err-taken-clause-others
-returns-in_err-taken-clause-others g c =
-    let before = c.loop-node.invariant in
-    let within : c.loop-node.node < length c.loop-node.voters = omega (arith, c.loop-node-test.true, c.requires.voters, c.loop-node.auto.voters, c.requires.few) in
-    let there : slice_get c.loop-node.voters c.loop-node.node ≡ Some (get_or c.loop-node.voters c.loop-node.node c.index-voters-node.result) = slice_get-get_or c.loop-node.voters c.loop-node.node c.index-voters-node.result within in
-    λ other away stands. c.take_letters.ensures.others other (elsewhere_still c.args.voters.now c.loop-node.voters other before.places away c.loop-node.node (get_or c.loop-node.voters c.loop-node.node c.index-voters-node.result) there) (before.others other away stands)
-
-pub returns-in_err-taken-clause-said : goal.returns-in_err-taken-clause-said
-returns-in_err-taken-clause-said g c =
-    let before = c.loop-node.invariant in
-    c.take_letters.ensures.said ∙ before.said
-
-pub returns-in_err-taken-clause-stream : goal.returns-in_err-taken-clause-stream
-returns-in_err-taken-clause-stream g c =
-    let before = c.loop-node.invariant in
-    c.take_letters.ensures.stream ∙ before.stream
-
-pub returns-in_err-taken-clause-later : goal.returns-in_err-taken-clause-later
-returns-in_err-taken-clause-later g c =
-    let before = c.loop-node.invariant in
-    later_then g.P.Power.stops_seen g.P.Power.early_stops g.P.Power.stopped g.P.Power.begun g.P.Power.asked c.args.power.now c.loop-node.power c.take_letters.new.power before.later c.take_letters.ensures.later
 
 pub returns-in_err-taken-clause-counts : goal.returns-in_err-taken-clause-counts
 returns-in_err-taken-clause-counts g c =
@@ -188,23 +143,13 @@ returns-clause-files g c k hold held may nodes logs rests =
 pub returns-clause-votes : goal.returns-clause-votes
 returns-clause-votes g c = λ never n less. c.loop-node.invariant.votes never n (omega (arith, less, c.loop-node-test.false, c.loop-node.auto.cores, c.requires.few))
 
-pub returns-in_err-taken-clause-read : goal.returns-in_err-taken-clause-read
-returns-in_err-taken-clause-read g c =
-    let before = c.loop-node.invariant in
-    let within : c.loop-node.node < length c.loop-node.voters = omega (arith, c.loop-node-test.true, c.requires.voters, c.loop-node.auto.voters, c.requires.few) in
-    let there : slice_get c.loop-node.voters c.loop-node.node ≡ Some (get_or c.loop-node.voters c.loop-node.node c.index-voters-node.result) = slice_get-get_or c.loop-node.voters c.loop-node.node c.index-voters-node.result within in
-    become_then (SameElsewhere c.args.voters.now) (elsewhere_both c.args.voters.now) (g.H.Host.reads c.args.host.now) (g.H.Host.reads c.loop-node.host) (g.H.Host.reads c.take_letters.new.host) before.read
-    (become_wider (SameBut (get_or c.loop-node.voters c.loop-node.node c.index-voters-node.result).log.file) (SameElsewhere c.args.voters.now) (but_elsewhere c.args.voters.now c.loop-node.voters before.places c.loop-node.node (get_or c.loop-node.voters c.loop-node.node c.index-voters-node.result) there) (g.H.Host.reads c.loop-node.host) (g.H.Host.reads c.take_letters.new.host) c.take_letters.ensures.read)
-
-pub returns-in_err-taken-clause-crash : goal.returns-in_err-taken-clause-crash
-returns-in_err-taken-clause-crash g c =
-    let before = c.loop-node.invariant in
-    let within : c.loop-node.node < length c.loop-node.voters = omega (arith, c.loop-node-test.true, c.requires.voters, c.loop-node.auto.voters, c.requires.few) in
-    let there : slice_get c.loop-node.voters c.loop-node.node ≡ Some (get_or c.loop-node.voters c.loop-node.node c.index-voters-node.result) = slice_get-get_or c.loop-node.voters c.loop-node.node c.index-voters-node.result within in
-    follow_then (SameElsewhere c.args.voters.now) (elsewhere_both c.args.voters.now) (g.H.Host.may_leave c.args.host.now) (g.H.Host.may_leave c.loop-node.host) (g.H.Host.may_leave c.take_letters.new.host) before.crash
-    (follow_wider (SameBut (get_or c.loop-node.voters c.loop-node.node c.index-voters-node.result).log.file) (SameElsewhere c.args.voters.now) (but_elsewhere c.args.voters.now c.loop-node.voters before.places c.loop-node.node (get_or c.loop-node.voters c.loop-node.node c.index-voters-node.result) there) (g.H.Host.may_leave c.loop-node.host) (g.H.Host.may_leave c.take_letters.new.host) c.take_letters.ensures.crash)
-
 pub returns-in_err-taken-clause-fresh : goal.returns-in_err-taken-clause-fresh
 returns-in_err-taken-clause-fresh g c =
     let before = c.loop-node.invariant in
     fresh_then (g.N.Net.sent c.args.net.now) (g.N.Net.fresh c.args.net.now) (g.N.Net.sent c.loop-node.net) (g.N.Net.fresh c.loop-node.net) (g.N.Net.sent c.take_letters.new.net) (g.N.Net.fresh c.take_letters.new.net) before.fresh c.take_letters.ensures.fresh
+
+pub returns-in_err-taken-clause-rest : goal.returns-in_err-taken-clause-rest
+returns-in_err-taken-clause-rest g c =
+    let within : c.loop-node.node < length c.loop-node.voters = omega (arith, c.loop-node-test.true, c.requires.voters, c.loop-node.auto.voters, c.requires.few) in
+    let there : slice_get c.loop-node.voters c.loop-node.node ≡ Some (get_or c.loop-node.voters c.loop-node.node c.index-voters-node.result) = slice_get-get_or c.loop-node.voters c.loop-node.node c.index-voters-node.result within in
+    rest_then c.loop-node.invariant.rest (rest_one c.loop-node.voters c.loop-node.node (get_or c.loop-node.voters c.loop-node.node c.index-voters-node.result) c.take_letters.new.voter c.loop-node.net c.take_letters.new.net there c.take_letters.ensures.held c.take_letters.ensures.rest c.take_letters.ensures.fresh c.take_letters.ensures.later c.take_letters.ensures.counts)

@@ -1,4 +1,4 @@
-use Rattle.std.proofs.Common.{◌<◌, ℕ, List, [], ◌∷◌, true, ap, arith, eqb, subst, sym, ◌∙◌}
+use Rattle.std.proofs.Common.{◌<◌, ℕ, List, [], ◌∷◌, true, ap, arith, eqb, subst, sym, ◌∙◌, refl}
 use Rattle.std.proofs.lemmas.Result.{err_from_is_err_and}
 use Rattle.coco_node.specs.Node.{Node}
 use Rattle.coco_letters.specs.declared.nodes.Heard.{Heard}
@@ -16,15 +16,14 @@ use Rattle.coco_vote.proofs.SayingLemmas.{ends_say, heard_say, steps_say}
 use Rattle.coco_vote.proofs.StepLemmas.{only_same, fresh_then}
 use Rattle.coco_vote.proofs.TakingLemmas.{between_heard, cores_stepped, cores_voting, durable_ended, elsewhere, near_ended, near_stepped, fresh_has, fresh_still, heard_durable, never_voted, told_ended, told_stepped, unless_any, voting_behind, voting_ended, voting_unless, vote_in, knows_ended, knows_same}
 use Rattle.coco_vote.proofs.WholeLemmas.{whole_step}
-use Rattle.coco_vote.proofs.FileLemmas.{become_none, but_same, follow_none}
-use Rattle.coco_log.specs.LogState.{SameBut}
+use Rattle.coco_vote.proofs.KeepingLemmas.{writes_none}
 use Rattle.coco_vote.proofs.taking.take_letter.Goals as goal
 
 pub returns-in-Nothing-clause-files : goal.returns-in-Nothing-clause-files
 returns-in-Nothing-clause-files g c k hold same may node log rests =
     let b : Ballot = record { epoch = c.args.epoch; pieces = c.args.pieces.now; held = hold } in
     let h = subst (λ (h : Heard). HeardSo h c.args.node c.args.epoch c.args.letter.now c.args.cores.now (g.N.Net.sent c.args.net.now) c.hear_vote.new.cores (g.N.Net.sent c.hear_vote.new.net)) c.in-Nothing.is c.in_ok-hear_vote.ensures.heard in
-    votes_same g.H.Host.moment g.H.Host.observed g.H.Host.said g.H.Host.reads g.H.Host.may_leave k b _ g.met.H.Host.only_now (have_durable c.args.epoch c.args.cores.now) (have_durable c.args.epoch c.hear_vote.new.cores) c.args.host.now
+    votes_same g.H.Host k b _ g.met.H.Host.only_now (have_durable c.args.epoch c.args.cores.now) (have_durable c.args.epoch c.hear_vote.new.cores) c.args.host.now
     (λ n. ap (λ (cs : List Node). have_durable c.args.epoch cs n) h.0) rests
 
 pub returns-in_ok-step-in-Voted-clause-voting : goal.returns-in_ok-step-in-Voted-clause-voting
@@ -50,7 +49,7 @@ pub returns-in_ok-step-in-Voted-clause-files : goal.returns-in_ok-step-in-Voted-
 returns-in_ok-step-in-Voted-clause-files g c k hold same may node log rests =
     let b : Ballot = record { epoch = c.args.epoch; pieces = c.args.pieces.now; held = hold } in
     let h = subst (λ (h : Heard). HeardSo h c.args.node c.args.epoch c.args.letter.now c.args.cores.now (g.N.Net.sent c.args.net.now) c.hear_vote.new.cores (g.N.Net.sent c.hear_vote.new.net)) c.in-Voted.is c.in_ok-hear_vote.ensures.heard in
-    votes_same g.H.Host.moment g.H.Host.observed g.H.Host.said g.H.Host.reads g.H.Host.may_leave k b _ g.met.H.Host.only_now (have_durable c.args.epoch c.args.cores.now) (have_durable c.args.epoch c.vote_again.new.cores) c.args.host.now
+    votes_same g.H.Host k b _ g.met.H.Host.only_now (have_durable c.args.epoch c.args.cores.now) (have_durable c.args.epoch c.vote_again.new.cores) c.args.host.now
     (λ n. ap (λ (d : ℕ). eqb d c.args.epoch) (durable_ended c.in_ok-step-in-Voted.step c.args.node c.args.epoch c.args.cores.now c.vote_again.new.cores (g.N.Net.sent c.hear_vote.new.net) (g.N.Net.sent c.vote_again.new.net) c.requires.node h.0
     (subst (λ (cs : List Node). EndsVote c.in_ok-step-in-Voted.step c.args.node c.args.epoch cs (g.N.Net.sent c.hear_vote.new.net) c.vote_again.new.cores (g.N.Net.sent c.vote_again.new.net)) h.1 c.in_ok-step-in-Voted.ensures.ends) n))
     rests
@@ -170,30 +169,6 @@ returns-in_ok-step-in-Forces-clause-says g c =
     (heard_say c.in_ok-hear_vote.field-0 c.args.node c.args.epoch c.args.letter.now c.args.cores.now (g.N.Net.sent c.args.net.now) c.hear_vote.new.cores (g.N.Net.sent c.hear_vote.new.net) few c.in_ok-hear_vote.ensures.heard)
     (steps_say c.in_ok-step-in-Forces.step c.args.node c.args.epoch c.hear_vote.new.cores (g.N.Net.sent c.hear_vote.new.net) c.force_and_vote.new.cores (g.N.Net.sent c.force_and_vote.new.net) few c.in_ok-step-in-Forces.ensures.steps)
 
-pub returns-in_err-hear_vote-clause-read : goal.returns-in_err-hear_vote-clause-read
-returns-in_err-hear_vote-clause-read g c = become_none (SameBut c.args.voter.now.log.file) (but_same c.args.voter.now.log.file) (g.H.Host.reads c.args.host.now)
-
-pub returns-in_err-hear_vote-clause-crash : goal.returns-in_err-hear_vote-clause-crash
-returns-in_err-hear_vote-clause-crash g c = follow_none (SameBut c.args.voter.now.log.file) (but_same c.args.voter.now.log.file) (g.H.Host.may_leave c.args.host.now)
-
-pub returns-in-Nothing-clause-read : goal.returns-in-Nothing-clause-read
-returns-in-Nothing-clause-read g c = become_none (SameBut c.args.voter.now.log.file) (but_same c.args.voter.now.log.file) (g.H.Host.reads c.args.host.now)
-
-pub returns-in-Nothing-clause-crash : goal.returns-in-Nothing-clause-crash
-returns-in-Nothing-clause-crash g c = follow_none (SameBut c.args.voter.now.log.file) (but_same c.args.voter.now.log.file) (g.H.Host.may_leave c.args.host.now)
-
-pub returns-in_err-step-in-Voted-clause-read : goal.returns-in_err-step-in-Voted-clause-read
-returns-in_err-step-in-Voted-clause-read g c = become_none (SameBut c.args.voter.now.log.file) (but_same c.args.voter.now.log.file) (g.H.Host.reads c.args.host.now)
-
-pub returns-in_err-step-in-Voted-clause-crash : goal.returns-in_err-step-in-Voted-clause-crash
-returns-in_err-step-in-Voted-clause-crash g c = follow_none (SameBut c.args.voter.now.log.file) (but_same c.args.voter.now.log.file) (g.H.Host.may_leave c.args.host.now)
-
-pub returns-in_ok-step-in-Voted-clause-read : goal.returns-in_ok-step-in-Voted-clause-read
-returns-in_ok-step-in-Voted-clause-read g c = become_none (SameBut c.args.voter.now.log.file) (but_same c.args.voter.now.log.file) (g.H.Host.reads c.args.host.now)
-
-pub returns-in_ok-step-in-Voted-clause-crash : goal.returns-in_ok-step-in-Voted-clause-crash
-returns-in_ok-step-in-Voted-clause-crash g c = follow_none (SameBut c.args.voter.now.log.file) (but_same c.args.voter.now.log.file) (g.H.Host.may_leave c.args.host.now)
-
 pub returns-in_err-step-in-Voted-clause-fresh : goal.returns-in_err-step-in-Voted-clause-fresh
 returns-in_err-step-in-Voted-clause-fresh g c =
     fresh_then (g.N.Net.sent c.args.net.now) (g.N.Net.fresh c.args.net.now) (g.N.Net.sent c.hear_vote.new.net) (g.N.Net.fresh c.hear_vote.new.net) (g.N.Net.sent c.vote_again.new.net) (g.N.Net.fresh c.vote_again.new.net) (c.hear_vote.ensures.fresh) (c.vote_again.ensures.fresh)
@@ -207,3 +182,15 @@ returns-in_ok-step-in-Voted-clause-whole g c = whole_step c.in_ok-step-in-Voted.
 
 pub returns-in_ok-step-in-Forces-clause-whole : goal.returns-in_ok-step-in-Forces-clause-whole
 returns-in_ok-step-in-Forces-clause-whole g c = whole_step c.in_ok-step-in-Forces.step (g.P.Power.stops_seen c.args.power.now) (g.P.Power.early_stops c.args.power.now) (g.P.Power.stops_seen c.force_and_vote.new.power) (g.P.Power.early_stops c.force_and_vote.new.power) c.args.voter.now c.force_and_vote.new.voter c.in_ok-step-in-Forces.ensures.stops c.in_ok-step-in-Forces.ensures.marks
+
+pub returns-in_err-hear_vote-clause-rest : goal.returns-in_err-hear_vote-clause-rest
+returns-in_err-hear_vote-clause-rest g c = writes_none c.args.voter.now.log c.args.voter.now.log c.args.host.now refl
+
+pub returns-in-Nothing-clause-rest : goal.returns-in-Nothing-clause-rest
+returns-in-Nothing-clause-rest g c = writes_none c.args.voter.now.log c.args.voter.now.log c.args.host.now refl
+
+pub returns-in_err-step-in-Voted-clause-rest : goal.returns-in_err-step-in-Voted-clause-rest
+returns-in_err-step-in-Voted-clause-rest g c = writes_none c.args.voter.now.log c.vote_again.new.voter.log c.args.host.now c.vote_again.ensures.log
+
+pub returns-in_ok-step-in-Voted-clause-rest : goal.returns-in_ok-step-in-Voted-clause-rest
+returns-in_ok-step-in-Voted-clause-rest g c = writes_none c.args.voter.now.log c.vote_again.new.voter.log c.args.host.now c.vote_again.ensures.log

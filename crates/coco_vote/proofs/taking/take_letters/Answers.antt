@@ -1,4 +1,4 @@
-use Rattle.std.proofs.Common.{◌≡◌, ◌≤◌, List, ◌∷◌, ap, arith, false, inl, refl, subst, sym, true, ◌∙◌, ℕ}
+use Rattle.std.proofs.Common.{◌≡◌, ◌≤◌, List, ◌∷◌, ap, arith, false, inl, refl, subst, sym, true, ◌∙◌}
 use Rattle.std.proofs.lemmas.Result.{err_from_is_err_and}
 use Rattle.coco_net.specs.declared.letter.Letter.{Letter}
 use Rattle.coco_net.specs.declared.letter.Posted.{Posted}
@@ -21,9 +21,7 @@ use Rattle.coco_vote.proofs.StepLemmas.{between_none, fresh_then, only_same, onl
 use Rattle.coco_vote.proofs.StopLemmas.{counts_both, never_lost, sent_more, stops_at, unless_both, unless_kept}
 use Rattle.coco_vote.proofs.TakingLemmas.{cores_then, cores_voting, fresh_still, given_all, votes_more, knows_same}
 use Rattle.coco_vote.proofs.WholeLemmas.{whole_then}
-use Rattle.coco_vote.proofs.FileLemmas.{become_none, become_then, but_both, but_same, follow_none, follow_then}
-use Rattle.coco_host.specs.Files.{Become, Follows}
-use Rattle.coco_log.specs.LogState.{SameBut}
+use Rattle.coco_vote.proofs.KeepingLemmas.{writes_none, writes_then}
 use Rattle.coco_vote.proofs.taking.take_letters.Goals as goal
 
 pub loop-net-init : goal.loop-net-init
@@ -41,18 +39,13 @@ loop-net-init g c = record {
   sent = c.requires.sent;
   files = λ k hold same may node log rests.
       let b : Ballot = record { epoch = c.args.epoch; pieces = c.args.pieces.now; held = hold } in
-      (keeps_same g.H.Host.moment g.H.Host.observed g.H.Host.said g.H.Host.reads g.H.Host.may_leave k b g.met.H.Host.only_now (have_durable c.args.epoch c.args.cores.now) c.args.host.now rests, rests);
+      (keeps_same g.H.Host k b g.met.H.Host.only_now (have_durable c.args.epoch c.args.cores.now) c.args.host.now rests, rests);
   stands = c.requires.stands;
   unspent = c.requires.unspent;
-  log = (refl, refl);
-  others = λ other apart stands. stands;
-  read = become_none (SameBut c.args.voter.now.log.file) (but_same c.args.voter.now.log.file) (g.H.Host.reads c.args.host.now);
-  crash = follow_none (SameBut c.args.voter.now.log.file) (but_same c.args.voter.now.log.file) (g.H.Host.may_leave c.args.host.now);
-  said = refl;
+  rest = writes_none c.args.voter.now.log c.args.voter.now.log c.args.host.now refl;
   disk = refl;
-  stream = refl;
   world = λ chief. between_none (g.P.Power.stopped c.args.power.now) (g.P.Power.stopped c.args.power.now) (λ n lt. omega arith) (PreparesOnly c.args.epoch) (record { cores = c.args.cores.now; chief = chief; sent = g.N.Net.sent c.args.net.now }) (only_same c.args.epoch);
-  later = later_same g.P.Power.stops_seen g.P.Power.early_stops g.P.Power.stopped g.P.Power.begun g.P.Power.asked c.args.power.now;
+  later = later_same g.P.Power c.args.power.now;
   stops = (refl, refl);
   fresh = fresh_none (g.N.Net.sent c.args.net.now) (g.N.Net.fresh c.args.net.now);
   waiting = λ p other. refl;
@@ -106,21 +99,14 @@ loop-net-preserved g c =
       files = λ k hold same may node log rests.
           let b : Ballot = record { epoch = c.args.epoch; pieces = c.args.pieces.now; held = hold } in
           let one = before.files k hold same may node log rests in
-          (keeps_then g.H.Host.moment g.H.Host.observed g.H.Host.said g.H.Host.reads g.H.Host.may_leave k b c.args.host.now c.loop-net.host c.take_letter.new.host one.0 (c.take_letter.ensures.files k hold (same ∙ sym (held_items c.loop-net.voter c.args.voter.now before.held)) may node (record { file = before.log.0 ∙ log.file; kind = before.log.1 ∙ log.kind }) one.1).keeps, (c.in_ok-taken-in-Some.ensures.files k hold (same ∙ sym (held_items c.loop-net.voter c.args.voter.now before.held)) may node (record { file = before.log.0 ∙ log.file; kind = before.log.1 ∙ log.kind }) one.1).ok);
+          (keeps_then g.H.Host k b c.args.host.now c.loop-net.host c.take_letter.new.host one.0 (c.take_letter.ensures.files k hold (same ∙ sym (held_items c.loop-net.voter c.args.voter.now before.held)) may node (record { file = before.rest.file ∙ log.file; kind = before.rest.kind ∙ log.kind }) one.1).keeps, (c.in_ok-taken-in-Some.ensures.files k hold (same ∙ sym (held_items c.loop-net.voter c.args.voter.now before.held)) may node (record { file = before.rest.file ∙ log.file; kind = before.rest.kind ∙ log.kind }) one.1).ok);
       stands = c.in_ok-taken-in-Some.ensures.stands;
       unspent = c.in_ok-taken-in-Some.ensures.unspent;
-      log = (c.take_letter.ensures.log.0 ∙ before.log.0, c.take_letter.ensures.log.1 ∙ before.log.1);
-      others = λ other apart stands. c.take_letter.ensures.others other (λ at. apart (at ∙ before.log.0)) (before.others other apart stands);
-      read = become_then (SameBut c.args.voter.now.log.file) (but_both c.args.voter.now.log.file) (g.H.Host.reads c.args.host.now) (g.H.Host.reads c.loop-net.host) (g.H.Host.reads c.take_letter.new.host) before.read
-          (subst (λ (file : ℕ). Become (SameBut file) (g.H.Host.reads c.loop-net.host) (g.H.Host.reads c.take_letter.new.host)) before.log.0 c.take_letter.ensures.read);
-      crash = follow_then (SameBut c.args.voter.now.log.file) (but_both c.args.voter.now.log.file) (g.H.Host.may_leave c.args.host.now) (g.H.Host.may_leave c.loop-net.host) (g.H.Host.may_leave c.take_letter.new.host) before.crash
-          (subst (λ (file : ℕ). Follows (SameBut file) (g.H.Host.may_leave c.loop-net.host) (g.H.Host.may_leave c.take_letter.new.host)) before.log.0 c.take_letter.ensures.crash);
-      said = c.take_letter.ensures.said ∙ before.said;
+      rest = writes_then before.rest c.take_letter.ensures.rest;
       disk = c.in_ok-taken-in-Some.ensures.disk ∙ before.disk;
-      stream = c.take_letter.ensures.stream ∙ before.stream;
       world = λ chief. between_then (PreparesOnly c.args.epoch) (PreparesOnly c.args.epoch) (PreparesOnly c.args.epoch) (only_then c.args.epoch) (g.P.Power.stopped c.args.power.now) (g.P.Power.stopped c.loop-net.power) (g.P.Power.stopped c.take_letter.new.power) (record { cores = c.args.cores.now; chief = chief; sent = g.N.Net.sent c.args.net.now }) (record { cores = c.loop-net.cores; chief = chief; sent = g.N.Net.sent c.loop-net.net }) (record { cores = c.take_letter.new.cores; chief = chief; sent = g.N.Net.sent c.take_letter.new.net }) (before.world chief)
           (subst (λ (ps : List Posted). GoesBetween (g.P.Power.stopped c.loop-net.power) (g.P.Power.stopped c.take_letter.new.power) (PreparesOnly c.args.epoch) (record { cores = c.loop-net.cores; chief = chief; sent = ps }) (record { cores = c.take_letter.new.cores; chief = chief; sent = g.N.Net.sent c.take_letter.new.net })) c.next.ensures.sent (c.in_ok-taken-in-Some.ensures.world chief));
-      later = later_then g.P.Power.stops_seen g.P.Power.early_stops g.P.Power.stopped g.P.Power.begun g.P.Power.asked c.args.power.now c.loop-net.power c.take_letter.new.power before.later c.take_letter.ensures.later;
+      later = later_then g.P.Power c.args.power.now c.loop-net.power c.take_letter.new.power before.later c.take_letter.ensures.later;
       stops = stops_at c.and-stops.result c.loop-net.stops taken (λ stops. CountsStops stops (g.P.Power.stops_seen c.args.power.now) (g.P.Power.early_stops c.args.power.now) (g.P.Power.stops_seen c.take_letter.new.power) (g.P.Power.early_stops c.take_letter.new.power)) both
           (counts_both c.loop-net.stops taken (g.P.Power.stops_seen c.args.power.now) (g.P.Power.early_stops c.args.power.now) (g.P.Power.stops_seen c.loop-net.power) (g.P.Power.early_stops c.loop-net.power) (g.P.Power.stops_seen c.take_letter.new.power) (g.P.Power.early_stops c.take_letter.new.power) before.stops c.in_ok-taken-in-Some.ensures.stops);
       fresh = fresh_then (g.N.Net.sent c.args.net.now) (g.N.Net.fresh c.args.net.now) (g.N.Net.sent c.next.new.self) (g.N.Net.fresh c.next.new.self) (g.N.Net.sent c.take_letter.new.net) (g.N.Net.fresh c.take_letter.new.net) (record { posts = before.fresh.posts; sent_is = c.next.ensures.sent ∙ before.fresh.sent_is; fresh_is = c.next.ensures.fresh ∙ before.fresh.fresh_is }) c.in_ok-taken-in-Some.ensures.fresh;
@@ -140,34 +126,14 @@ returns-in_err-taken-in-Some-clause-files g c k hold same may node log rests =
     let p = err_from_is_err_and c.from_residual.result c.from_residual.ensures.1 in
     let one = before.files k hold same may node log rests in
     record {
-      keeps = keeps_then g.H.Host.moment g.H.Host.observed g.H.Host.said g.H.Host.reads g.H.Host.may_leave k b c.args.host.now c.loop-net.host c.take_letter.new.host one.0 (c.take_letter.ensures.files k hold (same ∙ sym (held_items c.loop-net.voter c.args.voter.now before.held)) may node (record { file = before.log.0 ∙ log.file; kind = before.log.1 ∙ log.kind }) one.1).keeps;
+      keeps = keeps_then g.H.Host k b c.args.host.now c.loop-net.host c.take_letter.new.host one.0 (c.take_letter.ensures.files k hold (same ∙ sym (held_items c.loop-net.voter c.args.voter.now before.held)) may node (record { file = before.rest.file ∙ log.file; kind = before.rest.kind ∙ log.kind }) one.1).keeps;
       ok = none_ok c.from_residual.result p.0 (RestsVoted k b (have_durable c.args.epoch c.take_letter.new.cores) (g.H.Host.reads c.take_letter.new.host) (g.H.Host.may_leave c.take_letter.new.host)) p.1;
     }
-
-pub returns-in_err-taken-in-Some-clause-log : goal.returns-in_err-taken-in-Some-clause-log
-returns-in_err-taken-in-Some-clause-log g c =
-    let before = c.loop-net.invariant in
-    (c.take_letter.ensures.log.0 ∙ before.log.0, c.take_letter.ensures.log.1 ∙ before.log.1)
-
-pub returns-in_err-taken-in-Some-clause-others : goal.returns-in_err-taken-in-Some-clause-others
-returns-in_err-taken-in-Some-clause-others g c =
-    let before = c.loop-net.invariant in
-    λ other apart stands. c.take_letter.ensures.others other (λ at. apart (at ∙ before.log.0)) (before.others other apart stands)
-
-pub returns-in_err-taken-in-Some-clause-said : goal.returns-in_err-taken-in-Some-clause-said
-returns-in_err-taken-in-Some-clause-said g c =
-    let before = c.loop-net.invariant in
-    c.take_letter.ensures.said ∙ before.said
-
-pub returns-in_err-taken-in-Some-clause-stream : goal.returns-in_err-taken-in-Some-clause-stream
-returns-in_err-taken-in-Some-clause-stream g c =
-    let before = c.loop-net.invariant in
-    c.take_letter.ensures.stream ∙ before.stream
 
 pub returns-in_err-taken-in-Some-clause-later : goal.returns-in_err-taken-in-Some-clause-later
 returns-in_err-taken-in-Some-clause-later g c =
     let before = c.loop-net.invariant in
-    later_then g.P.Power.stops_seen g.P.Power.early_stops g.P.Power.stopped g.P.Power.begun g.P.Power.asked c.args.power.now c.loop-net.power c.take_letter.new.power before.later c.take_letter.ensures.later
+    later_then g.P.Power c.args.power.now c.loop-net.power c.take_letter.new.power before.later c.take_letter.ensures.later
 
 pub returns-in_err-taken-in-Some-clause-waiting : goal.returns-in_err-taken-in-Some-clause-waiting
 returns-in_err-taken-in-Some-clause-waiting g c =
@@ -204,19 +170,10 @@ returns-clause-files g c k hold same may node log rests =
 pub returns-clause-votes : goal.returns-clause-votes
 returns-clause-votes g c = λ never. absurd (never_lost c.loop-net.stops never (sym c.is_early.ensures ∙ c.loop-net-test.false))
 
-pub returns-in_err-taken-in-Some-clause-read : goal.returns-in_err-taken-in-Some-clause-read
-returns-in_err-taken-in-Some-clause-read g c =
-    let before = c.loop-net.invariant in
-    become_then (SameBut c.args.voter.now.log.file) (but_both c.args.voter.now.log.file) (g.H.Host.reads c.args.host.now) (g.H.Host.reads c.loop-net.host) (g.H.Host.reads c.take_letter.new.host) before.read
-    (subst (λ (file : ℕ). Become (SameBut file) (g.H.Host.reads c.loop-net.host) (g.H.Host.reads c.take_letter.new.host)) before.log.0 c.take_letter.ensures.read)
-
-pub returns-in_err-taken-in-Some-clause-crash : goal.returns-in_err-taken-in-Some-clause-crash
-returns-in_err-taken-in-Some-clause-crash g c =
-    let before = c.loop-net.invariant in
-    follow_then (SameBut c.args.voter.now.log.file) (but_both c.args.voter.now.log.file) (g.H.Host.may_leave c.args.host.now) (g.H.Host.may_leave c.loop-net.host) (g.H.Host.may_leave c.take_letter.new.host) before.crash
-    (subst (λ (file : ℕ). Follows (SameBut file) (g.H.Host.may_leave c.loop-net.host) (g.H.Host.may_leave c.take_letter.new.host)) before.log.0 c.take_letter.ensures.crash)
-
 pub returns-in_err-taken-in-Some-clause-fresh : goal.returns-in_err-taken-in-Some-clause-fresh
 returns-in_err-taken-in-Some-clause-fresh g c =
     let before = c.loop-net.invariant in
     fresh_then (g.N.Net.sent c.args.net.now) (g.N.Net.fresh c.args.net.now) (g.N.Net.sent c.next.new.self) (g.N.Net.fresh c.next.new.self) (g.N.Net.sent c.take_letter.new.net) (g.N.Net.fresh c.take_letter.new.net) (record { posts = before.fresh.posts; sent_is = c.next.ensures.sent ∙ before.fresh.sent_is; fresh_is = c.next.ensures.fresh ∙ before.fresh.fresh_is }) c.take_letter.ensures.fresh
+
+pub returns-in_err-taken-in-Some-clause-rest : goal.returns-in_err-taken-in-Some-clause-rest
+returns-in_err-taken-in-Some-clause-rest g c = writes_then c.loop-net.invariant.rest c.take_letter.ensures.rest

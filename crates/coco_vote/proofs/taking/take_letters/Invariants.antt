@@ -6,8 +6,6 @@ use Rattle.coco_chief.specs.Chief.{Chief}
 use Rattle.coco_letters.specs.Telling.{Adds, IsOfVote}
 use Rattle.coco_letters.specs.Turns.{AreFresh, AreSent, Counts, IsFrom}
 use Rattle.coco_letters.specs.Worlds.{GoesBetween}
-use Rattle.coco_log.specs.LogState.{LogState, SameBut}
-use Rattle.coco_host.specs.Files.{Become, Follows}
 use Rattle.coco_store.specs.Contents.{Contents}
 use Rattle.coco_append.specs.Gaining.{IsNodeLog, Stands}
 use Rattle.coco_vote.specs.declared.step.Stops.TheVariants.{Never}
@@ -16,6 +14,7 @@ use Rattle.coco_vote.specs.Nearing.{ahead_of, Nears}
 use Rattle.coco_vote.specs.Preparing.{durable_at, have_durable, Ballot, KeepsVoted, MayForce, RestsVoted}
 use Rattle.coco_vote.specs.Taking.{vote_of, AreTold, AreVoting, CountsStops, IsMarked, KeepsCores, UnlessLost, StaysWhole}
 use Rattle.coco_vote.specs.Voting.{PreparesOnly}
+use Rattle.coco_vote.specs.Keeping.{WritesLog}
 use Rattle.coco_vote.proofs.taking.take_letters.Given as goal
 
 -- what came of the letters so far
@@ -34,18 +33,13 @@ invariant-loop-net g l = record {
   sent : AreSent (g.N.Net.sent l.net) (g.N.Net.waiting l.net);
   files : (c : Contents) (hold : ℕ → List Bool) → let b : Ballot = record { epoch = l.epoch; pieces = l.pieces; held = hold } in
       hold l.node ≡ l.initial.voter.held.items → MayForce c b → l.node < c.setting.entry.layout.nodes → IsNodeLog c l.node l.initial.voter.log → RestsVoted c b (have_durable l.epoch l.initial.cores) (g.H.Host.reads l.initial.host) (g.H.Host.may_leave l.initial.host)
-      → KeepsVoted g.H.Host.moment g.H.Host.observed g.H.Host.said g.H.Host.may_leave c b l.initial.host l.host × RestsVoted c b (have_durable l.epoch l.cores) (g.H.Host.reads l.host) (g.H.Host.may_leave l.host);
+      → KeepsVoted g.H.Host c b l.initial.host l.host × RestsVoted c b (have_durable l.epoch l.cores) (g.H.Host.reads l.host) (g.H.Host.may_leave l.host);
   stands : Stands l.voter.log (g.H.Host.reads l.host) (g.H.Host.may_leave l.host);
   unspent : l.voter.log.spent ≡ false;
-  log : (l.voter.log.file ≡ l.initial.voter.log.file) × (l.voter.log.kind ≡ l.initial.voter.log.kind);
-  others : (other : LogState) → other.file ≢ l.initial.voter.log.file → Stands other (g.H.Host.reads l.initial.host) (g.H.Host.may_leave l.initial.host) → Stands other (g.H.Host.reads l.host) (g.H.Host.may_leave l.host);
-  read : Become (SameBut l.initial.voter.log.file) (g.H.Host.reads l.initial.host) (g.H.Host.reads l.host);
-  crash : Follows (SameBut l.initial.voter.log.file) (g.H.Host.may_leave l.initial.host) (g.H.Host.may_leave l.host);
-  said : g.H.Host.said l.host ≡ g.H.Host.said l.initial.host;
+  rest : WritesLog g.H.Host l.initial.voter.log l.voter.log l.initial.host l.host;
   disk : g.H.Host.disk_faults l.host ≡ g.H.Host.disk_faults l.initial.host;
-  stream : g.H.Host.say_faults l.host ≡ g.H.Host.say_faults l.initial.host;
   world : (chief : Chief) → GoesBetween (g.P.Power.stopped l.initial.power) (g.P.Power.stopped l.power) (PreparesOnly l.epoch) (record { cores = l.initial.cores; chief = chief; sent = g.N.Net.sent l.initial.net }) (record { cores = l.cores; chief = chief; sent = g.N.Net.sent l.net });
-  later : IsLater g.P.Power.stops_seen g.P.Power.early_stops g.P.Power.stopped g.P.Power.begun g.P.Power.asked l.initial.power l.power;
+  later : IsLater g.P.Power l.initial.power l.power;
   stops : CountsStops l.stops (g.P.Power.stops_seen l.initial.power) (g.P.Power.early_stops l.initial.power) (g.P.Power.stops_seen l.power) (g.P.Power.early_stops l.power);
   fresh : AreFresh (g.N.Net.sent l.initial.net) (g.N.Net.fresh l.initial.net) (g.N.Net.sent l.net) (g.N.Net.fresh l.net);
   waiting : (p : ℕ) → p ≢ l.node → g.N.Net.waiting l.net p ≡ g.N.Net.waiting l.initial.net p;

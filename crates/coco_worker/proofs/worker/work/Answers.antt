@@ -1,9 +1,10 @@
 use Rattle.std.proofs.Common.{◌≡◌, ℕ, ◌<◌, ◌∷◌, [], ◌++◌, List, length, refl, sym, ap, ◌∙◌, subst}
 use Rattle.coco_claim.specs.Seats.{Drawer, Round}
+use Rattle.coco_claim.proofs.Drawing.{drew, same_claims}
 use Rattle.coco_desks.proofs.GainLemmas.{still_of}
 use Rattle.coco_worker.specs.Working.{Job, Worked, Works}
 use Rattle.coco_worker.specs.declared.slot.Slot.{Slot}
-use Rattle.coco_worker.proofs.WorkLemmas.{drew, same_claims, the_job, works_drawn, works_redrawn, works_so_more, works_so_none}
+use Rattle.coco_worker.proofs.WorkLemmas.{the_job, works_drawn, works_redrawn, works_so_more, works_so_none}
 use Rattle.coco_worker.proofs.worker.work.Goals as goal
 
 pub loop-place-init : goal.loop-place-init

@@ -16,9 +16,9 @@ pub returns-in_err-settle-clause-files : goal.returns-in_err-settle-clause-files
 returns-in_err-settle-clause-files g c k rests belongs may =
     let p = err_from_is_err_and c.from_residual.result c.from_residual.ensures.1 in
     let e = c.args.self.now.next_epoch in
-    commits_failed g.H.Host.moment g.H.Host.observed g.H.Host.said g.H.Host.reads g.H.Host.may_leave (Err c.in_err-settle.field-0.0) c.from_residual.result p.0 k (commit_of e c.args.dones) c.args.host.now c.settle.new.host p.1
+    commits_failed g.H.Host (Err c.in_err-settle.field-0.0) c.from_residual.result p.0 k (commit_of e c.args.dones) c.args.host.now c.settle.new.host p.1
     (subst (λ (ds : List Done). (IsCommit (commit_of e ds) → MayCommit k (commit_of e ds))
-    → Gains {T = Unit {0}} {E = LogFault} g.H.Host.moment g.H.Host.observed g.H.Host.said g.H.Host.reads g.H.Host.may_leave (Err c.in_err-settle.field-0.0) k (with_commit (commit_of e ds) k) c.args.host.now c.settle.new.host) c.as_slice.ensures
+    → Gains {T = Unit {0}} {E = LogFault} g.H.Host (Err c.in_err-settle.field-0.0) k (with_commit (commit_of e ds) k) c.args.host.now c.settle.new.host) c.as_slice.ensures
     (c.in_err-settle.ensures.files k rests belongs.chief) may)
     (writes_chief k.setting c.args.self.now.members.log.file (g.H.Host.reads c.args.host.now) (g.H.Host.reads c.settle.new.host) (g.H.Host.may_leave c.args.host.now) (g.H.Host.may_leave c.settle.new.host) belongs.chief.file
     c.settle.ensures.read c.settle.ensures.crash)
@@ -45,9 +45,9 @@ returns-clause-ended g c =
 pub returns-clause-files : goal.returns-clause-files
 returns-clause-files g c k rests belongs may =
     let e = c.args.self.now.next_epoch in
-    commits_done g.H.Host.moment g.H.Host.observed g.H.Host.said g.H.Host.reads g.H.Host.may_leave (Ok tt) (Ok tt) k (commit_of e c.args.dones) c.args.host.now c.settle.new.host refl refl
+    commits_done g.H.Host (Ok tt) (Ok tt) k (commit_of e c.args.dones) c.args.host.now c.settle.new.host refl refl
     (subst (λ (ds : List Done). (IsCommit (commit_of e ds) → MayCommit k (commit_of e ds))
-    → Gains {T = Unit {0}} {E = LogFault} g.H.Host.moment g.H.Host.observed g.H.Host.said g.H.Host.reads g.H.Host.may_leave (Ok tt) k (with_commit (commit_of e ds) k) c.args.host.now c.settle.new.host) c.as_slice.ensures
+    → Gains {T = Unit {0}} {E = LogFault} g.H.Host (Ok tt) k (with_commit (commit_of e ds) k) c.args.host.now c.settle.new.host) c.as_slice.ensures
     (c.in_ok-settle.ensures.files k rests belongs.chief) may)
     (writes_chief k.setting c.args.self.now.members.log.file (g.H.Host.reads c.args.host.now) (g.H.Host.reads c.settle.new.host) (g.H.Host.may_leave c.args.host.now) (g.H.Host.may_leave c.settle.new.host) belongs.chief.file
     c.settle.ensures.read c.settle.ensures.crash)

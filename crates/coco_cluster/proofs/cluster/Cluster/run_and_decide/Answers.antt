@@ -19,8 +19,8 @@ use Rattle.coco_cluster.proofs.cluster.Cluster.run_and_decide.Goals as goal
 pub run_epoch-requires-clause-may : goal.run_epoch-requires-clause-may
 run_epoch-requires-clause-may g c _ _ = may_try c.args.self.now (g.N.Net.sent c.args.net.now) c.args.requests.items c.args.workers c.args.attempts c.config_of-config.result c.requires.sound c.requires.up c.requires.may c.requires.workers c.requires.attempts c.config_of-config.ensures
 
-pub decide-requires-clause-quiet : goal.decide-requires-clause-quiet
-decide-requires-clause-quiet g c =
+pub decide-requires : goal.decide-requires
+decide-requires g c =
     let k : Cluster = c.args.self.now in
     let t : NodeTables = c.run_epoch.new.tables in
     let sent = g.N.Net.sent c.args.net.now in
@@ -28,40 +28,7 @@ decide-requires-clause-quiet g c =
     let run : HaveBeenRun k sent c.args.requests.items c.args.workers c.args.attempts carries t c.in_ok-dones.field-0.dones c.as_slice-2.result.now (traced c.in_ok-dones.field-0.trace) =
     been_run k sent c.args.requests.items c.args.workers c.args.attempts c.config_of-config.result carries t c.in_ok-dones.field-0.dones c.in_ok-dones.field-0.pieces c.as_slice-2.result.now (traced c.in_ok-dones.field-0.trace) c.config_of-config.ensures c.as_slice-2.ensures c.requires.sound c.requires.up c.requires.may
     c.in_ok-dones.ensures.ran c.run_epoch.ensures.keep c.in_ok-dones.ensures.shippable c.in_ok-dones.ensures.begun c.run_epoch.ensures.places in
-    quiet_mid run
-
-pub decide-requires-clause-ring : goal.decide-requires-clause-ring
-decide-requires-clause-ring g c =
-    let k : Cluster = c.args.self.now in
-    let t : NodeTables = c.run_epoch.new.tables in
-    let sent = g.N.Net.sent c.args.net.now in
-    let carries = g.N.Net.carries c.args.net.now in
-    let run : HaveBeenRun k sent c.args.requests.items c.args.workers c.args.attempts carries t c.in_ok-dones.field-0.dones c.as_slice-2.result.now (traced c.in_ok-dones.field-0.trace) =
-    been_run k sent c.args.requests.items c.args.workers c.args.attempts c.config_of-config.result carries t c.in_ok-dones.field-0.dones c.in_ok-dones.field-0.pieces c.as_slice-2.result.now (traced c.in_ok-dones.field-0.trace) c.config_of-config.ensures c.as_slice-2.ensures c.requires.sound c.requires.up c.requires.may
-    c.in_ok-dones.ensures.ran c.run_epoch.ensures.keep c.in_ok-dones.ensures.shippable c.in_ok-dones.ensures.begun c.run_epoch.ensures.places in
-    ring_run run
-
-pub decide-requires-clause-pieces : goal.decide-requires-clause-pieces
-decide-requires-clause-pieces g c =
-    let k : Cluster = c.args.self.now in
-    let t : NodeTables = c.run_epoch.new.tables in
-    let sent = g.N.Net.sent c.args.net.now in
-    let carries = g.N.Net.carries c.args.net.now in
-    let run : HaveBeenRun k sent c.args.requests.items c.args.workers c.args.attempts carries t c.in_ok-dones.field-0.dones c.as_slice-2.result.now (traced c.in_ok-dones.field-0.trace) =
-    been_run k sent c.args.requests.items c.args.workers c.args.attempts c.config_of-config.result carries t c.in_ok-dones.field-0.dones c.in_ok-dones.field-0.pieces c.as_slice-2.result.now (traced c.in_ok-dones.field-0.trace) c.config_of-config.ensures c.as_slice-2.ensures c.requires.sound c.requires.up c.requires.may
-    c.in_ok-dones.ensures.ran c.run_epoch.ensures.keep c.in_ok-dones.ensures.shippable c.in_ok-dones.ensures.begun c.run_epoch.ensures.places in
-    shippable_run run
-
-pub decide-requires-clause-begun : goal.decide-requires-clause-begun
-decide-requires-clause-begun g c =
-    let k : Cluster = c.args.self.now in
-    let t : NodeTables = c.run_epoch.new.tables in
-    let sent = g.N.Net.sent c.args.net.now in
-    let carries = g.N.Net.carries c.args.net.now in
-    let run : HaveBeenRun k sent c.args.requests.items c.args.workers c.args.attempts carries t c.in_ok-dones.field-0.dones c.as_slice-2.result.now (traced c.in_ok-dones.field-0.trace) =
-    been_run k sent c.args.requests.items c.args.workers c.args.attempts c.config_of-config.result carries t c.in_ok-dones.field-0.dones c.in_ok-dones.field-0.pieces c.as_slice-2.result.now (traced c.in_ok-dones.field-0.trace) c.config_of-config.ensures c.as_slice-2.ensures c.requires.sound c.requires.up c.requires.may
-    c.in_ok-dones.ensures.ran c.run_epoch.ensures.keep c.in_ok-dones.ensures.shippable c.in_ok-dones.ensures.begun c.run_epoch.ensures.places in
-    begun_run run
+    record { quiet = quiet_mid run; ring = ring_run run; pieces = shippable_run run; begun = begun_run run; ready = c.requires.ready }
 
 -- ---- without memory for the run
 
@@ -69,23 +36,27 @@ pub returns-in_err-ids-clause-files : goal.returns-in_err-ids-clause-files
 returns-in_err-ids-clause-files g c =
     let k : Cluster = c.args.self.now in
     let p = err_from_is_err_and c.from_residual.result c.from_residual.ensures.1 in
-    tried_in_vain g.H.Host.moment g.H.Host.observed g.H.Host.said g.H.Host.reads g.H.Host.may_leave g.met.H.Host.only_now c.from_residual.result c.args.requests.items c.args.workers c.args.attempts k (k) c.args.host.now (ap is_err p.1)
+    tried_in_vain g.H.Host g.met.H.Host.only_now c.from_residual.result c.args.requests.items c.args.workers c.args.attempts k k c.args.host.now (ap is_err p.1)
 
-pub returns-in_err-ids-clause-later : goal.returns-in_err-ids-clause-later
-returns-in_err-ids-clause-later g c =
-    let a : Around = around g.N.Net.sent g.N.Net.given g.N.Net.faults g.N.Net.last_seed g.P.Power.stops_seen g.P.Power.early_stops g.P.Power.stopped g.P.Power.begun g.P.Power.asked c.args.net.now c.args.power.now in
-    later_same a
+pub returns-in_err-ids-clause-rest : goal.returns-in_err-ids-clause-rest
+returns-in_err-ids-clause-rest g c =
+    record { procs = refl; trace = refl; others = λ other away stands. stands; said = refl; stream = refl; later = later_same (around g.N.Net g.P.Power c.args.net.now c.args.power.now) }
+
+pub returns-in_err-ids-clause-power : goal.returns-in_err-ids-clause-power
+returns-in_err-ids-clause-power g c = asked_same g.P.Power c.args.power.now
 
 pub returns-in_err-dones-clause-files : goal.returns-in_err-dones-clause-files
 returns-in_err-dones-clause-files g c =
     let k : Cluster = c.args.self.now in
     let p = err_from_is_err_and c.from_residual-in_err-dones.result c.from_residual-in_err-dones.ensures.1 in
-    tried_in_vain g.H.Host.moment g.H.Host.observed g.H.Host.said g.H.Host.reads g.H.Host.may_leave g.met.H.Host.only_now c.from_residual-in_err-dones.result c.args.requests.items c.args.workers c.args.attempts k (record k { kept = c.run_epoch.new.kept; members = record k.members { tables = c.run_epoch.new.tables }; room = c.run_epoch.new.room }) c.args.host.now (ap is_err p.1)
+    tried_in_vain g.H.Host g.met.H.Host.only_now c.from_residual-in_err-dones.result c.args.requests.items c.args.workers c.args.attempts k (record k { kept = c.run_epoch.new.kept; members = record k.members { tables = c.run_epoch.new.tables }; room = c.run_epoch.new.room }) c.args.host.now (ap is_err p.1)
 
-pub returns-in_err-dones-clause-later : goal.returns-in_err-dones-clause-later
-returns-in_err-dones-clause-later g c =
-    let a : Around = around g.N.Net.sent g.N.Net.given g.N.Net.faults g.N.Net.last_seed g.P.Power.stops_seen g.P.Power.early_stops g.P.Power.stopped g.P.Power.begun g.P.Power.asked c.args.net.now c.args.power.now in
-    later_same a
+pub returns-in_err-dones-clause-rest : goal.returns-in_err-dones-clause-rest
+returns-in_err-dones-clause-rest g c =
+    record { procs = refl; trace = refl; others = λ other away stands. stands; said = refl; stream = refl; later = later_same (around g.N.Net g.P.Power c.args.net.now c.args.power.now) }
+
+pub returns-in_err-dones-clause-power : goal.returns-in_err-dones-clause-power
+returns-in_err-dones-clause-power g c = asked_same g.P.Power c.args.power.now
 
 -- ---- or with a fault of the disk
 
@@ -100,14 +71,19 @@ returns-in_err-all-clause-files g c d rests stands room =
     c.in_ok-dones.ensures.ran c.run_epoch.ensures.keep c.in_ok-dones.ensures.shippable c.in_ok-dones.ensures.begun c.run_epoch.ensures.places in
     let new : Cluster = record k { kept = c.run_epoch.new.kept; members = c.decide.new.members; body = c.decide.new.body; room = c.run_epoch.new.room } in
     let p = err_from_is_err_and c.from_residual-in_err-all.result c.from_residual-in_err-all.ensures.1 in (
-      (decided_files run g.H.Host.moment g.H.Host.observed g.H.Host.said g.H.Host.reads g.H.Host.may_leave c.decide.result c.args.host.now c.decide.new.host c.decide.ensures.files c.a_run_is_the_next_commit.ensures (record { may = c.a_run_may_be_prepared.ensures.may; ready = c.a_run_may_be_prepared.ensures.ready }) c.requires.some c.requires.below d rests stands room).0,
+      (decided_files run g.H.Host c.decide.result c.args.host.now c.decide.new.host c.decide.ensures.files c.a_run_is_the_next_commit.ensures (record { may = c.a_run_may_be_prepared.ensures.may; ready = c.a_run_may_be_prepared.ensures.ready }) c.requires.some c.requires.below d rests stands room).0,
       IfOk-from_err c.from_residual-in_err-all.result (λ tried. ComesOn tried d c.args.requests.items c.args.workers c.args.attempts k.next_epoch new.members.tables (g.H.Host.reads c.decide.new.host) (g.H.Host.may_leave c.decide.new.host)) (ap is_err p.1),
     )
 
+pub returns-in_err-all-clause-rest : goal.returns-in_err-all-clause-rest
+returns-in_err-all-clause-rest g c =
+    let rest = c.decide.ensures.rest in
+    record { procs = refl; trace = refl; others = rest.others; said = rest.said; stream = rest.stream; later = rest.later }
+
 -- ---- all have voted
 
-pub returns-then-all-clause-comes : goal.returns-then-all-clause-comes
-returns-then-all-clause-comes g c m has =
+pub returns-then-all-clause-tried : goal.returns-then-all-clause-tried
+returns-then-all-clause-tried g c =
     let k : Cluster = c.args.self.now in
     let t : NodeTables = c.run_epoch.new.tables in
     let sent = g.N.Net.sent c.args.net.now in
@@ -116,19 +92,22 @@ returns-then-all-clause-comes g c m has =
     been_run k sent c.args.requests.items c.args.workers c.args.attempts c.config_of-config.result carries t c.in_ok-dones.field-0.dones c.in_ok-dones.field-0.pieces c.as_slice-2.result.now (traced c.in_ok-dones.field-0.trace) c.config_of-config.ensures c.as_slice-2.ensures c.requires.sound c.requires.up c.requires.may
     c.in_ok-dones.ensures.ran c.run_epoch.ensures.keep c.in_ok-dones.ensures.shippable c.in_ok-dones.ensures.begun c.run_epoch.ensures.places in
     let new : Cluster = record k { kept = c.run_epoch.new.kept; members = c.decide.new.members; body = c.decide.new.body; room = c.run_epoch.new.room } in
-    voted_so run new refl c.run_epoch.ensures.kept refl refl refl c.in_ok-all.ensures.places (g.N.Net.sent c.decide.new.net) m has c.in_ok-dones.ensures.room (rw c.if-all.true at c.in_ok-all.ensures.decides)
-
-pub returns-then-all-clause-stays : goal.returns-then-all-clause-stays
-returns-then-all-clause-stays g c =
-    let k : Cluster = c.args.self.now in
-    let t : NodeTables = c.run_epoch.new.tables in
-    let sent = g.N.Net.sent c.args.net.now in
-    let carries = g.N.Net.carries c.args.net.now in
-    let run : HaveBeenRun k sent c.args.requests.items c.args.workers c.args.attempts carries t c.in_ok-dones.field-0.dones c.as_slice-2.result.now (traced c.in_ok-dones.field-0.trace) =
-    been_run k sent c.args.requests.items c.args.workers c.args.attempts c.config_of-config.result carries t c.in_ok-dones.field-0.dones c.in_ok-dones.field-0.pieces c.as_slice-2.result.now (traced c.in_ok-dones.field-0.trace) c.config_of-config.ensures c.as_slice-2.ensures c.requires.sound c.requires.up c.requires.may
-    c.in_ok-dones.ensures.ran c.run_epoch.ensures.keep c.in_ok-dones.ensures.shippable c.in_ok-dones.ensures.begun c.run_epoch.ensures.places in
-    let new : Cluster = record k { kept = c.run_epoch.new.kept; members = c.decide.new.members; body = c.decide.new.body; room = c.run_epoch.new.room } in
-    stays_tried run new refl c.run_epoch.ensures.kept refl refl refl c.in_ok-all.ensures.places
+    let a : Around = around g.N.Net g.P.Power c.args.net.now c.args.power.now in
+    let b : Around = around g.N.Net g.P.Power c.decide.new.net c.decide.new.power in
+    let r : Result Bool TurnFault = Ok c.in_ok-all.all in
+    let decided = c.in_ok-all.ensures.decided in
+    record {
+      comes = λ m has. voted_so run new refl c.run_epoch.ensures.kept refl refl refl decided.places (g.N.Net.sent c.decide.new.net) m has c.in_ok-dones.ensures.room (rw c.if-all.true at decided.decides);
+      cause = tt;
+      voted = subst (λ (layout : Layout). IsVotedFor layout k.next_epoch 2 5 a b) c.run_epoch.ensures.places.layout (rw c.if-all.true at decided.voted);
+      steps = decided.steps;
+      entries = λ d e rests stands room behind. entered run g.H.Host r c.args.host.now c.decide.new.host c.in_ok-all.ensures.files c.a_run_is_the_next_commit.ensures
+          (record { may = c.a_run_may_be_prepared.ensures.may; ready = c.a_run_may_be_prepared.ensures.ready }) c.requires.some c.requires.below d rests stands room
+          e (g.P.Power.stopped c.args.power.now) (g.P.Power.stopped c.decide.new.power) c.decide.new.members (g.N.Net.sent c.decide.new.net) decided.entries behind;
+      stays = stays_tried run new refl c.run_epoch.ensures.kept refl refl refl decided.places;
+      whole = decided.whole;
+      ready = decided.ready;
+    }
 
 pub returns-then-all-clause-files : goal.returns-then-all-clause-files
 returns-then-all-clause-files g c d rests stands room =
@@ -140,11 +119,16 @@ returns-then-all-clause-files g c d rests stands room =
     been_run k sent c.args.requests.items c.args.workers c.args.attempts c.config_of-config.result carries t c.in_ok-dones.field-0.dones c.in_ok-dones.field-0.pieces c.as_slice-2.result.now (traced c.in_ok-dones.field-0.trace) c.config_of-config.ensures c.as_slice-2.ensures c.requires.sound c.requires.up c.requires.may
     c.in_ok-dones.ensures.ran c.run_epoch.ensures.keep c.in_ok-dones.ensures.shippable c.in_ok-dones.ensures.begun c.run_epoch.ensures.places in
     let r : Result Bool TurnFault = Ok c.in_ok-all.all in
-    let decided = decided_files run g.H.Host.moment g.H.Host.observed g.H.Host.said g.H.Host.reads g.H.Host.may_leave r c.args.host.now c.decide.new.host c.in_ok-all.ensures.files c.a_run_is_the_next_commit.ensures (record { may = c.a_run_may_be_prepared.ensures.may; ready = c.a_run_may_be_prepared.ensures.ready }) c.requires.some c.requires.below d rests stands room in (
+    let decided = decided_files run g.H.Host r c.args.host.now c.decide.new.host c.in_ok-all.ensures.files c.a_run_is_the_next_commit.ensures (record { may = c.a_run_may_be_prepared.ensures.may; ready = c.a_run_may_be_prepared.ensures.ready }) c.requires.some c.requires.below d rests stands room in (
       decided.0,
-      may_commit run g.H.Host.moment g.H.Host.observed g.H.Host.said g.H.Host.reads g.H.Host.may_leave r c.args.host.now c.decide.new.host c.in_ok-all.ensures.files c.a_run_is_the_next_commit.ensures (record { may = c.a_run_may_be_prepared.ensures.may; ready = c.a_run_may_be_prepared.ensures.ready }) c.requires.some c.requires.below d rests stands room
-          c.decide.new.members.tables (rw c.if-all.true at decided.1) (rw c.if-all.true at c.in_ok-all.ensures.give),
+      may_commit run g.H.Host r c.args.host.now c.decide.new.host c.in_ok-all.ensures.files c.a_run_is_the_next_commit.ensures (record { may = c.a_run_may_be_prepared.ensures.may; ready = c.a_run_may_be_prepared.ensures.ready }) c.requires.some c.requires.below d rests stands room
+          c.decide.new.members.tables (rw c.if-all.true at decided.1) (rw c.if-all.true at c.in_ok-all.ensures.decided.give),
     )
+
+pub returns-then-all-clause-rest : goal.returns-then-all-clause-rest
+returns-then-all-clause-rest g c =
+    let rest = c.decide.ensures.rest in
+    record { procs = refl; trace = refl; others = rest.others; said = rest.said; stream = rest.stream; later = rest.later }
 
 -- ---- it is given up
 
@@ -159,12 +143,17 @@ returns-in_err-requests-clause-files g c d rests stands room =
     c.in_ok-dones.ensures.ran c.run_epoch.ensures.keep c.in_ok-dones.ensures.shippable c.in_ok-dones.ensures.begun c.run_epoch.ensures.places in
     let new : Cluster = record k { kept = c.run_epoch.new.kept; members = c.decide.new.members; body = c.decide.new.body; room = c.run_epoch.new.room } in
     let p = err_from_is_err_and c.from_residual-in_err-requests.result c.from_residual-in_err-requests.ensures.1 in (
-      (decided_files run g.H.Host.moment g.H.Host.observed g.H.Host.said g.H.Host.reads g.H.Host.may_leave c.decide.result c.args.host.now c.decide.new.host c.decide.ensures.files c.a_run_is_the_next_commit.ensures (record { may = c.a_run_may_be_prepared.ensures.may; ready = c.a_run_may_be_prepared.ensures.ready }) c.requires.some c.requires.below d rests stands room).0,
+      (decided_files run g.H.Host c.decide.result c.args.host.now c.decide.new.host c.decide.ensures.files c.a_run_is_the_next_commit.ensures (record { may = c.a_run_may_be_prepared.ensures.may; ready = c.a_run_may_be_prepared.ensures.ready }) c.requires.some c.requires.below d rests stands room).0,
       IfOk-from_err c.from_residual-in_err-requests.result (λ tried. ComesOn tried d c.args.requests.items c.args.workers c.args.attempts k.next_epoch new.members.tables (g.H.Host.reads c.decide.new.host) (g.H.Host.may_leave c.decide.new.host)) (ap is_err p.1),
     )
 
-pub returns-clause-comes : goal.returns-clause-comes
-returns-clause-comes g c m has =
+pub returns-in_err-requests-clause-rest : goal.returns-in_err-requests-clause-rest
+returns-in_err-requests-clause-rest g c =
+    let rest = c.decide.ensures.rest in
+    record { procs = refl; trace = refl; others = rest.others; said = rest.said; stream = rest.stream; later = rest.later }
+
+pub returns-clause-tried : goal.returns-clause-tried
+returns-clause-tried g c =
     let k : Cluster = c.args.self.now in
     let t : NodeTables = c.run_epoch.new.tables in
     let sent = g.N.Net.sent c.args.net.now in
@@ -173,23 +162,21 @@ returns-clause-comes g c m has =
     been_run k sent c.args.requests.items c.args.workers c.args.attempts c.config_of-config.result carries t c.in_ok-dones.field-0.dones c.in_ok-dones.field-0.pieces c.as_slice-2.result.now (traced c.in_ok-dones.field-0.trace) c.config_of-config.ensures c.as_slice-2.ensures c.requires.sound c.requires.up c.requires.may
     c.in_ok-dones.ensures.ran c.run_epoch.ensures.keep c.in_ok-dones.ensures.shippable c.in_ok-dones.ensures.begun c.run_epoch.ensures.places in
     let new : Cluster = record k { kept = c.run_epoch.new.kept; members = c.decide.new.members; body = c.decide.new.body; room = c.run_epoch.new.room } in
-    given_up_so run new refl c.run_epoch.ensures.kept refl refl refl c.in_ok-all.ensures.places (g.N.Net.sent c.decide.new.net) m c.in_ok-ids.ids.items c.in_ok-requests.requests.items has c.decide.ensures.shards (rw c.if-all.false at c.in_ok-all.ensures.decides)
-    (subst (λ (rs : List Request). c.in_ok-ids.ids.items ≡ map (λ (r : Request). r.id) rs) c.as_slice.ensures.value c.in_ok-ids.ensures) (subst (λ (ids : List ℕ). (rs : List Request) → AreRequestsOf ids c.in_ok-dones.field-0.dones rs → c.in_ok-requests.requests.items ≡ rs) c.as_slice-3.ensures.value c.in_ok-requests.ensures)
-
-pub returns-clause-cause : goal.returns-clause-cause
-returns-clause-cause g c = rw c.if-all.false at c.in_ok-all.ensures.cause
-
-pub returns-clause-stays : goal.returns-clause-stays
-returns-clause-stays g c =
-    let k : Cluster = c.args.self.now in
-    let t : NodeTables = c.run_epoch.new.tables in
-    let sent = g.N.Net.sent c.args.net.now in
-    let carries = g.N.Net.carries c.args.net.now in
-    let run : HaveBeenRun k sent c.args.requests.items c.args.workers c.args.attempts carries t c.in_ok-dones.field-0.dones c.as_slice-2.result.now (traced c.in_ok-dones.field-0.trace) =
-    been_run k sent c.args.requests.items c.args.workers c.args.attempts c.config_of-config.result carries t c.in_ok-dones.field-0.dones c.in_ok-dones.field-0.pieces c.as_slice-2.result.now (traced c.in_ok-dones.field-0.trace) c.config_of-config.ensures c.as_slice-2.ensures c.requires.sound c.requires.up c.requires.may
-    c.in_ok-dones.ensures.ran c.run_epoch.ensures.keep c.in_ok-dones.ensures.shippable c.in_ok-dones.ensures.begun c.run_epoch.ensures.places in
-    let new : Cluster = record k { kept = c.run_epoch.new.kept; members = c.decide.new.members; body = c.decide.new.body; room = c.run_epoch.new.room } in
-    stays_tried run new refl c.run_epoch.ensures.kept refl refl refl c.in_ok-all.ensures.places
+    let r : Result Bool TurnFault = Ok c.in_ok-all.all in
+    let decided = c.in_ok-all.ensures.decided in
+    record {
+      comes = λ m has. given_up_so run new refl c.run_epoch.ensures.kept refl refl refl decided.places (g.N.Net.sent c.decide.new.net) m c.in_ok-ids.ids.items c.in_ok-requests.requests.items has c.decide.ensures.rest.shards (rw c.if-all.false at decided.decides)
+          (subst (λ (rs : List Request). c.in_ok-ids.ids.items ≡ map (λ (r : Request). r.id) rs) c.as_slice.ensures.value c.in_ok-ids.ensures) (subst (λ (ids : List ℕ). (rs : List Request) → AreRequestsOf ids c.in_ok-dones.field-0.dones rs → c.in_ok-requests.requests.items ≡ rs) c.as_slice-3.ensures.value c.in_ok-requests.ensures);
+      cause = rw c.if-all.false at decided.cause;
+      voted = tt;
+      steps = decided.steps;
+      entries = λ d e rests stands room behind. entered run g.H.Host r c.args.host.now c.decide.new.host c.in_ok-all.ensures.files c.a_run_is_the_next_commit.ensures
+          (record { may = c.a_run_may_be_prepared.ensures.may; ready = c.a_run_may_be_prepared.ensures.ready }) c.requires.some c.requires.below d rests stands room
+          e (g.P.Power.stopped c.args.power.now) (g.P.Power.stopped c.decide.new.power) c.decide.new.members (g.N.Net.sent c.decide.new.net) decided.entries behind;
+      stays = stays_tried run new refl c.run_epoch.ensures.kept refl refl refl decided.places;
+      whole = decided.whole;
+      ready = decided.ready;
+    }
 
 pub returns-clause-files : goal.returns-clause-files
 returns-clause-files g c d rests stands room =
@@ -201,57 +188,13 @@ returns-clause-files g c d rests stands room =
     been_run k sent c.args.requests.items c.args.workers c.args.attempts c.config_of-config.result carries t c.in_ok-dones.field-0.dones c.in_ok-dones.field-0.pieces c.as_slice-2.result.now (traced c.in_ok-dones.field-0.trace) c.config_of-config.ensures c.as_slice-2.ensures c.requires.sound c.requires.up c.requires.may
     c.in_ok-dones.ensures.ran c.run_epoch.ensures.keep c.in_ok-dones.ensures.shippable c.in_ok-dones.ensures.begun c.run_epoch.ensures.places in
     let r : Result Bool TurnFault = Ok c.in_ok-all.all in
-    let decided = decided_files run g.H.Host.moment g.H.Host.observed g.H.Host.said g.H.Host.reads g.H.Host.may_leave r c.args.host.now c.decide.new.host c.in_ok-all.ensures.files c.a_run_is_the_next_commit.ensures (record { may = c.a_run_may_be_prepared.ensures.may; ready = c.a_run_may_be_prepared.ensures.ready }) c.requires.some c.requires.below d rests stands room in (
+    let decided = decided_files run g.H.Host r c.args.host.now c.decide.new.host c.in_ok-all.ensures.files c.a_run_is_the_next_commit.ensures (record { may = c.a_run_may_be_prepared.ensures.may; ready = c.a_run_may_be_prepared.ensures.ready }) c.requires.some c.requires.below d rests stands room in (
       decided.0,
-      may_go_on run g.H.Host.moment g.H.Host.observed g.H.Host.said g.H.Host.reads g.H.Host.may_leave r c.args.host.now c.decide.new.host c.in_ok-all.ensures.files c.a_run_is_the_next_commit.ensures (record { may = c.a_run_may_be_prepared.ensures.may; ready = c.a_run_may_be_prepared.ensures.ready }) c.requires.some c.requires.below d rests stands room
-          c.decide.new.members.tables (rw c.if-all.false at decided.1) c.decide.ensures.keep,
+      may_go_on run g.H.Host r c.args.host.now c.decide.new.host c.in_ok-all.ensures.files c.a_run_is_the_next_commit.ensures (record { may = c.a_run_may_be_prepared.ensures.may; ready = c.a_run_may_be_prepared.ensures.ready }) c.requires.some c.requires.below d rests stands room
+          c.decide.new.members.tables (rw c.if-all.false at decided.1) c.decide.ensures.rest.keep,
     )
 
--- ---- the steps of nodes and coordinator, and what was asked
-
-pub returns-in_err-ids-clause-power : goal.returns-in_err-ids-clause-power
-returns-in_err-ids-clause-power g c = asked_same g.P.Power.stops_seen g.P.Power.early_stops g.P.Power.stopped g.P.Power.begun g.P.Power.asked c.args.power.now
-
-pub returns-in_err-dones-clause-power : goal.returns-in_err-dones-clause-power
-returns-in_err-dones-clause-power g c = asked_same g.P.Power.stops_seen g.P.Power.early_stops g.P.Power.stopped g.P.Power.begun g.P.Power.asked c.args.power.now
-
-pub returns-then-all-clause-voted : goal.returns-then-all-clause-voted
-returns-then-all-clause-voted g c =
-    let a : Around = around g.N.Net.sent g.N.Net.given g.N.Net.faults g.N.Net.last_seed g.P.Power.stops_seen g.P.Power.early_stops g.P.Power.stopped g.P.Power.begun g.P.Power.asked c.args.net.now c.args.power.now in
-    let b : Around = around g.N.Net.sent g.N.Net.given g.N.Net.faults g.N.Net.last_seed g.P.Power.stops_seen g.P.Power.early_stops g.P.Power.stopped g.P.Power.begun g.P.Power.asked c.decide.new.net c.decide.new.power in
-    subst (λ (layout : Layout). IsVotedFor layout c.args.self.now.next_epoch 2 5 a b) c.run_epoch.ensures.places.layout (rw c.if-all.true at c.in_ok-all.ensures.voted)
-
-pub returns-then-all-clause-steps : goal.returns-then-all-clause-steps
-returns-then-all-clause-steps g c = c.in_ok-all.ensures.steps
-
-pub returns-clause-voted : goal.returns-clause-voted
-returns-clause-voted g c = tt
-
-pub returns-clause-steps : goal.returns-clause-steps
-returns-clause-steps g c = c.in_ok-all.ensures.steps
-
-pub returns-then-all-clause-entries : goal.returns-then-all-clause-entries
-returns-then-all-clause-entries g c d e rests stands room behind =
-    let k : Cluster = c.args.self.now in
-    let t : NodeTables = c.run_epoch.new.tables in
-    let sent = g.N.Net.sent c.args.net.now in
-    let carries = g.N.Net.carries c.args.net.now in
-    let run : HaveBeenRun k sent c.args.requests.items c.args.workers c.args.attempts carries t c.in_ok-dones.field-0.dones c.as_slice-2.result.now (traced c.in_ok-dones.field-0.trace) =
-    been_run k sent c.args.requests.items c.args.workers c.args.attempts c.config_of-config.result carries t c.in_ok-dones.field-0.dones c.in_ok-dones.field-0.pieces c.as_slice-2.result.now (traced c.in_ok-dones.field-0.trace) c.config_of-config.ensures c.as_slice-2.ensures c.requires.sound c.requires.up c.requires.may
-    c.in_ok-dones.ensures.ran c.run_epoch.ensures.keep c.in_ok-dones.ensures.shippable c.in_ok-dones.ensures.begun c.run_epoch.ensures.places in
-    let r : Result Bool TurnFault = Ok c.in_ok-all.all in
-    entered run g.H.Host.moment g.H.Host.observed g.H.Host.said g.H.Host.reads g.H.Host.may_leave r c.args.host.now c.decide.new.host c.in_ok-all.ensures.files c.a_run_is_the_next_commit.ensures (record { may = c.a_run_may_be_prepared.ensures.may; ready = c.a_run_may_be_prepared.ensures.ready }) c.requires.some c.requires.below d rests stands room
-    e (g.P.Power.stopped c.args.power.now) (g.P.Power.stopped c.decide.new.power) c.decide.new.members (g.N.Net.sent c.decide.new.net) c.in_ok-all.ensures.entries behind
-
-pub returns-clause-entries : goal.returns-clause-entries
-returns-clause-entries g c d e rests stands room behind =
-    let k : Cluster = c.args.self.now in
-    let t : NodeTables = c.run_epoch.new.tables in
-    let sent = g.N.Net.sent c.args.net.now in
-    let carries = g.N.Net.carries c.args.net.now in
-    let run : HaveBeenRun k sent c.args.requests.items c.args.workers c.args.attempts carries t c.in_ok-dones.field-0.dones c.as_slice-2.result.now (traced c.in_ok-dones.field-0.trace) =
-    been_run k sent c.args.requests.items c.args.workers c.args.attempts c.config_of-config.result carries t c.in_ok-dones.field-0.dones c.in_ok-dones.field-0.pieces c.as_slice-2.result.now (traced c.in_ok-dones.field-0.trace) c.config_of-config.ensures c.as_slice-2.ensures c.requires.sound c.requires.up c.requires.may
-    c.in_ok-dones.ensures.ran c.run_epoch.ensures.keep c.in_ok-dones.ensures.shippable c.in_ok-dones.ensures.begun c.run_epoch.ensures.places in
-    let r : Result Bool TurnFault = Ok c.in_ok-all.all in
-    entered run g.H.Host.moment g.H.Host.observed g.H.Host.said g.H.Host.reads g.H.Host.may_leave r c.args.host.now c.decide.new.host c.in_ok-all.ensures.files c.a_run_is_the_next_commit.ensures (record { may = c.a_run_may_be_prepared.ensures.may; ready = c.a_run_may_be_prepared.ensures.ready }) c.requires.some c.requires.below d rests stands room
-    e (g.P.Power.stopped c.args.power.now) (g.P.Power.stopped c.decide.new.power) c.decide.new.members (g.N.Net.sent c.decide.new.net) c.in_ok-all.ensures.entries behind
+pub returns-clause-rest : goal.returns-clause-rest
+returns-clause-rest g c =
+    let rest = c.decide.ensures.rest in
+    record { procs = refl; trace = refl; others = rest.others; said = rest.said; stream = rest.stream; later = rest.later }

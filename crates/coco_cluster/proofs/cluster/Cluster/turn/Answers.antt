@@ -33,7 +33,7 @@ loop-attempt-init g c =
       sound = same_sound (g.N.Net.sent c.args.net.now) k now (record { procs = refl; kept = refl; members = refl; base = refl; next = refl }) c.requires.sound;
       stand = record { chief = c.requires.stand.chief; nodes = c.requires.stand.nodes };
       same = refl;
-      given = later_same (around g.N.Net.sent g.N.Net.given g.N.Net.faults g.N.Net.last_seed g.P.Power.stops_seen g.P.Power.early_stops g.P.Power.stopped g.P.Power.begun g.P.Power.asked c.args.net.now c.args.power.now);
+      given = later_same (around g.N.Net g.P.Power c.args.net.now c.args.power.now);
       begun = λ some. absurd (omega (arith, some));
       low = omega arith;
       high = omega arith;
@@ -44,11 +44,11 @@ loop-attempt-init g c =
       seen = omega arith;
       map = λ is m had. had;
       steps = steps_none (g.P.Power.stopped c.args.power.now) k.next_epoch (scene_of k.members (g.N.Net.sent c.args.net.now));
-      asks = begins_same k.next_epoch (around g.N.Net.sent g.N.Net.given g.N.Net.faults g.N.Net.last_seed g.P.Power.stops_seen g.P.Power.early_stops g.P.Power.stopped g.P.Power.begun g.P.Power.asked c.args.net.now c.args.power.now) (around g.N.Net.sent g.N.Net.given g.N.Net.faults g.N.Net.last_seed g.P.Power.stops_seen g.P.Power.early_stops g.P.Power.stopped g.P.Power.begun g.P.Power.asked c.args.net.now c.args.power.now) refl refl;
+      asks = begins_same k.next_epoch (around g.N.Net g.P.Power c.args.net.now c.args.power.now) (around g.N.Net g.P.Power c.args.net.now c.args.power.now) refl refl;
       begins = omega arith;
       untraced = c.keep.ensures;
       unused = λ used. refl;
-      told = λ d on stands room. goes_first g.H.Host.moment g.H.Host.observed g.H.Host.said g.H.Host.reads g.H.Host.may_leave g.met.H.Host.only_now d k now c.args.host.now (record { procs = refl; kept = refl; members = refl; base = refl; next = refl }) on stands;
+      told = λ d on stands room. goes_first g.H.Host g.met.H.Host.only_now d k now c.args.host.now (record { procs = refl; kept = refl; members = refl; base = refl; next = refl }) on stands;
       entries = λ d e on stands room behind.
           let i = g.P.Power.stopped c.args.power.now in
           let a = scene_of k.members (g.N.Net.sent c.args.net.now) in
@@ -75,17 +75,17 @@ loop-attempt-preserved g c =
     let did = c.attempt.ensures in
     let ok = c.in_ok-attempt.ensures in
     let back : IsGivenBack c.loop-attempt.requests.items c.in-Some.again.items c.loop-attempt.self c.attempt.new.self = subst (λ (x : Option (Vec Request)). Attempts x c.loop-attempt.requests.items c.args.workers c.args.attempts c.loop-attempt.self c.attempt.new.self) c.in-Some.is ok.attempts in
-    let cause : GivesUp (around g.N.Net.sent g.N.Net.given g.N.Net.faults g.N.Net.last_seed g.P.Power.stops_seen g.P.Power.early_stops g.P.Power.stopped g.P.Power.begun g.P.Power.asked c.loop-attempt.net c.loop-attempt.power) (around g.N.Net.sent g.N.Net.given g.N.Net.faults g.N.Net.last_seed g.P.Power.stops_seen g.P.Power.early_stops g.P.Power.stopped g.P.Power.begun g.P.Power.asked c.attempt.new.net c.attempt.new.power) = subst (λ (x : Option (Vec Request)). HasCause x (around g.N.Net.sent g.N.Net.given g.N.Net.faults g.N.Net.last_seed g.P.Power.stops_seen g.P.Power.early_stops g.P.Power.stopped g.P.Power.begun g.P.Power.asked c.loop-attempt.net c.loop-attempt.power) (around g.N.Net.sent g.N.Net.given g.N.Net.faults g.N.Net.last_seed g.P.Power.stops_seen g.P.Power.early_stops g.P.Power.stopped g.P.Power.begun g.P.Power.asked c.attempt.new.net c.attempt.new.power)) c.in-Some.is ok.cause in
+    let cause : GivesUp (around g.N.Net g.P.Power c.loop-attempt.net c.loop-attempt.power) (around g.N.Net g.P.Power c.attempt.new.net c.attempt.new.power) = subst (λ (x : Option (Vec Request)). HasCause x (around g.N.Net g.P.Power c.loop-attempt.net c.loop-attempt.power) (around g.N.Net g.P.Power c.attempt.new.net c.attempt.new.power)) c.in-Some.is ok.cause in
     let low = before.low in let below : c.loop-attempt.self.next_epoch < epochs_end = c.if-self-ge-EPOCHS_END.false in
     record {
       sound = ok.sound;
       stand = ok.stand;
       same = back.same ∙ before.same;
-      given = more_given c.loop-attempt._attempt (around g.N.Net.sent g.N.Net.given g.N.Net.faults g.N.Net.last_seed g.P.Power.stops_seen g.P.Power.early_stops g.P.Power.stopped g.P.Power.begun g.P.Power.asked c.args.net.now c.args.power.now) (around g.N.Net.sent g.N.Net.given g.N.Net.faults g.N.Net.last_seed g.P.Power.stops_seen g.P.Power.early_stops g.P.Power.stopped g.P.Power.begun g.P.Power.asked c.loop-attempt.net c.loop-attempt.power) (around g.N.Net.sent g.N.Net.given g.N.Net.faults g.N.Net.last_seed g.P.Power.stops_seen g.P.Power.early_stops g.P.Power.stopped g.P.Power.begun g.P.Power.asked c.attempt.new.net c.attempt.new.power) before.given cause;
+      given = more_given c.loop-attempt._attempt (around g.N.Net g.P.Power c.args.net.now c.args.power.now) (around g.N.Net g.P.Power c.loop-attempt.net c.loop-attempt.power) (around g.N.Net g.P.Power c.attempt.new.net c.attempt.new.power) before.given cause;
       begun = λ some. omega (arith, low, below);
       low = (let up = back.low in omega (arith, low, up));
       high = (let first = before.high in let up = back.high in omega (arith, first, up));
-      few = few_more c.loop-attempt.self.next_epoch c.attempt.new.self.next_epoch c.args.self.now.next_epoch (around g.N.Net.sent g.N.Net.given g.N.Net.faults g.N.Net.last_seed g.P.Power.stops_seen g.P.Power.early_stops g.P.Power.stopped g.P.Power.begun g.P.Power.asked c.args.net.now c.args.power.now) (around g.N.Net.sent g.N.Net.given g.N.Net.faults g.N.Net.last_seed g.P.Power.stops_seen g.P.Power.early_stops g.P.Power.stopped g.P.Power.begun g.P.Power.asked c.loop-attempt.net c.loop-attempt.power) (around g.N.Net.sent g.N.Net.given g.N.Net.faults g.N.Net.last_seed g.P.Power.stops_seen g.P.Power.early_stops g.P.Power.stopped g.P.Power.begun g.P.Power.asked c.attempt.new.net c.attempt.new.power) before.few (all_later c.loop-attempt._attempt (around g.N.Net.sent g.N.Net.given g.N.Net.faults g.N.Net.last_seed g.P.Power.stops_seen g.P.Power.early_stops g.P.Power.stopped g.P.Power.begun g.P.Power.asked c.args.net.now c.args.power.now) (around g.N.Net.sent g.N.Net.given g.N.Net.faults g.N.Net.last_seed g.P.Power.stops_seen g.P.Power.early_stops g.P.Power.stopped g.P.Power.begun g.P.Power.asked c.loop-attempt.net c.loop-attempt.power) before.given) cause back.high;
+      few = few_more c.loop-attempt.self.next_epoch c.attempt.new.self.next_epoch c.args.self.now.next_epoch (around g.N.Net g.P.Power c.args.net.now c.args.power.now) (around g.N.Net g.P.Power c.loop-attempt.net c.loop-attempt.power) (around g.N.Net g.P.Power c.attempt.new.net c.attempt.new.power) before.few (all_later c.loop-attempt._attempt (around g.N.Net g.P.Power c.args.net.now c.args.power.now) (around g.N.Net g.P.Power c.loop-attempt.net c.loop-attempt.power) before.given) cause back.high;
       kept = back.kept ∙ ap (λ (n : Keeping). record n { room = c.attempt.new.self.kept.room }) before.kept;
       procs = back.procs ∙ before.procs;
       layout = back.layout ∙ before.layout;
@@ -97,14 +97,14 @@ loop-attempt-preserved g c =
           keeps m (before.map (omega (arith, first, more, is)) m had);
       steps = (steps_after (g.P.Power.stopped c.args.power.now) (g.P.Power.stopped c.loop-attempt.power) (g.P.Power.stopped c.attempt.new.power) c.args.self.now.next_epoch c.loop-attempt.self.next_epoch c.attempt.new.self.next_epoch [] (scene_of c.args.self.now.members (g.N.Net.sent c.args.net.now)) (scene_of c.loop-attempt.self.members (g.N.Net.sent c.loop-attempt.net)) (scene_of c.attempt.new.self.members (g.N.Net.sent c.attempt.new.net)) before.steps
           (none_committed c.in_ok-attempt.field-0 c.in-Some.again c.attempt.new.self.next_epoch (scene_of c.loop-attempt.self.members (g.N.Net.sent c.loop-attempt.net)) (scene_of c.attempt.new.self.members (g.N.Net.sent c.attempt.new.net)) c.in-Some.is ok.world));
-      asks = begins_then c.args.self.now.next_epoch c.loop-attempt.self.next_epoch c.attempt.new.self.next_epoch (around g.N.Net.sent g.N.Net.given g.N.Net.faults g.N.Net.last_seed g.P.Power.stops_seen g.P.Power.early_stops g.P.Power.stopped g.P.Power.begun g.P.Power.asked c.args.net.now c.args.power.now) (around g.N.Net.sent g.N.Net.given g.N.Net.faults g.N.Net.last_seed g.P.Power.stops_seen g.P.Power.early_stops g.P.Power.stopped g.P.Power.begun g.P.Power.asked c.loop-attempt.net c.loop-attempt.power) (around g.N.Net.sent g.N.Net.given g.N.Net.faults g.N.Net.last_seed g.P.Power.stops_seen g.P.Power.early_stops g.P.Power.stopped g.P.Power.begun g.P.Power.asked c.attempt.new.net c.attempt.new.power) before.low back.low before.asks
-          (subst (λ (x : Option (Vec Request)). AsksBy x c.loop-attempt.self.members.tables.layout c.loop-attempt.self.next_epoch c.attempt.new.self.next_epoch (around g.N.Net.sent g.N.Net.given g.N.Net.faults g.N.Net.last_seed g.P.Power.stops_seen g.P.Power.early_stops g.P.Power.stopped g.P.Power.begun g.P.Power.asked c.loop-attempt.net c.loop-attempt.power) (around g.N.Net.sent g.N.Net.given g.N.Net.faults g.N.Net.last_seed g.P.Power.stops_seen g.P.Power.early_stops g.P.Power.stopped g.P.Power.begun g.P.Power.asked c.attempt.new.net c.attempt.new.power)) c.in-Some.is ok.asks);
+      asks = begins_then c.args.self.now.next_epoch c.loop-attempt.self.next_epoch c.attempt.new.self.next_epoch (around g.N.Net g.P.Power c.args.net.now c.args.power.now) (around g.N.Net g.P.Power c.loop-attempt.net c.loop-attempt.power) (around g.N.Net g.P.Power c.attempt.new.net c.attempt.new.power) before.low back.low before.asks
+          (subst (λ (x : Option (Vec Request)). AsksBy x c.loop-attempt.self.members.tables.layout c.loop-attempt.self.next_epoch c.attempt.new.self.next_epoch (around g.N.Net g.P.Power c.loop-attempt.net c.loop-attempt.power) (around g.N.Net g.P.Power c.attempt.new.net c.attempt.new.power)) c.in-Some.is ok.asks);
       begins = (let first = before.begins in let more = did.begins in omega (arith, first, more));
       untraced = back.trace ∙ before.untraced;
       unused = λ used. absurd (omega (arith, used, low, below));
       told = λ d on stands room.
           let goes = before.told d on stands room in
-          goes_more g.H.Host.moment g.H.Host.observed g.H.Host.said g.H.Host.reads g.H.Host.may_leave d c.loop-attempt.self c.attempt.new.self c.args.host.now c.loop-attempt.host c.attempt.new.host goes c.loop-attempt.requests.items c.args.workers c.args.attempts (Ok c.in_ok-attempt.field-0) c.in-Some.again (ap Ok c.in-Some.is) back.low
+          goes_more g.H.Host d c.loop-attempt.self c.attempt.new.self c.args.host.now c.loop-attempt.host c.attempt.new.host goes c.loop-attempt.requests.items c.args.workers c.args.attempts (Ok c.in_ok-attempt.field-0) c.in-Some.again (ap Ok c.in-Some.is) back.low
           (ok.files goes.on.d goes.on.rests goes.on.stands (room_as d goes.on.d c.args.requests.items c.loop-attempt.requests.items goes.on.only before.same room));
       entries = λ d e on stands room behind.
           let goes = before.told d on stands room in
@@ -129,7 +129,7 @@ returns-then-is_empty-clause-turns g c d on stands room =
     let k : Cluster = c.args.self.now in
     let now : Cluster = record k { trace = c.keep.new.trace; room = c.keep.new.self } in
     let none : c.args.requests.items ≡ [] = none_of c.args.requests.items c.args.requests.len (sym c.is_empty.ensures ∙ c.if-is_empty.true) c.args.requests.ok.0 in
-    inl (ends_without g.H.Host.moment g.H.Host.observed g.H.Host.said g.H.Host.reads g.H.Host.may_leave d now k c.args.host.now c.args.host.now _ c.args.requests.items (goes_first g.H.Host.moment g.H.Host.observed g.H.Host.said g.H.Host.reads g.H.Host.may_leave g.met.H.Host.only_now d k now c.args.host.now (record { procs = refl; kept = refl; members = refl; base = refl; next = refl }) on stands) (omega arith) (omega arith) (Ok tt) none (λ rests. tt))
+    inl (ends_without g.H.Host d now k c.args.host.now c.args.host.now _ c.args.requests.items (goes_first g.H.Host g.met.H.Host.only_now d k now c.args.host.now (record { procs = refl; kept = refl; members = refl; base = refl; next = refl }) on stands) (omega arith) (omega arith) (Ok tt) none (λ rests. tt))
 
 pub returns-then-is_empty-clause-nothing : goal.returns-then-is_empty-clause-nothing
 returns-then-is_empty-clause-nothing g c empty =
@@ -167,7 +167,7 @@ returns-then-is_empty-clause-few g c =
 
 pub returns-then-is_empty-clause-later : goal.returns-then-is_empty-clause-later
 returns-then-is_empty-clause-later g c =
-    later_same (around g.N.Net.sent g.N.Net.given g.N.Net.faults g.N.Net.last_seed g.P.Power.stops_seen g.P.Power.early_stops g.P.Power.stopped g.P.Power.begun g.P.Power.asked c.args.net.now c.args.power.now)
+    later_same (around g.N.Net g.P.Power c.args.net.now c.args.power.now)
 
 -- ---- no number is left
 
@@ -175,7 +175,7 @@ pub returns-then-self-ge-EPOCHS_END-clause-turns : goal.returns-then-self-ge-EPO
 returns-then-self-ge-EPOCHS_END-clause-turns g c d on stands room =
     let before = c.loop-attempt.invariant in
     let goes = before.told d on stands room in
-    inl (ends_without g.H.Host.moment g.H.Host.observed g.H.Host.said g.H.Host.reads g.H.Host.may_leave d c.loop-attempt.self c.args.self.now c.args.host.now c.loop-attempt.host _ c.args.requests.items goes before.low before.few (Err EpochsUsedUp) tt (λ rests. rests))
+    inl (ends_without g.H.Host d c.loop-attempt.self c.args.self.now c.args.host.now c.loop-attempt.host _ c.args.requests.items goes before.low before.few (Err EpochsUsedUp) tt (λ rests. rests))
 
 pub returns-then-self-ge-EPOCHS_END-clause-nothing : goal.returns-then-self-ge-EPOCHS_END-clause-nothing
 returns-then-self-ge-EPOCHS_END-clause-nothing g c empty =
@@ -190,7 +190,7 @@ returns-then-self-ge-EPOCHS_END-clause-counts g c =
 pub returns-then-self-ge-EPOCHS_END-clause-later : goal.returns-then-self-ge-EPOCHS_END-clause-later
 returns-then-self-ge-EPOCHS_END-clause-later g c =
     let before = c.loop-attempt.invariant in
-    all_later c.loop-attempt._attempt (around g.N.Net.sent g.N.Net.given g.N.Net.faults g.N.Net.last_seed g.P.Power.stops_seen g.P.Power.early_stops g.P.Power.stopped g.P.Power.begun g.P.Power.asked c.args.net.now c.args.power.now) (around g.N.Net.sent g.N.Net.given g.N.Net.faults g.N.Net.last_seed g.P.Power.stops_seen g.P.Power.early_stops g.P.Power.stopped g.P.Power.begun g.P.Power.asked c.loop-attempt.net c.loop-attempt.power) before.given
+    all_later c.loop-attempt._attempt (around g.N.Net g.P.Power c.args.net.now c.args.power.now) (around g.N.Net g.P.Power c.loop-attempt.net c.loop-attempt.power) before.given
 
 pub returns-then-self-ge-EPOCHS_END-clause-unused : goal.returns-then-self-ge-EPOCHS_END-clause-unused
 returns-then-self-ge-EPOCHS_END-clause-unused g c is used =
@@ -205,7 +205,7 @@ returns-in_err-attempt-clause-turns g c d on stands room =
     let goes = before.told d on stands room in
     let there : HasRoom goes.on.d c.loop-attempt.requests.items = room_as d goes.on.d c.args.requests.items c.loop-attempt.requests.items goes.on.only before.same room in
     let p = err_from_is_err_and c.from_residual.result c.from_residual.ensures.1 in
-    ends_failed g.H.Host.moment g.H.Host.observed g.H.Host.said g.H.Host.reads g.H.Host.may_leave d c.loop-attempt.self c.attempt.new.self c.args.host.now c.loop-attempt.host c.attempt.new.host goes c.args.requests.items c.args.workers c.args.attempts (Err c.in_err-attempt.field-0.0) c.args.self.now _ before.low (few_until c.loop-attempt.self.next_epoch c.args.self.now.next_epoch (around g.N.Net.sent g.N.Net.given g.N.Net.faults g.N.Net.last_seed g.P.Power.stops_seen g.P.Power.early_stops g.P.Power.stopped g.P.Power.begun g.P.Power.asked c.args.net.now c.args.power.now) (around g.N.Net.sent g.N.Net.given g.N.Net.faults g.N.Net.last_seed g.P.Power.stops_seen g.P.Power.early_stops g.P.Power.stopped g.P.Power.begun g.P.Power.asked c.loop-attempt.net c.loop-attempt.power) (around g.N.Net.sent g.N.Net.given g.N.Net.faults g.N.Net.last_seed g.P.Power.stops_seen g.P.Power.early_stops g.P.Power.stopped g.P.Power.begun g.P.Power.asked c.attempt.new.net c.attempt.new.power) before.few (all_later c.loop-attempt._attempt (around g.N.Net.sent g.N.Net.given g.N.Net.faults g.N.Net.last_seed g.P.Power.stops_seen g.P.Power.early_stops g.P.Power.stopped g.P.Power.begun g.P.Power.asked c.args.net.now c.args.power.now) (around g.N.Net.sent g.N.Net.given g.N.Net.faults g.N.Net.last_seed g.P.Power.stops_seen g.P.Power.early_stops g.P.Power.stopped g.P.Power.begun g.P.Power.asked c.loop-attempt.net c.loop-attempt.power) before.given) c.attempt.ensures.later) c.from_residual.result c.in_err-attempt.field-0.0 (g.H.Host.disk_faults c.loop-attempt.host) (g.H.Host.disk_faults c.attempt.new.host) (p.1 ∙ ap Err p.2) c.in_err-attempt.ensures.disk (subst (λ rs. AttemptsOn g.H.Host.moment g.H.Host.observed g.H.Host.said g.H.Host.reads g.H.Host.may_leave (Err c.in_err-attempt.field-0.0) rs c.args.workers c.args.attempts goes.on.d c.loop-attempt.self c.attempt.new.self c.loop-attempt.host c.attempt.new.host) before.same (c.in_err-attempt.ensures.files goes.on.d goes.on.rests goes.on.stands there))
+    ends_failed g.H.Host d c.loop-attempt.self c.attempt.new.self c.args.host.now c.loop-attempt.host c.attempt.new.host goes c.args.requests.items c.args.workers c.args.attempts (Err c.in_err-attempt.field-0.0) c.args.self.now _ before.low (few_until c.loop-attempt.self.next_epoch c.args.self.now.next_epoch (around g.N.Net g.P.Power c.args.net.now c.args.power.now) (around g.N.Net g.P.Power c.loop-attempt.net c.loop-attempt.power) (around g.N.Net g.P.Power c.attempt.new.net c.attempt.new.power) before.few (all_later c.loop-attempt._attempt (around g.N.Net g.P.Power c.args.net.now c.args.power.now) (around g.N.Net g.P.Power c.loop-attempt.net c.loop-attempt.power) before.given) c.attempt.ensures.later) c.from_residual.result c.in_err-attempt.field-0.0 (g.H.Host.disk_faults c.loop-attempt.host) (g.H.Host.disk_faults c.attempt.new.host) (p.1 ∙ ap Err p.2) c.in_err-attempt.ensures.disk (subst (λ rs. AttemptsOn g.H.Host (Err c.in_err-attempt.field-0.0) rs c.args.workers c.args.attempts goes.on.d c.loop-attempt.self c.attempt.new.self c.loop-attempt.host c.attempt.new.host) before.same (c.in_err-attempt.ensures.files goes.on.d goes.on.rests goes.on.stands there))
 
 pub returns-in_err-attempt-clause-never : goal.returns-in_err-attempt-clause-never
 returns-in_err-attempt-clause-never g c file at d on stands room is =
@@ -236,12 +236,12 @@ pub returns-in_err-attempt-clause-counts : goal.returns-in_err-attempt-clause-co
 returns-in_err-attempt-clause-counts g c =
     let before = c.loop-attempt.invariant in
     let p = err_from_is_err_and c.from_residual.result c.from_residual.ensures.1 in
-    counts_failed c.from_residual.result c.in_err-attempt.field-0.0 c.args.self.now.next_epoch (around g.N.Net.sent g.N.Net.given g.N.Net.faults g.N.Net.last_seed g.P.Power.stops_seen g.P.Power.early_stops g.P.Power.stopped g.P.Power.begun g.P.Power.asked c.args.net.now c.args.power.now) (around g.N.Net.sent g.N.Net.given g.N.Net.faults g.N.Net.last_seed g.P.Power.stops_seen g.P.Power.early_stops g.P.Power.stopped g.P.Power.begun g.P.Power.asked c.attempt.new.net c.attempt.new.power) (g.H.Host.disk_faults c.args.host.now) (g.H.Host.disk_faults c.loop-attempt.host) (g.H.Host.disk_faults c.attempt.new.host) (p.1 ∙ ap Err p.2) before.disk c.in_err-attempt.ensures.disk
+    counts_failed c.from_residual.result c.in_err-attempt.field-0.0 c.args.self.now.next_epoch (around g.N.Net g.P.Power c.args.net.now c.args.power.now) (around g.N.Net g.P.Power c.attempt.new.net c.attempt.new.power) (g.H.Host.disk_faults c.args.host.now) (g.H.Host.disk_faults c.loop-attempt.host) (g.H.Host.disk_faults c.attempt.new.host) (p.1 ∙ ap Err p.2) before.disk c.in_err-attempt.ensures.disk
 
 pub returns-in_err-attempt-clause-later : goal.returns-in_err-attempt-clause-later
 returns-in_err-attempt-clause-later g c =
     let before = c.loop-attempt.invariant in
-    later_then (around g.N.Net.sent g.N.Net.given g.N.Net.faults g.N.Net.last_seed g.P.Power.stops_seen g.P.Power.early_stops g.P.Power.stopped g.P.Power.begun g.P.Power.asked c.args.net.now c.args.power.now) (around g.N.Net.sent g.N.Net.given g.N.Net.faults g.N.Net.last_seed g.P.Power.stops_seen g.P.Power.early_stops g.P.Power.stopped g.P.Power.begun g.P.Power.asked c.loop-attempt.net c.loop-attempt.power) (around g.N.Net.sent g.N.Net.given g.N.Net.faults g.N.Net.last_seed g.P.Power.stops_seen g.P.Power.early_stops g.P.Power.stopped g.P.Power.begun g.P.Power.asked c.attempt.new.net c.attempt.new.power) (all_later c.loop-attempt._attempt (around g.N.Net.sent g.N.Net.given g.N.Net.faults g.N.Net.last_seed g.P.Power.stops_seen g.P.Power.early_stops g.P.Power.stopped g.P.Power.begun g.P.Power.asked c.args.net.now c.args.power.now) (around g.N.Net.sent g.N.Net.given g.N.Net.faults g.N.Net.last_seed g.P.Power.stops_seen g.P.Power.early_stops g.P.Power.stopped g.P.Power.begun g.P.Power.asked c.loop-attempt.net c.loop-attempt.power) before.given) c.attempt.ensures.later
+    later_then (around g.N.Net g.P.Power c.args.net.now c.args.power.now) (around g.N.Net g.P.Power c.loop-attempt.net c.loop-attempt.power) (around g.N.Net g.P.Power c.attempt.new.net c.attempt.new.power) (all_later c.loop-attempt._attempt (around g.N.Net g.P.Power c.args.net.now c.args.power.now) (around g.N.Net g.P.Power c.loop-attempt.net c.loop-attempt.power) before.given) c.attempt.ensures.later
 
 pub returns-in_err-attempt-clause-unused : goal.returns-in_err-attempt-clause-unused
 returns-in_err-attempt-clause-unused g c is used =
@@ -257,7 +257,7 @@ returns-in-None-clause-turns g c d on stands room =
     let ok = c.in_ok-attempt.ensures in
     let goes = before.told d on stands room in
     let there : HasRoom goes.on.d c.loop-attempt.requests.items = room_as d goes.on.d c.args.requests.items c.loop-attempt.requests.items goes.on.only before.same room in
-    ends_committed g.H.Host.moment g.H.Host.observed g.H.Host.said g.H.Host.reads g.H.Host.may_leave d c.loop-attempt.self c.attempt.new.self c.args.host.now c.loop-attempt.host c.attempt.new.host goes c.args.requests.items c.args.workers c.args.attempts (Ok c.in_ok-attempt.field-0) c.args.self.now _ before.low (few_until c.loop-attempt.self.next_epoch c.args.self.now.next_epoch (around g.N.Net.sent g.N.Net.given g.N.Net.faults g.N.Net.last_seed g.P.Power.stops_seen g.P.Power.early_stops g.P.Power.stopped g.P.Power.begun g.P.Power.asked c.args.net.now c.args.power.now) (around g.N.Net.sent g.N.Net.given g.N.Net.faults g.N.Net.last_seed g.P.Power.stops_seen g.P.Power.early_stops g.P.Power.stopped g.P.Power.begun g.P.Power.asked c.loop-attempt.net c.loop-attempt.power) (around g.N.Net.sent g.N.Net.given g.N.Net.faults g.N.Net.last_seed g.P.Power.stops_seen g.P.Power.early_stops g.P.Power.stopped g.P.Power.begun g.P.Power.asked c.attempt.new.net c.attempt.new.power) before.few (all_later c.loop-attempt._attempt (around g.N.Net.sent g.N.Net.given g.N.Net.faults g.N.Net.last_seed g.P.Power.stops_seen g.P.Power.early_stops g.P.Power.stopped g.P.Power.begun g.P.Power.asked c.args.net.now c.args.power.now) (around g.N.Net.sent g.N.Net.given g.N.Net.faults g.N.Net.last_seed g.P.Power.stops_seen g.P.Power.early_stops g.P.Power.stopped g.P.Power.begun g.P.Power.asked c.loop-attempt.net c.loop-attempt.power) before.given) c.attempt.ensures.later) (ap Ok c.in-None.is) (subst (λ rs. AttemptsOn g.H.Host.moment g.H.Host.observed g.H.Host.said g.H.Host.reads g.H.Host.may_leave (Ok c.in_ok-attempt.field-0) rs c.args.workers c.args.attempts goes.on.d c.loop-attempt.self c.attempt.new.self c.loop-attempt.host c.attempt.new.host) before.same (ok.files goes.on.d goes.on.rests goes.on.stands there))
+    ends_committed g.H.Host d c.loop-attempt.self c.attempt.new.self c.args.host.now c.loop-attempt.host c.attempt.new.host goes c.args.requests.items c.args.workers c.args.attempts (Ok c.in_ok-attempt.field-0) c.args.self.now _ before.low (few_until c.loop-attempt.self.next_epoch c.args.self.now.next_epoch (around g.N.Net g.P.Power c.args.net.now c.args.power.now) (around g.N.Net g.P.Power c.loop-attempt.net c.loop-attempt.power) (around g.N.Net g.P.Power c.attempt.new.net c.attempt.new.power) before.few (all_later c.loop-attempt._attempt (around g.N.Net g.P.Power c.args.net.now c.args.power.now) (around g.N.Net g.P.Power c.loop-attempt.net c.loop-attempt.power) before.given) c.attempt.ensures.later) (ap Ok c.in-None.is) (subst (λ rs. AttemptsOn g.H.Host (Ok c.in_ok-attempt.field-0) rs c.args.workers c.args.attempts goes.on.d c.loop-attempt.self c.attempt.new.self c.loop-attempt.host c.attempt.new.host) before.same (ok.files goes.on.d goes.on.rests goes.on.stands there))
 
 pub returns-in-None-clause-nothing : goal.returns-in-None-clause-nothing
 returns-in-None-clause-nothing g c empty =
@@ -277,7 +277,7 @@ returns-in-None-clause-few g c =
     let ok = c.in_ok-attempt.ensures in
     let done : HasCommittedOne c.loop-attempt.requests.items c.args.workers c.args.attempts c.loop-attempt.self c.attempt.new.self = subst (λ (x : Option (Vec Request)). Attempts x c.loop-attempt.requests.items c.args.workers c.args.attempts c.loop-attempt.self c.attempt.new.self) c.in-None.is ok.attempts in
     let some : 0 < length c.args.requests.items = some_left c.args.requests.items c.args.requests.len (sym c.is_empty.ensures ∙ c.if-is_empty.false) c.args.requests.ok.0 in
-    skips_few c.args.requests.items c.loop-attempt.self.next_epoch c.attempt.new.self.next_epoch c.args.self.now.next_epoch (around g.N.Net.sent g.N.Net.given g.N.Net.faults g.N.Net.last_seed g.P.Power.stops_seen g.P.Power.early_stops g.P.Power.stopped g.P.Power.begun g.P.Power.asked c.args.net.now c.args.power.now) (around g.N.Net.sent g.N.Net.given g.N.Net.faults g.N.Net.last_seed g.P.Power.stops_seen g.P.Power.early_stops g.P.Power.stopped g.P.Power.begun g.P.Power.asked c.attempt.new.net c.attempt.new.power) some (few_until c.loop-attempt.self.next_epoch c.args.self.now.next_epoch (around g.N.Net.sent g.N.Net.given g.N.Net.faults g.N.Net.last_seed g.P.Power.stops_seen g.P.Power.early_stops g.P.Power.stopped g.P.Power.begun g.P.Power.asked c.args.net.now c.args.power.now) (around g.N.Net.sent g.N.Net.given g.N.Net.faults g.N.Net.last_seed g.P.Power.stops_seen g.P.Power.early_stops g.P.Power.stopped g.P.Power.begun g.P.Power.asked c.loop-attempt.net c.loop-attempt.power) (around g.N.Net.sent g.N.Net.given g.N.Net.faults g.N.Net.last_seed g.P.Power.stops_seen g.P.Power.early_stops g.P.Power.stopped g.P.Power.begun g.P.Power.asked c.attempt.new.net c.attempt.new.power) before.few (all_later c.loop-attempt._attempt (around g.N.Net.sent g.N.Net.given g.N.Net.faults g.N.Net.last_seed g.P.Power.stops_seen g.P.Power.early_stops g.P.Power.stopped g.P.Power.begun g.P.Power.asked c.args.net.now c.args.power.now) (around g.N.Net.sent g.N.Net.given g.N.Net.faults g.N.Net.last_seed g.P.Power.stops_seen g.P.Power.early_stops g.P.Power.stopped g.P.Power.begun g.P.Power.asked c.loop-attempt.net c.loop-attempt.power) before.given) c.attempt.ensures.later) done.next
+    skips_few c.args.requests.items c.loop-attempt.self.next_epoch c.attempt.new.self.next_epoch c.args.self.now.next_epoch (around g.N.Net g.P.Power c.args.net.now c.args.power.now) (around g.N.Net g.P.Power c.attempt.new.net c.attempt.new.power) some (few_until c.loop-attempt.self.next_epoch c.args.self.now.next_epoch (around g.N.Net g.P.Power c.args.net.now c.args.power.now) (around g.N.Net g.P.Power c.loop-attempt.net c.loop-attempt.power) (around g.N.Net g.P.Power c.attempt.new.net c.attempt.new.power) before.few (all_later c.loop-attempt._attempt (around g.N.Net g.P.Power c.args.net.now c.args.power.now) (around g.N.Net g.P.Power c.loop-attempt.net c.loop-attempt.power) before.given) c.attempt.ensures.later) done.next
 
 pub returns-in-None-clause-turned : goal.returns-in-None-clause-turned
 returns-in-None-clause-turned g c some =
@@ -310,7 +310,7 @@ returns-in-None-clause-counts g c =
 pub returns-in-None-clause-later : goal.returns-in-None-clause-later
 returns-in-None-clause-later g c =
     let before = c.loop-attempt.invariant in
-    later_then (around g.N.Net.sent g.N.Net.given g.N.Net.faults g.N.Net.last_seed g.P.Power.stops_seen g.P.Power.early_stops g.P.Power.stopped g.P.Power.begun g.P.Power.asked c.args.net.now c.args.power.now) (around g.N.Net.sent g.N.Net.given g.N.Net.faults g.N.Net.last_seed g.P.Power.stops_seen g.P.Power.early_stops g.P.Power.stopped g.P.Power.begun g.P.Power.asked c.loop-attempt.net c.loop-attempt.power) (around g.N.Net.sent g.N.Net.given g.N.Net.faults g.N.Net.last_seed g.P.Power.stops_seen g.P.Power.early_stops g.P.Power.stopped g.P.Power.begun g.P.Power.asked c.attempt.new.net c.attempt.new.power) (all_later c.loop-attempt._attempt (around g.N.Net.sent g.N.Net.given g.N.Net.faults g.N.Net.last_seed g.P.Power.stops_seen g.P.Power.early_stops g.P.Power.stopped g.P.Power.begun g.P.Power.asked c.args.net.now c.args.power.now) (around g.N.Net.sent g.N.Net.given g.N.Net.faults g.N.Net.last_seed g.P.Power.stops_seen g.P.Power.early_stops g.P.Power.stopped g.P.Power.begun g.P.Power.asked c.loop-attempt.net c.loop-attempt.power) before.given) c.attempt.ensures.later
+    later_then (around g.N.Net g.P.Power c.args.net.now c.args.power.now) (around g.N.Net g.P.Power c.loop-attempt.net c.loop-attempt.power) (around g.N.Net g.P.Power c.attempt.new.net c.attempt.new.power) (all_later c.loop-attempt._attempt (around g.N.Net g.P.Power c.args.net.now c.args.power.now) (around g.N.Net g.P.Power c.loop-attempt.net c.loop-attempt.power) before.given) c.attempt.ensures.later
 
 pub returns-in-None-clause-kept : goal.returns-in-None-clause-kept
 returns-in-None-clause-kept g c =
@@ -325,7 +325,7 @@ pub returns-clause-turns : goal.returns-clause-turns
 returns-clause-turns g c d on stands room =
     let before = c.loop-attempt.invariant in
     let goes = before.told d on stands room in
-    inl (ends_without g.H.Host.moment g.H.Host.observed g.H.Host.said g.H.Host.reads g.H.Host.may_leave d c.loop-attempt.self c.args.self.now c.args.host.now c.loop-attempt.host _ c.args.requests.items goes before.low before.few (Err Unreachable) tt (λ rests. rests))
+    inl (ends_without g.H.Host d c.loop-attempt.self c.args.self.now c.args.host.now c.loop-attempt.host _ c.args.requests.items goes before.low before.few (Err Unreachable) tt (λ rests. rests))
 
 pub returns-clause-nothing : goal.returns-clause-nothing
 returns-clause-nothing g c empty =
@@ -340,12 +340,12 @@ returns-clause-used_up g c some used =
 pub returns-clause-counts : goal.returns-clause-counts
 returns-clause-counts g c =
     let before = c.loop-attempt.invariant in
-    (before.disk, subst (λ (n : ℕ). AreGivenUp n (around g.N.Net.sent g.N.Net.given g.N.Net.faults g.N.Net.last_seed g.P.Power.stops_seen g.P.Power.early_stops g.P.Power.stopped g.P.Power.begun g.P.Power.asked c.args.net.now c.args.power.now) (around g.N.Net.sent g.N.Net.given g.N.Net.faults g.N.Net.last_seed g.P.Power.stops_seen g.P.Power.early_stops g.P.Power.stopped g.P.Power.begun g.P.Power.asked c.loop-attempt.net c.loop-attempt.power)) (let all : c.loop-attempt._attempt ≡ 4 = omega arith in all) before.given)
+    (before.disk, subst (λ (n : ℕ). AreGivenUp n (around g.N.Net g.P.Power c.args.net.now c.args.power.now) (around g.N.Net g.P.Power c.loop-attempt.net c.loop-attempt.power)) (let all : c.loop-attempt._attempt ≡ 4 = omega arith in all) before.given)
 
 pub returns-clause-later : goal.returns-clause-later
 returns-clause-later g c =
     let before = c.loop-attempt.invariant in
-    all_later c.loop-attempt._attempt (around g.N.Net.sent g.N.Net.given g.N.Net.faults g.N.Net.last_seed g.P.Power.stops_seen g.P.Power.early_stops g.P.Power.stopped g.P.Power.begun g.P.Power.asked c.args.net.now c.args.power.now) (around g.N.Net.sent g.N.Net.given g.N.Net.faults g.N.Net.last_seed g.P.Power.stops_seen g.P.Power.early_stops g.P.Power.stopped g.P.Power.begun g.P.Power.asked c.loop-attempt.net c.loop-attempt.power) before.given
+    all_later c.loop-attempt._attempt (around g.N.Net g.P.Power c.args.net.now c.args.power.now) (around g.N.Net g.P.Power c.loop-attempt.net c.loop-attempt.power) before.given
 
 -- ---- the steps of nodes and coordinator, and what was asked
 
@@ -365,7 +365,7 @@ returns-then-is_empty-clause-begins g c =
 
 pub returns-then-is_empty-clause-given_up : goal.returns-then-is_empty-clause-given_up
 returns-then-is_empty-clause-given_up g c =
-    (0, omega arith, omega arith, later_same (around g.N.Net.sent g.N.Net.given g.N.Net.faults g.N.Net.last_seed g.P.Power.stops_seen g.P.Power.early_stops g.P.Power.stopped g.P.Power.begun g.P.Power.asked c.args.net.now c.args.power.now))
+    (0, omega arith, omega arith, later_same (around g.N.Net g.P.Power c.args.net.now c.args.power.now))
 
 pub returns-then-self-ge-EPOCHS_END-clause-world : goal.returns-then-self-ge-EPOCHS_END-clause-world
 returns-then-self-ge-EPOCHS_END-clause-world g c =
@@ -400,8 +400,8 @@ returns-in-None-clause-asks g c some =
     let before = c.loop-attempt.invariant in
     let ok = c.in_ok-attempt.ensures in
     let done : HasCommittedOne c.loop-attempt.requests.items c.args.workers c.args.attempts c.loop-attempt.self c.attempt.new.self = subst (λ (x : Option (Vec Request)). Attempts x c.loop-attempt.requests.items c.args.workers c.args.attempts c.loop-attempt.self c.attempt.new.self) c.in-None.is ok.attempts in
-    asks_all c.args.self.now.members.tables.layout c.args.self.now.next_epoch c.loop-attempt.self.next_epoch c.attempt.new.self.next_epoch (around g.N.Net.sent g.N.Net.given g.N.Net.faults g.N.Net.last_seed g.P.Power.stops_seen g.P.Power.early_stops g.P.Power.stopped g.P.Power.begun g.P.Power.asked c.args.net.now c.args.power.now) (around g.N.Net.sent g.N.Net.given g.N.Net.faults g.N.Net.last_seed g.P.Power.stops_seen g.P.Power.early_stops g.P.Power.stopped g.P.Power.begun g.P.Power.asked c.loop-attempt.net c.loop-attempt.power) (around g.N.Net.sent g.N.Net.given g.N.Net.faults g.N.Net.last_seed g.P.Power.stops_seen g.P.Power.early_stops g.P.Power.stopped g.P.Power.begun g.P.Power.asked c.attempt.new.net c.attempt.new.power) before.low done.next (all_later c.loop-attempt._attempt (around g.N.Net.sent g.N.Net.given g.N.Net.faults g.N.Net.last_seed g.P.Power.stops_seen g.P.Power.early_stops g.P.Power.stopped g.P.Power.begun g.P.Power.asked c.args.net.now c.args.power.now) (around g.N.Net.sent g.N.Net.given g.N.Net.faults g.N.Net.last_seed g.P.Power.stops_seen g.P.Power.early_stops g.P.Power.stopped g.P.Power.begun g.P.Power.asked c.loop-attempt.net c.loop-attempt.power) before.given) c.attempt.ensures.later before.asks
-    (subst (λ (l : Layout). AsksForAll l c.loop-attempt.self.next_epoch (around g.N.Net.sent g.N.Net.given g.N.Net.faults g.N.Net.last_seed g.P.Power.stops_seen g.P.Power.early_stops g.P.Power.stopped g.P.Power.begun g.P.Power.asked c.loop-attempt.net c.loop-attempt.power) (around g.N.Net.sent g.N.Net.given g.N.Net.faults g.N.Net.last_seed g.P.Power.stops_seen g.P.Power.early_stops g.P.Power.stopped g.P.Power.begun g.P.Power.asked c.attempt.new.net c.attempt.new.power)) before.layout (subst (λ (x : Option (Vec Request)). AsksBy x c.loop-attempt.self.members.tables.layout c.loop-attempt.self.next_epoch c.attempt.new.self.next_epoch (around g.N.Net.sent g.N.Net.given g.N.Net.faults g.N.Net.last_seed g.P.Power.stops_seen g.P.Power.early_stops g.P.Power.stopped g.P.Power.begun g.P.Power.asked c.loop-attempt.net c.loop-attempt.power) (around g.N.Net.sent g.N.Net.given g.N.Net.faults g.N.Net.last_seed g.P.Power.stops_seen g.P.Power.early_stops g.P.Power.stopped g.P.Power.begun g.P.Power.asked c.attempt.new.net c.attempt.new.power)) c.in-None.is ok.asks))
+    asks_all c.args.self.now.members.tables.layout c.args.self.now.next_epoch c.loop-attempt.self.next_epoch c.attempt.new.self.next_epoch (around g.N.Net g.P.Power c.args.net.now c.args.power.now) (around g.N.Net g.P.Power c.loop-attempt.net c.loop-attempt.power) (around g.N.Net g.P.Power c.attempt.new.net c.attempt.new.power) before.low done.next (all_later c.loop-attempt._attempt (around g.N.Net g.P.Power c.args.net.now c.args.power.now) (around g.N.Net g.P.Power c.loop-attempt.net c.loop-attempt.power) before.given) c.attempt.ensures.later before.asks
+    (subst (λ (l : Layout). AsksForAll l c.loop-attempt.self.next_epoch (around g.N.Net g.P.Power c.loop-attempt.net c.loop-attempt.power) (around g.N.Net g.P.Power c.attempt.new.net c.attempt.new.power)) before.layout (subst (λ (x : Option (Vec Request)). AsksBy x c.loop-attempt.self.members.tables.layout c.loop-attempt.self.next_epoch c.attempt.new.self.next_epoch (around g.N.Net g.P.Power c.loop-attempt.net c.loop-attempt.power) (around g.N.Net g.P.Power c.attempt.new.net c.attempt.new.power)) c.in-None.is ok.asks))
 
 pub returns-in-None-clause-begins : goal.returns-in-None-clause-begins
 returns-in-None-clause-begins g c =
@@ -413,7 +413,7 @@ returns-in-None-clause-given_up g c =
     let before = c.loop-attempt.invariant in
     let ok = c.in_ok-attempt.ensures in
     let done : HasCommittedOne c.loop-attempt.requests.items c.args.workers c.args.attempts c.loop-attempt.self c.attempt.new.self = subst (λ (x : Option (Vec Request)). Attempts x c.loop-attempt.requests.items c.args.workers c.args.attempts c.loop-attempt.self c.attempt.new.self) c.in-None.is ok.attempts in
-    (c.loop-attempt._attempt, omega (arith, c.loop-attempt-test.true), (let high = before.high in let up = done.next in omega (arith, high, up)), all_until c.loop-attempt._attempt (around g.N.Net.sent g.N.Net.given g.N.Net.faults g.N.Net.last_seed g.P.Power.stops_seen g.P.Power.early_stops g.P.Power.stopped g.P.Power.begun g.P.Power.asked c.args.net.now c.args.power.now) (around g.N.Net.sent g.N.Net.given g.N.Net.faults g.N.Net.last_seed g.P.Power.stops_seen g.P.Power.early_stops g.P.Power.stopped g.P.Power.begun g.P.Power.asked c.loop-attempt.net c.loop-attempt.power) (around g.N.Net.sent g.N.Net.given g.N.Net.faults g.N.Net.last_seed g.P.Power.stops_seen g.P.Power.early_stops g.P.Power.stopped g.P.Power.begun g.P.Power.asked c.attempt.new.net c.attempt.new.power) before.given c.attempt.ensures.later)
+    (c.loop-attempt._attempt, omega (arith, c.loop-attempt-test.true), (let high = before.high in let up = done.next in omega (arith, high, up)), all_until c.loop-attempt._attempt (around g.N.Net g.P.Power c.args.net.now c.args.power.now) (around g.N.Net g.P.Power c.loop-attempt.net c.loop-attempt.power) (around g.N.Net g.P.Power c.attempt.new.net c.attempt.new.power) before.given c.attempt.ensures.later)
 
 pub returns-clause-world : goal.returns-clause-world
 returns-clause-world g c =

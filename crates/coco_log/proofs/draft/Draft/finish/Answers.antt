@@ -9,32 +9,26 @@ use Rattle.coco_log.proofs.draft.Draft.finish.Goals as goal
 
 pub returns-in_err-sync-clause-changes : goal.returns-in_err-sync-clause-changes
 returns-in_err-sync-clause-changes g c =
-    let M = g.H.Host.moment in
-    let O = g.H.Host.observed in
-    let S = g.H.Host.said in
     let R = g.H.Host.reads in
     let L = g.H.Host.may_leave in
     let f = c.self.inside.file in
     let s0 = c.args.host.now in
     let s1 = c.write.new.host in
     let s2 = c.sync.new.self in
-    subst (λ (d : Drafted). ChangesOnly M O S R L (d.file ∷ []) s0 s2) c.self.view_is
-    (changes_then M O S R L (f ∷ []) s0 s1 s2 c.write.ensures.changes (changed M O S R L g.met.H.Host.only_now f s1 s2
+    subst (λ (d : Drafted). ChangesOnly g.H.Host (d.file ∷ []) s0 s2) c.self.view_is
+    (changes_then g.H.Host (f ∷ []) s0 s1 s2 c.write.ensures.changes (changed g.H.Host g.met.H.Host.only_now f s1 s2
     (told_sync f (R s1) (R s1) (R s2) (told_first f (R s1)) c.sync.ensures.same) (left_sync f (L s1) (L s1) (L s2) (left_first f (L s1)) c.sync.ensures.crash) c.sync.ensures.said c.sync.ensures.time))
 
 pub returns-clause-changes : goal.returns-clause-changes
 returns-clause-changes g c =
-    let M = g.H.Host.moment in
-    let O = g.H.Host.observed in
-    let S = g.H.Host.said in
     let R = g.H.Host.reads in
     let L = g.H.Host.may_leave in
     let f = c.self.inside.file in
     let s0 = c.args.host.now in
     let s1 = c.write.new.host in
     let s2 = c.sync.new.self in
-    subst (λ (d : Drafted). ChangesOnly M O S R L (d.file ∷ []) s0 s2) c.self.view_is
-    (changes_then M O S R L (f ∷ []) s0 s1 s2 c.write.ensures.changes (changed M O S R L g.met.H.Host.only_now f s1 s2
+    subst (λ (d : Drafted). ChangesOnly g.H.Host (d.file ∷ []) s0 s2) c.self.view_is
+    (changes_then g.H.Host (f ∷ []) s0 s1 s2 c.write.ensures.changes (changed g.H.Host g.met.H.Host.only_now f s1 s2
     (told_sync f (R s1) (R s1) (R s2) (told_first f (R s1)) c.sync.ensures.same) (left_sync f (L s1) (L s1) (L s2) (left_first f (L s1)) c.sync.ensures.crash) c.sync.ensures.said c.sync.ensures.time))
 
 pub returns-clause-log : goal.returns-clause-log

@@ -10,18 +10,18 @@ use Rattle.coco_log.proofs.entries.Entries.open.Goals as goal
 pub returns-in_err-sync-clause-read : goal.returns-in_err-sync-clause-read
 returns-in_err-sync-clause-read g c =
     let N = g.met.H.Host.only_now in
-    read_on _ _ _ _ _ N _ _ _ (read_first _ _ _ _ _ N _) c.sync.ensures.same c.sync.ensures.said c.sync.ensures.crash c.sync.ensures.time
+    read_on g.H.Host N _ _ _ (read_first g.H.Host N _) c.sync.ensures.same c.sync.ensures.said c.sync.ensures.crash c.sync.ensures.time c.sync.ensures.others
 
 pub returns-in_err-window-clause-read : goal.returns-in_err-window-clause-read
 returns-in_err-window-clause-read g c =
     let N = g.met.H.Host.only_now in
-    read_on _ _ _ _ _ N _ _ _ (read_first _ _ _ _ _ N _) c.sync.ensures.same c.sync.ensures.said c.sync.ensures.crash c.sync.ensures.time
+    read_on g.H.Host N _ _ _ (read_first g.H.Host N _) c.sync.ensures.same c.sync.ensures.said c.sync.ensures.crash c.sync.ensures.time c.sync.ensures.others
 
 pub returns-in_err-read_header-clause-read : goal.returns-in_err-read_header-clause-read
 returns-in_err-read_header-clause-read g c =
     let N = g.met.H.Host.only_now in
-    let synced = read_on _ _ _ _ _ N _ _ _ (read_first _ _ _ _ _ N _) c.sync.ensures.same c.sync.ensures.said c.sync.ensures.crash c.sync.ensures.time in
-    read_then _ _ _ _ _ N _ _ _ synced c.read_header.ensures.read
+    let synced = read_on g.H.Host N _ _ _ (read_first g.H.Host N _) c.sync.ensures.same c.sync.ensures.said c.sync.ensures.crash c.sync.ensures.time c.sync.ensures.others in
+    read_then g.H.Host N _ _ _ synced c.read_header.ensures.read
 
 pub returns-in_err-read_header-clause-refused : goal.returns-in_err-read_header-clause-refused
 returns-in_err-read_header-clause-refused g c at files e told =
@@ -33,23 +33,23 @@ returns-in_err-read_header-clause-refused g c at files e told =
 pub returns-in_err-end-clause-read : goal.returns-in_err-end-clause-read
 returns-in_err-end-clause-read g c =
     let N = g.met.H.Host.only_now in
-    let synced = read_on _ _ _ _ _ N _ _ _ (read_first _ _ _ _ _ N _) c.sync.ensures.same c.sync.ensures.said c.sync.ensures.crash c.sync.ensures.time in
-    let begun = read_then _ _ _ _ _ N _ _ _ synced c.read_header.ensures.read in
-    read_on _ _ _ _ _ N _ _ _ begun c.len.ensures.same c.len.ensures.said c.len.ensures.crash c.len.ensures.time
+    let synced = read_on g.H.Host N _ _ _ (read_first g.H.Host N _) c.sync.ensures.same c.sync.ensures.said c.sync.ensures.crash c.sync.ensures.time c.sync.ensures.others in
+    let begun = read_then g.H.Host N _ _ _ synced c.read_header.ensures.read in
+    read_on g.H.Host N _ _ _ begun c.len.ensures.same c.len.ensures.said c.len.ensures.crash c.len.ensures.time c.len.ensures.others
 
 pub returns-then-end-ge-FILES_END-clause-read : goal.returns-then-end-ge-FILES_END-clause-read
 returns-then-end-ge-FILES_END-clause-read g c =
     let N = g.met.H.Host.only_now in
-    let synced = read_on _ _ _ _ _ N _ _ _ (read_first _ _ _ _ _ N _) c.sync.ensures.same c.sync.ensures.said c.sync.ensures.crash c.sync.ensures.time in
-    let begun = read_then _ _ _ _ _ N _ _ _ synced c.read_header.ensures.read in
-    read_on _ _ _ _ _ N _ _ _ begun c.len.ensures.same c.len.ensures.said c.len.ensures.crash c.len.ensures.time
+    let synced = read_on g.H.Host N _ _ _ (read_first g.H.Host N _) c.sync.ensures.same c.sync.ensures.said c.sync.ensures.crash c.sync.ensures.time c.sync.ensures.others in
+    let begun = read_then g.H.Host N _ _ _ synced c.read_header.ensures.read in
+    read_on g.H.Host N _ _ _ begun c.len.ensures.same c.len.ensures.said c.len.ensures.crash c.len.ensures.time c.len.ensures.others
 
 pub returns-clause-read : goal.returns-clause-read
 returns-clause-read g c =
     let N = g.met.H.Host.only_now in
-    let synced = read_on _ _ _ _ _ N _ _ _ (read_first _ _ _ _ _ N _) c.sync.ensures.same c.sync.ensures.said c.sync.ensures.crash c.sync.ensures.time in
-    let begun = read_then _ _ _ _ _ N _ _ _ synced c.read_header.ensures.read in
-    read_on _ _ _ _ _ N _ _ _ begun c.len.ensures.same c.len.ensures.said c.len.ensures.crash c.len.ensures.time
+    let synced = read_on g.H.Host N _ _ _ (read_first g.H.Host N _) c.sync.ensures.same c.sync.ensures.said c.sync.ensures.crash c.sync.ensures.time c.sync.ensures.others in
+    let begun = read_then g.H.Host N _ _ _ synced c.read_header.ensures.read in
+    read_on g.H.Host N _ _ _ begun c.len.ensures.same c.len.ensures.said c.len.ensures.crash c.len.ensures.time c.len.ensures.others
 
 pub returns-clause-ok : goal.returns-clause-ok
 returns-clause-ok g c files told =

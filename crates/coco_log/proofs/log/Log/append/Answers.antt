@@ -20,7 +20,7 @@ returns-in_err-stage-clause-moments g c files bodies told rest =
     let at_rest = subst (λ (l : LogState). IsAtRest l bodies files L) (sym c.self.view_is) rest in
     let ready = ready_of log bodies files L at_rest in
     subst (λ (l : LogState). SeesOnly g.H.Host.moment g.H.Host.observed c.args.host.now c.args.host.now (ChangesOne l.file (IsBeforeOrAfter l.kind bodies c.args.body.now) L (g.H.Host.said c.args.host.now))) c.self.view_is
-    (at_first g.H.Host.moment g.H.Host.observed g.H.Host.said g.H.Host.may_leave g.met.H.Host.only_now x.file x.kind x.end bodies c.args.body.now (counted c.args.body.now ++ 0 ∷ []) files c.args.host.now ready (record { short = c.requires.short; is = refl }))
+    (at_first g.H.Host g.met.H.Host.only_now x.file x.kind x.end bodies c.args.body.now (counted c.args.body.now ++ 0 ∷ []) files c.args.host.now ready (record { short = c.requires.short; is = refl }))
 
 pub returns-in_err-write_entry-clause-moments : goal.returns-in_err-write_entry-clause-moments
 returns-in_err-write_entry-clause-moments g c files bodies told rest =

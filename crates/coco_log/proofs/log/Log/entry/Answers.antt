@@ -9,17 +9,17 @@ use Rattle.coco_log.proofs.log.Log.entry.Goals as goal
 pub returns-in_err-read_at-clause-read : goal.returns-in_err-read_at-clause-read
 returns-in_err-read_at-clause-read g c =
     let call = c.read_at.ensures in
-    read_on _ _ _ _ _ g.met.H.Host.only_now _ _ _ (read_first _ _ _ _ _ g.met.H.Host.only_now _) call.same call.said call.crash call.time
+    read_on g.H.Host g.met.H.Host.only_now _ _ _ (read_first g.H.Host g.met.H.Host.only_now _) call.same call.said call.crash call.time call.others
 
 pub returns-then-branch-len-clause-read : goal.returns-then-branch-len-clause-read
 returns-then-branch-len-clause-read g c =
     let call = c.read_at.ensures in
-    read_on _ _ _ _ _ g.met.H.Host.only_now _ _ _ (read_first _ _ _ _ _ g.met.H.Host.only_now _) call.same call.said call.crash call.time
+    read_on g.H.Host g.met.H.Host.only_now _ _ _ (read_first g.H.Host g.met.H.Host.only_now _) call.same call.said call.crash call.time call.others
 
 pub returns-clause-read : goal.returns-clause-read
 returns-clause-read g c =
     let call = c.read_at.ensures in
-    read_on _ _ _ _ _ g.met.H.Host.only_now _ _ _ (read_first _ _ _ _ _ g.met.H.Host.only_now _) call.same call.said call.crash call.time
+    read_on g.H.Host g.met.H.Host.only_now _ _ _ (read_first g.H.Host g.met.H.Host.only_now _) call.same call.said call.crash call.time call.others
 
 pub returns-then-branch-len-clause-refused : goal.returns-then-branch-len-clause-refused
 returns-then-branch-len-clause-refused g c at e = (

@@ -8,9 +8,8 @@ loop-entries-init g c =
     let begins = c.in_ok-entries.ensures in
     record {
       of = begins.of;
-      read = read_first _ _ _ _ _ g.met.H.Host.only_now _;
+      read = read_first g.H.Host g.met.H.Host.only_now _;
       counts = refl;
-      others = refl;
       told = λ files told.
           let begun = begins.ok files (sym begins.read.same ∙ told) in
           ([], subst (λ (n : ℕ). IsReading c.in_ok-entries.entries [] (files n)) begins.of.in_file begun.reading);

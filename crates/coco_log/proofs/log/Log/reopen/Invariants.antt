@@ -7,9 +7,8 @@ use Rattle.coco_log.proofs.log.Log.reopen.Given as goal
 abbrev pub invariant-loop-entries : goal.invariant-loop-entries
 invariant-loop-entries g l = record {
   of : IsOf l.file l.kind l.entries;
-  read : IsOnlyRead g.H.Host.moment g.H.Host.observed g.H.Host.said g.H.Host.reads g.H.Host.may_leave l.initial.host l.host;
+  read : IsOnlyRead g.H.Host l.initial.host l.host;
   counts : g.H.Host.disk_faults l.host ≡ g.H.Host.disk_faults l.initial.host;
-  others : g.H.Host.say_faults l.host ≡ g.H.Host.say_faults l.initial.host;
   told : (files : Files) → g.H.Host.reads l.initial.host ≡ Some files → (bodies : List (List ℕ)) × IsReading l.entries bodies (files l.file);
 }
 

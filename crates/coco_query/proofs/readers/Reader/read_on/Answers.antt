@@ -1,4 +1,4 @@
-use Rattle.std.proofs.Common.{◌≡◌, length, refl, sym, ap, ◌∙◌}
+use Rattle.std.proofs.Common.{length, refl, sym, ap, ◌∙◌}
 use Rattle.coco_claim.specs.Seats.{Drawer, Round}
 use Rattle.coco_desks.proofs.GainLemmas.{still_of}
 use Rattle.coco_query.specs.declared.readers.Reader.{Reader}

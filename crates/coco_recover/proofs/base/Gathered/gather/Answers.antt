@@ -1,4 +1,4 @@
-use Rattle.std.proofs.Common.{◌≡◌, List, ◌++◌, ◌∙◌, ap, refl}
+use Rattle.std.proofs.Common.{◌≡◌, List, [], ◌∷◌, ◌++◌, ◌∙◌, ap, refl}
 use Rattle.std.specs.List.{flat_map}
 use Rattle.std.proofs.lemmas.Result.{on_ok_weaker}
 use Rattle.coco_types.specs.RowKey.{RowKey}
@@ -51,9 +51,10 @@ returns-in_ok-push-in-Rows-clause-gathered c =
     let rows = c.in-Rows.rows in
     let is : c.args.part ≡ part.Rows rows = c.in-Rows.is in
     let next = rw is at c.requires.next in
+    let packed = c.in_ok-packed-in-Rows.ensures in
     let maps : HoldMap s.entry.layout (put_over (base_of s before).rows (puts c.as_slice.result.now)) c.load_base.new.self.shards.items c.load_base.new.self.copies.items =
     c.in_ok-load_base-in-Rows.ensures.ok (base_of s before).rows c.requires.gathered.maps in
     is_gathered c.tables_follow_the_files.ensures.base s old _ c.args.part (cc (c.add.ensures, c.from_ref.ensures.value)) c.requires.gathered.positive c.requires.gathered.its_keep
     (rw is (rows_kept old.kept s.entry.layout.base_epoch before rows next.order c.requires.gathered.replies))
-    (rw is (rw c.as_slice.ensures at maps))
-    (rw is (ap (flat_map (λ (xs : List (RowKey × Value)). xs)) c.in_ok-push-in-Rows.ensures.items ∙ more_rows old.rows.items rows ∙ ap (λ (l : List (RowKey × Value)). l ++ rows) c.requires.gathered.values))
+    (rw is (rw (c.as_slice.ensures ∙ packed) at maps))
+    (rw is (ap (flat_map (λ (xs : List (RowKey × Value)). xs)) (c.in_ok-push-in-Rows.ensures.items ∙ ap (λ (added : List (RowKey × Value)). old.rows.items ++ added ∷ []) packed) ∙ more_rows old.rows.items rows ∙ ap (λ (l : List (RowKey × Value)). l ++ rows) c.requires.gathered.values))

@@ -1,4 +1,4 @@
--- A log that stays while other files change, and changes of files one behind another.
+-- A log that stays while files change that are named, and changes of files one behind another.
 use Rattle.std.proofs.Common.{◌≡◌, ℕ, true, false, List, Option, Some, None, IfSome, refl, sym, subst, ◌∙◌}
 use Rattle.coco_host.specs.Files.{Files, Become, Follows}
 use Rattle.coco_entry.specs.Layouts.{is_named}
