@@ -6,6 +6,7 @@ ghost use Rattle.coco_ending.specs.declared.ending.Ending.{Ending as CallEnding}
 ghost use Rattle.coco_commands.specs.Serving.{around};
 ghost use Rattle.coco.specs.Commands.{Obeys};
 ghost use Rattle.coco.specs.Reporting.{IsReported};
+ghost use Rattle.coco_lines.specs.Reads.{source_moment};
 
 use crate::arguments::words_of;
 use crate::top::{Reported, coco, report};
@@ -47,8 +48,8 @@ pub fn program<
     ensures obeys { IfOk given.now (λ arguments. IfOk host.old (λ old. (new : H) × (host.new ≡ Ok new)
         × ((ending : CallEnding) × IsReported ending result (E.contents errs.old) (E.contents errs.new) (E.faults errs.old) (E.faults errs.new)
         × Obeys H.Host (map string_bytes (drop 2 arguments.items)) ending
-        (record { source = record { given = I.given input.old; left = I.remaining input.old; at_end = I.at_end input.old }; source_faults = I.faults input.old; say_faults = H.say_faults old; disk_faults = H.disk_faults old; around = around N.Net P.Power net.old power.old })
-        (record { source = record { given = I.given input.new; left = I.remaining input.new; at_end = I.at_end input.new }; source_faults = I.faults input.new; say_faults = H.say_faults new; disk_faults = H.disk_faults new; around = around N.Net P.Power net.new power.new })
+        (record { source = source_moment I.Source input.old; source_faults = I.faults input.old; say_faults = H.say_faults old; disk_faults = H.disk_faults old; around = around N.Net P.Power net.old power.old })
+        (record { source = source_moment I.Source input.new; source_faults = I.faults input.new; say_faults = H.say_faults new; disk_faults = H.disk_faults new; around = around N.Net P.Power net.new power.new })
         old new))) }
     ensures no_host { IfOk given.now (λ _. IfErr host.old (λ _. (host.new ≡ host.old) × (net.new ≡ net.old) × (power.new ≡ power.old) × (input.new ≡ input.old)
         × IsReported CallEnding.NoMemory result (E.contents errs.old) (E.contents errs.new) (E.faults errs.old) (E.faults errs.new))) }

@@ -8,6 +8,7 @@ ghost use Rattle.coco_words.specs.Options.{AreInRange};
 ghost use Rattle.coco_commands.specs.Serving.{around};
 ghost use Rattle.coco.specs.Commands.{Does, Inits, Obeys, bounds_of, seed_from};
 ghost use Rattle.coco.specs.Reporting.{IsReported};
+ghost use Rattle.coco_lines.specs.Reads.{source_moment};
 
 use coco_commands::{
     QueryBounds, RunBounds, Workload, compact, dump, migrate, query, rebuild, run, try_out, verify,
@@ -62,8 +63,8 @@ pub fn coco<
     // The status and the line on the error stream are those of one ending, in which the words were obeyed.
     ensures obeys { (ending : CallEnding) × IsReported ending result (E.contents errs.old) (E.contents errs.new) (E.faults errs.old) (E.faults errs.new)
         × Obeys H.Host (map string_bytes words.now) ending
-        (record { source = record { given = I.given input.old; left = I.remaining input.old; at_end = I.at_end input.old }; source_faults = I.faults input.old; say_faults = H.say_faults host.old; disk_faults = H.disk_faults host.old; around = around N.Net P.Power net.old power.old })
-        (record { source = record { given = I.given input.new; left = I.remaining input.new; at_end = I.at_end input.new }; source_faults = I.faults input.new; say_faults = H.say_faults host.new; disk_faults = H.disk_faults host.new; around = around N.Net P.Power net.new power.new })
+        (record { source = source_moment I.Source input.old; source_faults = I.faults input.old; say_faults = H.say_faults host.old; disk_faults = H.disk_faults host.old; around = around N.Net P.Power net.old power.old })
+        (record { source = source_moment I.Source input.new; source_faults = I.faults input.new; say_faults = H.say_faults host.new; disk_faults = H.disk_faults host.new; around = around N.Net P.Power net.new power.new })
         host.old host.new }
     ensures untouched { result.status ≡ 1 → (host.new ≡ host.old) × (net.new ≡ net.old) × (power.new ≡ power.old) × (input.new ≡ input.old) }
 {
@@ -102,8 +103,8 @@ fn obey<
 ) -> Ending
     requires { N.sent net.old ≡ [] }
     ensures obeys { Obeys H.Host (map string_bytes words.now) result
-        (record { source = record { given = I.given input.old; left = I.remaining input.old; at_end = I.at_end input.old }; source_faults = I.faults input.old; say_faults = H.say_faults host.old; disk_faults = H.disk_faults host.old; around = around N.Net P.Power net.old power.old })
-        (record { source = record { given = I.given input.new; left = I.remaining input.new; at_end = I.at_end input.new }; source_faults = I.faults input.new; say_faults = H.say_faults host.new; disk_faults = H.disk_faults host.new; around = around N.Net P.Power net.new power.new })
+        (record { source = source_moment I.Source input.old; source_faults = I.faults input.old; say_faults = H.say_faults host.old; disk_faults = H.disk_faults host.old; around = around N.Net P.Power net.old power.old })
+        (record { source = source_moment I.Source input.new; source_faults = I.faults input.new; say_faults = H.say_faults host.new; disk_faults = H.disk_faults host.new; around = around N.Net P.Power net.new power.new })
         host.old host.new }
     ensures untouched { result ≡ CallEnding.BadCommandLine → (host.new ≡ host.old) × (net.new ≡ net.old) × (power.new ≡ power.old) × (input.new ≡ input.old) }
 {
@@ -136,8 +137,8 @@ fn execute<
     requires agree { Agree (kind_of command) (numbers_of command) }
     requires unsent { N.sent net.old ≡ [] }
     ensures { Does H.Host command result
-        (record { source = record { given = I.given input.old; left = I.remaining input.old; at_end = I.at_end input.old }; source_faults = I.faults input.old; say_faults = H.say_faults host.old; disk_faults = H.disk_faults host.old; around = around N.Net P.Power net.old power.old })
-        (record { source = record { given = I.given input.new; left = I.remaining input.new; at_end = I.at_end input.new }; source_faults = I.faults input.new; say_faults = H.say_faults host.new; disk_faults = H.disk_faults host.new; around = around N.Net P.Power net.new power.new })
+        (record { source = source_moment I.Source input.old; source_faults = I.faults input.old; say_faults = H.say_faults host.old; disk_faults = H.disk_faults host.old; around = around N.Net P.Power net.old power.old })
+        (record { source = source_moment I.Source input.new; source_faults = I.faults input.new; say_faults = H.say_faults host.new; disk_faults = H.disk_faults host.new; around = around N.Net P.Power net.new power.new })
         host.old host.new }
 {
     match command {

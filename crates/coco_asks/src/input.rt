@@ -2,6 +2,7 @@
 
 ghost use Rattle.std.specs.Prelude.{◌≡◌, ◌<◌, length};
 ghost use Rattle.coco_asks.specs.Answering.{Answers};
+ghost use Rattle.coco_lines.specs.Reads.{source_moment};
 
 use crate::batch::answer_batch;
 use crate::ending::Asked;
@@ -40,8 +41,8 @@ pub fn answer_asks<R: Threads + Wait + Sync, H: Host, S: Source, G: Gate + Sync>
     requires some { 0 < length tables.items }
     requires readers { 0 < bounds.readers }
     ensures answers { Answers H.Host procs.now tables.items bounds.epoch
-        (record { source = record { given = S.given input.old; left = S.remaining input.old; at_end = S.at_end input.old }; source_faults = S.faults input.old; say_faults = H.say_faults host.old })
-        (record { source = record { given = S.given input.new; left = S.remaining input.new; at_end = S.at_end input.new }; source_faults = S.faults input.new; say_faults = H.say_faults host.new })
+        (record { source = source_moment S.Source input.old; source_faults = S.faults input.old; say_faults = H.say_faults host.old })
+        (record { source = source_moment S.Source input.new; source_faults = S.faults input.new; say_faults = H.say_faults host.new })
         result host.old host.new }
     ensures disk { H.disk_faults host.new ≡ H.disk_faults host.old }
 {

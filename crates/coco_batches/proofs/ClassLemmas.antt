@@ -22,6 +22,7 @@ use Rattle.coco_lines.specs.declared.class.Class.TheVariants.{Refused, Same, New
 use Rattle.coco_lines.specs.declared.error.LineError.TheVariants.{Reused, Old, Full}
 use Rattle.coco_batches.specs.Asking.{MayCommit, request_under}
 use Rattle.coco_batches.specs.Asking.{known_of}
+use Rattle.std.proofs.lemmas.Bool.{or_left}
 
 abbrev ids : List Request → List ℕ
 ids = map (λ r. r.id)
@@ -30,9 +31,6 @@ abbrev same_test : Request → Request → Bool
 same_test r q = nat_eq r.id q.id && call.ghosts.eq q.call r.call
 
 -- ---- by the request that is found under the id
-
-or_first : (a b : Bool) → a ≡ true → (a || b) ≡ true
-or_first a b h = ap (λ x. x || b) h
 
 known_by : (r q : Request) (rs : List Request) → request_under r.id rs ≡ Some q → list_any (λ (p : Request). nat_eq r.id p.id) rs ≡ true
 known_by r q [] found = let e : ◌≡◌ {A = Option Request} None (Some q) = found in absurd (cc)
@@ -71,7 +69,7 @@ same_by r q (x ∷ rs) found same = step (nat_eq r.id x.id) (request_under r.id 
     or_later false d h = h
 
     step : (b : Bool) (o : Option Request) → (o ≡ Some q → list_any (same_test r) rs ≡ true) → cond b (Some x) o ≡ Some q → ((b && call.ghosts.eq x.call r.call) || list_any (same_test r) rs) ≡ true
-    step true o rest e = let f : Some x ≡ Some q = e in let is : x ≡ q = cc in or_first (call.ghosts.eq x.call r.call) (list_any (same_test r) rs) (equal x is)
+    step true o rest e = let f : Some x ≡ Some q = e in let is : x ≡ q = cc in or_left (call.ghosts.eq x.call r.call) (list_any (same_test r) rs) (equal x is)
     step false o rest e = rest e
 
 apart_none : (r : Request) (rs : List Request) → AllByRecursion (λ y. nat_eq r.id y ≡ false) (ids rs) → list_any (λ (p : Request). nat_eq r.id p.id) rs ≡ false

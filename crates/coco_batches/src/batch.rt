@@ -3,7 +3,7 @@
 ghost use Rattle.std.specs.Prelude.{◌≡◌, ◌+◌, ◌≤◌, ◌<◌, ◌++◌, ◌∷◌, [], ℕ, List, Some, Err, length, true, IfOk, IfErr, OnOk};
 ghost use Rattle.coco_types.specs.Limits.{most_input_bytes, most_kept};
 ghost use Rattle.coco_lines.specs.Classes.{IsClass, new_in};
-ghost use Rattle.coco_lines.specs.Reads.{IsSpent, body_of, Counts};
+ghost use Rattle.coco_lines.specs.Reads.{IsSpent, body_of, Counts, source_moment};
 ghost use Rattle.coco_lines.specs.declared.class.Class.{Class as LineClass};
 ghost use Rattle.coco_batches.specs.Answering.{answer_of};
 ghost use Rattle.coco_batches.specs.Asking.{MayCommit};
@@ -86,16 +86,14 @@ pub fn read_batch<S: Source>(
     requires few { length kept.now.dones ≤ most_kept }
     requires given { reader.old.given ≤ most_input_bytes }
     ensures batch { IfOk result (ReadsBatch procs.now (known_of kept.now []) reader.old reader.new
-        (record { given = S.given source.old; left = S.remaining source.old; at_end = S.at_end source.old })
-        (record { given = S.given source.new; left = S.remaining source.new; at_end = S.at_end source.new }) size) }
+        (source_moment S.Source source.old) (source_moment S.Source source.new) size) }
     ensures breaks { IfErr result (BreaksOff reader.old reader.new
-        (record { given = S.given source.old; left = S.remaining source.old; at_end = S.at_end source.old })
-        (record { given = S.given source.new; left = S.remaining source.new; at_end = S.at_end source.new }) size) }
+        (source_moment S.Source source.old) (source_moment S.Source source.new) size) }
     ensures new { IfOk result (λ batch. MayCommit procs.now kept.now batch.fresh) }
     ensures given { IfOk result (λ batch. reader.new.given ≡ reader.old.given + length batch.answers.items) }
     ensures within { IfOk result (λ _. reader.new.given ≤ most_input_bytes) }
-    ensures end { (reader.old.ended ≡ true → IsSpent (record { given = S.given source.old; left = S.remaining source.old; at_end = S.at_end source.old }))
-        → reader.new.ended ≡ true → IsSpent (record { given = S.given source.new; left = S.remaining source.new; at_end = S.at_end source.new }) }
+    ensures end { (reader.old.ended ≡ true → IsSpent (source_moment S.Source source.old))
+        → reader.new.ended ≡ true → IsSpent (source_moment S.Source source.new) }
     ensures counts { Counts result (S.faults source.old) (S.faults source.new) }
     ensures too_much { result ≡ Err LineFault.TooMuch → reader.new.taken ≡ most_input_bytes }
 {

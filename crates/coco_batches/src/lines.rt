@@ -2,7 +2,7 @@
 
 ghost use Rattle.std.specs.Prelude.{◌≡◌, ◌≤◌, ◌+◌, ◌++◌, ◌∷◌, [], length, true, Err, IfOk, IfErr, OnOk};
 ghost use Rattle.coco_types.specs.Limits.{most_input_bytes};
-ghost use Rattle.coco_lines.specs.Reads.{IsSpent, Counts};
+ghost use Rattle.coco_lines.specs.Reads.{IsSpent, Counts, source_moment};
 ghost use Rattle.coco_batches.specs.BatchReading.{BreaksOff, ReadsLines};
 
 use coco_io::Source;
@@ -19,15 +19,13 @@ pub fn read_lines<S: Source>(
 ) -> Result<Vec<Line>, LineFault>
     requires given { reader.old.given ≤ most_input_bytes }
     ensures lines { IfOk result (λ lines. ReadsLines reader.old reader.new
-        (record { given = S.given source.old; left = S.remaining source.old; at_end = S.at_end source.old })
-        (record { given = S.given source.new; left = S.remaining source.new; at_end = S.at_end source.new }) size lines.items) }
+        (source_moment S.Source source.old) (source_moment S.Source source.new) size lines.items) }
     ensures breaks { IfErr result (BreaksOff reader.old reader.new
-        (record { given = S.given source.old; left = S.remaining source.old; at_end = S.at_end source.old })
-        (record { given = S.given source.new; left = S.remaining source.new; at_end = S.at_end source.new }) size) }
+        (source_moment S.Source source.old) (source_moment S.Source source.new) size) }
     ensures given { IfOk result (λ lines. reader.new.given ≡ reader.old.given + length lines.items) }
     ensures within { IfOk result (λ _. reader.new.given ≤ most_input_bytes) }
-    ensures end { (reader.old.ended ≡ true → IsSpent (record { given = S.given source.old; left = S.remaining source.old; at_end = S.at_end source.old }))
-        → reader.new.ended ≡ true → IsSpent (record { given = S.given source.new; left = S.remaining source.new; at_end = S.at_end source.new }) }
+    ensures end { (reader.old.ended ≡ true → IsSpent (source_moment S.Source source.old))
+        → reader.new.ended ≡ true → IsSpent (source_moment S.Source source.new) }
     ensures counts { Counts result (S.faults source.old) (S.faults source.new) }
     ensures too_much { result ≡ Err LineFault.TooMuch → reader.new.taken ≡ most_input_bytes }
 {

@@ -1,16 +1,14 @@
 -- A store whose new files are written stands ready to be switched to, and becomes the compacted one by a layout more.
-use Rattle.std.proofs.Common.{◌≡◌, ◌⊎◌, inl, inr, ℕ, ◌+◌, ◌-◌, ◌<◌, List, [], ◌∷◌, ◌++◌, length, map, Option, Some, None, IfSome, refl, sym, ap, subst, ◌∙◌, arith, false, true}
-use Rattle.std.specs.Prelude.{slice_index}
+use Rattle.std.proofs.Common.{◌≡◌, ℕ, ◌+◌, ◌-◌, ◌<◌, List, ◌∷◌, map, Option, Some, None, refl, sym, subst, arith, false, true}
 use Rattle.std.specs.List.{AllByRecursion}
 use Rattle.std.specs.FinMap.{entries}
+use Rattle.coco_types.specs.Limits.{epochs_end}
 use Rattle.coco_types.specs.declared.call.Done.{Done}
 use Rattle.coco_host.specs.Files.{Files}
-use Rattle.coco_ast.specs.History.{History, StayAlike, compacted, floor, kept, with_keep}
-use Rattle.coco_ast.specs.Keyed.{Rows}
+use Rattle.coco_ast.specs.History.{History, StayAlike, compacted, floor, kept}
 use Rattle.coco_ast.specs.Tree.{Procedures}
 use Rattle.coco_append.specs.Gaining.{HasStore, RestsAs}
 use Rattle.coco_append.proofs.PastLemmas.{store_besides}
-use Rattle.coco_entry.specs.declared.layout.Layout.{Layout}
 use Rattle.coco_entry.specs.declared.layout.LayoutEntry.{LayoutEntry}
 use Rattle.coco_entry.specs.Layouts.{IsLayout, is_named}
 use Rattle.coco_lines.specs.Alike.{NoLineTells}
@@ -18,18 +16,19 @@ use Rattle.coco_log.specs.Changes.{SameBesides}
 use Rattle.coco_log.specs.Drafts.{HasLog, KeepsLog}
 use Rattle.coco_log.specs.Grammar.{IsLog}
 use Rattle.coco_make.specs.NewStore.{AreEmptyLogs}
-use Rattle.coco_recover.specs.Opening.{Has, IsSoundStore, ShardsHold, entry_in, its_keep}
+use Rattle.coco_recover.specs.Opening.{Has, IsSoundStore, entry_in, its_keep}
 use Rattle.coco_recover.specs.declared.opening.Opened.{Opened}
 use Rattle.coco_store.specs.Contents.{Contents, HoldsBase, IsGoodStore, history_of, map_in}
 use Rattle.coco_store.specs.Entries.{BaseEntry, IsBaseEntry, base_bytes, base_kind, files_of}
 use Rattle.coco_store.specs.Laws.{KeepAllLogs}
 use Rattle.coco_store.proofs.Keeping.{store_kept}
-use Rattle.coco_store.specs.Rules.{IsBase, IsWithinLimits, Setting}
-use Rattle.coco_store.specs.Switching.{IsReadyFor, Switches}
+use Rattle.coco_store.specs.Rules.{IsBase, IsWithinLimits}
+use Rattle.coco_store.specs.Switching.{IsReadyFor}
 use Rattle.coco_load.specs.Epochs.{IsNextOf}
-use Rattle.coco_ckpt.specs.Compacting.{HasCompacted, IsBaseWith, IsCompactBase, IsCompactLayout, IsCompaction, compacted_with}
+use Rattle.coco_ckpt.specs.Compacting.{IsBaseWith, IsCompactBase, IsCompactLayout, IsCompaction, compact_files, compacted_with}
+use Rattle.coco_ckpt.proofs.NewFiles.{epoch_is, file_apart, free, same_text, wider}
 use Rattle.coco_ckpt.specs.Laws.{CompactedIsGood, IsCompactedFrom}
-use Rattle.coco_ckpt.specs.Writing.{HasBase, HasEmptyLogs}
+use Rattle.coco_ckpt.specs.Writing.{HasEmptyLogs}
 use Rattle.coco_make.proofs.Besides.{told}
 
 module _ (c : Contents) (entry : LayoutEntry) (es : List BaseEntry) (file : ℕ) (is_file : entry.base_file ≡ Some file) where
@@ -114,3 +113,29 @@ still_good named c free old new same good = store_besides named c old new free s
 -- a store whose files all keep their logs
 pub still_logged : (c : Contents) (old new : Files) → KeepAllLogs old new → HasStore c old → HasStore c new
 still_logged c old new keep good = store_kept old new c (λ n named. keep n) good
+
+-- the files that an opened store is compacted to
+module _ (store : Opened) (sound : IsSoundStore store) (entry : LayoutEntry) (base : ℕ)
+    (compact : IsCompactLayout (store.next_epoch - 1) (entry_in store) entry) (is_base : entry.base_file ≡ Some base) where
+  end : store.next_epoch - 1 < epochs_end
+  end = omega (arith, sound.first, sound.end)
+
+  pub base_beside : is_named (entry.layout.chief_file ∷ entry.layout.node_files) base ≡ false
+  base_beside = file_apart (entry_in store) sound.is sound.limits entry (store.next_epoch - 1) end compact base is_base
+
+  pub unnamed : (n : ℕ) → is_named (files_of (entry_in store)) n ≡ true → is_named (base ∷ entry.layout.chief_file ∷ entry.layout.node_files) n ≡ false
+  unnamed = free (entry_in store) sound.is sound.limits entry (store.next_epoch - 1) end compact base is_base
+
+  pub among_compact : (n : ℕ) → is_named (compact_files (entry_in store)) n ≡ false → is_named (base ∷ entry.layout.chief_file ∷ entry.layout.node_files) n ≡ false
+  among_compact = wider (entry_in store) sound.is sound.limits entry (store.next_epoch - 1) end compact base is_base
+
+  pub text_stays : entry.layout.text ≡ store.layout.text
+  text_stays = same_text (entry_in store) sound.is sound.limits entry (store.next_epoch - 1) end compact
+
+  pub has_epoch : entry.layout.base_epoch ≡ store.next_epoch - 1
+  has_epoch = epoch_is (entry_in store) sound.is sound.limits entry (store.next_epoch - 1) end compact
+
+  -- a store that such files don't belong to is as it was
+  pub before_stays : (c : Contents) → Has (its_keep c) c store → (old new : Files) → SameBesides (base ∷ entry.layout.chief_file ∷ entry.layout.node_files) old new → HasStore c old → HasStore c new
+  before_stays c has = still_good (base ∷ entry.layout.chief_file ∷ entry.layout.node_files) c
+      (λ n is. unnamed n (subst (λ (e : LayoutEntry). is_named (files_of e) n ≡ true) (sym has.layout) is))

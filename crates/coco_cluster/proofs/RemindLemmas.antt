@@ -18,7 +18,7 @@ use Rattle.coco_members.specs.AtRest.{AreAtRest, AreMembers, NoneLost}
 use Rattle.coco_members.specs.Opened.{HoldTheirs}
 use Rattle.coco_members.specs.declared.members.Members.{Members}
 use Rattle.coco_net.specs.declared.letter.Posted.{Posted}
-use Rattle.coco_settle.specs.Reminding.{KeepsRest}
+use Rattle.coco_settle.specs.Reminding.{KeepsLogs}
 use Rattle.coco_store.specs.Contents.{Contents, map_in}
 use Rattle.coco_types.specs.Limits.{most_partitions}
 use Rattle.coco_vote.specs.Taking.{AreReady, HaveLogs, IsElsewhere}
@@ -33,7 +33,7 @@ use Rattle.coco_cluster.proofs.AttemptLemmas.{can_still}
 abbrev pub reminded : Cluster → Members → Cluster
 reminded k members = record k { members = members }
 
-module _ (k : Cluster) (now : Members) (keeps : KeepsRest k.members now) where
+module _ (k : Cluster) (now : Members) (keeps : KeepsLogs k.members now) where
   -- the logs stand where they stood
   pub stand_reminded : (reads : Option Files) (may_leave : Files → Type 0) → AllStand k reads may_leave → AllStand (reminded k now) reads may_leave
   stand_reminded reads may_leave stand = record {

@@ -3,6 +3,7 @@
 ghost use Rattle.std.specs.Prelude.{◌≡◌, ◌<◌};
 ghost use Rattle.coco_cluster.specs.Around.{Around};
 ghost use Rattle.coco_commands.specs.Querying.{Queries, ending_of_asking, ending_of_tables};
+ghost use Rattle.coco_lines.specs.Reads.{source_moment};
 
 use crate::opening::ending_of_opening;
 use coco_asks::{Asked, QueryBounds, answer_asks};
@@ -28,8 +29,8 @@ pub fn query<R: Threads + Wait + Sync, H: Host, S: Source, G: Gate + Sync>(
 ) -> Ending
     requires { 0 < bounds.readers }
     ensures { (around : Around) → Queries H.Host bounds.epoch result
-        (record { source = record { given = S.given input.old; left = S.remaining input.old; at_end = S.at_end input.old }; source_faults = S.faults input.old; say_faults = H.say_faults host.old; disk_faults = H.disk_faults host.old; around = around })
-        (record { source = record { given = S.given input.new; left = S.remaining input.new; at_end = S.at_end input.new }; source_faults = S.faults input.new; say_faults = H.say_faults host.new; disk_faults = H.disk_faults host.new; around = around })
+        (record { source = source_moment S.Source input.old; source_faults = S.faults input.old; say_faults = H.say_faults host.old; disk_faults = H.disk_faults host.old; around = around })
+        (record { source = source_moment S.Source input.new; source_faults = S.faults input.new; say_faults = H.say_faults host.new; disk_faults = H.disk_faults host.new; around = around })
         host.old host.new }
 {
     let store = match recover_whole(alloc, host) {

@@ -4,6 +4,7 @@ ghost use Rattle.std.specs.Prelude.{◌≡◌, ◌<◌, ◌≤◌, []};
 ghost use Rattle.coco_types.specs.Limits.{most_batch_lines};
 ghost use Rattle.coco_cluster.specs.Around.{around};
 ghost use Rattle.coco_commands.specs.Running.{RunsOn, ending_of_run};
+ghost use Rattle.coco_lines.specs.Reads.{source_moment};
 
 use crate::opening::open_cluster;
 use coco_ending::Ending;
@@ -43,8 +44,8 @@ pub fn run<
     requires attempts { 0 < bounds.attempts }
     requires unsent { N.sent net.old ≡ [] }
     ensures { RunsOn H.Host bounds result
-        (record { source = record { given = S.given input.old; left = S.remaining input.old; at_end = S.at_end input.old }; source_faults = S.faults input.old; say_faults = H.say_faults host.old; disk_faults = H.disk_faults host.old; around = around N.Net P.Power net.old power.old })
-        (record { source = record { given = S.given input.new; left = S.remaining input.new; at_end = S.at_end input.new }; source_faults = S.faults input.new; say_faults = H.say_faults host.new; disk_faults = H.disk_faults host.new; around = around N.Net P.Power net.new power.new })
+        (record { source = source_moment S.Source input.old; source_faults = S.faults input.old; say_faults = H.say_faults host.old; disk_faults = H.disk_faults host.old; around = around N.Net P.Power net.old power.old })
+        (record { source = source_moment S.Source input.new; source_faults = S.faults input.new; say_faults = H.say_faults host.new; disk_faults = H.disk_faults host.new; around = around N.Net P.Power net.new power.new })
         host.old host.new }
 {
     match open_cluster(alloc, host) {

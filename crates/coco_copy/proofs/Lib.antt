@@ -1,5 +1,3 @@
 pub mod Greatest
-pub mod Parts
 pub mod Views
 pub mod Whole
-pub mod Settled

@@ -7,6 +7,8 @@ use Rattle.coco_types.specs.declared.value.Value.{Value}
 use Rattle.coco_types.specs.declared.call.Write.{Write}
 use Rattle.coco_types.proofs.Keys.{is_key, one_key}
 use Rattle.coco_types.proofs.KeyMaps.{same_keyed}
+use Rattle.coco_rows.specs.Listing.{IsRising}
+use Rattle.coco_rows.proofs.Parts.{get_part, part_same, part_put, part_taken}
 use Rattle.coco_ast.specs.Keyed.{write_at}
 use Rattle.coco_copy.specs.declared.kept.Kept.{Kept}
 use Rattle.coco_copy.specs.declared.ops.CopyAnswer.{CopyAnswer}
@@ -15,7 +17,6 @@ use Rattle.coco_copy.specs.declared.ops.CopyAsk.TheVariants.{Put}
 use Rattle.coco_copy.specs.CopyState.{begun, promoted_at}
 use Rattle.coco_copy.specs.Puts.{HasNothing, answer_in, after_ask, by_time, left_by}
 use Rattle.coco_copy.specs.Kept.{kept_at, part_of, stable_of, pending_of, view_of, version_of, settled, rested}
-use Rattle.coco_copy.proofs.Parts.{IsRising, get_part, part_same, part_put, part_taken}
 
 -- the later entries have this row under the key, or none, and the others' rows elsewhere
 abbrev pub Sets : List (RowKey × Kept) → List (RowKey × Kept) → RowKey → Option Kept → Type 0

@@ -2,10 +2,10 @@
 
 ghost use Rattle.std.specs.Prelude.{◌≡◌, Some, true, is_some};
 ghost use Rattle.coco_copy.specs.Puts.{by_time};
-ghost use Rattle.coco_copy.specs.Kept.{version_of, rested};
 ghost use Rattle.coco_copy.specs.declared.ops.CopyAnswer.TheVariants.{Applied as Took};
 
 use crate::ops::CopyAnswer;
+use coco_rows::EpochRow;
 use coco_types::{Packed, Value};
 use std::mem;
 
@@ -34,18 +34,6 @@ impl Kept {
         CopyAnswer::Applied
     }
 
-    // Ends the epoch with the pending value, or with the stable one, and says whether a value stands.
-    pub fn rest(&mut self, promotes: bool) -> bool
-        ensures kept { self.new ≡ rested (version_of promotes self.old) }
-        ensures stands { result ≡ is_some (version_of promotes self.old) }
-    {
-        if promotes && let Some((_, value)) = &mut self.pending {
-            mem::swap(&mut self.stable, value);
-        }
-        self.pending = None;
-        self.stable.is_some()
-    }
-
     // What pends for it.
     pub fn what_pends(&self) -> Option<(u64, Option<Value>)>
         ensures { result ≡ self.now.pending }
@@ -54,5 +42,23 @@ impl Kept {
             Some((time, value)) => Some((*time, value.get())),
             None => None,
         }
+    }
+}
+
+impl EpochRow for Kept {
+    ghost use Rattle.coco_copy.specs.Kept.{row_kind};
+
+    ghost kind = { row_kind };
+
+    fn is_noted(&self) -> bool {
+        self.pending.is_some()
+    }
+
+    fn rest(&mut self, promotes: bool) -> bool {
+        if promotes && let Some((_, value)) = &mut self.pending {
+            mem::swap(&mut self.stable, value);
+        }
+        self.pending = None;
+        self.stable.is_some()
     }
 }

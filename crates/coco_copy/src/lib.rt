@@ -6,7 +6,6 @@ pub mod law;
 pub mod ops;
 pub mod packed;
 mod rows;
-mod settle;
 pub mod table;
 
 pub use ops::{CopyAnswer, CopyAsk};

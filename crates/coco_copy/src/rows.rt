@@ -1,15 +1,13 @@
 //! The rows of a copy under their keys, beside the list of those that were put in this epoch.
 
-ghost use Rattle.std.specs.Prelude.{◌≡◌, ◌||◌, ℕ, ◌+◌, ◌^◌, ◌<◌, ◌≤◌, ◌++◌, ◌∷◌, [], if◌then◌else◌, cond, true, false, None, Some, IsSome, is_some, IfOk, IfSome, IfNone, OnOk, OnErr, option_and_then, length, vec_len, vec_capacity};
-ghost use Rattle.std.specs.BTreeMap.{is_at};
-ghost use Rattle.coco_types.specs.RowKey.{RowKey, key_cmp};
+ghost use Rattle.std.specs.Prelude.{◌≡◌, ◌||◌, ℕ, ◌++◌, true, false, None, Some, is_some, IfOk, IfSome, IfNone, OnOk, OnErr, option_and_then, vec_capacity};
 ghost use Rattle.coco_ast.specs.Keyed.{write_at};
 ghost use Rattle.coco_copy.specs.Kept.{IsWhole, entry_of, SetsStable, kept_at, part_of, pending_of, stable_of, view_of};
 ghost use Rattle.coco_copy.specs.Puts.{HasNothing, TakesMemory, answer_in, after_ask, put_at};
 
 use crate::kept::Kept;
 use crate::ops::CopyAnswer;
-use crate::settle::drop_row;
+use coco_rows::{add_row, drop_row, list_key, make_room};
 use coco_types::{Key, NoMemory, Packed, Value};
 use std::alloc::Global;
 use std::collections::BTreeMap;
@@ -52,50 +50,6 @@ pub fn put(
             list_key(listed, key, true);
             Ok(CopyAnswer::Applied)
         }
-    }
-}
-
-// Makes both rooms for a new row, and then puts it there.
-fn add_row(
-    rows: &mut BTreeMap<Key, Kept>,
-    listed: &mut Vec<Key>,
-    key: Key,
-    kept: Kept,
-) -> Result<(), NoMemory>
-    requires whole { IsWhole rows.old.entries listed.old.items (vec_capacity listed.old) }
-    requires missing { kept_at rows.old.entries key ≡ None }
-    requires stands { is_some kept.pending ≡ false → IsSome kept.stable }
-    ensures whole { IsWhole rows.new.entries listed.new.items (vec_capacity listed.new) }
-    ensures ok { OnOk result ((q : RowKey) → kept_at rows.new.entries q ≡ cond (is_at (key_cmp key) q) (Some kept) (kept_at rows.old.entries q)) }
-    ensures err { OnErr result (rows.new.entries ≡ rows.old.entries) }
-{
-    let pends = kept.pending.is_some();
-    make_room(listed, rows.len())?;
-    rows.insert(key, kept)?;
-    list_key(listed, key, pends);
-    Ok(())
-}
-
-// Makes room in the list for one key more than there are rows.
-fn make_room(listed: &mut Vec<Key>, rows: usize) -> Result<(), NoMemory>
-    requires few { rows < 2 ^ 63 }
-    requires each_once { vec_len listed.old ≤ rows }
-    ensures items { listed.new.items ≡ listed.old.items }
-    ensures ok { OnOk result (rows + 1 ≤ vec_capacity listed.new) }
-    ensures capacity { vec_capacity listed.old ≤ vec_capacity listed.new }
-{
-    listed.reserve(rows + 1 - listed.len())?;
-    Ok(())
-}
-
-// Lists a key for which something pends for the first time. The room is there.
-fn list_key(listed: &mut Vec<Key>, key: Key, first: bool)
-    requires { first ≡ true → vec_len listed.old < vec_capacity listed.old }
-    ensures items { listed.new.items ≡ (if first then listed.old.items ++ key ∷ [] else listed.old.items) }
-    ensures capacity { vec_capacity listed.old ≤ vec_capacity listed.new }
-{
-    if first {
-        let _ = listed.push(key);
     }
 }
 

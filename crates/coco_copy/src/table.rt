@@ -11,7 +11,7 @@ ghost use Rattle.coco_copy.specs.Puts.{HasNothing, TakesMemory, after_ask, answe
 use crate::kept::Kept;
 use crate::ops::{CopyAnswer, CopyAsk};
 use crate::rows::{load, put, stable_rows};
-use crate::settle::settle;
+use coco_rows::settle;
 use coco_types::{Key, Machine, MapRows, NoMemory, Packed, PackedWrite, Value, Write};
 use std::alloc::Global;
 use std::collections::BTreeMap;

@@ -24,7 +24,8 @@ use Rattle.coco_shard.specs.Law.{Entry, read_time}
 use Rattle.coco_shard.specs.declared.ops.Op.TheVariants.{Install}
 use Rattle.coco_early.proofs.InstallLemmas.{installed, tried_at, within_reads}
 use Rattle.coco_early.proofs.Members.{either, moved, none_some, of_kept, right, same_some}
-use Rattle.coco_early.proofs.RunLemmas.{snapshot_writes, writes_once}
+use Rattle.coco_early.proofs.RunLemmas.{writes_once}
+use Rattle.coco_order.proofs.Snapshots.{snapshot_writes}
 
 -- ---- where a Done comes from
 

@@ -1,7 +1,7 @@
 -- The entries of a base file read back.
 use Rattle.std.proofs.Common.{◌≡◌, inl, inr, ℕ, ◌^◌, ◌<◌, ◌⊎◌, Bool, true, false, cond, ltb, leb, eqb, ◌||◌, ◌&&◌, List, ◌++◌, Option, Some, None, Ok, refl, sym, ap, append_assoc, arith}
 use Rattle.std.specs.Option.{option_map}
-use Rattle.std.proofs.lemmas.Bool.{ltb-true, lt-ltb, leb-true, le-leb, eqb-true, eq-eqb}
+use Rattle.std.proofs.lemmas.Bool.{ltb-true, lt-ltb, leb-true, le-leb, eqb-true, eq-eqb, or_left, or_right, and_from}
 use Rattle.coco_types.specs.declared.call.Done.{Done}
 use Rattle.coco_types.specs.declared.call.Reply.{Reply}
 use Rattle.coco_types.specs.declared.value.Value.{Value}
@@ -21,7 +21,7 @@ use Rattle.coco_entry.specs.declared.calls.Timed.{Timed}
 use Rattle.coco_entry.specs.Grammar.{then_by, ◌▸◌}
 use Rattle.coco_entry.specs.Calls.{IsReply, reply_bytes, done_of, timed_at, reply_at}
 use Rattle.coco_entry.specs.Bases.{floor_bytes, IsFloor, floor_number_at, floor_at, IsHead, head_at, AreItems, items_count_at, StampRises, stamp_rises, stamp_of, stamped, stamped_at, DoneRises, base_done_bytes, IsBaseDone, base_done_at, AreBaseDones, base_dones_at, present, present_at, BaseRowRises, base_row_bytes, IsBaseRow, base_row_at, AreBaseRows, base_rows_at}
-use Rattle.coco_entry.proofs.GrammarLemmas.{both_true, true_both, agree_so, then_agrees, pair_agrees, made_agrees, tested_agrees, listed_agrees}
+use Rattle.coco_entry.proofs.GrammarLemmas.{both_true, agree_so, then_agrees, pair_agrees, made_agrees, tested_agrees, listed_agrees}
 use Rattle.coco_entry.proofs.CallLemmas.{IsTimed, bytes_of_timed, timed_agrees, timed_of, reply_agrees}
 use Rattle.coco_entry.proofs.EntryLemmas.{rising_key_agrees}
 
@@ -87,7 +87,7 @@ count_is : (n : ℕ) → (leb 1 n && leb n MOST_ITEMS) ≡ true → AreItems n
 count_is n e = let p = both_true (leb 1 n) (leb n MOST_ITEMS) e in (leb-true 1 n p.0, leb-true n MOST_ITEMS p.1)
 
 is_count : (n : ℕ) → AreItems n → (leb 1 n && leb n MOST_ITEMS) ≡ true
-is_count n f = true_both (leb 1 n) (leb n MOST_ITEMS) (le-leb 1 n f.0) (le-leb n MOST_ITEMS f.1)
+is_count n f = and_from (leb 1 n) (leb n MOST_ITEMS) (le-leb 1 n f.0) (le-leb n MOST_ITEMS f.1)
 
 items_count_agrees : Agree items_count_at u32_bytes AreItems
 unfolding items_count_at
@@ -100,13 +100,6 @@ items_count_agrees =
 either_true : (a b : Bool) → (a || b) ≡ true → (a ≡ true) ⊎ (b ≡ true)
 either_true true b e = inl refl
 either_true false b e = inr e
-
-true_left : (a b : Bool) → a ≡ true → (a || b) ≡ true
-true_left a b p = rw p refl
-
-true_right : (a b : Bool) → b ≡ true → (a || b) ≡ true
-true_right true b p = refl
-true_right false b p = p
 
 stamp_is : (before : Option Stamp) (t : Stamp) → stamp_rises before t ≡ true → StampRises before t
 stamp_is None t e = tt
@@ -130,10 +123,10 @@ is_stamp : (before : Option Stamp) (t : Stamp) → StampRises before t → stamp
 is_stamp None t h = refl
 is_stamp (Some s) t h =
     elim h [
-      | inl p ↦ true_left (ltb s.epoch t.epoch) _ (lt-ltb s.epoch t.epoch p)
-      | inr p ↦ true_right (ltb s.epoch t.epoch) _ (true_both (eqb s.epoch t.epoch) _ (eq-eqb s.epoch t.epoch p.0) (elim p.1 [
-        | inl q ↦ true_left (ltb s.time t.time) _ (lt-ltb s.time t.time q)
-        | inr q ↦ true_right (ltb s.time t.time) _ (true_both (eqb s.time t.time) _ (eq-eqb s.time t.time q.0) (lt-ltb s.id t.id q.1))
+      | inl p ↦ or_left (ltb s.epoch t.epoch) _ (lt-ltb s.epoch t.epoch p)
+      | inr p ↦ or_right (ltb s.epoch t.epoch) _ (and_from (eqb s.epoch t.epoch) _ (eq-eqb s.epoch t.epoch p.0) (elim p.1 [
+        | inl q ↦ or_left (ltb s.time t.time) _ (lt-ltb s.time t.time q)
+        | inr q ↦ or_right (ltb s.time t.time) _ (and_from (eqb s.time t.time) _ (eq-eqb s.time t.time q.0) (lt-ltb s.id t.id q.1))
       ]))
     ]
 

@@ -2,9 +2,8 @@
 use Rattle.std.proofs.Common.{◌≡◌, ℕ, suc, ◌+◌, ◌-◌, ◌<◌, ◌≤◌, List, [], ◌∷◌, ◌++◌, Ok, Err, refl, sym, ap, ◌∙◌, append_assoc, arith}
 use Rattle.std.proofs.lemmas.List.{append-nil}
 use Rattle.coco_bytes.specs.declared.fault.FieldFault.{FieldFault}
-use Rattle.coco_bytes.specs.Reads.{◌>>=◌, Read}
+use Rattle.coco_bytes.specs.Reads.{◌>>=◌, Read, fault_place}
 use Rattle.coco_bytes.proofs.ListLemmas.{with_front}
-use Rattle.coco_entry.specs.declared.fault.EntryFault.{EntryFault}
 use Rattle.coco_entry.specs.declared.fault.EntryFault.TheVariants as faults
 use Rattle.coco_entry.specs.Grammar.{Answers}
 use Rattle.coco_entry.specs.Layouts.{file_at, files_at}
@@ -35,13 +34,10 @@ files_end named front count i from at le =
     let k : count - i ≡ 0 = omega arith in
     rw k (ap (λ (xs : List ℕ). Ok (xs, at)) (append-nil front))
 
-file_fails : (named front : List ℕ) (count i : ℕ) (from : List ℕ) (at : ℕ) (fault : FieldFault) → i < count → file_at named from at ≡ Err fault → with_front front (files_at named (count - i) from at) ≡ Err fault
+pub files_fail : (named front : List ℕ) (count i : ℕ) (from : List ℕ) (at : ℕ) (total : Read (List ℕ)) (fault : FieldFault) → i < count → Err fault ≡ file_at named from at
+    → with_front front (files_at named (count - i) from at) ≡ total → Answers (Err (faults.Bad (fault_place fault))) total
 unfolding files_at
-file_fails named front count i from at fault lt h =
+files_fail named front count i from at total fault lt h so_far =
     let k : count - i ≡ suc (count - (i + 1)) = omega arith in
-    rw (k, h) refl
-
-pub files_fail : (named front : List ℕ) (count i : ℕ) (from : List ℕ) (at : ℕ) (total : Read (List ℕ)) (e : EntryFault) → i < count → Answers (Err e) (file_at named from at)
-    → with_front front (files_at named (count - i) from at) ≡ total → Answers (Err e) total
-files_fail named front count i from at total (faults.Bad place) lt h so_far = (h.0, sym so_far ∙ file_fails named front count i from at h.0 lt h.1, h.2)
-files_fail named front count i from at total faults.NoMemory lt h so_far = tt
+    let fails : with_front front (files_at named (count - i) from at) ≡ Err fault = rw (k, ← h) refl in
+    (fault, sym so_far ∙ fails, refl)

@@ -26,9 +26,6 @@ pub both_true : (a b : Bool) → (a && b) ≡ true → (a ≡ true) × (b ≡ tr
 both_true true b e = (refl, e)
 both_true false b e = absurd cc
 
-pub true_both : (a b : Bool) → a ≡ true → b ≡ true → (a && b) ≡ true
-true_both a b p q = rw (p, q) refl
-
 -- ---- one behind another
 
 both_found : {A B : Type 0} (first : Reader A) (second : A → Reader B) (a_bytes : A → List ℕ) (b_bytes : A → B → List ℕ) (FitsA : A → Type 0) (FitsB : A → B → Type 0)
@@ -208,9 +205,9 @@ entry_again tag fields bytes Fits agrees from x small fits same =
     rw (e1, e2, eq-eqb (length from) (length from) refl) refl
 
 -- a body that is read from its tag to its end is read exactly
-pub reads_exactly : {A : Type 0} (tag : ℕ) (fields : Reader A) (bytes : A → List ℕ) (Fits : A → Type 0) → Agree fields bytes Fits → tag < 2 ^ 8
+pub reads_exactly : {A : Type 0} (tag : ℕ) {fields : Reader A} {bytes : A → List ℕ} {Fits : A → Type 0} → Agree fields bytes Fits → tag < 2 ^ 8
     → (body : List ℕ) (result : Result A EntryFault) → AreBytes body → Answers result (tagged tag fields body) → ReadsExactly body result (tagged tag fields body) (λ x. tag ∷ bytes x) Fits
-reads_exactly {A} tag fields bytes Fits agrees small body result fits given = record {
+reads_exactly {A} tag {fields} {bytes} {Fits} agrees small body result fits given = record {
   found = is_found result given;
   only = λ x is same. let back = entry_again tag fields bytes Fits agrees body x small is same in subst (λ (r : Result A FieldFault). Answers result r) back given;
   read = given;

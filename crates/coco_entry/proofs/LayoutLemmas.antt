@@ -1,7 +1,7 @@
 -- The entry of a layout reads back.
 use Rattle.std.proofs.Common.{◌≡◌, ℕ, zero, suc, ◌+◌, ◌^◌, ◌<◌, ◌≤◌, Bool, true, false, not, leb, ◌&&◌, List, [], ◌∷◌, ◌++◌, length, Option, Some, None, Ok, refl, sym, ap, subst, arith}
 use Rattle.std.specs.List.{flat_map}
-use Rattle.std.proofs.lemmas.Bool.{leb-true, le-leb}
+use Rattle.std.proofs.lemmas.Bool.{leb-true, le-leb, and_from}
 use Rattle.std.proofs.lemmas.List.Concat.{flat_map-cons}
 use Rattle.coco_bytes.specs.declared.fault.FieldFault.{FieldFault}
 use Rattle.coco_bytes.specs.Fields.{Stands, AreBytes, u8_bytes, u16_bytes, u32_bytes, u64_bytes}
@@ -13,7 +13,7 @@ use Rattle.coco_entry.specs.declared.layout.LayoutEntry.{LayoutEntry}
 use Rattle.coco_entry.specs.declared.layout.Sizes.{Sizes}
 use Rattle.coco_entry.specs.Grammar.{Reader, then_by, ◌▸◌, bytes32, bytes32_at}
 use Rattle.coco_entry.specs.Layouts.{is_named, IsNew, AreNew, file_at, files_at, named_by, sizes_bytes, fields_bytes, HasFields, sizes_at, fields_of, layout_fields_at, version_of, keep_number, keep_of, later_bytes, HasLater, later_at, IsLayout, version_at, layout_at}
-use Rattle.coco_entry.proofs.GrammarLemmas.{both_true, true_both, agree_so, then_agrees, pair_agrees, made_agrees, tested_agrees, bytes32_agrees}
+use Rattle.coco_entry.proofs.GrammarLemmas.{both_true, agree_so, then_agrees, pair_agrees, made_agrees, tested_agrees, bytes32_agrees}
 
 -- ---- files
 
@@ -155,7 +155,7 @@ unfolding version_at
 version_agrees =
     tested_agrees (λ v. leb 1 v && leb v 3) (λ v. (1 ≤ v) × (v ≤ 3)) u8_at u8_bytes (λ n. n < 2 ^ 8) u8_agrees
     (λ v e. let p = both_true (leb 1 v) (leb v 3) e in (leb-true 1 v p.0, leb-true v 3 p.1))
-    (λ v f. true_both (leb 1 v) (leb v 3) (le-leb 1 v f.0) (le-leb v 3 f.1))
+    (λ v f. and_from (leb 1 v) (leb v 3) (le-leb 1 v f.0) (le-leb v 3 f.1))
 
 version_fits : (keep base : Option ℕ) → IsVersion (version_of keep base)
 version_fits keep (Some file) = (omega arith, (omega arith, omega arith))

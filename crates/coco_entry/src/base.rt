@@ -36,7 +36,7 @@ pub struct BaseHead {
 }
 
 /// What orders the Dones of a base file.
-#[derive(Clone, Copy, Debug, PartialEq, Eq)]
+#[derive(Clone, Copy)]
 pub struct Stamp {
     pub epoch: u64,
     pub time: u64,
@@ -255,28 +255,14 @@ fn get_base_row(
     from: &[u8],
     at: usize,
     before: &Option<Key>,
-) -> Result<((Key, Value), usize), FieldFault>
-    requires { at ≤ length from.now }
-    ensures read { result ≡ base_row_at before.now from.now at }
-    ensures within { IfOk result (λ r. r.1 ≤ length from.now) }
-{
-    let (key, at) = get_rising_key(from, at, before)?;
-    let (value, end) = get_present(from, at)?;
-    Ok(((key, value), end))
-}
-
-// The row at a place, as the loop below takes it.
-fn get_row(
-    from: &[u8],
-    at: usize,
-    before: &Option<Key>,
 ) -> Result<((Key, Value), usize), EntryFault>
     requires { at ≤ length from.now }
     ensures read { Answers result (base_row_at before.now from.now at) }
     ensures within { IfOk result (λ r. r.1 ≤ length from.now) }
 {
-    let (row, end) = get_base_row(from, at, before)?;
-    Ok((row, end))
+    let (key, at) = get_rising_key(from, at, before)?;
+    let (value, end) = get_present(from, at)?;
+    Ok(((key, value), end))
 }
 
 // So many rows, one behind another, rising by key.
@@ -294,7 +280,7 @@ fn get_each_row(
     let mut before = None;
     let mut end = at;
     for _ in 0..count {
-        let (row, after) = get_row(from, end, &before)?;
+        let (row, after) = get_base_row(from, end, &before)?;
         before = Some(row.0);
         rows.push(row)?;
         end = after;

@@ -16,7 +16,7 @@ use coco_types::{Args, Call, Cause, Done, KeptReply, NoMemory, Packed};
 use std::alloc::Global;
 
 /// A call with its id and its time.
-#[derive(Debug, Drop)]
+#[derive(Drop)]
 pub struct Timed {
     pub id: u64,
     pub call: Call,

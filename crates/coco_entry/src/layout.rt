@@ -127,16 +127,6 @@ fn get_file(from: &[u8], at: usize, named: &[u32]) -> Result<(u32, usize), Field
     }
 }
 
-// The file at a place, as the loop below takes it.
-fn get_new_file(from: &[u8], at: usize, named: &[u32]) -> Result<(u32, usize), EntryFault>
-    requires { at ≤ length from.now }
-    ensures read { Answers result (file_at named.now from.now at) }
-    ensures within { IfOk result (λ r. r.1 ≤ length from.now) }
-{
-    let (file, end) = get_file(from, at, named)?;
-    Ok((file, end))
-}
-
 // So many files, one behind another; each is named once it is read.
 fn get_files(
     alloc: Global,
@@ -153,7 +143,7 @@ fn get_files(
     let mut files = Sequence::new(alloc);
     let mut end = at;
     for _ in 0..count {
-        let (file, after) = get_new_file(from, end, named.as_slice())?;
+        let (file, after) = get_file(from, end, named.as_slice())?;
         files.push(file)?;
         named.push(file)?;
         end = after;
@@ -183,7 +173,7 @@ fn get_bytes32(alloc: Global, from: &[u8], at: usize) -> Result<(Bytes, usize), 
 }
 
 /// How many nodes, partitions and copies, and the coordinator's file.
-#[derive(Clone, Copy, Debug, PartialEq, Eq)]
+#[derive(Clone, Copy)]
 struct Sizes {
     nodes: u8,
     partitions: u8,

@@ -3,7 +3,7 @@ use Rattle.std.proofs.Common.{◌≡◌, ◌≢◌, ◌⊎◌, inl, inr, ℕ, ze
 use Rattle.std.specs.Prelude.{◌&&◌, ◌||◌, if◌then◌else◌}
 use Rattle.std.specs.List.{slice_get, Contains}
 use Rattle.std.proofs.Math.ListN.{set}
-use Rattle.std.proofs.lemmas.Bool.{eqb-true, eqb-false, lt-ltb, or_left}
+use Rattle.std.proofs.lemmas.Bool.{eqb-true, eqb-false, lt-ltb, or_left, or_right}
 use Rattle.std.proofs.lemmas.List.{append_cancel_left}
 use Rattle.std.proofs.lemmas.List.Elements.{Contains-append_cases, Contains-append_right}
 use Rattle.std.proofs.lemmas.Option.{same_Some}
@@ -21,7 +21,6 @@ use Rattle.coco_letters.specs.declared.hearing.Phase.TheVariants.{Finishing}
 use Rattle.coco_letters.specs.Saying.{posts_of}
 use Rattle.coco_letters.specs.Turns.{is_awaited, promotes, AreFresh, Hears, IsFrom, Takes}
 use Rattle.coco_letters.proofs.WorldLemmas.{contains_cases, contains_here}
-use Rattle.coco_world.proofs.Tools.{or_right}
 use Rattle.coco_finish.specs.Finishing.{finished_of, is_behind, AllCanFinish, AreBehind, AreTold, CanFinish, FinishesSo, HasYetToHear, HeardBefore, TellsCommitted}
 
 pub none_in : {X P : Type 0} (x : P) → Contains [] x → X

@@ -1,3 +1,4 @@
 pub mod Finishing
 pub mod Exchanges
+pub mod Phase
 pub mod Stopping

@@ -7,7 +7,7 @@ ghost use Rattle.coco_chief.specs.declared.machine.Phase.TheVariants.{Forcing};
 ghost use Rattle.coco_entry.specs.Commits.{AreOf, commit_bytes, IsCommit};
 ghost use Rattle.coco_entry.specs.declared.commit.Commit.{Commit};
 ghost use Rattle.coco_host.specs.Files.{Become, Follows};
-ghost use Rattle.coco_letters.specs.Turns.{AreFresh, ChiefTurns, Counts};
+ghost use Rattle.coco_letters.specs.Turns.{ChiefTurns, OnlySends};
 ghost use Rattle.coco_letters.specs.Worlds.{Commits, GoesOnWith};
 ghost use Rattle.coco_log.specs.Faults.{CountsFault};
 ghost use Rattle.coco_log.specs.LogState.{LogState, SameBut, with_entry};
@@ -61,9 +61,7 @@ pub fn commit<H: Host, N: Net>(
     // The world.
     ensures world { OnOk result ((cores : List NodeState) → GoesOnWith (Commits epoch) (record { cores = cores; chief = chief_of chief.old; sent = N.sent net.old }) (record { cores = cores; chief = chief_of chief.new; sent = N.sent net.new })) }
     // The counts.
-    ensures fresh { AreFresh (N.sent net.old) (N.fresh net.old) (N.sent net.new) (N.fresh net.new) }
-    ensures waiting { (p : ℕ) → N.waiting net.new p ≡ N.waiting net.old p }
-    ensures counts { Counts (N.given net.old) (N.faults net.old) (N.last_seed net.old) (N.given net.new) (N.faults net.new) (N.last_seed net.new) }
+    ensures sends { OnlySends N.Net net.old net.new }
 {
     add_commit(host, log, epoch, dones, body)?;
     let alloc = *body.allocator();

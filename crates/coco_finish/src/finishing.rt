@@ -2,14 +2,12 @@
 
 ghost use Rattle.std.specs.Prelude.{◌≡◌, ◌<◌, ◌≤◌, length, IfOk, OnOk};
 ghost use Rattle.std.specs.Bool.{MatchBool};
-ghost use Rattle.coco_ast.specs.Keyed.{Rows};
 ghost use Rattle.coco_chief.specs.Shown.{chief_of};
-ghost use Rattle.coco_letters.specs.Telling.{Adds, IsOfFinish};
-ghost use Rattle.coco_letters.specs.Turns.{AreSent, SendsMore};
-ghost use Rattle.coco_letters.specs.Worlds.{GoesOn};
-ghost use Rattle.coco_finish.specs.Exchanges.{AreInStep, AreReminded, AsksAll, HaveAllFinished, HearsGiven, IsSilent, OneHasNot, StaysSilent, UnlessFault};
-ghost use Rattle.coco_vote.specs.Counting.{GivesOn};
-ghost use Rattle.coco_finish.specs.Finishing.{AllCanFinish, AreWhole, Finish, HaveMap};
+ghost use Rattle.coco_letters.specs.Turns.{AreSent};
+ghost use Rattle.coco_finish.specs.Exchanges.{AreReminded, AsksAll, HaveAllFinished, IsSilent, OneHasNot, StaysSilent, UnlessFault};
+ghost use Rattle.coco_finish.specs.Finishing.{AllCanFinish, AreWhole};
+ghost use Rattle.coco_finish.specs.Phase.{HasFinished, KeepTables, MayFinish};
+ghost use Rattle.coco_vote.specs.Keeping.{KeepsLetters};
 
 use crate::NodeTables;
 use crate::rounds::exchange;
@@ -50,30 +48,16 @@ fn remind_and_exchange<N: Net>(
     tables: &mut NodeTables,
     epoch: u64,
 ) -> Result<(), NoMemory>
-    requires few { length cores.old ≤ 8 }
+    requires may { MayFinish epoch cores.old tables.old }
     requires nodes { (chief_of chief.old).nodes ≡ length cores.old }
-    requires some { 0 < epoch }
     requires last { (chief_of chief.old).last ≡ epoch }
-    requires whole { AreWhole tables.old }
-    requires behind { length tables.old.behind.items ≡ length cores.old }
-    requires can { AllCanFinish epoch cores.old }
-    ensures finish { OnOk result (Finish epoch cores.old cores.new tables.old tables.new) }
-    ensures whole { AreWhole tables.new }
-    ensures map { (m : Rows) → HaveMap m tables.old → HaveMap m tables.new }
-    ensures behind { length tables.new.behind.items ≡ length tables.old.behind.items }
-    ensures can { OnOk result (AllCanFinish epoch cores.new) }
-    ensures in_step { OnOk result (AreInStep epoch cores.old (chief_of chief.old) (N.sent net.old) tables.old.behind.items → AreInStep epoch cores.new (chief_of chief.new) (N.sent net.new) tables.new.behind.items) }
-    ensures hears { OnOk result (HearsGiven (chief_of chief.old) (N.given net.old) (chief_of chief.new) (N.given net.new)) }
+    ensures done { OnOk result (HasFinished N.Net epoch cores.old cores.new (chief_of chief.old) (chief_of chief.new) tables.old tables.new net.old net.new) }
+    ensures keep { KeepTables tables.old tables.new }
     ensures asks { OnOk result (AsksAll epoch (chief_of chief.old) (N.sent net.old) (N.sent net.new)) }
     ensures ends { OnOk result (UnlessFault (N.faults net.old) (N.faults net.new) (HaveAllFinished (chief_of chief.new))) }
-    ensures said { OnOk result (Adds (IsOfFinish epoch) (N.sent net.old) (N.sent net.new)) }
-    ensures world { OnOk result (GoesOn (record { cores = cores.old; chief = chief_of chief.old; sent = N.sent net.old }) (record { cores = cores.new; chief = chief_of chief.new; sent = N.sent net.new })) }
-    ensures sends { SendsMore (N.sent net.old) (N.sent net.new) }
-    ensures net { GivesOn (N.given net.old) (N.faults net.old) (N.last_seed net.old) (N.given net.new) (N.faults net.new) (N.last_seed net.new) }
+    ensures letters { KeepsLetters N.Net net.old net.new }
     ensures sent { OnOk result (AreSent (N.sent net.new) (N.waiting net.new)) }
     ensures nodes { (chief_of chief.new).nodes ≡ (chief_of chief.old).nodes }
-    ensures faults { N.faults net.old ≤ N.faults net.new }
-    ensures seed { N.last_seed net.new ≡ N.last_seed net.old }
 {
     chief_reminds(alloc, net, chief)?;
     exchange(alloc, net, chief, cores, tables, epoch)?;
@@ -89,30 +73,16 @@ fn remind<N: Net>(
     tables: &mut NodeTables,
     epoch: u64,
 ) -> Result<bool, NoMemory>
-    requires few { length cores.old ≤ 8 }
+    requires may { MayFinish epoch cores.old tables.old }
     requires nodes { (chief_of chief.old).nodes ≡ length cores.old }
-    requires some { 0 < epoch }
     requires last { (chief_of chief.old).last ≡ epoch }
-    requires whole { AreWhole tables.old }
-    requires behind { length tables.old.behind.items ≡ length cores.old }
-    requires can { AllCanFinish epoch cores.old }
     requires sent { AreSent (N.sent net.old) (N.waiting net.old) }
-    ensures finish { OnOk result (Finish epoch cores.old cores.new tables.old tables.new) }
-    ensures whole { AreWhole tables.new }
-    ensures map { (m : Rows) → HaveMap m tables.old → HaveMap m tables.new }
-    ensures behind { length tables.new.behind.items ≡ length tables.old.behind.items }
-    ensures can { OnOk result (AllCanFinish epoch cores.new) }
-    ensures in_step { OnOk result (AreInStep epoch cores.old (chief_of chief.old) (N.sent net.old) tables.old.behind.items → AreInStep epoch cores.new (chief_of chief.new) (N.sent net.new) tables.new.behind.items) }
-    ensures hears { OnOk result (HearsGiven (chief_of chief.old) (N.given net.old) (chief_of chief.new) (N.given net.new)) }
+    ensures done { OnOk result (HasFinished N.Net epoch cores.old cores.new (chief_of chief.old) (chief_of chief.new) tables.old tables.new net.old net.new) }
+    ensures keep { KeepTables tables.old tables.new }
     ensures all { IfOk result (λ all. MatchBool all (HaveAllFinished (chief_of chief.new)) (StaysSilent 15 epoch (chief_of chief.new) (N.sent net.old) (N.sent net.new) (N.faults net.old) (N.faults net.new))) }
-    ensures said { OnOk result (Adds (IsOfFinish epoch) (N.sent net.old) (N.sent net.new)) }
-    ensures world { OnOk result (GoesOn (record { cores = cores.old; chief = chief_of chief.old; sent = N.sent net.old }) (record { cores = cores.new; chief = chief_of chief.new; sent = N.sent net.new })) }
-    ensures sends { SendsMore (N.sent net.old) (N.sent net.new) }
-    ensures net { GivesOn (N.given net.old) (N.faults net.old) (N.last_seed net.old) (N.given net.new) (N.faults net.new) (N.last_seed net.new) }
+    ensures letters { KeepsLetters N.Net net.old net.new }
     ensures sent { OnOk result (AreSent (N.sent net.new) (N.waiting net.new)) }
     ensures nodes { (chief_of chief.new).nodes ≡ (chief_of chief.old).nodes }
-    ensures faults { N.faults net.old ≤ N.faults net.new }
-    ensures seed { N.last_seed net.new ≡ N.last_seed net.old }
 {
     let nodes = cores.len() as u8;
     for _exchange in 1..EXCHANGES {
@@ -143,24 +113,13 @@ pub fn finish<N: Net>(
     requires can { AllCanFinish epoch cores.old }
     requires told { AreReminded epoch (chief_of chief.old) (N.fresh net.old) }
     // What became of each node, and of the tables.
-    ensures finish { OnOk result (Finish epoch cores.old cores.new tables.old tables.new) }
-    ensures whole { AreWhole tables.new }
-    ensures map { (m : Rows) → HaveMap m tables.old → HaveMap m tables.new }
-    ensures behind { length tables.new.behind.items ≡ length tables.old.behind.items }
-    ensures can { OnOk result (AllCanFinish epoch cores.new) }
-    ensures in_step { OnOk result (AreInStep epoch cores.old (chief_of chief.old) (N.sent net.old) tables.old.behind.items → AreInStep epoch cores.new (chief_of chief.new) (N.sent net.new) tables.new.behind.items) }
-    // The coordinator.
-    ensures hears { OnOk result (HearsGiven (chief_of chief.old) (N.given net.old) (chief_of chief.new) (N.given net.new)) }
+    ensures done { OnOk result (HasFinished N.Net epoch cores.old cores.new (chief_of chief.old) (chief_of chief.new) tables.old tables.new net.old net.new) }
+    ensures keep { KeepTables tables.old tables.new }
+    // The coordinator, and the letters.
     ensures nodes { (chief_of chief.new).nodes ≡ (chief_of chief.old).nodes }
     ensures all { IfOk result (λ all. MatchBool all (HaveAllFinished (chief_of chief.new)) (IsSilent epoch (chief_of chief.new) (N.sent net.old) (N.given net.old) (N.sent net.new) (N.given net.new) (N.faults net.old) (N.faults net.new))) }
-    // The letters and the world.
-    ensures said { OnOk result (Adds (IsOfFinish epoch) (N.sent net.old) (N.sent net.new)) }
-    ensures world { OnOk result (GoesOn (record { cores = cores.old; chief = chief_of chief.old; sent = N.sent net.old }) (record { cores = cores.new; chief = chief_of chief.new; sent = N.sent net.new })) }
-    ensures sends { SendsMore (N.sent net.old) (N.sent net.new) }
-    ensures net { GivesOn (N.given net.old) (N.faults net.old) (N.last_seed net.old) (N.given net.new) (N.faults net.new) (N.last_seed net.new) }
+    ensures letters { KeepsLetters N.Net net.old net.new }
     ensures sent { OnOk result (AreSent (N.sent net.new) (N.waiting net.new)) }
-    ensures faults { N.faults net.old ≤ N.faults net.new }
-    ensures seed { N.last_seed net.new ≡ N.last_seed net.old }
 {
     exchange(alloc, net, chief, cores, tables, epoch)?;
     let all = remind(alloc, net, chief, cores, tables, epoch)?;

@@ -1,16 +1,15 @@
 //! An exchange of two rounds in which nodes are told of a commit and say that they have finished.
 
-ghost use Rattle.std.specs.Prelude.{◌≡◌, ◌<◌, ◌≤◌, ℕ, Bool, true, List, Contains, length, OnOk};
-ghost use Rattle.coco_ast.specs.Keyed.{Rows};
+ghost use Rattle.std.specs.Prelude.{◌≡◌, ◌<◌, ◌≤◌, ℕ, true, List, Contains, length, OnOk};
 ghost use Rattle.coco_chief.specs.Shown.{chief_of};
 ghost use Rattle.coco_chief.specs.Table.{has_finished};
-ghost use Rattle.coco_letters.specs.Telling.{Adds, IsOfChief, IsOfFinish};
-ghost use Rattle.coco_letters.specs.Turns.{AreSent, SendsMore};
-ghost use Rattle.coco_letters.specs.Worlds.{GoesOn};
+ghost use Rattle.coco_letters.specs.Turns.{AreSent};
 ghost use Rattle.coco_node.specs.Node.{Node as NodeState};
-ghost use Rattle.coco_finish.specs.Exchanges.{commit_of, AreInStep, AreReminded, HaveAllFinished, HearsGiven, UnlessFault};
-ghost use Rattle.coco_vote.specs.Counting.{GivesOn};
-ghost use Rattle.coco_finish.specs.Finishing.{finished_of, AllCanFinish, AreWhole, Finish, HaveMap};
+ghost use Rattle.coco_finish.specs.declared.tables.NodeTables.{NodeTables as Tables};
+ghost use Rattle.coco_finish.specs.Exchanges.{commit_of, AreReminded, HaveAllFinished, UnlessFault};
+ghost use Rattle.coco_finish.specs.Finishing.{finished_of, AllCanFinish};
+ghost use Rattle.coco_finish.specs.Phase.{HasFinished, KeepTables, MayFinish};
+ghost use Rattle.coco_vote.specs.Keeping.{KeepsLetters};
 
 use crate::NodeTables;
 use crate::taking::nodes_finish;
@@ -30,17 +29,11 @@ fn answer_round<N: Net>(
 ) -> Result<(), NoMemory>
     requires few { (chief_of chief.old).nodes ≤ 8 }
     requires last { (chief_of chief.old).last ≡ epoch }
-    ensures hears { OnOk result (HearsGiven (chief_of chief.old) (N.given net.old) (chief_of chief.new) (N.given net.new)) }
+    ensures done { OnOk result ((cores : List NodeState) (tables : Tables) → AllCanFinish epoch cores → HasFinished N.Net epoch cores cores (chief_of chief.old) (chief_of chief.new) tables tables net.old net.new) }
     ensures came { OnOk result (UnlessFault (N.faults net.old) (N.faults net.new) ((n : ℕ) → n < (chief_of chief.old).nodes → Contains (N.fresh net.old) (finished_of n epoch) → has_finished n (chief_of chief.new) ≡ true)) }
-    ensures in_step { OnOk result ((cores : List NodeState) (marks : List Bool) → AreInStep epoch cores (chief_of chief.old) (N.sent net.old) marks → AreInStep epoch cores (chief_of chief.new) (N.sent net.new) marks) }
-    ensures says { OnOk result (Adds IsOfChief (N.sent net.old) (N.sent net.new)) }
-    ensures world { OnOk result ((cores : List NodeState) → GoesOn (record { cores = cores; chief = chief_of chief.old; sent = N.sent net.old }) (record { cores = cores; chief = chief_of chief.new; sent = N.sent net.new })) }
-    ensures sends { SendsMore (N.sent net.old) (N.sent net.new) }
-    ensures net { GivesOn (N.given net.old) (N.faults net.old) (N.last_seed net.old) (N.given net.new) (N.faults net.new) (N.last_seed net.new) }
+    ensures letters { KeepsLetters N.Net net.old net.new }
     ensures sent { OnOk result (AreSent (N.sent net.new) (N.waiting net.new)) }
     ensures nodes { (chief_of chief.new).nodes ≡ (chief_of chief.old).nodes }
-    ensures faults { N.faults net.old ≤ N.faults net.new }
-    ensures seed { N.last_seed net.new ≡ N.last_seed net.old }
 {
     net.round()?;
     chief_takes(alloc, net, chief)?;
@@ -56,29 +49,15 @@ fn tell_round<N: Net>(
     tables: &mut NodeTables,
     epoch: u64,
 ) -> Result<(), NoMemory>
-    requires few { length cores.old ≤ 8 }
+    requires may { MayFinish epoch cores.old tables.old }
     requires nodes { (chief_of chief.old).nodes ≡ length cores.old }
-    requires some { 0 < epoch }
     requires last { (chief_of chief.old).last ≡ epoch }
-    requires whole { AreWhole tables.old }
-    requires behind { length tables.old.behind.items ≡ length cores.old }
-    requires can { AllCanFinish epoch cores.old }
-    ensures finish { OnOk result (Finish epoch cores.old cores.new tables.old tables.new) }
-    ensures whole { AreWhole tables.new }
-    ensures map { (m : Rows) → HaveMap m tables.old → HaveMap m tables.new }
-    ensures behind { length tables.new.behind.items ≡ length tables.old.behind.items }
-    ensures can { OnOk result (AllCanFinish epoch cores.new) }
-    ensures in_step { OnOk result (AreInStep epoch cores.old (chief_of chief.old) (N.sent net.old) tables.old.behind.items → AreInStep epoch cores.new (chief_of chief.new) (N.sent net.new) tables.new.behind.items) }
-    ensures hears { OnOk result (HearsGiven (chief_of chief.old) (N.given net.old) (chief_of chief.new) (N.given net.new)) }
+    ensures done { OnOk result (HasFinished N.Net epoch cores.old cores.new (chief_of chief.old) (chief_of chief.new) tables.old tables.new net.old net.new) }
+    ensures keep { KeepTables tables.old tables.new }
     // Each node that is told answers.
     ensures answers { OnOk result (UnlessFault (N.faults net.old) (N.faults net.new) ((n : ℕ) → n < length cores.old → Contains (N.fresh net.old) (commit_of n epoch) → Contains (N.fresh net.new) (finished_of n epoch))) }
-    ensures said { OnOk result (Adds (IsOfFinish epoch) (N.sent net.old) (N.sent net.new)) }
-    ensures world { OnOk result (GoesOn (record { cores = cores.old; chief = chief_of chief.old; sent = N.sent net.old }) (record { cores = cores.new; chief = chief_of chief.new; sent = N.sent net.new })) }
-    ensures sends { SendsMore (N.sent net.old) (N.sent net.new) }
-    ensures net { GivesOn (N.given net.old) (N.faults net.old) (N.last_seed net.old) (N.given net.new) (N.faults net.new) (N.last_seed net.new) }
+    ensures letters { KeepsLetters N.Net net.old net.new }
     ensures nodes { (chief_of chief.new).nodes ≡ (chief_of chief.old).nodes }
-    ensures faults { N.faults net.old ≤ N.faults net.new }
-    ensures seed { N.last_seed net.new ≡ N.last_seed net.old }
 {
     net.round()?;
     nodes_finish(alloc, net, cores, tables, epoch)?;
@@ -96,30 +75,16 @@ pub fn exchange<N: Net>(
     tables: &mut NodeTables,
     epoch: u64,
 ) -> Result<(), NoMemory>
-    requires few { length cores.old ≤ 8 }
+    requires may { MayFinish epoch cores.old tables.old }
     requires nodes { (chief_of chief.old).nodes ≡ length cores.old }
-    requires some { 0 < epoch }
     requires last { (chief_of chief.old).last ≡ epoch }
-    requires whole { AreWhole tables.old }
-    requires behind { length tables.old.behind.items ≡ length cores.old }
-    requires can { AllCanFinish epoch cores.old }
-    ensures finish { OnOk result (Finish epoch cores.old cores.new tables.old tables.new) }
-    ensures whole { AreWhole tables.new }
-    ensures map { (m : Rows) → HaveMap m tables.old → HaveMap m tables.new }
-    ensures behind { length tables.new.behind.items ≡ length tables.old.behind.items }
-    ensures can { OnOk result (AllCanFinish epoch cores.new) }
-    ensures in_step { OnOk result (AreInStep epoch cores.old (chief_of chief.old) (N.sent net.old) tables.old.behind.items → AreInStep epoch cores.new (chief_of chief.new) (N.sent net.new) tables.new.behind.items) }
-    ensures hears { OnOk result (HearsGiven (chief_of chief.old) (N.given net.old) (chief_of chief.new) (N.given net.new)) }
+    ensures done { OnOk result (HasFinished N.Net epoch cores.old cores.new (chief_of chief.old) (chief_of chief.new) tables.old tables.new net.old net.new) }
+    ensures keep { KeepTables tables.old tables.new }
     // An exchange without a fault, before which each node that hasn't finished was told, finishes all.
     ensures ends { OnOk result (AreReminded epoch (chief_of chief.old) (N.fresh net.old) → UnlessFault (N.faults net.old) (N.faults net.new) (HaveAllFinished (chief_of chief.new))) }
-    ensures said { OnOk result (Adds (IsOfFinish epoch) (N.sent net.old) (N.sent net.new)) }
-    ensures world { OnOk result (GoesOn (record { cores = cores.old; chief = chief_of chief.old; sent = N.sent net.old }) (record { cores = cores.new; chief = chief_of chief.new; sent = N.sent net.new })) }
-    ensures sends { SendsMore (N.sent net.old) (N.sent net.new) }
-    ensures net { GivesOn (N.given net.old) (N.faults net.old) (N.last_seed net.old) (N.given net.new) (N.faults net.new) (N.last_seed net.new) }
+    ensures letters { KeepsLetters N.Net net.old net.new }
     ensures sent { OnOk result (AreSent (N.sent net.new) (N.waiting net.new)) }
     ensures nodes { (chief_of chief.new).nodes ≡ (chief_of chief.old).nodes }
-    ensures faults { N.faults net.old ≤ N.faults net.new }
-    ensures seed { N.last_seed net.new ≡ N.last_seed net.old }
 {
     tell_round(alloc, net, chief, cores, tables, epoch)?;
     answer_round(alloc, net, chief, epoch)?;

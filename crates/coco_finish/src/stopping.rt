@@ -3,7 +3,7 @@
 ghost use Rattle.std.specs.Prelude.{◌≡◌, ◌≢◌, ◌<◌, ◌≤◌, ℕ, Bool, true, List, length, OnOk};
 ghost use Rattle.coco_chief.specs.Chief.{Chief as ChiefState};
 ghost use Rattle.coco_letters.specs.Telling.{Adds, IsOfSettling};
-ghost use Rattle.coco_letters.specs.Turns.{AreFresh, Counts};
+ghost use Rattle.coco_letters.specs.Turns.{OnlySends};
 ghost use Rattle.coco_letters.specs.Worlds.{GoesBetween, SameEntries};
 ghost use Rattle.coco_vote.specs.Asking.{IsLater};
 ghost use Rattle.coco_vote.specs.Taking.{StaysWhole, StayWhole};
@@ -42,9 +42,7 @@ fn stop_here<N: Net, P: Power>(
     ensures later { IsLater P.Power power.old power.new }
     ensures asked { P.asked power.new node 6 ≡ true }
     ensures world { OnOk result ((chief : ChiefState) → GoesBetween (P.stopped power.old) (P.stopped power.new) SameEntries (record { cores = cores.old; chief = chief; sent = N.sent net.old }) (record { cores = cores.new; chief = chief; sent = N.sent net.new })) }
-    ensures fresh { AreFresh (N.sent net.old) (N.fresh net.old) (N.sent net.new) (N.fresh net.new) }
-    ensures waiting { (p : ℕ) → N.waiting net.new p ≡ N.waiting net.old p }
-    ensures counts { Counts (N.given net.old) (N.faults net.old) (N.last_seed net.old) (N.given net.new) (N.faults net.new) (N.last_seed net.new) }
+    ensures sends { OnlySends N.Net net.old net.new }
 {
     if power.stops(node, 6) {
         begin_anew(alloc, net, cores, voter, node, epoch)?;
@@ -76,9 +74,7 @@ pub fn stop_last<N: Net, P: Power>(
     ensures later { IsLater P.Power power.old power.new }
     ensures asked { OnOk result ((n : ℕ) → n < length cores.old → P.asked power.new n 6 ≡ true) }
     ensures world { OnOk result ((chief : ChiefState) → GoesBetween (P.stopped power.old) (P.stopped power.new) SameEntries (record { cores = cores.old; chief = chief; sent = N.sent net.old }) (record { cores = cores.new; chief = chief; sent = N.sent net.new })) }
-    ensures fresh { AreFresh (N.sent net.old) (N.fresh net.old) (N.sent net.new) (N.fresh net.new) }
-    ensures waiting { (p : ℕ) → N.waiting net.new p ≡ N.waiting net.old p }
-    ensures counts { Counts (N.given net.old) (N.faults net.old) (N.last_seed net.old) (N.given net.new) (N.faults net.new) (N.last_seed net.new) }
+    ensures sends { OnlySends N.Net net.old net.new }
 {
     for node in 0..cores.len() as u8 {
         let voter = &mut voters[node as usize];

@@ -3,11 +3,11 @@
 ghost use Rattle.std.specs.Prelude.{◌≡◌, ◌≢◌, ℕ, ◌<◌, ◌≤◌, [], Contains, length, IfOk, OnOk};
 ghost use Rattle.coco_ast.specs.Keyed.{Rows};
 ghost use Rattle.coco_chief.specs.Chief.{Chief as ChiefState};
-ghost use Rattle.coco_letters.specs.Telling.{Adds, IsOfFinish};
-ghost use Rattle.coco_letters.specs.Turns.{AreFresh, AreSent, Counts};
+ghost use Rattle.coco_letters.specs.Turns.{AreFresh, AreSent, Counts, OnlySends};
 ghost use Rattle.coco_letters.specs.Worlds.{GoesOn};
 ghost use Rattle.coco_net.specs.declared.letter.Letter.{Letter as Mail};
-ghost use Rattle.coco_finish.specs.Finishing.{finished_of, AllCanFinish, AreBehind, AreTold, AreWhole, CatchesUpIf, Finish, FinishesSo, HaveMap, TellsCommitted};
+ghost use Rattle.coco_finish.specs.Finishing.{finished_of, AllCanFinish, AreBehind, AreTold, AreWhole, CatchesUpIf, FinishesSo, HaveMap, TellsCommitted};
+ghost use Rattle.coco_finish.specs.Phase.{HaveTaken, KeepTables};
 
 use crate::NodeTables;
 use crate::tables::catch_up;
@@ -33,9 +33,7 @@ fn hear_committed<N: Net>(
     requires can { AllCanFinish epoch cores.old }
     ensures heard { IfOk result (λ first. FinishesSo first epoch node letter.now cores.old (N.sent net.old) cores.new (N.sent net.new)) }
     ensures world { OnOk result ((chief : ChiefState) → GoesOn (record { cores = cores.old; chief = chief; sent = N.sent net.old }) (record { cores = cores.new; chief = chief; sent = N.sent net.new })) }
-    ensures fresh { AreFresh (N.sent net.old) (N.fresh net.old) (N.sent net.new) (N.fresh net.new) }
-    ensures waiting { (p : ℕ) → N.waiting net.new p ≡ N.waiting net.old p }
-    ensures counts { Counts (N.given net.old) (N.faults net.old) (N.last_seed net.old) (N.given net.new) (N.faults net.new) (N.last_seed net.new) }
+    ensures sends { OnlySends N.Net net.old net.new }
 {
     node_finishes(alloc, net, cores, node, epoch, letter)
 }
@@ -71,9 +69,7 @@ pub fn take_committed<N: Net>(
     // Told that the epoch is committed, it answers.
     ensures answers { OnOk result (TellsCommitted epoch letter.now → Contains (N.fresh net.new) (finished_of node epoch)) }
     ensures world { OnOk result ((chief : ChiefState) → GoesOn (record { cores = cores.old; chief = chief; sent = N.sent net.old }) (record { cores = cores.new; chief = chief; sent = N.sent net.new })) }
-    ensures fresh { AreFresh (N.sent net.old) (N.fresh net.old) (N.sent net.new) (N.fresh net.new) }
-    ensures waiting { (p : ℕ) → N.waiting net.new p ≡ N.waiting net.old p }
-    ensures counts { Counts (N.given net.old) (N.faults net.old) (N.last_seed net.old) (N.given net.new) (N.faults net.new) (N.last_seed net.new) }
+    ensures sends { OnlySends N.Net net.old net.new }
 {
     let first = hear_committed(alloc, net, cores, node, epoch, letter)?;
     if first {
@@ -98,18 +94,10 @@ pub fn finish_at<N: Net>(
     requires whole { AreWhole tables.old }
     requires behind { length tables.old.behind.items ≡ length cores.old }
     requires can { AllCanFinish epoch cores.old }
-    ensures finish { OnOk result (Finish epoch cores.old cores.new tables.old tables.new) }
-    ensures whole { AreWhole tables.new }
-    ensures map { (m : Rows) → HaveMap m tables.old → HaveMap m tables.new }
-    ensures behind { length tables.new.behind.items ≡ length tables.old.behind.items }
-    ensures count { OnOk result (length cores.new ≡ length cores.old) }
-    ensures can { OnOk result (AllCanFinish epoch cores.new) }
-    ensures are_behind { OnOk result (AreBehind epoch cores.old tables.old.behind.items → AreBehind epoch cores.new tables.new.behind.items) }
-    ensures told { OnOk result (AreBehind epoch cores.old tables.old.behind.items → AreTold epoch (N.sent net.old) tables.old.behind.items → AreTold epoch (N.sent net.new) tables.new.behind.items) }
-    ensures said { OnOk result (Adds (IsOfFinish epoch) (N.sent net.old) (N.sent net.new)) }
+    ensures done { OnOk result (HaveTaken N.Net epoch cores.old cores.new tables.old tables.new net.old net.new) }
+    ensures keep { KeepTables tables.old tables.new }
     // Told that the epoch is committed, it answers.
     ensures answers { OnOk result ((l : Mail) → Contains (N.waiting net.old node) l → TellsCommitted epoch l → Contains (N.fresh net.new) (finished_of node epoch)) }
-    ensures world { OnOk result ((chief : ChiefState) → GoesOn (record { cores = cores.old; chief = chief; sent = N.sent net.old }) (record { cores = cores.new; chief = chief; sent = N.sent net.new })) }
     ensures sent { OnOk result (AreSent (N.sent net.new) (N.waiting net.new)) }
     ensures taken { OnOk result (N.waiting net.new node ≡ []) }
     ensures others { (p : ℕ) → p ≢ node → N.waiting net.new p ≡ N.waiting net.old p }
@@ -136,18 +124,10 @@ pub fn nodes_finish<N: Net>(
     requires whole { AreWhole tables.old }
     requires behind { length tables.old.behind.items ≡ length cores.old }
     requires can { AllCanFinish epoch cores.old }
-    ensures finish { OnOk result (Finish epoch cores.old cores.new tables.old tables.new) }
-    ensures whole { AreWhole tables.new }
-    ensures map { (m : Rows) → HaveMap m tables.old → HaveMap m tables.new }
-    ensures behind { length tables.new.behind.items ≡ length tables.old.behind.items }
-    ensures count { OnOk result (length cores.new ≡ length cores.old) }
-    ensures can { OnOk result (AllCanFinish epoch cores.new) }
-    ensures are_behind { OnOk result (AreBehind epoch cores.old tables.old.behind.items → AreBehind epoch cores.new tables.new.behind.items) }
-    ensures told { OnOk result (AreBehind epoch cores.old tables.old.behind.items → AreTold epoch (N.sent net.old) tables.old.behind.items → AreTold epoch (N.sent net.new) tables.new.behind.items) }
-    ensures said { OnOk result (Adds (IsOfFinish epoch) (N.sent net.old) (N.sent net.new)) }
+    ensures done { OnOk result (HaveTaken N.Net epoch cores.old cores.new tables.old tables.new net.old net.new) }
+    ensures keep { KeepTables tables.old tables.new }
     // Each that is told that the epoch is committed answers.
     ensures answers { OnOk result ((n : ℕ) (l : Mail) → n < length cores.old → Contains (N.waiting net.old n) l → TellsCommitted epoch l → Contains (N.fresh net.new) (finished_of n epoch)) }
-    ensures world { OnOk result ((chief : ChiefState) → GoesOn (record { cores = cores.old; chief = chief; sent = N.sent net.old }) (record { cores = cores.new; chief = chief; sent = N.sent net.new })) }
     ensures sent { OnOk result (AreSent (N.sent net.new) (N.waiting net.new)) }
     ensures taken { OnOk result ((n : ℕ) → n < length cores.old → N.waiting net.new n ≡ []) }
     ensures others { (p : ℕ) → length cores.old ≤ p → N.waiting net.new p ≡ N.waiting net.old p }

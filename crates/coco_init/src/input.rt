@@ -1,7 +1,7 @@
 //! The input as one text.
 
 ghost use Rattle.std.specs.Prelude.{◌≡◌, ◌≤◌, ◌<◌, ℕ, List, length, take, IfOk, IfErr};
-ghost use Rattle.coco_lines.specs.Reads.{Gives, IsSpent};
+ghost use Rattle.coco_lines.specs.Reads.{Gives, IsSpent, source_moment};
 ghost use Rattle.coco_init.specs.Counts.{CountsReads};
 ghost use Rattle.coco_init.specs.Reading.{Takes};
 
@@ -13,8 +13,7 @@ use std::alloc::Global;
 
 /// The whole input, where it isn't longer than a text of procedures may be.
 pub fn read_text<S: Source>(alloc: Global, input: &mut S) -> Result<Bytes, Ending>
-    ensures takes { Takes (record { given = S.given input.old; left = S.remaining input.old; at_end = S.at_end input.old })
-        (record { given = S.given input.new; left = S.remaining input.new; at_end = S.at_end input.new }) result }
+    ensures takes { Takes (source_moment S.Source input.old) (source_moment S.Source input.new) result }
     ensures counts { CountsReads result (S.faults input.old) (S.faults input.new) }
 {
     // A byte more than a text may have shows that the input is too long.
@@ -30,12 +29,10 @@ pub fn read_text<S: Source>(alloc: Global, input: &mut S) -> Result<Bytes, Endin
 // Reads into a buffer from its front on: fewer bytes than fit only where the input has ended.
 fn fill<S: Source>(input: &mut S, into: &mut [u8]) -> Result<usize, Ending>
     ensures count { IfOk result (λ n. n ≤ length into.new) }
-    ensures gives { IfOk result (λ n. Gives (record { given = S.given input.old; left = S.remaining input.old; at_end = S.at_end input.old })
-        (record { given = S.given input.new; left = S.remaining input.new; at_end = S.at_end input.new }) (take n into.new)) }
-    ensures end { IfOk result (λ n. n < length into.new → IsSpent (record { given = S.given input.new; left = S.remaining input.new; at_end = S.at_end input.new })) }
+    ensures gives { IfOk result (λ n. Gives (source_moment S.Source input.old) (source_moment S.Source input.new) (take n into.new)) }
+    ensures end { IfOk result (λ n. n < length into.new → IsSpent (source_moment S.Source input.new)) }
     ensures err { IfErr result (λ ending. (ending ≡ Ending.ReadFault)
-        × ((bytes : List ℕ) × Gives (record { given = S.given input.old; left = S.remaining input.old; at_end = S.at_end input.old })
-        (record { given = S.given input.new; left = S.remaining input.new; at_end = S.at_end input.new }) bytes)) }
+        × ((bytes : List ℕ) × Gives (source_moment S.Source input.old) (source_moment S.Source input.new) bytes)) }
     ensures counts { CountsReads result (S.faults input.old) (S.faults input.new) }
 {
     let mut count = 0;

@@ -3,7 +3,7 @@
 ghost use Rattle.std.specs.Prelude.{◌≡◌, ◌≢◌, ◌⊎◌, ◌<◌, ℕ, List, [], Some, Err, length, IfSome};
 ghost use Rattle.coco_host.specs.Files.{Files};
 ghost use Rattle.coco_ast.specs.Tree.{Procedures};
-ghost use Rattle.coco_lines.specs.Reads.{Gives};
+ghost use Rattle.coco_lines.specs.Reads.{Gives, source_moment};
 ghost use Rattle.coco_log.specs.LogState.{IsOnlyRead};
 ghost use Rattle.coco_store.specs.Rules.{IsWithinLimits};
 ghost use Rattle.coco_store.specs.Texts.{IsAcceptedText};
@@ -31,10 +31,9 @@ pub fn init<H: Host, S: Source>(
     copies: u8,
 ) -> Result<(), Ending>
     requires { IsWithinLimits (entry_of (new_layout nodes partitions copies [])) }
-    ensures initiates { (text : List ℕ) × Gives (record { given = S.given input.old; left = S.remaining input.old; at_end = S.at_end input.old })
-        (record { given = S.given input.new; left = S.remaining input.new; at_end = S.at_end input.new }) text
+    ensures initiates { (text : List ℕ) × Gives (source_moment S.Source input.old) (source_moment S.Source input.new) text
         × Initiates H.Host result (new_layout nodes partitions copies text) text
-        (record { given = S.given input.new; left = S.remaining input.new; at_end = S.at_end input.new }) host.old host.new }
+        (source_moment S.Source input.new) host.old host.new }
 
     ensures quiet { H.said host.new ≡ H.said host.old }
 

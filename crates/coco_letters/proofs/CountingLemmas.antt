@@ -3,7 +3,7 @@ use Rattle.std.proofs.Common.{◌≡◌, ◌≢◌, ◌⊎◌, inl, inr, ℕ, ze
 use Rattle.std.specs.Prelude.{◌&&◌, ◌||◌, if◌then◌else◌}
 use Rattle.std.specs.List.{list_all, Contains}
 use Rattle.std.proofs.Math.ListN.{set}
-use Rattle.std.proofs.lemmas.Bool.{and_parts, eq-eqb, eqb-true, eqb-false, lt-ltb, ltb-true, or_left}
+use Rattle.std.proofs.lemmas.Bool.{and_parts, eq-eqb, eqb-true, eqb-false, lt-ltb, ltb-true, or_left, or_right}
 use Rattle.std.proofs.lemmas.List.{get_or-set_same, get_or-set_other}
 use Rattle.std.proofs.lemmas.List.Elements.{Contains-append_cases, Contains-append_left, Contains-append_right}
 use Rattle.coco_msg.specs.declared.action.Action.TheVariants.{Force, Send, Promote, Revert}
@@ -17,7 +17,7 @@ use Rattle.coco_chief.specs.Table as chiefs
 use Rattle.coco_chief.specs.Table.{handled, has_finished, has_voted, is_voting, Turn}
 use Rattle.coco_chief.specs.declared.machine.Phase.{Phase}
 use Rattle.coco_chief.specs.declared.machine.Phase.TheVariants.{Rest, Voting, Forcing}
-use Rattle.coco_world.proofs.Tools.{by_test, or_cases, or_right}
+use Rattle.coco_world.proofs.Tools.{by_test, or_cases}
 use Rattle.coco_msg.specs.declared.action.Action.{Action}
 use Rattle.coco_letters.specs.Saying.{posted, posts_of}
 use Rattle.coco_letters.specs.Counting.{CountsFinished, CountsVotes, IsSaidBy, IsWaiting, VotesSo}

@@ -3,6 +3,7 @@ pub mod HearingLemmas
 pub mod WorldLemmas
 pub mod WaitingLemmas
 pub mod TakingLemmas
+pub mod OnlyLemmas
 pub mod CountingLemmas
 pub mod AroundLemmas
 pub mod TellingLemmas

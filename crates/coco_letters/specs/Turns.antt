@@ -18,6 +18,7 @@ use Rattle.coco_letters.specs.declared.hearing.Phase.TheVariants.{Voting, Finish
 use Rattle.coco_letters.specs.declared.nodes.Heard.{Heard}
 use Rattle.coco_letters.specs.declared.nodes.Heard.TheVariants.{Nothing, Voted, Forces}
 use Rattle.coco_letters.specs.Saying.{is_of_commit, posts_of, IsToSay}
+use Rattle.coco_net.specs.declared.net.Net.{Ghosts as NetGhosts}
 
 -- the letter is this message of a commit, from this place
 pub record IsFrom (place : ℕ) (letter : Letter) (m : Message) : Type 0 where
@@ -125,3 +126,9 @@ pub record Counts (given : List Posted) (faults : ℕ) (seed : Option ℕ) (give
   pub given_stays : given_new ≡ given
   pub faults_stay : faults_new ≡ faults
   pub seed_stays : seed_new ≡ seed
+
+-- letters may have been sent, and nothing else has become of a net
+pub record OnlySends {N : Type 0} (nets : NetGhosts N) (net net_new : N) : Type 0 where
+  pub fresh : AreFresh (nets.sent net) (nets.fresh net) (nets.sent net_new) (nets.fresh net_new)
+  pub waiting : (p : ℕ) → nets.waiting net_new p ≡ nets.waiting net p
+  pub counts : Counts (nets.given net) (nets.faults net) (nets.last_seed net) (nets.given net_new) (nets.faults net_new) (nets.last_seed net_new)

@@ -7,7 +7,7 @@ ghost use Rattle.coco_chief.specs.declared.machine.Phase.TheVariants.{Forcing, R
 ghost use Rattle.coco_node.specs.Node.{Node as NodeState};
 ghost use Rattle.coco_node.specs.declared.machine.TheConstants.{COORDINATOR as Chiefs};
 ghost use Rattle.coco_letters.specs.Telling.{Adds, IsOfChief};
-ghost use Rattle.coco_letters.specs.Turns.{AreFresh, ChiefHears, ChiefTurns, Counts};
+ghost use Rattle.coco_letters.specs.Turns.{ChiefHears, ChiefTurns, OnlySends};
 ghost use Rattle.coco_letters.specs.Worlds.{Commits, GoesOn, GoesOnAbove, GoesOnWith};
 
 use crate::hearing::hear;
@@ -32,9 +32,7 @@ pub fn chief_hears<N: Net>(
     ensures says { OnOk result (Adds IsOfChief (N.sent net.old) (N.sent net.new)) }
     ensures world { OnOk result ((cores : List NodeState) → GoesOn (record { cores = cores; chief = chief_of chief.old; sent = N.sent net.old }) (record { cores = cores; chief = chief_of chief.new; sent = N.sent net.new })) }
     ensures nodes { (chief_of chief.new).nodes ≡ (chief_of chief.old).nodes }
-    ensures fresh { AreFresh (N.sent net.old) (N.fresh net.old) (N.sent net.new) (N.fresh net.new) }
-    ensures waiting { (p : ℕ) → N.waiting net.new p ≡ N.waiting net.old p }
-    ensures counts { Counts (N.given net.old) (N.faults net.old) (N.last_seed net.old) (N.given net.new) (N.faults net.new) (N.last_seed net.new) }
+    ensures sends { OnlySends N.Net net.old net.new }
 {
     match hear(alloc, letter)? {
         Some(message) => {
@@ -61,9 +59,7 @@ pub fn chief_begins<N: Net>(
     ensures says { OnOk result (Adds IsOfChief (N.sent net.old) (N.sent net.new)) }
     ensures world { OnOk result ((cores : List NodeState) → GoesOnAbove epoch (record { cores = cores; chief = chief_of chief.old; sent = N.sent net.old }) (record { cores = cores; chief = chief_of chief.new; sent = N.sent net.new })) }
     ensures nodes { (chief_of chief.new).nodes ≡ (chief_of chief.old).nodes }
-    ensures fresh { AreFresh (N.sent net.old) (N.fresh net.old) (N.sent net.new) (N.fresh net.new) }
-    ensures waiting { (p : ℕ) → N.waiting net.new p ≡ N.waiting net.old p }
-    ensures counts { Counts (N.given net.old) (N.faults net.old) (N.last_seed net.old) (N.given net.new) (N.faults net.new) (N.last_seed net.new) }
+    ensures sends { OnlySends N.Net net.old net.new }
 {
     let actions = chief.begin(epoch)?;
     send_actions(alloc, net, COORDINATOR, &actions)
@@ -83,9 +79,7 @@ pub fn chief_forced<N: Net>(
     ensures says { OnOk result (Adds IsOfChief (N.sent net.old) (N.sent net.new)) }
     ensures world { OnOk result ((cores : List NodeState) → GoesOnWith (Commits epoch) (record { cores = cores; chief = chief_of chief.old; sent = N.sent net.old }) (record { cores = cores; chief = chief_of chief.new; sent = N.sent net.new })) }
     ensures nodes { (chief_of chief.new).nodes ≡ (chief_of chief.old).nodes }
-    ensures fresh { AreFresh (N.sent net.old) (N.fresh net.old) (N.sent net.new) (N.fresh net.new) }
-    ensures waiting { (p : ℕ) → N.waiting net.new p ≡ N.waiting net.old p }
-    ensures counts { Counts (N.given net.old) (N.faults net.old) (N.last_seed net.old) (N.given net.new) (N.faults net.new) (N.last_seed net.new) }
+    ensures sends { OnlySends N.Net net.old net.new }
 {
     let actions = chief.forced(epoch)?;
     send_actions(alloc, net, COORDINATOR, &actions)
@@ -103,9 +97,7 @@ pub fn chief_aborts<N: Net>(
     ensures says { OnOk result (Adds IsOfChief (N.sent net.old) (N.sent net.new)) }
     ensures world { OnOk result ((cores : List NodeState) → GoesOn (record { cores = cores; chief = chief_of chief.old; sent = N.sent net.old }) (record { cores = cores; chief = chief_of chief.new; sent = N.sent net.new })) }
     ensures nodes { (chief_of chief.new).nodes ≡ (chief_of chief.old).nodes }
-    ensures fresh { AreFresh (N.sent net.old) (N.fresh net.old) (N.sent net.new) (N.fresh net.new) }
-    ensures waiting { (p : ℕ) → N.waiting net.new p ≡ N.waiting net.old p }
-    ensures counts { Counts (N.given net.old) (N.faults net.old) (N.last_seed net.old) (N.given net.new) (N.faults net.new) (N.last_seed net.new) }
+    ensures sends { OnlySends N.Net net.old net.new }
 {
     let _current = chief.current();
     let actions = chief.abort()?;
@@ -118,9 +110,7 @@ pub fn chief_reminds<N: Net>(alloc: Global, net: &mut N, chief: &ChiefCore) -> R
     ensures turns { OnOk result (ChiefTurns (reminds (chief_of chief.now), chief_of chief.now) (N.sent net.old) (chief_of chief.now) (N.sent net.new)) }
     ensures says { OnOk result (Adds IsOfChief (N.sent net.old) (N.sent net.new)) }
     ensures world { OnOk result ((cores : List NodeState) → GoesOn (record { cores = cores; chief = chief_of chief.now; sent = N.sent net.old }) (record { cores = cores; chief = chief_of chief.now; sent = N.sent net.new })) }
-    ensures fresh { AreFresh (N.sent net.old) (N.fresh net.old) (N.sent net.new) (N.fresh net.new) }
-    ensures waiting { (p : ℕ) → N.waiting net.new p ≡ N.waiting net.old p }
-    ensures counts { Counts (N.given net.old) (N.faults net.old) (N.last_seed net.old) (N.given net.new) (N.faults net.new) (N.last_seed net.new) }
+    ensures sends { OnlySends N.Net net.old net.new }
 {
     let _last = chief.last();
     let actions = chief.remind()?;

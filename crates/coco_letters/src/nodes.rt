@@ -9,7 +9,7 @@ ghost use Rattle.coco_chief.specs.Chief.{Chief as ChiefState};
 ghost use Rattle.coco_net.specs.declared.letter.Posted.{Posted as Sent};
 ghost use Rattle.coco_letters.specs.declared.hearing.Phase.TheVariants.{Voting, Finishing, GivingUp};
 ghost use Rattle.coco_letters.specs.Saying.{IsToSay};
-ghost use Rattle.coco_letters.specs.Turns.{heard_of, promotes, AreFresh, Counts, Hears, IsForcing, NodeAsks, NodeTurns, Takes};
+ghost use Rattle.coco_letters.specs.Turns.{heard_of, promotes, Hears, IsForcing, NodeAsks, NodeTurns, OnlySends, Takes};
 ghost use Rattle.coco_letters.specs.Worlds.{GoesOn, GoesOnStopped, GoesOnWith, Prepares, SameEntries};
 
 use crate::hearing::{Phase, hear_awaited};
@@ -42,9 +42,7 @@ fn takes<N: Net>(
     requires node { node < length cores.old }
     requires message { IsToSay message.now }
     ensures takes { IfOk result (λ actions. Takes node message.now cores.old (N.sent net.old) cores.new (N.sent net.new) actions.items) }
-    ensures fresh { AreFresh (N.sent net.old) (N.fresh net.old) (N.sent net.new) (N.fresh net.new) }
-    ensures waiting { (p : ℕ) → N.waiting net.new p ≡ N.waiting net.old p }
-    ensures counts { Counts (N.given net.old) (N.faults net.old) (N.last_seed net.old) (N.given net.new) (N.faults net.new) (N.last_seed net.new) }
+    ensures sends { OnlySends N.Net net.old net.new }
 {
     let actions = cores[node as usize].handle(alloc, COORDINATOR, message)?;
     send_actions(alloc, net, node, &actions)?;
@@ -66,9 +64,7 @@ fn node_hears<N: Net>(
     requires sent { Contains (N.sent net.old) (record { to = node; letter = letter.now }) }
     ensures hears { IfOk result (λ actions. Hears phase epoch node letter.now cores.old (N.sent net.old) cores.new (N.sent net.new) actions.items) }
     ensures world { OnOk result ((chief : ChiefState) → GoesOn (record { cores = cores.old; chief = chief; sent = N.sent net.old }) (record { cores = cores.new; chief = chief; sent = N.sent net.new })) }
-    ensures fresh { AreFresh (N.sent net.old) (N.fresh net.old) (N.sent net.new) (N.fresh net.new) }
-    ensures waiting { (p : ℕ) → N.waiting net.new p ≡ N.waiting net.old p }
-    ensures counts { Counts (N.given net.old) (N.faults net.old) (N.last_seed net.old) (N.given net.new) (N.faults net.new) (N.last_seed net.new) }
+    ensures sends { OnlySends N.Net net.old net.new }
 {
     match hear_awaited(alloc, phase, epoch, letter)? {
         Some(message) => takes(alloc, net, cores, node, &message),
@@ -110,9 +106,7 @@ pub fn node_votes<N: Net>(
     requires sent { Contains (N.sent net.old) (record { to = node; letter = letter.now }) }
     ensures heard { IfOk result (λ heard. (actions : List Asked) × Hears Voting epoch node letter.now cores.old (N.sent net.old) cores.new (N.sent net.new) actions × (heard ≡ heard_of actions)) }
     ensures world { OnOk result ((chief : ChiefState) → GoesOn (record { cores = cores.old; chief = chief; sent = N.sent net.old }) (record { cores = cores.new; chief = chief; sent = N.sent net.new })) }
-    ensures fresh { AreFresh (N.sent net.old) (N.fresh net.old) (N.sent net.new) (N.fresh net.new) }
-    ensures waiting { (p : ℕ) → N.waiting net.new p ≡ N.waiting net.old p }
-    ensures counts { Counts (N.given net.old) (N.faults net.old) (N.last_seed net.old) (N.given net.new) (N.faults net.new) (N.last_seed net.new) }
+    ensures sends { OnlySends N.Net net.old net.new }
 {
     let actions = node_hears(alloc, net, cores, node, Phase::Voting, epoch, letter)?;
     Ok(heard_of(&actions))
@@ -133,9 +127,7 @@ pub fn node_finishes<N: Net>(
     requires sent { Contains (N.sent net.old) (record { to = node; letter = letter.now }) }
     ensures heard { IfOk result (λ stable. (actions : List Asked) × Hears Finishing epoch node letter.now cores.old (N.sent net.old) cores.new (N.sent net.new) actions × (stable ≡ promotes actions)) }
     ensures world { OnOk result ((chief : ChiefState) → GoesOn (record { cores = cores.old; chief = chief; sent = N.sent net.old }) (record { cores = cores.new; chief = chief; sent = N.sent net.new })) }
-    ensures fresh { AreFresh (N.sent net.old) (N.fresh net.old) (N.sent net.new) (N.fresh net.new) }
-    ensures waiting { (p : ℕ) → N.waiting net.new p ≡ N.waiting net.old p }
-    ensures counts { Counts (N.given net.old) (N.faults net.old) (N.last_seed net.old) (N.given net.new) (N.faults net.new) (N.last_seed net.new) }
+    ensures sends { OnlySends N.Net net.old net.new }
 {
     let actions = node_hears(alloc, net, cores, node, Phase::Finishing, epoch, letter)?;
     Ok(promotes(&actions))
@@ -156,9 +148,7 @@ pub fn node_gives_up<N: Net>(
     requires sent { Contains (N.sent net.old) (record { to = node; letter = letter.now }) }
     ensures heard { OnOk result ((actions : List Asked) × Hears GivingUp epoch node letter.now cores.old (N.sent net.old) cores.new (N.sent net.new) actions) }
     ensures world { OnOk result ((chief : ChiefState) → GoesOn (record { cores = cores.old; chief = chief; sent = N.sent net.old }) (record { cores = cores.new; chief = chief; sent = N.sent net.new })) }
-    ensures fresh { AreFresh (N.sent net.old) (N.fresh net.old) (N.sent net.new) (N.fresh net.new) }
-    ensures waiting { (p : ℕ) → N.waiting net.new p ≡ N.waiting net.old p }
-    ensures counts { Counts (N.given net.old) (N.faults net.old) (N.last_seed net.old) (N.given net.new) (N.faults net.new) (N.last_seed net.new) }
+    ensures sends { OnlySends N.Net net.old net.new }
 {
     let _actions = node_hears(alloc, net, cores, node, Phase::GivingUp, epoch, letter)?;
     Ok(())
@@ -177,9 +167,7 @@ pub fn node_forced<N: Net>(
     requires forcing { IsForcing epoch node cores.old }
     ensures turns { OnOk result (NodeTurns node (forced epoch) cores.old (N.sent net.old) cores.new (N.sent net.new)) }
     ensures world { OnOk result ((chief : ChiefState) → GoesOnWith (Prepares node epoch) (record { cores = cores.old; chief = chief; sent = N.sent net.old }) (record { cores = cores.new; chief = chief; sent = N.sent net.new })) }
-    ensures fresh { AreFresh (N.sent net.old) (N.fresh net.old) (N.sent net.new) (N.fresh net.new) }
-    ensures waiting { (p : ℕ) → N.waiting net.new p ≡ N.waiting net.old p }
-    ensures counts { Counts (N.given net.old) (N.faults net.old) (N.last_seed net.old) (N.given net.new) (N.faults net.new) (N.last_seed net.new) }
+    ensures sends { OnlySends N.Net net.old net.new }
 {
     let actions = cores[node as usize].forced(alloc, epoch)?;
     send_actions(alloc, net, node, &actions)
@@ -196,9 +184,7 @@ pub fn node_asks<N: Net>(
     requires node { node < length cores.now }
     ensures asks { OnOk result (NodeAsks node cores.now (N.sent net.old) (N.sent net.new)) }
     ensures world { OnOk result ((chief : ChiefState) → GoesOn (record { cores = cores.now; chief = chief; sent = N.sent net.old }) (record { cores = cores.now; chief = chief; sent = N.sent net.new })) }
-    ensures fresh { AreFresh (N.sent net.old) (N.fresh net.old) (N.sent net.new) (N.fresh net.new) }
-    ensures waiting { (p : ℕ) → N.waiting net.new p ≡ N.waiting net.old p }
-    ensures counts { Counts (N.given net.old) (N.faults net.old) (N.last_seed net.old) (N.given net.new) (N.faults net.new) (N.last_seed net.new) }
+    ensures sends { OnlySends N.Net net.old net.new }
 {
     let core = &cores[node as usize];
     let _durable = core.durable();

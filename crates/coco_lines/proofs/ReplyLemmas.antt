@@ -26,6 +26,7 @@ use Rattle.coco_lines.specs.declared.class.Class.{Class}
 use Rattle.coco_lines.specs.declared.class.Class.TheVariants.{Refused, Same, New}
 use Rattle.coco_lines.specs.declared.error.LineError.{LineError}
 use Rattle.coco_lines.specs.declared.error.LineError.TheVariants as error
+use Rattle.std.proofs.lemmas.Bool.{or_right, or_parts}
 
 -- ---- what a class says of a request
 
@@ -101,20 +102,13 @@ or_more : (a b c : Bool) → (b ≡ true → c ≡ true) → (a || b) ≡ true �
 or_more true b c f e = refl
 or_more false b c f e = f e
 
-or_skip : (a c : Bool) → c ≡ true → (a || c) ≡ true
-or_skip a c h = ap (λ b. a || b) h ∙ or_true a
-
 or_both : (a b c d : Bool) → (a ≡ true → c ≡ true) → (b ≡ true → d ≡ true) → (a || b) ≡ true → (c || d) ≡ true
 or_both true b c d p q e = ap (λ x. x || d) (p refl)
-or_both false b c d p q e = or_skip c d (q e)
+or_both false b c d p q e = or_right c d (q e)
 
 or_either : (b c : Bool) → (b || c) ≡ true → (b ≡ true) ⊎ (c ≡ true)
 or_either true c e = inl refl
 or_either false c e = inr e
-
-or_neither : (b c : Bool) → (b || c) ≡ false → (b ≡ false) × (c ≡ false)
-or_neither true c e = let f : true ≡ false = e in cc
-or_neither false c e = (refl, e)
 
 and_first : (a b : Bool) → (a && b) ≡ true → a ≡ true
 and_first true b e = refl
@@ -125,7 +119,7 @@ any_weaker p q f [] e = e
 any_weaker p q f (x ∷ xs) e = or_both (p x) (list_any p xs) (q x) (list_any q xs) (f x) (any_weaker p q f xs) e
 
 has_right : (id : ℕ) (xs ys : List Request) → has id ys ≡ true → has id (xs ++ ys) ≡ true
-has_right id xs ys h = list_any-append (λ (q : Request). nat_eq id q.id) xs ys ∙ or_skip (has id xs) (has id ys) h
+has_right id xs ys h = list_any-append (λ (q : Request). nat_eq id q.id) xs ys ∙ or_right (has id xs) (has id ys) h
 
 has_either : (id : ℕ) (xs ys : List Request) → has id (xs ++ ys) ≡ true → (has id xs ≡ true) ⊎ (has id ys ≡ true)
 has_either id xs ys h = or_either (has id xs) (has id ys) (sym (list_any-append (λ (q : Request). nat_eq id q.id) xs ys) ∙ h)
@@ -149,13 +143,13 @@ done_by id (d ∷ ds) h = found_by id d ds (nat_eq id d.id) (done_by id ds) h
 none_by : (id : ℕ) (ds : List Done) → has id (map request_of ds) ≡ false → done_of id ds ≡ None
 none_by id [] h = refl
 none_by id (d ∷ ds) h =
-    let parts = or_neither (nat_eq id d.id) (has id (map request_of ds)) h in
+    let parts = or_parts (nat_eq id d.id) (has id (map request_of ds)) h in
     ap (λ b. cond b (Some d) (done_of id ds)) parts.0 ∙ none_by id ds parts.1
 
 passed : (id : ℕ) (d : Done) (ds fs : List Done) (b : Bool) → (has id (map request_of fs) ≡ true → has id (map request_of ds) ≡ true)
     → has id (map request_of (cond b (d ∷ fs) fs)) ≡ true → has id (map request_of (d ∷ ds)) ≡ true
 passed id d ds fs true rest e = or_more (nat_eq id d.id) (has id (map request_of fs)) (has id (map request_of ds)) rest e
-passed id d ds fs false rest e = or_skip (nat_eq id d.id) (has id (map request_of ds)) (rest e)
+passed id d ds fs false rest e = or_right (nat_eq id d.id) (has id (map request_of ds)) (rest e)
 
 has_filter : (id : ℕ) (p : Done → Bool) (ds : List Done) → has id (map request_of (filter p ds)) ≡ true → has id (map request_of ds) ≡ true
 has_filter id p [] h = h
@@ -271,7 +265,7 @@ answers_still procs h bs more cs ds g k n grows further =
 -- ---- new requests
 
 still_unknown : (k : Known) (rs : List Request) (q : Request) → is_known (and_known k rs) q ≡ false → (is_known k q ≡ false) × (has q.id rs ≡ false)
-still_unknown k rs q h = or_neither (is_known k q) (has q.id rs) (sym (list_any-append (λ (p : Request). nat_eq q.id p.id) k.requests rs) ∙ h)
+still_unknown k rs q h = or_parts (is_known k q) (has q.id rs) (sym (list_any-append (λ (p : Request). nat_eq q.id p.id) k.requests rs) ∙ h)
 
 all_earlier : (k : Known) (rs qs : List Request) → AllByRecursion (IsNewTo (and_known k rs)) qs → AllByRecursion (IsNewTo k) qs
 all_earlier k rs [] all = tt
@@ -280,7 +274,7 @@ all_earlier k rs (q ∷ qs) all = (record { unknown = (still_unknown k rs q all.
 all_apart : (k : Known) (r : Request) (qs : List Request) → AllByRecursion (IsNewTo (and_known k (r ∷ []))) qs → AllByRecursion (λ id. nat_eq r.id id ≡ false) (map (λ q. q.id) qs)
 all_apart k r [] all = tt
 all_apart k r (q ∷ qs) all =
-    (nat_eq_equiv.symm r.id q.id ∙ (or_neither (nat_eq q.id r.id) false (still_unknown k (r ∷ []) q all.0.unknown).1).0, all_apart k r qs all.1)
+    (nat_eq_equiv.symm r.id q.id ∙ (or_parts (nat_eq q.id r.id) false (still_unknown k (r ∷ []) q all.0.unknown).1).0, all_apart k r qs all.1)
 
 abbrev AreFresh : Known → List Request → Type 0
 AreFresh k rs = AllByRecursion (IsNewTo k) rs × IsDistinct nat_eq (map (λ r. r.id) rs)

@@ -13,6 +13,7 @@ use Rattle.coco_lines.specs.declared.reader.Body.TheVariants.{Long, Whole}
 use Rattle.coco_lines.specs.declared.reader.Line.{Line}
 use Rattle.coco_lines.specs.declared.error.LineFault.{LineFault}
 use Rattle.coco_lines.specs.declared.error.LineFault.TheVariants as fault
+use Rattle.coco_io.specs.declared.source.Source.{Ghosts as SourceGhosts}
 
 -- ---- sources
 
@@ -21,6 +22,10 @@ pub record SourceMoment : Type 0 where
   pub given : List ℕ
   pub left : Option (List ℕ)
   pub at_end : Bool
+
+-- what a source tells of its bytes
+abbrev pub source_moment : {S : Type 0} → SourceGhosts S → S → SourceMoment
+source_moment sources s = record { given = sources.given s; left = sources.remaining s; at_end = sources.at_end s }
 
 -- between two moments it gave these bytes, the first of those that were left
 pub record Gives (before after : SourceMoment) (bytes : List ℕ) : Type 0 where

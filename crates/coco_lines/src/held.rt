@@ -1,7 +1,7 @@
 //! The part of a buffer that is read but not given yet.
 
 ghost use Rattle.std.specs.Prelude.{◌≡◌, ◌≢◌, ◌≤◌, ◌<◌, [], Err, length, take, drop, OnOk, OnErr, IfOk, IfErr};
-ghost use Rattle.coco_lines.specs.Reads.{Counts, Gives, IsSameMoment, IsSpent};
+ghost use Rattle.coco_lines.specs.Reads.{Counts, Gives, IsSameMoment, IsSpent, source_moment};
 
 use crate::LineFault;
 use coco_io::Source;
@@ -62,12 +62,10 @@ impl Held {
         requires none { self.old ≡ [] }
         ensures count { IfOk result (λ n. n ≡ length self.new) }
         ensures most { OnOk result (length self.new ≤ most) }
-        ensures gives { OnOk result (Gives (record { given = S.given source.old; left = S.remaining source.old; at_end = S.at_end source.old })
-            (record { given = S.given source.new; left = S.remaining source.new; at_end = S.at_end source.new }) self.new) }
-        ensures end { IfOk result (λ n. n ≡ 0 → IsSpent (record { given = S.given source.new; left = S.remaining source.new; at_end = S.at_end source.new })) }
+        ensures gives { OnOk result (Gives (source_moment S.Source source.old) (source_moment S.Source source.new) self.new) }
+        ensures end { IfOk result (λ n. n ≡ 0 → IsSpent (source_moment S.Source source.new)) }
         ensures err { OnErr result (self.new ≡ []) }
-        ensures same { OnErr result (IsSameMoment (record { given = S.given source.old; left = S.remaining source.old; at_end = S.at_end source.old })
-            (record { given = S.given source.new; left = S.remaining source.new; at_end = S.at_end source.new })) }
+        ensures same { OnErr result (IsSameMoment (source_moment S.Source source.old) (source_moment S.Source source.new)) }
         ensures counts { Counts result (S.faults source.old) (S.faults source.new) }
         ensures too_much { result ≢ Err LineFault.TooMuch }
     {
@@ -94,11 +92,9 @@ fn read_front<S: Source>(source: &mut S, into: &mut [u8], most: usize) -> Result
     requires some { 0 < most }
     requires fits { most ≤ length into.old }
     ensures count { IfOk result (λ n. n ≤ most) }
-    ensures gives { IfOk result (λ n. Gives (record { given = S.given source.old; left = S.remaining source.old; at_end = S.at_end source.old })
-        (record { given = S.given source.new; left = S.remaining source.new; at_end = S.at_end source.new }) (take n into.new)) }
-    ensures end { IfOk result (λ n. n ≡ 0 → IsSpent (record { given = S.given source.new; left = S.remaining source.new; at_end = S.at_end source.new })) }
-    ensures same { OnErr result (IsSameMoment (record { given = S.given source.old; left = S.remaining source.old; at_end = S.at_end source.old })
-        (record { given = S.given source.new; left = S.remaining source.new; at_end = S.at_end source.new })) }
+    ensures gives { IfOk result (λ n. Gives (source_moment S.Source source.old) (source_moment S.Source source.new) (take n into.new)) }
+    ensures end { IfOk result (λ n. n ≡ 0 → IsSpent (source_moment S.Source source.new)) }
+    ensures same { OnErr result (IsSameMoment (source_moment S.Source source.old) (source_moment S.Source source.new)) }
     ensures counts { Counts result (S.faults source.old) (S.faults source.new) }
     ensures failed { IfErr result (λ e. e ≡ LineFault.Failed) }
 {

@@ -1,7 +1,7 @@
 //! The lines of a source, one by one.
 
 ghost use Rattle.std.specs.Prelude.{◌≡◌, ◌≢◌, ◌⊎◌, ◌+◌, ◌≤◌, ◌<◌, ℕ, List, [], ◌∷◌, length, ◌==◌, true, false, Some, None, Ok, Err, IfOk, IfErr, IsErr, OnOk, OnErr, IsTrue, if◌then◌else◌};
-ghost use Rattle.coco_lines.specs.Reads.{HasNoFeed, Gives, IsSpent, IsSameMoment, body_of, Reads, Numbers, MustRead, Stops, Counts};
+ghost use Rattle.coco_lines.specs.Reads.{HasNoFeed, Gives, IsSpent, IsSameMoment, body_of, Reads, Numbers, MustRead, Stops, Counts, source_moment};
 ghost use Rattle.coco_lines.specs.Gathering.{Extends, Cuts, Gathering, Halts, reads_left};
 
 use crate::LineFault;
@@ -65,13 +65,12 @@ impl Reader {
 
     /// The next line, or none at the end of the input. After a fault the reader isn't used again.
     pub fn next<S: Source>(&mut self, source: &mut S) -> Result<Option<Line>, LineFault>
-        ensures reads { Reads self.old self.new (record { given = S.given source.old; left = S.remaining source.old; at_end = S.at_end source.old })
-            (record { given = S.given source.new; left = S.remaining source.new; at_end = S.at_end source.new }) result }
+        ensures reads { Reads self.old self.new (source_moment S.Source source.old) (source_moment S.Source source.new) result }
         ensures numbers { IfOk result (λ o. Numbers o self.old self.new) }
 
         // The reader stands at the source's end, once it has met it.
-        ensures end { (self.old.ended ≡ true → IsSpent (record { given = S.given source.old; left = S.remaining source.old; at_end = S.at_end source.old }))
-            → self.new.ended ≡ true → IsSpent (record { given = S.given source.new; left = S.remaining source.new; at_end = S.at_end source.new }) }
+        ensures end { (self.old.ended ≡ true → IsSpent (source_moment S.Source source.old))
+            → self.new.ended ≡ true → IsSpent (source_moment S.Source source.new) }
 
         // Where it has to read and the limit is reached, there is no line and no end.
         ensures too_much { self.old.taken ≡ MOST_INPUT_BYTES → MustRead self.old → IsErr result }
@@ -96,14 +95,11 @@ impl Reader {
     // The bytes up to the next line feed or the end of the input. The feed is left out; true where there was one.
     fn gather<S: Source>(&mut self, source: &mut S) -> Result<(Body, bool), LineFault>
         ensures fed { IfOk result (λ r. r.1 ≡ true → Gathering self.old self.new
-            (record { given = S.given source.old; left = S.remaining source.old; at_end = S.at_end source.old })
-            (record { given = S.given source.new; left = S.remaining source.new; at_end = S.at_end source.new }) r.0 (10 ∷ self.new.pending)) }
+            (source_moment S.Source source.old) (source_moment S.Source source.new) r.0 (10 ∷ self.new.pending)) }
         ensures end { IfOk result (λ r. r.1 ≡ false → Gathering self.old self.new
-            (record { given = S.given source.old; left = S.remaining source.old; at_end = S.at_end source.old })
-            (record { given = S.given source.new; left = S.remaining source.new; at_end = S.at_end source.new }) r.0 [] × (self.new.pending ≡ []) × (self.new.ended ≡ true)) }
+            (source_moment S.Source source.old) (source_moment S.Source source.new) r.0 [] × (self.new.pending ≡ []) × (self.new.ended ≡ true)) }
         ensures err { OnErr result ((body : Body) × Gathering self.old self.new
-            (record { given = S.given source.old; left = S.remaining source.old; at_end = S.at_end source.old })
-            (record { given = S.given source.new; left = S.remaining source.new; at_end = S.at_end source.new }) body self.new.pending) }
+            (source_moment S.Source source.old) (source_moment S.Source source.new) body self.new.pending) }
         ensures stops { IfErr result (λ e. Halts e self.new) }
         ensures counts { Counts result (S.faults source.old) (S.faults source.new) }
         ensures is_state { IsReaderState self.old × IsReaderState self.new }
@@ -147,16 +143,14 @@ impl Reader {
     fn fill<S: Source>(&mut self, source: &mut S) -> Result<(), LineFault>
         requires none { self.old.pending ≡ [] }
         requires open { self.old.ended ≡ false }
-        ensures gives { OnOk result (Gives (record { given = S.given source.old; left = S.remaining source.old; at_end = S.at_end source.old })
-            (record { given = S.given source.new; left = S.remaining source.new; at_end = S.at_end source.new }) self.new.pending) }
+        ensures gives { OnOk result (Gives (source_moment S.Source source.old) (source_moment S.Source source.new) self.new.pending) }
         ensures taken { OnOk result (self.new.taken ≡ self.old.taken + length self.new.pending) }
         ensures end { OnOk result (self.new.ended ≡ true
-            → IsSpent (record { given = S.given source.new; left = S.remaining source.new; at_end = S.at_end source.new }) × (self.new.taken < MOST_INPUT_BYTES)) }
+            → IsSpent (source_moment S.Source source.new) × (self.new.taken < MOST_INPUT_BYTES)) }
         ensures fewer { OnOk result (reads_left self.new < reads_left self.old) }
         ensures given { self.new.given ≡ self.old.given }
         ensures err { OnErr result (self.new ≡ self.old) }
-        ensures same { OnErr result (IsSameMoment (record { given = S.given source.old; left = S.remaining source.old; at_end = S.at_end source.old })
-            (record { given = S.given source.new; left = S.remaining source.new; at_end = S.at_end source.new })) }
+        ensures same { OnErr result (IsSameMoment (source_moment S.Source source.old) (source_moment S.Source source.new)) }
         ensures counts { Counts result (S.faults source.old) (S.faults source.new) }
         ensures failed { result ≡ Err LineFault.Failed → self.new.taken < MOST_INPUT_BYTES }
         ensures too_much { result ≡ Err LineFault.TooMuch → self.new.taken ≡ MOST_INPUT_BYTES }

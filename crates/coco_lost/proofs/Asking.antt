@@ -1,9 +1,8 @@
 -- Questions to a power, node after node.
 use Rattle.std.proofs.Common.{◌≡◌, ◌⊎◌, inl, inr, ℕ, ◌+◌, ◌-◌, ◌^◌, ◌<◌, ◌≤◌, min, Bool, true, false, eqb, ltb, refl, sym, ap, subst, ◌∙◌, arith}
 use Rattle.std.specs.Prelude.{◌&&◌, ◌||◌, not, if◌then◌else◌}
-use Rattle.std.proofs.lemmas.Bool.{and_left, eqb-false, eqb-true, le-ltb, lt-ltb, ltb-false, ltb-true, ne_eqb}
+use Rattle.std.proofs.lemmas.Bool.{and_left, eqb-false, eqb-true, le-ltb, lt-ltb, ltb-false, ltb-true, ne_eqb, or_right}
 use Rattle.coco_power.specs.Counting.{asked_after, begins, begun_after}
-use Rattle.coco_world.proofs.Tools.{or_right}
 use Rattle.coco_vote.specs.Asking.{IsLater}
 use Rattle.coco_lost.specs.Stopping.{AreAsked, CountsRise}
 use Rattle.coco_power.specs.declared.power.Power.{Ghosts as PowerGhosts}

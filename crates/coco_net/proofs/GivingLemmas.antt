@@ -13,6 +13,7 @@ use Rattle.coco_net.specs.Mail.{MailState, fresh, given_more, letters_to, turned
 use Rattle.coco_net.specs.Giving.{GivesMore}
 use Rattle.coco_net.specs.Rounds.{after_seeded, after_words, by_words, is_lost, loses_by, place_words, script_gives, script_loses, times_by, words}
 use Rattle.coco_net.proofs.MailLemmas.{at_place}
+use Rattle.std.proofs.lemmas.Bool.{or_parts}
 
 permuted : {X : Type 0} (b : Bool) (xs : List X) → IsPermutation xs (turned b xs)
 permuted true xs = IsPermutation-reverse xs
@@ -82,10 +83,6 @@ script_sent P lose times before (p ∷ ps) all =
     (unless (AllByRecursion P) (is_lost lose before p) (replicate times p) tt (all_copies P times p all.0))
     (script_sent P lose times (before ++ p ∷ []) ps all.1)
 
-neither : (a b : Bool) → (a || b) ≡ false → (a ≡ false) × (b ≡ false)
-neither true b h = absurd (two_sides h)
-neither false b h = (refl, h)
-
 has_copy : {X : Type 0} (n : ℕ) (x : X) → 1 ≤ n → Contains (replicate n x) x
 has_copy zero x h = absurd (omega arith)
 has_copy (suc n) x h = Contains-append_left (x ∷ []) (replicate n x) x (0, omega arith, refl)
@@ -97,7 +94,7 @@ all_wider xs ys (z ∷ zs) all = (Contains-append_right xs ys z all.0, all_wider
 script_new : (lose : Lose) (times : ℕ) (before ps : List Posted) → 1 ≤ times → script_loses lose before ps ≡ false → AllByRecursion (Contains (script_gives lose times before ps)) ps
 script_new lose times before [] one h = tt
 script_new lose times before (p ∷ ps) one h =
-    let kept = neither (is_lost lose before p) (script_loses lose (before ++ p ∷ []) ps) h in
+    let kept = or_parts (is_lost lose before p) (script_loses lose (before ++ p ∷ []) ps) h in
     let rest = script_gives lose times (before ++ p ∷ []) ps in
     subst (λ b. AllByRecursion (Contains (cond b [] (replicate times p) ++ rest)) (p ∷ ps)) (sym kept.0)
     (Contains-append_left (replicate times p) rest p (has_copy times p one), all_wider (replicate times p) rest ps (script_new lose times (before ++ p ∷ []) ps one kept.1))
@@ -127,7 +124,7 @@ given_once false false true h = omega arith
 given_once false false false h = omega arith
 
 apart_loss : (may a b : Bool) → (may && (a || b)) ≡ false → ((may && a) ≡ false) × ((may && b) ≡ false)
-apart_loss true a b h = neither a b h
+apart_loss true a b h = or_parts a b h
 apart_loss false a b h = (refl, refl)
 
 words_new : (may : Bool) (ws : List ℕ) (ps : List Posted) → length ws ≡ length ps → (may && list_any loses_by ws) ≡ false → AllByRecursion (Contains (by_words may ws ps)) ps

@@ -13,12 +13,9 @@ use Rattle.coco_ast.proofs.Lists.{all_append, all_right, all_weaker}
 use Rattle.coco_ast.proofs.Writing.{value_written, Ascend, ascend_put}
 use Rattle.coco_eval.specs.Standing.{HasGiven, keys_of}
 use Rattle.coco_eval.specs.declared.machine.Given.{Given}
+use Rattle.std.proofs.lemmas.Bool.{or_parts}
 
 -- ---- what is needed behind the keys seen
-
-or_false : (a b : Bool) → (a || b) ≡ false → (a ≡ false) × (b ≡ false)
-or_false true b h = absurd (let e : true ≡ false = h in cc)
-or_false false b h = (refl, h)
 
 abbrev AreUnseen : List RowKey → List RowKey → Type 0
 AreUnseen seen ks = AllByRecursion (λ k. list_any (is_key k) seen ≡ false) ks
@@ -28,10 +25,10 @@ AreApart [] = ⊤
 AreApart (k ∷ ks) = AllByRecursion (λ q. is_key q k ≡ false) ks × AreApart ks
 
 unseen_before : (k : RowKey) (seen ks : List RowKey) → AreUnseen (k ∷ seen) ks → AreUnseen seen ks
-unseen_before k seen ks all = all_weaker (λ q. list_any (is_key q) (k ∷ seen) ≡ false) (λ q. list_any (is_key q) seen ≡ false) (λ q h. (or_false (is_key q k) (list_any (is_key q) seen) h).1) ks all
+unseen_before k seen ks all = all_weaker (λ q. list_any (is_key q) (k ∷ seen) ≡ false) (λ q. list_any (is_key q) seen ≡ false) (λ q h. (or_parts (is_key q k) (list_any (is_key q) seen) h).1) ks all
 
 unseen_first : (k : RowKey) (seen ks : List RowKey) → AreUnseen (k ∷ seen) ks → AllByRecursion (λ q. is_key q k ≡ false) ks
-unseen_first k seen ks all = all_weaker (λ q. list_any (is_key q) (k ∷ seen) ≡ false) (λ q. is_key q k ≡ false) (λ q h. (or_false (is_key q k) (list_any (is_key q) seen) h).0) ks all
+unseen_first k seen ks all = all_weaker (λ q. list_any (is_key q) (k ∷ seen) ≡ false) (λ q. is_key q k ≡ false) (λ q h. (or_parts (is_key q k) (list_any (is_key q) seen) h).0) ks all
 
 needs_unseen : (seen : List RowKey) (xs : List Access) → AreUnseen seen (needs_after seen xs)
 needs_unseen seen [] = tt

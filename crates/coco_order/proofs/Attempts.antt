@@ -1,17 +1,13 @@
 -- Attempts told apart, and lists by attempt.
 use Rattle.std.proofs.Common.{◌≡◌, ◌⊎◌, inl, inr, ℕ, Bool, true, false, cond, eqb, List, [], ◌∷◌, ◌++◌, Option, None, Some, refl, sym, ap, ◌∙◌, subst}
 use Rattle.std.specs.Prelude.{◌&&◌, ◌==◌}
-use Rattle.std.proofs.lemmas.Bool.{eqb-true, eq-eqb}
+use Rattle.std.proofs.lemmas.Bool.{eqb-true, eq-eqb, and_from}
 use Rattle.coco_types.specs.declared.call.AttemptId.{AttemptId}
 use Rattle.coco_order.specs.OneKey.{is_attempt, Among}
 
 pub and_both : (a b : Bool) → (a && b) ≡ true → (a ≡ true) × (b ≡ true)
 and_both true b e = (refl, e)
 and_both false b e = let h : false ≡ true = e in cc
-
-pub both_and : (a b : Bool) → a ≡ true → b ≡ true → (a && b) ≡ true
-both_and true b e f = f
-both_and false b e f = let h : false ≡ true = e in cc
 
 pub not_both : (b : Bool) → b ≡ true → b ≡ false → ⊥
 not_both true t f = cc
@@ -25,7 +21,7 @@ one_attempt a b h =
     λ i. record { worker = w i; number = n i }
 
 pub attempt_itself : (a : AttemptId) → is_attempt a a ≡ true
-attempt_itself a = both_and (eqb a.worker a.worker) (eqb a.number a.number) (eq-eqb a.worker a.worker refl) (eq-eqb a.number a.number refl)
+attempt_itself a = and_from (eqb a.worker a.worker) (eqb a.number a.number) (eq-eqb a.worker a.worker refl) (eq-eqb a.number a.number refl)
 
 pub by_bool : (P : Bool → Type 0) (b : Bool) → (b ≡ true → P true) → (b ≡ false → P false) → P b
 by_bool P true t f = t refl

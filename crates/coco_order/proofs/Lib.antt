@@ -12,7 +12,7 @@ mod Shapes
 mod Tidying
 mod Orderly
 mod Acts
-mod Snapshots
+pub mod Snapshots
 mod CommitReads
 mod Commits
 mod Times

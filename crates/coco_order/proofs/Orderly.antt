@@ -21,9 +21,10 @@ use Rattle.coco_occ.specs.Steps.{taken}
 use Rattle.coco_order.specs.Execution.{Beginning, Execution, IsTried, IsExecution, journal_on, transcript_of}
 use Rattle.coco_order.proofs.Attempts.{by_bool}
 use Rattle.coco_order.proofs.Needs.{Apart, needs_apart, writes_apart}
-use Rattle.coco_order.proofs.Passes.{IsSent, AreSent, key_steps, script_steps, below_some, all_among}
+use Rattle.coco_order.proofs.Passes.{IsSent, AreSent, key_steps, script_steps, all_among}
 use Rattle.coco_order.proofs.Shapes.{keyed}
 use Rattle.coco_order.proofs.Tidying.{entry_by, entries, try_tidy}
+use Rattle.std.proofs.lemmas.Nat.{mod_below}
 
 -- ---- scripts
 
@@ -81,7 +82,7 @@ tidy_nothing = record { steps = tt; ends = refl }
 
 pub orderly : (b : Beginning) (x : Execution) → IsExecution b x → (k : RowKey) → IsOrderly (value_at b.opening) k (journal_on b x k)
 orderly b x is k = record {
-  lawful = is.lawful (k.row % b.partitions) (below_some k.row b.partitions is.some_partitions);
+  lawful = is.lawful (k.row % b.partitions) (mod_below k.row b.partitions is.some_partitions);
   tidy = λ a. elim (key_steps b x is (sent b x is) k a) [
     | inl none ↦ subst IsTidy (sym none) tidy_nothing
     | inr some ↦ subst IsTidy (sym some.4) (tried_tidy b some.0 (all_among (IsTried b) (transcript_of x a.worker) some.0 (is.scripts a.worker some.1) some.2) k)

@@ -18,6 +18,7 @@ use Rattle.coco_occ.specs.Steps.{at_shard, taken}
 use Rattle.coco_order.specs.Execution.{Beginning, Execution, Journal, Transcript, IsTried, AreOf, RiseByNumber, IsExecution, journal_of, journal_on, transcript_of, logged, steps_of, of_pass, all_at_shard}
 use Rattle.coco_order.proofs.Attempts.{one_attempt, attempt_itself, by_bool, not_both}
 use Rattle.coco_order.proofs.Chains.{own_append}
+use Rattle.std.proofs.lemmas.Nat.{mod_below}
 
 -- ---- a pass is a worker's
 
@@ -198,9 +199,6 @@ module _ (b : Beginning) (x : Execution) (is : IsExecution b x) (sent : (worker 
   pub no_steps : (a : AttemptId) → b.workers ≤ a.worker → own a (steps_of (journal_of x shard)) ≡ []
   no_steps a le = own_of_pass a (journal_of x shard) worker_of_pass ∙ ap (own a) (no_pass b.workers a.worker (journal_of x shard) (is.no_other_pass shard within) le)
 
-pub below_some : (n p : ℕ) → 0 < p → n % p < p
-below_some n p h = omega arith
-
 module _ (b : Beginning) (x : Execution) (is : IsExecution b x) (sent : (worker : ℕ) → worker < b.workers → AllByRecursion (AreSent b.partitions) (transcript_of x worker)) (k : RowKey) where
   -- an attempt's steps on the key: none, or those of its script
   pub key_steps : (a : AttemptId) → (own a (on k (journal_on b x k)) ≡ []) ⊎ ((t : Tried) × (a.worker < b.workers) × Among (transcript_of x a.worker) t × (t.by ≡ a) × (own a (on k (journal_on b x k)) ≡ on k (map taken t.script)))
@@ -210,10 +208,10 @@ module _ (b : Beginning) (x : Execution) (is : IsExecution b x) (sent : (worker 
       cases m n = grind arith
 
       from : ((a.worker < b.workers) ⊎ (b.workers ≤ a.worker)) → (own a (on k (journal_on b x k)) ≡ []) ⊎ ((t : Tried) × (a.worker < b.workers) × Among (transcript_of x a.worker) t × (t.by ≡ a) × (own a (on k (journal_on b x k)) ≡ on k (map taken t.script)))
-      from (inr le) = inl (own_on a k (journal_on b x k) ∙ ap (on k) (no_steps b x is sent (k.row % b.partitions) (below_some k.row b.partitions is.some_partitions) a le))
+      from (inr le) = inl (own_on a k (journal_on b x k) ∙ ap (on k) (no_steps b x is sent (k.row % b.partitions) (mod_below k.row b.partitions is.some_partitions) a le))
       from (inl lt) =
           let steps : own a (on k (journal_on b x k)) ≡ on k (at_shard (k.row % b.partitions) (script_of a (transcript_of x a.worker))) =
-          own_on a k (journal_on b x k) ∙ ap (on k) (own_steps b x is sent (k.row % b.partitions) (below_some k.row b.partitions is.some_partitions) a lt) in
+          own_on a k (journal_on b x k) ∙ ap (on k) (own_steps b x is sent (k.row % b.partitions) (mod_below k.row b.partitions is.some_partitions) a lt) in
           elim (script_cases a (transcript_of x a.worker)) [
             | inl none ↦ inl (steps ∙ ap (λ (s : List Step). on k (at_shard (k.row % b.partitions) s)) none)
             | inr some ↦ inr (
@@ -232,6 +230,6 @@ module _ (b : Beginning) (x : Execution) (is : IsExecution b x) (sent : (worker 
       let of_worker : t.by.worker ≡ worker = all_among (λ u. u.by.worker ≡ worker) (transcript_of x worker) t (is.attempts worker lt).by_worker among in
       let here : t.by.worker < b.workers = subst (λ (n : ℕ). n < b.workers) (sym of_worker) lt in
       let in_it : Among (transcript_of x t.by.worker) t = subst (λ (n : ℕ). Among (transcript_of x n) t) (sym of_worker) among in
-      own_on t.by k (journal_on b x k) ∙ ap (on k) (own_steps b x is sent (k.row % b.partitions) (below_some k.row b.partitions is.some_partitions) t.by here)
+      own_on t.by k (journal_on b x k) ∙ ap (on k) (own_steps b x is sent (k.row % b.partitions) (mod_below k.row b.partitions is.some_partitions) t.by here)
       ∙ ap (λ (s : List Step). on k (at_shard (k.row % b.partitions) s)) (script_found (transcript_of x t.by.worker) t (is.attempts t.by.worker here).rising in_it)
       ∙ on_shard b.partitions t.by k t.script (all_among (AreSent b.partitions) (transcript_of x t.by.worker) t (sent t.by.worker here) in_it)

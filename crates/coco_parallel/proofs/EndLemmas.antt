@@ -23,15 +23,13 @@ use Rattle.coco_parallel.specs.Laws.{AreAnExecution, AtEachEnd, IsStart, ShardsH
 use Rattle.coco_parallel.proofs.SlotLemmas.{all_tried, drawn_tried, of_worker, transcript_is}
 use Rattle.coco_shard.proofs.LawLemmas.{law_same, lawful_as}
 use Rattle.coco_parallel.proofs.LockLemmas.{IsOn, Keeps, all_sent_here, as_many_passes, at_worker, by_passes, each_pass}
+use Rattle.std.proofs.lemmas.Nat.{mod_below}
 
 abbrev worker_of : Slot → ℕ
 worker_of slot = slot.worker
 
 abbrev transcript_in : Slot → Transcript
 transcript_in slot = slot.transcript
-
-remainder : (n p : ℕ) → 0 < p → n % p < p
-remainder n p some = omega arith
 
 -- ---- the requests that were worked off
 
@@ -139,7 +137,7 @@ are_an_execution law s slots journals machines start ended = record {
 pub shards_have_rows : ClosedIsLawful → AtEachEnd ShardsHaveRows
 shards_have_rows law s slots journals machines start ended k =
     let shard : ℕ = k.row % length s.shards in
-    let within : shard < length s.shards = remainder k.row (length s.shards) start.some in
+    let within : shard < length s.shards = mod_below k.row (length s.shards) start.some in
     ap (λ (n : ℕ). row_at (shard_at machines (k.row % n)) k) ended.machines_are
     ∙ (closed_rows law s slots journals machines start ended shard within).1 k
     ∙ law_same (stable_at (shard_at s.shards shard)) (value_at s.opening) k (steps_of (slice_index_or journals shard [])) (start.holds.values k)

@@ -1,5 +1,5 @@
 -- What stays of shards and tables whose locks are closed, whatever was asked of them.
-use Rattle.std.proofs.Common.{◌≡◌, ◌⊎◌, inl, inr, ℕ, ◌<◌, ◌≤◌, List, [], ◌∷◌, ◌++◌, length, take, Some, slice_index_or, refl, sym, ap, ◌∙◌, subst, arith}
+use Rattle.std.proofs.Common.{◌≡◌, ◌⊎◌, inl, inr, ℕ, ◌<◌, ◌≤◌, List, [], ◌∷◌, ◌++◌, length, take, Some, slice_index_or, vec_len, refl, sym, ap, ◌∙◌, subst, arith}
 use Rattle.std.specs.Global.{Vec}
 use Rattle.std.specs.FinMap.{empty}
 use Rattle.std.specs.Option.{option_map}
@@ -14,11 +14,12 @@ use Rattle.coco_copy.specs.declared.ops.CopyAnswer.{CopyAnswer}
 use Rattle.coco_copy.specs.declared.ops.CopyAnswer.TheVariants.{Applied, Older, OtherEpoch}
 use Rattle.coco_copy.specs.declared.ops.CopyAsk.{CopyAsk}
 use Rattle.coco_copy.specs.declared.ops.CopyAsk.TheVariants.{Put}
-use Rattle.coco_desks.specs.Desks.{AreBackBy, AreDealt}
-use Rattle.coco_desks.specs.Gains.{AreSame}
-use Rattle.coco_desks.proofs.DeskLemmas.{bears, closed_by, machines_count, written_back}
+use Rattle.coco_desks.specs.Desks.{AreBackBy, AreDealt, IsOpen}
+use Rattle.coco_desks.proofs.DeskLemmas.{as_many_started, bears, closed_by, machines_count, written_back}
 use Rattle.coco_desks.proofs.RowLemmas.{any_default}
 use Rattle.coco_epoch.specs.Shards.{AreSettled, SettleOn, shard_at}
+use Rattle.coco_journaled.specs.declared.entry.Entry.{Entry}
+use Rattle.coco_journaled.specs.Passes.{Passing}
 use Rattle.coco_journaled.specs.Replay.{Replays, after}
 use Rattle.coco_order.specs.Execution.{Journal}
 use Rattle.coco_order.specs.Laws.{ClosedIsLawful}
@@ -26,15 +27,29 @@ use Rattle.coco_seen.specs.Notes.{Lock}
 use Rattle.coco_shard.specs.RowState.{IsSettled, RowState, ShardState, resting, stable_at}
 use Rattle.coco_shard.specs.Table.{after_ask, answer_in}
 use Rattle.coco_worker.specs.Gains.{ShardPass}
+use Rattle.coco_parallel.specs.Closing.{AreStill, HasAllBack}
 use Rattle.coco_parallel.specs.Copies.{CopyPass}
 use Rattle.coco_parallel.specs.Worked.{CopyJournal, KeepValues, begun_all, emptied, table_at}
 use Rattle.coco_parallel.proofs.OutcomeLemmas.{past_end, within_or_past}
 
+-- ---- desks
+
+module _ {M Q A : Type 0} {workers : ℕ} {machines : List M} {rows : List (Vec (Passing M Q A))} where
+  -- a desk that was opened, once rows with the same passes are back
+  pub all_back : {locks : Vec Lock} {trays back : Vec (Vec (Passing M Q A))} {last : Vec M} {journals : Vec (List (Entry Q A))} → IsOpen workers machines locks trays back last journals rows → (new : Vec (Vec (Passing M Q A))) → AreStill rows new.items → HasAllBack locks trays new last journals
+  all_back is new still = record { workers = workers; machines = machines; rows = rows; dealt = is.dealt; still = still; empty = is.empty; trays_are = is.trays_are; last_room = is.last_room; journals_room = is.journals_room }
+
+  -- what the locks left whose passes came back in these rows, for each machine
+  pub by_machines : (answer_to : M → Q → A) (state_after : M → Q → M) (locks : Vec Lock) {back to : List (Vec (Passing M Q A))} {ms : List M} {js : List (List (Entry Q A))} → AreDealt workers machines locks.items rows → to ≡ back → AreBackBy answer_to state_after to (vec_len locks) ms js
+      → AreBackBy answer_to state_after back (length machines) ms js
+  by_machines answer_to state_after locks {back = back} {to = to} {ms = ms} {js = js} dealt is closed =
+      subst (λ (n : ℕ). AreBackBy answer_to state_after back n ms js) (locks.ok.0 ∙ (as_many_started workers machines locks.items dealt.trays dealt.started).0)
+      (subst (λ (rs : List (Vec (Passing M Q A))). AreBackBy answer_to state_after rs (vec_len locks) ms js) is closed)
+
 -- ---- shards
 
-module _ (law : ClosedIsLawful) (workers : ℕ) (machines : List ShardState) (locks : List Lock) (rows back : List (Vec ShardPass)) (dealt : AreDealt workers machines locks rows) (count : length back ≡ length rows)
-    (same : (n : ℕ) (d : Vec ShardPass) → n < length rows → AreSame (slice_index_or rows n d).items (slice_index_or back n d).items) (some : 0 < workers) (settled : AreSettled machines) (ms : List ShardState) (js : List Journal)
-    (closed : AreBackBy answer_in after_ask back (length machines) ms js) where
+module _ (law : ClosedIsLawful) {workers : ℕ} {machines : List ShardState} {locks : List Lock} {rows back : List (Vec ShardPass)} (dealt : AreDealt workers machines locks rows) (still : AreStill rows back) (some : 0 < workers) (settled : AreSettled machines)
+    {ms : List ShardState} {js : List Journal} (closed : AreBackBy answer_in after_ask back (length machines) ms js) where
   as_many : length ms ≡ length machines
   as_many = machines_count answer_in after_ask back (length machines) ms js closed
 
@@ -44,7 +59,7 @@ module _ (law : ClosedIsLawful) (workers : ℕ) (machines : List ShardState) (lo
   stable_as : (p : ℕ) (k : RowKey) → (p < length machines) ⊎ (length machines ≤ p) → stable_at (shard_at ms p) k ≡ stable_at (shard_at machines p) k
   stable_as p k (inl lt) =
       let root : ShardState = slice_index_or machines p empty in
-      let by = closed_by answer_in after_ask back (length machines) ms js closed p root empty lt (let n = dealt.count in omega (arith, n, count, some)) (bears workers machines locks rows back dealt count same p root (slice_get-get_or machines p empty lt)) in
+      let by = closed_by answer_in after_ask back (length machines) ms js closed p root empty lt (let n = dealt.count in let m = still.count in omega (arith, n, m, some)) (bears workers machines locks rows back dealt still.count still.same p root (slice_get-get_or machines p empty lt)) in
       let holds : IsSettled root = subst IsSettled (at_place machines p) (settled p) in
       ap (λ (s : ShardState). stable_at s k) (at_place ms p)
       ∙ ap (λ (row : RowState). row.stable) ((law (stable_at root) root (slice_index_or ms p empty) (slice_index_or js p []) holds by.replays).1 k)
@@ -78,8 +93,7 @@ after_puts : (s : CopyState) (journal : CopyJournal) → empty_of (after puts.af
 after_puts s [] = refl
 after_puts s (e ∷ es) = after_puts (puts.after_ask s e.ask) es ∙ after_put s e.ask (puts.answer_in s e.ask)
 
-module _ (workers : ℕ) (tables : List CopyState) (locks : List Lock) (rows back : List (Vec CopyPass)) (dealt : AreDealt workers tables locks rows) (count : length back ≡ length rows)
-    (same : (n : ℕ) (d : Vec CopyPass) → n < length rows → AreSame (slice_index_or rows n d).items (slice_index_or back n d).items) (some : 0 < workers) (cs : List CopyState) (ks : List CopyJournal)
+module _ {workers : ℕ} {tables : List CopyState} {locks : List Lock} {rows back : List (Vec CopyPass)} (dealt : AreDealt workers tables locks rows) (still : AreStill rows back) (some : 0 < workers) {cs : List CopyState} {ks : List CopyJournal}
     (closed : AreBackBy puts.answer_in puts.after_ask back (length tables) cs ks) where
   as_many_tables : length cs ≡ length tables
   as_many_tables = machines_count puts.answer_in puts.after_ask back (length tables) cs ks closed
@@ -90,7 +104,7 @@ module _ (workers : ℕ) (tables : List CopyState) (locks : List Lock) (rows bac
       each : (p : ℕ) (d : CopyState) → p < length tables → slice_index_or (emptied cs) p d ≡ slice_index_or (emptied tables) p d
       each p d lt =
           let root : CopyState = slice_index_or tables p d in
-          let by = closed_by puts.answer_in puts.after_ask back (length tables) cs ks closed p root d lt (let n = dealt.count in omega (arith, n, count, some)) (bears workers tables locks rows back dealt count same p root (slice_get-get_or tables p d lt)) in
+          let by = closed_by puts.answer_in puts.after_ask back (length tables) cs ks closed p root d lt (let n = dealt.count in let m = still.count in omega (arith, n, m, some)) (bears workers tables locks rows back dealt still.count still.same p root (slice_get-get_or tables p d lt)) in
           get_or-map empty_of cs p d d (omega (arith, as_many_tables, lt)) ∙ ap empty_of by.replays.machine_is ∙ after_puts root (slice_index_or ks p []) ∙ sym (get_or-map empty_of tables p d d lt)
 
 -- tables whose locks closed have nothing but what pends changed

@@ -1,5 +1,5 @@
 -- What is left of requests whose calls went into Dones, and what that leaves as it was.
-use Rattle.std.proofs.Common.{◌≡◌, ◌⊎◌, inl, inr, ℕ, zero, suc, ◌+◌, ◌<◌, ◌≤◌, ◌%◌, Bool, true, false, cond, nat_eq, ◌&&◌, ◌||◌, List, [], ◌∷◌, ◌++◌, map, length, take, drop, Option, None, Some, refl, sym, ap, ◌∙◌, subst, arith}
+use Rattle.std.proofs.Common.{◌≡◌, ◌⊎◌, inl, inr, ℕ, zero, suc, ◌<◌, ◌≤◌, ◌%◌, Bool, true, false, nat_eq, ◌&&◌, ◌||◌, List, [], ◌∷◌, ◌++◌, map, length, take, drop, Option, None, Some, refl, sym, ap, ◌∙◌, subst, arith}
 use Rattle.std.specs.FinMap.{contains_key-keys, empty, get, get-empty, keys}
 use Rattle.std.specs.List.{cons_option, flat_map, list_any, slice_get}
 use Rattle.std.specs.Option.{is_some, option_map, unwrap_or}
@@ -12,19 +12,15 @@ use Rattle.coco_types.specs.declared.call.Piece.{Piece}
 use Rattle.coco_types.specs.declared.call.Request.{Request}
 use Rattle.coco_types.proofs.Keys.{is_key, one_key}
 use Rattle.coco_ast.proofs.Lists.{all_weaker}
-use Rattle.coco_epoch.specs.Pieces.{place_of}
-use Rattle.coco_epoch.specs.Running.{AreAtTheirPlaces}
 use Rattle.coco_epoch.specs.Shards.{row_in, shard_of}
-use Rattle.coco_epoch.specs.declared.placed.PlacedRequest.{PlacedRequest}
 use Rattle.coco_occ.specs.declared.outcome.Outcome.{Outcome}
 use Rattle.coco_occ.specs.declared.outcome.Outcome.TheVariants.{Committed, Conflict, OverTime}
 use Rattle.coco_occ.specs.declared.outcome.Tried.{Tried}
-use Rattle.coco_order.specs.Execution.{Execution, Journal, Transcript, concat}
+use Rattle.coco_order.specs.Execution.{concat}
 use Rattle.coco_order.specs.OneKey.{Among}
-use Rattle.coco_order.specs.Outcome.{AreOnce, done_of, is_commit, is_committed, uncommitted}
+use Rattle.coco_order.specs.Outcome.{AreOnce, done_of, is_commit}
 use Rattle.coco_shard.specs.RowState.{RowState, ShardState, resting}
 use Rattle.coco_parallel.specs.Ends.{AreLeft, dones_of, has_commit}
-use Rattle.coco_parallel.specs.Epochs.{execution_with}
 use Rattle.coco_parallel.specs.Laws.{IsGreatestIn}
 use Rattle.coco_parallel.specs.PieceOrder.{ArePiecesInOrder, IsEarlier, id_at, id_of}
 use Rattle.coco_parallel.proofs.EndsLemmas.{commit_append, concat_append}
@@ -109,46 +105,7 @@ module _ (epoch : ℕ) where
           ap (λ (d : Option Done). cons_option d (dones_of epoch after us)) (same_done (slice_get after t.place) (slice_get before t.place) t.outcome (λ is. left.others t.place (free t (inl refl) is)))
           ∙ ap (cons_option (done_of epoch (slice_get before t.place) t.outcome)) (each us (λ u among. free u (inr among)))
 
--- ---- the tail
-
--- requests that are the same where none committed
-same_tail : (x : Execution) (place : ℕ) (rs qs : List Request) → ids_of rs ≡ ids_of qs → ((i : ℕ) → is_committed x (i + place) ≡ false → slice_get rs i ≡ slice_get qs i) → uncommitted x place rs ≡ uncommitted x place qs
-same_tail x place [] [] ids same = refl
-same_tail x place [] (q ∷ qs) ids same = absurd (let e : [] ≡ q.id ∷ ids_of qs = ids in cc)
-same_tail x place (r ∷ rs) [] ids same = absurd (let e : r.id ∷ ids_of rs ≡ [] = ids in cc)
-same_tail x place (r ∷ rs) (q ∷ qs) ids same =
-    let whole : r.id ∷ ids_of rs ≡ q.id ∷ ids_of qs = ids in
-    let rest : uncommitted x (suc place) rs ≡ uncommitted x (suc place) qs = same_tail x (suc place) rs qs (cc) (λ i none. same (suc i) (ap (is_committed x) (shift i) ∙ none)) in
-    by_bool (λ b. is_committed x place ≡ b → cond b (uncommitted x (suc place) rs) (r ∷ uncommitted x (suc place) rs) ≡ cond b (uncommitted x (suc place) qs) (q ∷ uncommitted x (suc place) qs)) (is_committed x place)
-    (λ _ _. rest)
-    (λ _ none. (let here : r ≡ q = same_Some r q (same 0 (ap (is_committed x) from_zero ∙ none)) in cc)) refl
-  where
-    shift : (i : ℕ) → suc i + place ≡ i + suc place
-    shift i = omega arith
-
-    from_zero : 0 + place ≡ place
-    from_zero = omega arith
-
-pub uncommitted_left : (journals : List Journal) (ts : List Transcript) (before after : List Request) → AreLeft (concat ts) before after → uncommitted (execution_with journals ts) 0 after ≡ uncommitted (execution_with journals ts) 0 before
-uncommitted_left journals ts before after left = same_tail (execution_with journals ts) 0 after before left.ids (λ i none. left.others i (ap (has_commit (concat ts)) (from_zero i) ∙ none))
-  where
-    from_zero : (i : ℕ) → i ≡ i + 0
-    from_zero i = omega arith
-
--- ---- places and order go by ids
-
-place_same : (rs qs : List Request) (id : ℕ) → ids_of rs ≡ ids_of qs → place_of rs id ≡ place_of qs id
-place_same [] [] id ids = refl
-place_same [] (q ∷ qs) id ids = absurd (let e : [] ≡ q.id ∷ ids_of qs = ids in cc)
-place_same (r ∷ rs) [] id ids = absurd (let e : r.id ∷ ids_of rs ≡ [] = ids in cc)
-place_same (r ∷ rs) (q ∷ qs) id ids =
-    let whole : r.id ∷ ids_of rs ≡ q.id ∷ ids_of qs = ids in
-    let here : r.id ≡ q.id = cc in
-    let rest : place_of rs id ≡ place_of qs id = place_same rs qs id (cc) in
-    ap (λ (n : ℕ). cond (nat_eq id n) 0 (suc (place_of rs id))) here ∙ ap (λ (n : ℕ). cond (nat_eq id q.id) 0 (suc n)) rest
-
-pub places_left : (before after : List Request) (tail : List PlacedRequest) → map (λ (r : Request). r.id) after ≡ map (λ (r : Request). r.id) before → AreAtTheirPlaces after tail → AreAtTheirPlaces before tail
-places_left before after tail ids places = all_weaker (λ p. p.place ≡ place_of after p.request.id) (λ p. p.place ≡ place_of before p.request.id) (λ p at. at ∙ place_same after before p.request.id ids) tail places
+-- ---- order goes by ids
 
 id_there : (rs : List Request) (place : ℕ) → id_at rs place ≡ unwrap_or (slice_get (ids_of rs) place) 0
 id_there rs place = of_option (slice_get rs place) ∙ ap (λ (o : Option ℕ). unwrap_or o 0) (sym (slice_get-map (λ (r : Request). r.id) rs place))

@@ -1,9 +1,9 @@
 -- A whole epoch, from what its workers leave to what the tail leaves behind them.
-use Rattle.std.proofs.Common.{◌≡◌, ℕ, ◌<◌, ◌≤◌, ◌^◌, Bool, nat_eq, List, map, length, sym, ap, ◌∙◌, subst}
+use Rattle.std.proofs.Common.{◌≡◌, ℕ, ◌<◌, ◌≤◌, ◌^◌, Bool, nat_eq, List, map, length, sym, ap, ◌∙◌, subst, arith}
 use Rattle.std.specs.FinMap.{empty}
 use Rattle.std.specs.List.{IsDistinct}
 use Rattle.std.proofs.lemmas.List.{length-map}
-use Rattle.coco_types.specs.Limits.{most_batch_lines}
+use Rattle.coco_types.specs.Limits.{most_batch_lines, most_partitions}
 use Rattle.coco_types.specs.declared.call.Done.{Done}
 use Rattle.coco_types.specs.declared.call.Piece.{Piece}
 use Rattle.coco_types.specs.declared.call.Request.{Request}
@@ -18,24 +18,24 @@ use Rattle.coco_shard.specs.RowState.{ShardState, stable_at}
 use Rattle.coco_worker.specs.declared.slot.EpochConfig.{EpochConfig}
 use Rattle.coco_worker.specs.declared.slot.Slot.{Slot}
 use Rattle.coco_parallel.specs.Ending.{Start, beginning_of, execution_of}
-use Rattle.coco_parallel.specs.Ends.{EndsAreSerial, IsEnd, IsSmall, MayBeginTail, TailMayBegin}
+use Rattle.coco_parallel.specs.Ends.{EndsAreSerial, IsEnd, IsSmall, MayBeginTail, MayRunTail, TailMayBegin}
 use Rattle.coco_parallel.specs.Epochs.{IsWorkedEpoch, started_with, execution_with}
 use Rattle.coco_parallel.specs.Laws.{AtEachEnd, IsStart}
-use Rattle.coco_parallel.specs.Worked.{CopyJournal, HaveWorked, begun_all, emptied, start_of}
+use Rattle.coco_parallel.specs.Worked.{HaveWorked, begun_all, emptied, start_of}
+use Rattle.coco_parallel.specs.declared.side_by_side.Worked.{Worked}
 use Rattle.coco_parallel.proofs.KeepingLemmas.{emptied_begun, emptied_copied, settled_same}
 use Rattle.coco_parallel.proofs.OpeningLemmas.{hold_some_map}
 
-module _ (procs : Procedures) (requests : List Request) (shards : List ShardState) (config : EpochConfig) (carries : ℕ → ℕ → ℕ → ℕ → Bool) (tables : List CopyState) (machines : List ShardState) (journals : List Journal) (copies : List CopyState)
-    (copy_journals : List CopyJournal) (transcripts : List Transcript) (lists : List (List Piece))
-    (worked : (opening : Rows) → HaveWorked (start_of procs opening requests shards config carries) (begun_all config.epoch tables) machines journals copies copy_journals transcripts lists) where
+module _ {procs : Procedures} {requests : List Request} {shards : List ShardState} {config : EpochConfig} {carries : ℕ → ℕ → ℕ → ℕ → Bool} (tables : List CopyState) (left : Worked)
+    (worked : (opening : Rows) → HaveWorked (start_of procs opening requests shards config carries) (begun_all config.epoch tables) left.shards.items left.journals.items left.copies.items left.copy_journals.items left.transcripts.items left.pieces.items) where
   -- the copies as they were when the epoch began
-  pub copies_back : emptied copies ≡ begun_all config.epoch tables
+  pub copies_back : emptied left.copies.items ≡ begun_all config.epoch tables
   copies_back =
       let w = worked empty in
-      emptied_copied (begun_all config.epoch tables) copies copy_journals w.copies_are (λ table lt. (w.copied table lt).replays) ∙ emptied_begun config.epoch tables
+      emptied_copied (begun_all config.epoch tables) left.copies.items left.copy_journals.items w.copies_are (λ table lt. (w.copied table lt).replays) ∙ emptied_begun config.epoch tables
 
   -- a transcript of each worker that was started
-  pub as_many_transcripts : length transcripts ≡ config.started
+  pub as_many_transcripts : length left.transcripts.items ≡ config.started
   as_many_transcripts =
       let w = worked empty in
       ap length w.transcripts_are ∙ length-map w.slots (λ (slot : Slot). slot.transcript) ∙ sym (length-map w.slots (λ (slot : Slot). slot.worker)) ∙ ap length w.ended.workers ∙ numbers_count 0 config.started
@@ -51,27 +51,32 @@ module _ (procs : Procedures) (requests : List Request) (shards : List ShardStat
     small : (m : Rows) → IsSmall (start_at m)
     small m = record { distinct = distinct; few = few; attempts = attempts }
 
-    pub may_begin : AtEachEnd TailMayBegin → MayBeginTail shards machines transcripts
+    pub may_begin : AtEachEnd TailMayBegin → MayBeginTail shards left.shards.items left.transcripts.items
     may_begin law =
         let m = hold_some_map shards partitions settled in
         let w = worked m.0 in
-        subst (MayBeginTail shards machines) (sym w.transcripts_are) (law (start_at m.0) w.slots journals machines (starts m.0 m.1) w.ended (small m.0))
+        subst (MayBeginTail shards left.shards.items) (sym w.transcripts_are) (law (start_at m.0) w.slots left.journals.items left.shards.items (starts m.0 m.1) w.ended (small m.0))
+
+    pub may_run : AtEachEnd TailMayBegin → length shards ≤ most_partitions → MayRunTail left.shards.items
+    may_run law most =
+        let begun = may_begin law in
+        record { some = (let count = begun.kept.count in omega (arith, count, some)); most = subst (λ (n : ℕ). n ≤ most_partitions) (sym begun.kept.count) most; partitions = begun.kept.partitions; quiet = begun.quiet }
 
     -- out of memory behind the workers, the shards are as they were
-    pub shards_back : AtEachEnd TailMayBegin → (after back : List ShardState) → KeepStable machines after → SettleOn stable_at after back → back ≡ shards
+    pub shards_back : AtEachEnd TailMayBegin → (after back : List ShardState) → KeepStable left.shards.items after → SettleOn stable_at after back → back ≡ shards
     shards_back law after back kept settle =
         let first = (may_begin law).kept in
         settled_same shards after back settled (record { count = kept.count ∙ first.count; stable = λ p k. kept.stable p k ∙ first.stable p k }) settle
 
-    pub whole_epoch : AtEachEnd EndsAreSerial → (after : List ShardState) (dones : List Done) (parts : List Piece) → KeepStable machines after
-        → ((opening : Rows) (js : List Journal) → IsEnd (started_with procs opening requests machines config) config.epoch (execution_with js transcripts) lists machines after dones parts)
-        → (m : Rows) → HoldMap m shards → IsWorkedEpoch (started_with procs m requests shards config) config.epoch journals transcripts after dones parts
+    pub whole_epoch : AtEachEnd EndsAreSerial → (after : List ShardState) (dones : List Done) (parts : List Piece) → KeepStable left.shards.items after
+        → ((opening : Rows) (js : List Journal) → IsEnd (started_with procs opening requests left.shards.items config) config.epoch (execution_with js left.transcripts.items) left.pieces.items left.shards.items after dones parts)
+        → (m : Rows) → HoldMap m shards → IsWorkedEpoch (started_with procs m requests shards config) config.epoch left.journals.items left.transcripts.items after dones parts
     whole_epoch law after dones parts kept end m holds =
         let w = worked m in
-        let by_machines : IsEnd (beginning_of (start_at m)) config.epoch (execution_with journals transcripts) lists machines after dones parts =
-        subst (λ (n : ℕ). IsEnd (record { procs = procs; opening = m; requests = requests; partitions = n; workers = config.started; attempts = config.attempts }) config.epoch (execution_with journals transcripts) lists machines after dones parts) w.ended.machines_are (end m journals) in
-        let by_slots : IsEnd (beginning_of (start_at m)) config.epoch (execution_of w.slots journals) lists machines after dones parts =
-        subst (λ (ts : List Transcript). IsEnd (beginning_of (start_at m)) config.epoch (execution_with journals ts) lists machines after dones parts) w.transcripts_are by_machines in
-        subst (λ (ts : List Transcript). IsWorkedEpoch (beginning_of (start_at m)) config.epoch journals ts after dones parts) (sym w.transcripts_are)
-        (law (start_at m) w.slots journals machines (starts m holds) w.ended (small m) after dones parts kept
-        (subst (λ (ls : List (List Piece)). IsEnd (beginning_of (start_at m)) config.epoch (execution_of w.slots journals) ls machines after dones parts) w.pieces_are by_slots))
+        let by_machines : IsEnd (beginning_of (start_at m)) config.epoch (execution_with left.journals.items left.transcripts.items) left.pieces.items left.shards.items after dones parts =
+        subst (λ (n : ℕ). IsEnd (record { procs = procs; opening = m; requests = requests; partitions = n; workers = config.started; attempts = config.attempts }) config.epoch (execution_with left.journals.items left.transcripts.items) left.pieces.items left.shards.items after dones parts) w.ended.machines_are (end m left.journals.items) in
+        let by_slots : IsEnd (beginning_of (start_at m)) config.epoch (execution_of w.slots left.journals.items) left.pieces.items left.shards.items after dones parts =
+        subst (λ (ts : List Transcript). IsEnd (beginning_of (start_at m)) config.epoch (execution_with left.journals.items ts) left.pieces.items left.shards.items after dones parts) w.transcripts_are by_machines in
+        subst (λ (ts : List Transcript). IsWorkedEpoch (beginning_of (start_at m)) config.epoch left.journals.items ts after dones parts) (sym w.transcripts_are)
+        (law (start_at m) w.slots left.journals.items left.shards.items (starts m holds) w.ended (small m) after dones parts kept
+        (subst (λ (ls : List (List Piece)). IsEnd (beginning_of (start_at m)) config.epoch (execution_of w.slots left.journals.items) ls left.shards.items after dones parts) w.pieces_are by_slots))

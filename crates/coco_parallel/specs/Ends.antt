@@ -2,7 +2,7 @@
 use Rattle.std.specs.Prelude.{◌≡◌, ℕ, ◌<◌, ◌≤◌, ◌^◌, Bool, false, nat_eq, List, ◌++◌, map, length, slice_index_or}
 use Rattle.std.specs.List.{IsDistinct, filter, filter_map, slice_get}
 use Rattle.std.specs.List.Sorted.{IsPermutation}
-use Rattle.coco_types.specs.Limits.{most_batch_lines, most_time}
+use Rattle.coco_types.specs.Limits.{most_batch_lines, most_partitions, most_time}
 use Rattle.coco_types.specs.declared.call.Done.{Done}
 use Rattle.coco_types.specs.declared.call.Piece.{Piece}
 use Rattle.coco_types.specs.declared.call.Request.{Request}
@@ -11,7 +11,7 @@ use Rattle.coco_ast.specs.Tree.{Procedures}
 use Rattle.coco_epoch.specs.Pieces.{pieces_of}
 use Rattle.coco_epoch.specs.Running.{AreAtTheirPlaces, requests_of}
 use Rattle.coco_epoch.specs.declared.placed.PlacedRequest.{PlacedRequest}
-use Rattle.coco_epoch.specs.Shards.{AreQuietAfter, HaveNewest, KeepStable}
+use Rattle.coco_epoch.specs.Shards.{AreOfPartitions, AreQuietAfter, HaveNewest, KeepStable}
 use Rattle.coco_occ.specs.declared.outcome.Ended.{Ended}
 use Rattle.coco_occ.specs.declared.outcome.Tried.{Tried}
 use Rattle.coco_order.specs.Execution.{Beginning, Execution, Journal, Transcript, concat}
@@ -43,6 +43,13 @@ ends_at place ts = ends_of (filter (λ (t : Tried). nat_eq t.place place) ts)
 -- for each place whether a script of it committed
 abbrev pub AreCommitted : Execution → List Bool → Type 0
 AreCommitted x flags = (place : ℕ) → place < length flags → slice_index_or flags place false ≡ is_committed x place
+
+-- there are shards, no more than there may be, each has its partition, no mark stands, and no read time is too great for a tail
+pub record MayRunTail (shards : List ShardState) : Type 0 where
+  pub some : 0 < length shards
+  pub most : length shards ≤ most_partitions
+  pub partitions : AreOfPartitions shards
+  pub quiet : AreQuietAfter most_time shards
 
 -- The tail of these requests ran behind these commits and pieces, whichever map the shards' newest values are, at the
 -- times above each read time.

@@ -4,6 +4,7 @@ pub mod Copies
 pub mod Working
 pub mod Running
 pub mod Stations
+pub mod Closing
 pub mod Worked
 pub mod Epochs
 pub mod Ends

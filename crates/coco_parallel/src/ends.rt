@@ -2,24 +2,26 @@
 
 ghost use Rattle.std.specs.Prelude.{◌≡◌, ◌<◌, ◌≤◌, ◌++◌, ◌∷◌, [], List, length, map, nat_eq, IfOk, OnOk};
 ghost use Rattle.std.specs.List.{IsDistinct};
+ghost use Rattle.std.specs.List.Sorted.{IsPermutation};
 ghost use Rattle.coco_ast.specs.Keyed.{Rows};
 ghost use Rattle.coco_epoch.specs.Running.{FitAll, IsOver, requests_of};
-ghost use Rattle.coco_epoch.specs.Shards.{AreOfPartitions, AreQuietAfter, KeepStable};
+ghost use Rattle.coco_epoch.specs.Shards.{AreOfPartitions, KeepStable};
 ghost use Rattle.coco_order.specs.Execution.{Journal, concat};
+ghost use Rattle.coco_order.specs.Order.{AreInOrder};
 ghost use Rattle.coco_order.specs.Outcome.{AreOnce};
-ghost use Rattle.coco_parallel.specs.Ends.{AreLeft, IsEnd, RanTail, dones_of};
+ghost use Rattle.coco_parallel.specs.Ends.{AreLeft, IsEnd, MayRunTail, RanTail, dones_of};
 ghost use Rattle.coco_parallel.specs.Epochs.{execution_with, started_with};
 ghost use Rattle.coco_parallel.specs.Laws.{IsGreatestIn};
 ghost use Rattle.coco_parallel.specs.Tails.{tail_from};
 
 use crate::pieces::in_done_order;
-use crate::tail::{committed_places, tail_of, told_tail};
+use crate::tail::left_over;
 use coco_ast::Checked;
 use coco_epoch::{PlacedRequest, Progress};
 use coco_occ::{Transcript, Tried};
 use coco_order::ordered;
 use coco_shard::Shard;
-use coco_types::limits::{MOST_BATCH_LINES, MOST_PARTITIONS, MOST_TIME};
+use coco_types::limits::MOST_BATCH_LINES;
 use coco_types::{Args, Call, Done, Dones, NoMemory, Pieces, Request};
 use coco_worker::{EpochConfig, Tail};
 use std::alloc::Global;
@@ -41,28 +43,14 @@ pub(crate) fn end_epoch(
     requires few { length requests.old ≤ MOST_BATCH_LINES }
     requires distinct { IsDistinct nat_eq (map (λ r. r.id) requests.old) }
     requires once { AreOnce (concat transcripts.now) }
-    requires some { 0 < length shards.old }
-    requires most { length shards.old ≤ MOST_PARTITIONS }
-    requires partitions { AreOfPartitions shards.old }
-    requires quiet { AreQuietAfter MOST_TIME shards.old }
+    requires shards { MayRunTail shards.old }
     ensures end { IfOk result (λ r. (opening : Rows) (journals : List Journal) →
         IsEnd (started_with procs.now opening requests.old shards.old config) config.epoch (execution_with journals transcripts.now) lists.items shards.old shards.new r.0 r.1) }
     ensures tail { IfOk result (λ r. (journals : List Journal) → r.2 ≡ tail_from (execution_with journals transcripts.now) 0 requests.old) }
     ensures kept { KeepStable shards.old shards.new }
 {
-    let committed = committed_places(alloc, requests.len(), transcripts)?;
-    let told = told_tail(alloc, requests, committed.as_slice(), transcripts)?;
-    let mut progress = Progress::start(alloc, config.epoch, requests.len())?;
-    take_commits(
-        alloc,
-        requests,
-        config.epoch,
-        transcripts,
-        &mut progress.dones,
-    )?;
-    progress.dones = ordered(progress.dones);
-    progress.pieces = all_pieces(alloc, lists)?;
-    let tail = tail_of(alloc, requests, committed.as_slice())?;
+    let (tail, told) = left_over(alloc, requests, transcripts)?;
+    let mut progress = take_all(alloc, requests, config.epoch, transcripts, lists)?;
     run_left(&mut progress, procs, shards, tail)?;
     let Progress { dones, pieces, .. } = progress;
     let pieces = in_done_order(pieces.into_vec(), requests);
@@ -71,6 +59,30 @@ pub(crate) fn end_epoch(
         Pieces::from_vec(pieces),
         told,
     ))
+}
+
+// The Dones of the scripts that committed, in order, with the calls of their requests, and all pieces.
+fn take_all(
+    alloc: Global,
+    requests: &mut [Request],
+    epoch: u64,
+    transcripts: &[Transcript],
+    lists: Vec<Pieces>,
+) -> Result<Progress, NoMemory>
+    requires { AreOnce (concat transcripts.now) }
+    ensures epoch { IfOk result (λ progress. progress.epoch ≡ epoch) }
+    ensures over { IfOk result (λ progress. IsOver progress.running) }
+    ensures same { IfOk result (λ progress. IsPermutation (dones_of epoch requests.old (concat transcripts.now)) progress.dones.items) }
+    ensures order { IfOk result (λ progress. AreInOrder progress.dones.items) }
+    ensures pieces { IfOk result (λ progress. progress.pieces ≡ concat lists.items) }
+    ensures left { OnOk result (AreLeft (concat transcripts.now) requests.old requests.new) }
+{
+    let mut progress = Progress::start(alloc, epoch, requests.len())?;
+    let dones = &mut progress.dones;
+    take_commits(alloc, requests, epoch, transcripts, dones)?;
+    progress.pieces = all_pieces(alloc, lists)?;
+    progress.dones = ordered(progress.dones);
+    Ok(progress)
 }
 
 // Adds the Dones of the scripts that committed, in the order of the transcripts, with the calls of their requests.
@@ -157,10 +169,7 @@ fn run_left(
     requires fit { FitAll procs.now (requests_of tail.items) }
     requires few { length tail.items ≤ MOST_BATCH_LINES }
     requires over { IsOver progress.old.running }
-    requires some { 0 < length shards.old }
-    requires most { length shards.old ≤ MOST_PARTITIONS }
-    requires partitions { AreOfPartitions shards.old }
-    requires quiet { AreQuietAfter MOST_TIME shards.old }
+    requires shards { MayRunTail shards.old }
     ensures ran { OnOk result (RanTail procs.now progress.old.epoch tail.items shards.old shards.new progress.old.dones.items progress.new.dones.items progress.old.pieces progress.new.pieces) }
     ensures kept { KeepStable shards.old shards.new }
 {

@@ -5,9 +5,10 @@ ghost use Rattle.std.specs.List.{AllByRecursion};
 ghost use Rattle.coco_ast.specs.Fitting.{Fits};
 ghost use Rattle.coco_ast.specs.Keyed.{Rows};
 ghost use Rattle.coco_copy.specs.CopyState.{CopyState};
-ghost use Rattle.coco_desks.specs.Desks.{AreDealt, IsOpen};
+ghost use Rattle.coco_desks.specs.Desks.{AreBackBy, AreDealt, IsOpen};
 ghost use Rattle.coco_epoch.specs.Shards.{AreSettled, SettleOn};
 ghost use Rattle.coco_shard.specs.RowState.{ShardState, stable_at};
+ghost use Rattle.coco_parallel.specs.Closing.{HasAllBack};
 ghost use Rattle.coco_parallel.specs.Stations.{IsCrew};
 ghost use Rattle.coco_parallel.specs.Worked.{HaveWorked, KeepValues, begun_all, emptied, start_of};
 
@@ -25,6 +26,7 @@ use coco_journaled::{Journal, Pass};
 use coco_net::Net;
 use coco_occ::Transcript;
 use coco_order::laws::closed_journals_are_lawful;
+use coco_packs::Packs;
 use coco_shard::Shard;
 use coco_types::limits::{MOST_BATCH_LINES, MOST_PARTITIONS};
 use coco_types::{NoMemory, Pieces, Request};
@@ -188,7 +190,15 @@ fn run_crew<R: Threads + Wait + Sync, G: Gate + Sync, N: Net + Sync>(
         claims.close(back);
     }
     closed_journals_are_lawful();
-    (worked_of(close(shards), close(copies), left, rooms), done)
+    (worked_of(closed(shards), closed(copies), left, rooms), done)
+}
+
+// What the locks of a desk leave whose rows are all back.
+fn closed<M: Packs + Drop>(desk: Desk<M>) -> EndedLocks<M>
+    requires { HasAllBack desk.locks desk.trays desk.back desk.ended.machines desk.ended.journals }
+    ensures { AreBackBy M.answer_to M.state_after desk.back.items (vec_len desk.locks) result.machines.items result.journals.items }
+{
+    close(desk)
 }
 
 // What the workers came to. The lists of the locks and what is left of the scripts' rooms are left to the rooms.
@@ -293,7 +303,7 @@ fn close_unused(desk: Desk<Shard>, rows: Vec<Vec<Pass<Shard>>>) -> Vec<Shard>
         ended,
     };
     closed_journals_are_lawful();
-    close(desk).machines
+    closed(desk).machines
 }
 
 // Begins an epoch on each copy.

@@ -18,8 +18,28 @@ use coco_worker::Tail;
 use std::alloc::Global;
 use std::mem;
 
-/// The requests at whose places nothing committed, with their places, in input order.
-pub(crate) fn tail_of(
+/// The requests at whose places nothing committed, with their places, and their ids with the ends of the attempts at
+/// them, both in input order.
+pub(crate) fn left_over(
+    alloc: Global,
+    requests: &[Request],
+    transcripts: &[Transcript],
+) -> Result<(Vec<PlacedRequest>, Tail), NoMemory>
+    requires few { length requests.now ≤ MOST_BATCH_LINES }
+    requires distinct { IsDistinct nat_eq (map (λ r. r.id) requests.now) }
+    ensures requests { IfOk result (λ r. (journals : List Journal) → requests_of r.0.items ≡ uncommitted (execution_with journals transcripts.now) 0 requests.now) }
+    ensures places { IfOk result (λ r. AreAtTheirPlaces requests.now r.0.items) }
+    ensures told { IfOk result (λ r. (journals : List Journal) → r.1 ≡ tail_from (execution_with journals transcripts.now) 0 requests.now) }
+{
+    let committed = committed_places(alloc, requests.len(), transcripts)?;
+    let flags = committed.as_slice();
+    let tail = tail_of(alloc, requests, flags)?;
+    let told = told_tail(alloc, requests, flags, transcripts)?;
+    Ok((tail, told))
+}
+
+// The requests at whose places nothing committed, with their places, in input order.
+fn tail_of(
     alloc: Global,
     requests: &[Request],
     committed: &[bool],
@@ -56,8 +76,8 @@ fn placed(requests: &[Request], place: usize) -> Result<PlacedRequest, NoMemory>
     })
 }
 
-/// For each of so many places whether a script of it committed.
-pub(crate) fn committed_places(
+// For each of so many places whether a script of it committed.
+fn committed_places(
     alloc: Global,
     count: usize,
     transcripts: &[Transcript],
@@ -88,8 +108,8 @@ fn mark(tried: &[Tried], places: &mut [bool])
     }
 }
 
-/// The ids of the requests at whose places nothing committed, with the ends of the attempts at them, in input order.
-pub(crate) fn told_tail(
+// The ids of the requests at whose places nothing committed, with the ends of the attempts at them, in input order.
+fn told_tail(
     alloc: Global,
     requests: &[Request],
     committed: &[bool],

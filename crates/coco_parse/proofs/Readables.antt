@@ -6,7 +6,7 @@ use Rattle.std.proofs.Math.Bool.{Bool-set}
 use Rattle.std.proofs.Math.Bridge.{le_prop}
 use Rattle.std.proofs.Math.Logic.{∥∥₁_elim, ∥∥₁_map}
 use Rattle.std.specs.Str.Parse.{AllDigits}
-use Rattle.std.proofs.lemmas.Bool.{cases_Bool, le-leb, eqb-true, or_cases}
+use Rattle.std.proofs.lemmas.Bool.{cases_Bool, le-leb, eqb-true, or_cases, and_from}
 use Rattle.std.proofs.lemmas.List.{drop_more, take_at, drop_at, get_or_at}
 use Rattle.std.proofs.lemmas.List.Sums.{list_all-from_AllPass}
 use Rattle.std.proofs.lemmas.Str.{IsUtf8-append, IsUtf8-drop, IsUtf8-take, IsUtf8-had, IsUtf8-from_ascii, IsCharBoundary-before_ascii, IsCharBoundary-after_ascii}
@@ -39,12 +39,9 @@ token_at text ts n t h e = token_in text 0 ts (length text) n t h.follow e
 
 -- ---- names
 
-and_made : (a b : Bool) → a ≡ true → b ≡ true → (a && b) ≡ true
-and_made a b h i = ap (λ x. x && b) h ∙ i
-
 word_is : (bytes : List ℕ) → IsWord bytes → length bytes ≤ 32 → is_word bytes ≡ true
 word_is [] h l = absurd h
-word_is (b ∷ bs) h l = and_made _ _ (le-leb _ _ l) (and_made _ _ h.0 (list_all-from_AllPass is_word_byte bs h.1))
+word_is (b ∷ bs) h l = and_from _ _ (le-leb _ _ l) (and_from _ _ h.0 (list_all-from_AllPass is_word_byte bs h.1))
 
 -- ---- numbers
 

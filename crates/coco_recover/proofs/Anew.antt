@@ -7,10 +7,10 @@ use Rattle.coco_entry.specs.Rows.{IsPrepared, prepared_bytes}
 use Rattle.coco_entry.specs.declared.layout.Layout.{Layout}
 use Rattle.coco_entry.specs.declared.prepared.Prepared.{Prepared}
 use Rattle.coco_host.specs.Files.{Files}
-use Rattle.coco_load.specs.Laws.{ReadingBegins}
 use Rattle.coco_load.specs.Reading.{HoldRead, maps_read}
 use Rattle.coco_load.specs.RowMaps.{joined, map_with}
 use Rattle.coco_load.specs.Tables.{HoldMap, IsCopyOf, IsShardOf, copy_at, shard_at}
+use Rattle.coco_load.proofs.Following.{reading_begins}
 use Rattle.coco_shard.specs.RowState.{ShardState}
 use Rattle.coco_standing.specs.Places.{node_of}
 use Rattle.coco_standing.specs.Standing.{NodeStands}
@@ -60,13 +60,13 @@ module _ (files : Files) (c : Contents) (n : ℕ) (entries : List Prepared) (goo
   }
 
 -- over tables that hold the rows of the base
-pub node_stands : ReadingBegins → (files : Files) (c : Contents) (n : ℕ) (entries : List Prepared) (layout : Layout) (epochs : List ℕ) (held : List ShardState × List CopyState) (read : List ShardState × List CopyState) (rows : Rows)
+pub node_stands : (files : Files) (c : Contents) (n : ℕ) (entries : List Prepared) (layout : Layout) (epochs : List ℕ) (held : List ShardState × List CopyState) (read : List ShardState × List CopyState) (rows : Rows)
     → IsGoodStore files c → n < c.setting.entry.layout.nodes → HoldsNode c.setting c.commits n entries (files (file_of c.setting n)) → c.setting.entry.layout ≡ layout → commit_epochs c.commits ≡ epochs
     → (base_of c.setting c.base).rows ≡ rows → HoldMap layout rows held.0 held.1 → Loads c.setting epochs n entries held.0 held.1 read.0 read.1 → NodeStands layout (map_in c) n false read.0 read.1
-node_stands law files c n entries layout epochs held read rows good within file same known base map loads =
+node_stands files c n entries layout epochs held read rows good within file same known base map loads =
     let s = c.setting in
     let begun : HoldRead s (base_of s c.base).rows epochs (λ _. []) held.0 held.1 =
-    law s (base_of s c.base).rows epochs held.0 held.1 (subst (λ (l : Layout). HoldMap l (base_of s c.base).rows held.0 held.1) (sym same) (subst (λ (m : Rows). HoldMap layout m held.0 held.1) (sym base) map)) in
+    reading_begins s (base_of s c.base).rows epochs held.0 held.1 (subst (λ (l : Layout). HoldMap l (base_of s c.base).rows held.0 held.1) (sym same) (subst (λ (m : Rows). HoldMap layout m held.0 held.1) (sym base) map)) in
     subst (λ (l : Layout). NodeStands l (map_in c) n false read.0 read.1) same
     (node_read files c n entries good within file read.0 read.1
     (subst (λ (es : List ℕ). HoldRead s (base_of s c.base).rows es (with_entries n entries (λ _. [])) read.0 read.1) (sym known) (loads (base_of s c.base).rows (λ _. []) begun)))

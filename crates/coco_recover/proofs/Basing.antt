@@ -12,14 +12,14 @@ use Rattle.coco_bytes.specs.Lists.{last_item}
 use Rattle.coco_entry.specs.declared.base.BaseHead.{BaseHead}
 use Rattle.coco_kept.specs.Holding.{NeverFall}
 use Rattle.coco_kept.specs.Keeping.{HoldsKept, Keeping}
-use Rattle.coco_load.specs.Laws.{BaseGrows}
 use Rattle.coco_load.specs.Reading.{puts}
 use Rattle.coco_load.specs.Tables.{HoldMap}
+use Rattle.coco_load.proofs.Following.{base_grows}
 use Rattle.coco_rules.specs.Behind.{IsBehind}
 use Rattle.coco_rules.specs.declared.commits.HistoryRules.{HistoryRules}
 use Rattle.coco_store.specs.Entries.{BaseEntry, Dones, Head, Values}
 use Rattle.coco_store.specs.Rules.{MayFollow, Setting, base_of, base_values, dones_of, floor_in, kept_dones, values_of}
-use Rattle.coco_recover.specs.Bases.{IsBased, IsGathered, entries_of, entry_of}
+use Rattle.coco_recover.specs.Bases.{IsBased, IsGathered, based_of, entries_of, entry_of}
 use Rattle.coco_recover.specs.declared.base.BasePart.{BasePart}
 use Rattle.coco_recover.specs.declared.base.Gathered.{Gathered}
 
@@ -75,7 +75,7 @@ rows_kept k epoch before rows may held = rw (rows_floor epoch before rows may, m
 
 -- ---- all
 
-module _ (law : BaseGrows) (s : Setting) (old new : Gathered) (part : BasePart) (are : new.entries.items ≡ old.entries.items ++ part ∷ []) where
+module _ (s : Setting) (old new : Gathered) (part : BasePart) (are : new.entries.items ≡ old.entries.items ++ part ∷ []) where
   abbrev before : List BaseEntry
   before = entries_of old.entries.items
 
@@ -93,7 +93,7 @@ module _ (law : BaseGrows) (s : Setting) (old new : Gathered) (part : BasePart) 
     positive = some;
     its_keep = keep;
     replies = rw longer kept;
-    maps = rw (longer, law s before (entry_of part)) maps;
+    maps = rw (longer, base_grows s before (entry_of part)) maps;
     values = values ∙ sym (more_values before (entry_of part)) ∙ ap base_values (sym longer);
   }
 
@@ -110,7 +110,7 @@ more_rows all rows = flat_map-append (λ (xs : List (RowKey × Value)). xs) all 
 -- ---- no base file
 
 pub based_on_none : (s : Setting) (g : Gathered) (history : HistoryRules) → IsGathered s g → g.entries.items ≡ [] → IsBehind s [] [] history
-    → IsBased s (record { history = record { rules = history; kept = g.kept; entries = g.entries }; tables = g.tables; rows = g.rows })
+    → IsBased s (based_of history g)
 based_on_none s g history gathered none behind =
     let no_entries : entries_of g.entries.items ≡ [] = ap entries_of none in
     record {

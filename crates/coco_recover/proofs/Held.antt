@@ -1,6 +1,8 @@
 -- What files hold whose entries were read, and where files are refused first.
-use Rattle.std.proofs.Common.{◌≡◌, ◌≢◌, ℕ, ◌<◌, true, false, nat_eq, List, [], ◌∷◌, map, Option, Some, refl, subst, sym}
+use Rattle.std.proofs.Common.{◌≡◌, ◌≢◌, ℕ, ◌<◌, true, false, nat_eq, List, [], ◌∷◌, map, Option, Some, Result, Err, refl, subst, sym}
+use Rattle.std.specs.Result.{IsErrAnd}
 use Rattle.std.proofs.lemmas.Bool.{eqb-false, eqb-true}
+use Rattle.std.proofs.lemmas.Result.{err_from_is_err_and}
 use Rattle.coco_host.specs.Files.{Files}
 use Rattle.coco_entry.specs.declared.layout.LayoutEntry.{LayoutEntry}
 use Rattle.coco_entry.specs.declared.prepared.Prepared.{Prepared}
@@ -106,6 +108,10 @@ module _ (files : Files) (last : LastLayout) (committed : Committed) (nodes : Li
   refused_other node n at within other before first = in_other {c = contents_of layouts.earlier last committed nodes} history_held within other before first
 
 -- ---- what is refused
+
+-- a fault that is handed on is the one that came
+pub handed_on : {T E : Type 0} (r : Result T E) (came fault : E) → IsErrAnd r (λ e. e ≡ came) → r ≡ Err fault → came ≡ fault
+handed_on r came fault from is = let p = err_from_is_err_and r from in cc (p.1, p.2, is)
 
 pub refused_layouts : (files : Files) (at : ℕ) → IsFirstIn layout_rules 0 (files 0) at → IsHistoryRefusal files 0 at
 refused_layouts files at first = layouts_refused first

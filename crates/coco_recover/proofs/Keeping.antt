@@ -11,7 +11,7 @@ use Rattle.coco_entry.specs.declared.commit.Commit.{Commit}
 use Rattle.coco_entry.specs.Commits.{IsCommit, IsDoneOf}
 use Rattle.coco_kept.specs.Holding.{NeverFall}
 use Rattle.coco_kept.specs.Keeping.{HasDistinctIds, HoldsKept, Keeping}
-use Rattle.coco_load.specs.Laws.{BaseDonesFollow, CommittedDonesFollow}
+use Rattle.coco_load.proofs.Adding.{base_dones_follow, committed_dones_follow}
 use Rattle.coco_rules.proofs.JudgedLemmas.{each_more}
 use Rattle.coco_store.specs.Entries.{BaseEntry}
 use Rattle.coco_store.specs.Rules.{EachBehind, HasRoom, IsCommittedDone, IsKeptDone, IsNextBase, IsNextCommit, IsNextDone, IsKeep, Setting, commit_epochs, dones_in, dones_of, floor_in, kept_dones}
@@ -62,16 +62,16 @@ whole ds = record { dones = ds; floor = floor_of None None ds; keep = None; room
 holds_whole : (ds : List Done) → HoldsKept (whole ds) None ds
 holds_whole ds = record { kept = sym (filter_all (is_held None ds) (λ _. refl) ds); floor = refl }
 
-all_good : BaseDonesFollow → CommittedDonesFollow → (s : Setting) (base : List BaseEntry) (commits : List Commit) → EachBehind (IsNextBase s) [] base → EachBehind (IsNextCommit s base) [] commits
+all_good : (s : Setting) (base : List BaseEntry) (commits : List Commit) → EachBehind (IsNextBase s) [] base → EachBehind (IsNextCommit s base) [] commits
     → Good (kept_dones base ++ dones_in commits)
-all_good of_base of_commits s base commits each_base each =
+all_good s base commits each_base each =
     let first : Good (kept_dones base) = base_so s Good
-    (λ before x behind next _. let follows = of_base s (whole (kept_dones before)) None before x behind next (holds_whole (kept_dones before)) in (follows.0.once, follows.1))
+    (λ before x behind next _. let follows = base_dones_follow s (whole (kept_dones before)) None before x behind next (holds_whole (kept_dones before)) in (follows.0.once, follows.1))
     [] base tt each_base none_good in
     commits_so s Good base
     (λ before x behind next _.
     let added = kept_dones base ++ dones_in before in
-    let follows = of_commits s (whole added) None base before x each_base behind next (holds_whole added) in (follows.0.once, follows.1))
+    let follows = committed_dones_follow s (whole added) None base before x each_base behind next (holds_whole added) in (follows.0.once, follows.1))
     [] commits tt each (subst Good (sym (append-nil (kept_dones base))) first)
 
 -- ---- in order
@@ -168,7 +168,7 @@ filter_once p (x ∷ xs) once = (
       | false ↦ filter_once p xs parts.1
     ])
 
-module _ (of_base : BaseDonesFollow) (of_commits : CommittedDonesFollow) (s : Setting) (committed : Committed)
+module _ (s : Setting) (committed : Committed)
     (are : AreRemembered (basis_of_committed s committed) committed.commits.items committed.kept committed.epochs.items committed.next) where
   abbrev base : List BaseEntry
   base = entries_of committed.base.items
@@ -181,7 +181,7 @@ module _ (of_base : BaseDonesFollow) (of_commits : CommittedDonesFollow) (s : Se
 
   pub keeps_below : (next : ℕ) → s.entry.layout.base_epoch < next → AllByRecursion (λ (e : ℕ). e < next) (commit_epochs commits) → AreKeptBelow s.tree committed.kept next
   keeps_below next first epochs =
-      let good = all_good of_base of_commits s base commits are.base are.each in
+      let good = all_good s base commits are.base are.each in
       let bounded = all_bounded s base commits are.base are.each in
       let is_kept = is_held committed.kept.keep added in
       record {
@@ -198,6 +198,6 @@ module _ (of_base : BaseDonesFollow) (of_commits : CommittedDonesFollow) (s : Se
 
   pub keeps_few : IsKeep s.entry.keep → committed.kept.keep ≡ s.entry.keep → length committed.kept.dones ≤ most_kept
   keeps_few may is =
-      let good = all_good of_base of_commits s base commits are.base are.each in
+      let good = all_good s base commits are.base are.each in
       let bounded = all_bounded s base commits are.base are.each in
       few_kept s.entry.keep (floor_in base) added committed.kept are.kept is may good.1 bounded.few bounded.room

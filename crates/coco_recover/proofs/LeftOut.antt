@@ -25,18 +25,20 @@ use Rattle.coco_store.proofs.OneStore.{behind, one_base_file, one_chief_file, on
 use Rattle.coco_store.proofs.Refusing.{one_refusal}
 use Rattle.coco_recover.specs.Bases.{base_rules}
 use Rattle.coco_recover.specs.Commits.{commit_rules}
+use Rattle.coco_recover.specs.History.{IsHistoryHeld, IsHistoryRead}
 use Rattle.coco_recover.specs.Layouts.{layout_rules, setting_of}
 use Rattle.coco_recover.specs.Nodes.{IsLoaded, nodes_of}
 use Rattle.coco_recover.specs.Readings.{base_stands, commit_reads, layout_reads, prepared_reads}
-use Rattle.coco_recover.specs.Steps.{HoldsEntries, HoldsLast, IsLeft, IsRead}
+use Rattle.coco_recover.specs.Steps.{HoldsEntries, IsLeft, IsRead}
 use Rattle.coco_recover.specs.Without.{AreOthersHeld, AreOthersRead, ArePartsOf, BehindGatesButForANode, GoodStoresAreButForANode, HasParts, HoldsBut, IsGoodBut, IsHistoryRefusal, IsLogBut, OneRefusalButForANode, RefusedButForANodeIsNone, RestsBut, StoresAreButForANode, base_refused, before_nodes, commits_refused, in_other, layouts_refused}
 use Rattle.coco_recover.specs.declared.commits.Committed.{Committed}
+use Rattle.coco_recover.specs.declared.history.StoreHistory.{StoreHistory}
 use Rattle.coco_recover.specs.declared.layouts.LastLayout.{LastLayout}
 use Rattle.coco_recover.specs.declared.nodes.Loaded.{Loaded}
 use Rattle.coco_recover.specs.declared.without.Parts.{Parts}
 use Rattle.coco_recover.proofs.Places.{base_keeps, commit_keeps, layout_keeps, prepared_keeps}
 use Rattle.coco_recover.proofs.Reading.{one_longer, one_more, still_opened}
-use Rattle.coco_recover.proofs.Resting.{stands_so}
+use Rattle.coco_recover.proofs.Resting.{left_opened, stands_so}
 
 -- ---- what holds isn't refused
 
@@ -273,27 +275,25 @@ some_stands (Some log) reads may_leave opened = stands_so log reads may_leave op
 pub left_other : (o : Option LogState) (files : Files) (may_leave : Files → Type 0) (file : ℕ) → MatchOption o ⊥ (λ l. IsFresh l file prepared_kind) → IfSome o (λ l. IsOpened l files may_leave)
     → (image : Files) → may_leave image → image file ≡ files file
 left_other None files may_leave file there opened image left = absurd there
-left_other (Some log) files may_leave file there opened image left = subst (λ (f : ℕ). image f ≡ files f) there.in_file (opened.rest.durable image left)
+left_other (Some log) files may_leave file there opened image left = left_opened log files may_leave file prepared_kind there opened image left
 
 some_left : (o : Option ℕ) (files image : Files) (may_leave : Files → Type 0) → may_leave image → IsLeft o files may_leave → IfSome o (λ f. image f ≡ files f)
 some_left None files image may_leave left base = tt
 some_left (Some file) files image may_leave left base = base image left
 
-pub rests_but : (node : ℕ) (files : Files) (last : LastLayout) (c : Contents) (reads : Option Files) (may_leave : Files → Type 0) → HoldsLast files last → reads ≡ Some files → IsGoodBut node files c
-    → ((image : Files) → may_leave image → image 0 ≡ files 0) → IsLeft last.entry.base_file files may_leave
-    → ((image : Files) → may_leave image → image last.entry.layout.chief_file ≡ files last.entry.layout.chief_file)
-    → ((n : ℕ) → n < last.entry.layout.nodes → n ≢ node → (image : Files) → may_leave image → image (file_of (setting_of last) n) ≡ files (file_of (setting_of last) n))
+pub rests_but : (node : ℕ) (files : Files) (h : StoreHistory) (c : Contents) (reads : Option Files) (may_leave : Files → Type 0) → IsHistoryRead h → IsHistoryHeld files may_leave h → reads ≡ Some files → IsGoodBut node files c
+    → ((n : ℕ) → n < h.last.entry.layout.nodes → n ≢ node → (image : Files) → may_leave image → image (file_of (setting_of h.last) n) ≡ files (file_of (setting_of h.last) n))
     → RestsBut node c reads may_leave
-rests_but node files last c reads may_leave held told good root base chief others =
-    let one : setting_of last ≡ c.setting = sym (one_layouts c.earlier held.earlier c.setting (setting_of last) (files 0) good.holds.history.layouts held.holds).setting in
+rests_but node files h c reads may_leave had held told good others =
+    let one : setting_of h.last ≡ c.setting = sym (one_layouts c.earlier held.last.earlier c.setting (setting_of h.last) (files 0) good.holds.history.layouts held.last.holds).setting in
     record {
       files = files;
       are = told;
       good = good;
       left = λ image left.
-          good_still node files image c (root image left)
-          (subst (λ (s : Setting). IfSome s.entry.base_file (λ f. image f ≡ files f)) one (some_left last.entry.base_file files image may_leave left base))
-          (subst (λ (s : Setting). image (chief_of s) ≡ files (chief_of s)) one (chief image left))
+          good_still node files image c (left_opened h.root files may_leave 0 0 had.root held.root image left)
+          (subst (λ (s : Setting). IfSome s.entry.base_file (λ f. image f ≡ files f)) one (some_left h.last.entry.base_file files image may_leave left held.base_left))
+          (subst (λ (s : Setting). image (chief_of s) ≡ files (chief_of s)) one (left_opened h.chief files may_leave h.last.entry.layout.chief_file 1 had.chief held.chief image left))
           (subst (λ (s : Setting). (n : ℕ) → n < s.entry.layout.nodes → n ≢ node → image (file_of s n) ≡ files (file_of s n)) one (λ n less other. others n less other image left))
           good;
     }

@@ -15,11 +15,11 @@ use Rattle.coco_entry.specs.declared.layout.Layout.{Layout}
 use Rattle.coco_entry.specs.declared.prepared.Prepared.{Prepared}
 use Rattle.coco_entry.specs.declared.prepared.Row.{Row}
 use Rattle.coco_load.specs.Epochs.{IsNextTo}
-use Rattle.coco_load.specs.Laws.{CommittedIsRead, NodesDecide}
 use Rattle.coco_load.specs.Reading.{HoldRead, maps_read, with_entry, with_rows}
 use Rattle.coco_load.specs.Tables.{AreTables, HoldMaps, Maps}
 use Rattle.coco_load.specs.declared.tables.Tables.{Tables}
 use Rattle.coco_load.proofs.Adding.{next_more}
+use Rattle.coco_load.proofs.Following.{committed_is_read, nodes_decide}
 use Rattle.coco_rules.specs.Readying.{AreAmong, IsBehindPrepared}
 use Rattle.coco_rules.specs.declared.prepared.NodeRules.{NodeRules}
 use Rattle.coco_rules.proofs.JudgedLemmas.{each_more}
@@ -35,15 +35,15 @@ use Rattle.coco_recover.proofs.Keeping.{each_all}
 -- ---- one entry
 
 -- the rows that were loaded are those of an entry of a committed epoch
-pub entry_is_read : CommittedIsRead → (layout : Layout) (node : ℕ) (e : Prepared) (rows : List Row) (shards new_shards : List ShardState) (copies new_copies : List CopyState) → rows ≡ e.rows
+pub entry_is_read : (layout : Layout) (node : ℕ) (e : Prepared) (rows : List Row) (shards new_shards : List ShardState) (copies new_copies : List CopyState) → rows ≡ e.rows
     → ((s : Setting) (maps : Maps) → s.entry.layout ≡ layout → HoldMaps layout maps shards copies → HoldMaps layout (with_rows s node rows maps) new_shards new_copies)
     → (s : Setting) (base : Rows) (epochs : List ℕ) (entries : ℕ → List Prepared) → s.entry.layout ≡ layout → is_member nat_eq epochs e.epoch ≡ true
     → HoldRead s base epochs entries shards copies → HoldRead s base epochs (with_entry node e entries) new_shards new_copies
-entry_is_read law layout node e rows shards new_shards copies new_copies are load s base epochs entries is committed held =
+entry_is_read layout node e rows shards new_shards copies new_copies are load s base epochs entries is committed held =
     let maps = maps_read s base epochs entries in
     let there : HoldMaps layout maps shards copies = subst (λ (l : Layout). HoldMaps l maps shards copies) is held in
     let loaded : HoldMaps layout (with_rows s node rows maps) new_shards new_copies = load s maps is there in
-    law s base epochs entries node e new_shards new_copies committed
+    committed_is_read s base epochs entries node e new_shards new_copies committed
     (subst (λ (l : Layout). HoldMaps l (with_rows s node e.rows maps) new_shards new_copies) (sym is)
     (subst (λ (rs : List Row). HoldMaps layout (with_rows s node rs maps) new_shards new_copies) are loaded))
 
@@ -79,12 +79,12 @@ more_epochs : (nodes : List (List Prepared)) (entries : List Prepared) → flat_
 more_epochs nodes entries = flat_map-append prepared_epochs nodes (entries ∷ []) ∙ ap (λ (l : List ℕ). flat_map prepared_epochs nodes ++ l) (append-nil (prepared_epochs entries))
 
 -- before the first entry of the next node
-pub node_begins : NodesDecide → (b : Basis) (commits : List Commit) (nodes : List (List Prepared)) (loaded : Loaded) → HoldsNodes b commits nodes loaded → HoldsNodes b commits (nodes ++ [] ∷ []) loaded
-node_begins law b commits nodes loaded held =
+pub node_begins : (b : Basis) (commits : List Commit) (nodes : List (List Prepared)) (loaded : Loaded) → HoldsNodes b commits nodes loaded → HoldsNodes b commits (nodes ++ [] ∷ []) loaded
+node_begins b commits nodes loaded held =
     let behind = b.setting.entry.layout.base_epoch ∷ commit_epochs commits in
     let same : flat_map prepared_epochs (nodes ++ [] ∷ []) ≡ flat_map prepared_epochs nodes = flat_map-append prepared_epochs nodes ([] ∷ []) ∙ append-nil (flat_map prepared_epochs nodes) in
     record {
-      tables = law b.setting (base_of b.setting b.base).rows (commit_epochs commits) (entries_at nodes) (entries_at (nodes ++ [] ∷ [])) loaded.tables.shards.items loaded.tables.copies.items (λ m _. none_at nodes m) held.tables;
+      tables = nodes_decide b.setting (base_of b.setting b.base).rows (commit_epochs commits) (entries_at nodes) (entries_at (nodes ++ [] ∷ [])) loaded.tables.shards.items loaded.tables.copies.items (λ m _. none_at nodes m) held.tables;
       next = subst (λ (l : List ℕ). IsNextTo (behind ++ l) loaded.next) (sym same) held.next;
     }
 
@@ -110,10 +110,10 @@ one_more n taken e read m = elim (nat_eq m n) as (λ b. cond b (cond b (read m +
   | false ↦ refl
 ]
 
-module _ (law : NodesDecide) (s : Setting) (epochs : List ℕ) (n : ℕ) where
+module _ (s : Setting) (epochs : List ℕ) (n : ℕ) where
   -- before its first entry
   pub loads_none : (shards : List ShardState) (copies : List CopyState) → Loads s epochs n [] shards copies shards copies
-  loads_none shards copies base read held = law s base epochs read (with_entries n [] read) shards copies (λ m _. none_more n read m) held
+  loads_none shards copies base read held = nodes_decide s base epochs read (with_entries n [] read) shards copies (λ m _. none_more n read m) held
 
   -- with one entry more
   pub loads_more : (taken more : List Prepared) (e : Prepared) (shards old_shards new_shards : List ShardState) (copies old_copies new_copies : List CopyState)
@@ -122,7 +122,7 @@ module _ (law : NodesDecide) (s : Setting) (epochs : List ℕ) (n : ℕ) where
       → Loads s epochs n more shards copies new_shards new_copies
   loads_more taken more e shards old_shards new_shards copies old_copies new_copies was longer load base read held =
       subst (λ (es : List Prepared). HoldRead s base epochs (with_entries n es read) new_shards new_copies) (sym longer)
-      (law s base epochs (with_entry n e (with_entries n taken read)) (with_entries n (taken ++ e ∷ []) read) new_shards new_copies (λ m _. one_more n taken e read m)
+      (nodes_decide s base epochs (with_entry n e (with_entries n taken read)) (with_entries n (taken ++ e ∷ []) read) new_shards new_copies (λ m _. one_more n taken e read m)
       (load base (with_entries n taken read) (was base read held)))
 
 -- ---- the greatest epoch that a node prepared
@@ -182,36 +182,36 @@ next_behind epochs old greatest new entries so is are =
 
 -- ---- while a node is read
 
-pub taken_goes_on : NodesDecide → (b : NodeBasis) (taken more : List Prepared) (e : Prepared) (rules after : NodeRules) (old new : Tables) (greatest most : ℕ) → AreTaken b taken rules old greatest
+pub taken_goes_on : (b : NodeBasis) (taken more : List Prepared) (e : Prepared) (rules after : NodeRules) (old new : Tables) (greatest most : ℕ) → AreTaken b taken rules old greatest
     → more ≡ taken ++ e ∷ [] → after.node ≡ rules.node → IsNextPrepared (setting_with b.layout b.tree) b.node taken e → IsBehindPrepared (setting_with b.layout b.tree) b.epochs (taken ++ e ∷ []) after
     → AreTables b.layout new.shards.items new.copies.items
     → ((base : Rows) (read : ℕ → List Prepared) → HoldRead (setting_with b.layout b.tree) base b.epochs read old.shards.items old.copies.items
     → HoldRead (setting_with b.layout b.tree) base b.epochs (with_entry b.node e read) new.shards.items new.copies.items)
     → most ≡ max greatest e.epoch → AreTaken b more after new most
-taken_goes_on law b taken more e rules after old new greatest most was longer same next behind tables load is =
+taken_goes_on b taken more e rules after old new greatest most was longer same next behind tables load is =
     let s = setting_with b.layout b.tree in
     record {
       each = subst (EachBehind (IsNextPrepared s b.node) []) (sym longer) (each_more (IsNextPrepared s b.node) [] taken e was.each next);
       behind = subst (λ (es : List Prepared). IsBehindPrepared s b.epochs es after) (sym longer) behind;
       is_node = same ∙ was.is_node;
       tables = tables;
-      loads = loads_more law s b.epochs b.node taken more e b.shards old.shards.items new.shards.items b.copies old.copies.items new.copies.items was.loads longer load;
+      loads = loads_more s b.epochs b.node taken more e b.shards old.shards.items new.shards.items b.copies old.copies.items new.copies.items was.loads longer load;
       greatest = greatest_goes_on taken more e greatest most was.greatest longer is;
     }
 
 -- ---- the next node
 
 -- its tables and its number, behind those of the nodes before it
-pub node_added : NodesDecide → (b : Basis) (commits : List Commit) (nodes : List (List Prepared)) (entries : List Prepared) (n greatest : ℕ) (old new : Loaded) → length nodes ≡ n
+pub node_added : (b : Basis) (commits : List Commit) (nodes : List (List Prepared)) (entries : List Prepared) (n greatest : ℕ) (old new : Loaded) → length nodes ≡ n
     → HoldsNodes b commits nodes old
     → Loads b.setting (commit_epochs commits) n entries old.tables.shards.items old.tables.copies.items new.tables.shards.items new.tables.copies.items
     → greatest ≡ greatest_prepared entries → new.next ≡ max old.next (greatest + 1) → HoldsNodes b commits (nodes ++ entries ∷ []) new
-node_added law b commits nodes entries n greatest old new long was loads is next =
+node_added b commits nodes entries n greatest old new long was loads is next =
     let base = (base_of b.setting b.base).rows in
     let behind = b.setting.entry.layout.base_epoch ∷ commit_epochs commits in
     let before = flat_map prepared_epochs nodes in
     record {
-      tables = law b.setting base (commit_epochs commits) (with_entries n entries (entries_at nodes)) (entries_at (nodes ++ entries ∷ [])) new.tables.shards.items new.tables.copies.items
+      tables = nodes_decide b.setting base (commit_epochs commits) (with_entries n entries (entries_at nodes)) (entries_at (nodes ++ entries ∷ [])) new.tables.shards.items new.tables.copies.items
           (λ m _. next_at nodes entries n m long) (loads base (entries_at nodes) was.tables);
       next = subst (λ (l : List ℕ). IsNextTo l new.next) (append_assoc behind before (prepared_epochs entries) ∙ ap (λ (l : List ℕ). behind ++ l) (sym (more_epochs nodes entries)))
           (next_behind (behind ++ before) old.next greatest new.next entries was.next is next);

@@ -12,11 +12,13 @@ use Rattle.coco_host.specs.Files.{Files, NoMore}
 use Rattle.coco_log.specs.LogState.{IsFresh, IsOpened, LogState}
 use Rattle.coco_store.specs.Contents.{Contents, IsGoodStore}
 use Rattle.coco_store.specs.Entries.{files_of}
-use Rattle.coco_store.specs.Laws.{BehindGates, KeepsLog}
+use Rattle.coco_store.specs.Laws.{KeepsLog}
+use Rattle.coco_store.proofs.Keeping.{store_kept}
 use Rattle.coco_store.proofs.OneStore.{one_layouts}
+use Rattle.coco_recover.specs.History.{IsHistoryHeld, IsHistoryRead}
 use Rattle.coco_recover.specs.Layouts.{setting_of}
-use Rattle.coco_recover.specs.Steps.{HoldsLast, IsLeft}
-use Rattle.coco_recover.specs.declared.layouts.LastLayout.{LastLayout}
+use Rattle.coco_recover.specs.Steps.{IsLeft}
+use Rattle.coco_recover.specs.declared.history.StoreHistory.{StoreHistory}
 use Rattle.coco_recover.proofs.Reading.{still_opened}
 
 -- ---- a log
@@ -32,10 +34,8 @@ pub stands_still : (log : LogState) (old new : Option Files) (may_old may_new : 
 stands_still log old new may_old may_new same fewer stands =
     stands_so log new may_new (λ files told. still_opened files may_old may_new log fewer (opened_so log old files may_old (sym same ∙ told) stands))
 
-pub left_so : (log : LogState) (reads : Option Files) (files : Files) (may_leave : Files → Type 0) (file kind : ℕ) → reads ≡ Some files → IsFresh log file kind → Stands log reads may_leave
-    → (image : Files) → may_leave image → image file ≡ files file
-left_so log reads files may_leave file kind told fresh stands image left =
-    subst (λ (f : ℕ). image f ≡ files f) fresh.in_file ((opened_so log reads files may_leave told stands).rest.durable image left)
+pub left_opened : (log : LogState) (files : Files) (may_leave : Files → Type 0) (file kind : ℕ) → IsFresh log file kind → IsOpened log files may_leave → (image : Files) → may_leave image → image file ≡ files file
+left_opened log files may_leave file kind fresh opened image left = subst (λ (f : ℕ). image f ≡ files f) fresh.in_file (opened.rest.durable image left)
 
 -- ---- the files that a layout names
 
@@ -55,7 +55,7 @@ some_all : (P : ℕ → Type 0) (o : Option ℕ) → IfSome o P → AllByRecursi
 some_all P None some = tt
 some_all P (Some x) some = (some, tt)
 
-pub all_named : (P : ℕ → Type 0) (entry : LayoutEntry) → P 0 → P entry.layout.chief_file → ((i : ℕ) → i < length entry.layout.node_files → P (slice_index entry.layout.node_files i)) → IfSome entry.base_file P
+all_named : (P : ℕ → Type 0) (entry : LayoutEntry) → P 0 → P entry.layout.chief_file → ((i : ℕ) → i < length entry.layout.node_files → P (slice_index entry.layout.node_files i)) → IfSome entry.base_file P
     → (n : ℕ) → is_named (files_of entry) n ≡ true → P n
 all_named P entry root chief nodes base =
     named_all P (files_of entry)
@@ -63,19 +63,33 @@ all_named P entry root chief nodes base =
 
 -- ---- the host
 
-pub rests : BehindGates → (files : Files) (last : LastLayout) (c : Contents) (reads : Option Files) (may_leave : Files → Type 0) → HoldsLast files last → reads ≡ Some files → IsGoodStore files c
-    → ((n : ℕ) → is_named (files_of last.entry) n ≡ true → (image : Files) → may_leave image → image n ≡ files n) → RestsOn c reads may_leave
-rests law files last c reads may_leave held told good left =
-    let one = one_layouts c.earlier held.earlier c.setting (setting_of last) (files 0) good.holds.history.layouts held.holds in
-    record {
-      files = files;
-      are = told;
-      good = good;
-      left = λ image may. law files image c
-          (λ n named. subst (λ (bytes : List ℕ). KeepsLog (files n) bytes) (sym (left n (subst (λ s. is_named (files_of s.entry) n ≡ true) one.setting named) image may)) (λ kind bodies log. log)) good;
-    }
-
 -- the base file stays as it was left
 pub left_still : (file : Option ℕ) (files : Files) (may_old may_new : Files → Type 0) → NoMore may_old may_new → IsLeft file files may_old → IsLeft file files may_new
 left_still None files may_old may_new fewer left = tt
 left_still (Some file) files may_old may_new fewer left = λ image may. left image (fewer image may)
+
+-- what is had before the nodes' files is held still
+pub held_still : (files : Files) (may_old may_new : Files → Type 0) (h : StoreHistory) → NoMore may_old may_new → IsHistoryHeld files may_old h → IsHistoryHeld files may_new h
+held_still files may_old may_new h fewer held = record {
+  last = held.last;
+  base = held.base;
+  commits = held.commits;
+  root = still_opened files may_old may_new h.root fewer held.root;
+  chief = still_opened files may_old may_new h.chief fewer held.chief;
+  base_left = left_still h.last.entry.base_file files may_old may_new fewer held.base_left;
+}
+
+pub rests : (files : Files) (h : StoreHistory) (c : Contents) (reads : Option Files) (may_leave : Files → Type 0) → IsHistoryRead h → IsHistoryHeld files may_leave h → reads ≡ Some files → IsGoodStore files c
+    → ((i : ℕ) → i < length h.last.entry.layout.node_files → (image : Files) → may_leave image → image (slice_index h.last.entry.layout.node_files i) ≡ files (slice_index h.last.entry.layout.node_files i))
+    → RestsOn c reads may_leave
+rests files h c reads may_leave had held told good nodes =
+    let one = one_layouts c.earlier held.last.earlier c.setting (setting_of h.last) (files 0) good.holds.history.layouts held.last.holds in
+    let left = all_named (λ (n : ℕ). (image : Files) → may_leave image → image n ≡ files n) h.last.entry (left_opened h.root files may_leave 0 0 had.root held.root)
+    (left_opened h.chief files may_leave h.last.entry.layout.chief_file 1 had.chief held.chief) nodes held.base_left in
+    record {
+      files = files;
+      are = told;
+      good = good;
+      left = λ image may. store_kept files image c
+          (λ n named. subst (λ (bytes : List ℕ). KeepsLog (files n) bytes) (sym (left n (subst (λ s. is_named (files_of s.entry) n ≡ true) one.setting named) image may)) (λ kind bodies log. log)) good;
+    }

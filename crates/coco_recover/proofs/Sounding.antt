@@ -11,25 +11,24 @@ use Rattle.coco_entry.specs.declared.commit.Commit.{Commit}
 use Rattle.coco_entry.specs.declared.layout.LayoutEntry.{LayoutEntry}
 use Rattle.coco_entry.specs.declared.prepared.Prepared.{Prepared}
 use Rattle.coco_load.specs.Epochs.{IsNextTo}
-use Rattle.coco_load.specs.Laws.{BaseDonesFollow, CommittedDonesFollow}
 use Rattle.coco_load.specs.Reading.{maps_read}
-use Rattle.coco_log.specs.LogState.{IsFresh}
+use Rattle.coco_log.specs.LogState.{LogState}
 use Rattle.coco_rules.specs.Readying.{AreAmong}
-use Rattle.coco_store.specs.Entries.{BaseEntry, commits_kind, layouts_kind}
+use Rattle.coco_store.specs.Entries.{BaseEntry}
 use Rattle.coco_store.specs.Rules.{EachBehind, IsNextCommit, IsNextPrepared, Setting, base_of, commit_epochs, prepared_epochs}
 use Rattle.coco_store.proofs.Naming.{names_apart}
-use Rattle.coco_recover.specs.Bases.{IsBased, entries_of}
+use Rattle.coco_recover.specs.Bases.{entries_of}
 use Rattle.coco_recover.specs.Commits.{AreCommitted}
+use Rattle.coco_recover.specs.History.{IsHistoryRead}
 use Rattle.coco_recover.specs.Layouts.{IsGoodLast, setting_of}
 use Rattle.coco_recover.specs.Nodes.{entries_at, greatest_prepared, nodes_of}
 use Rattle.coco_recover.specs.Opening.{AreLogs, EntriesAreReadied, IsSoundStore, IsTabled}
 use Rattle.coco_recover.specs.Steps.{AreRead}
-use Rattle.coco_recover.specs.declared.base.Based.{Based}
 use Rattle.coco_recover.specs.declared.commits.Committed.{Committed}
+use Rattle.coco_recover.specs.declared.history.StoreHistory.{StoreHistory}
 use Rattle.coco_recover.specs.declared.layouts.LastLayout.{LastLayout}
 use Rattle.coco_recover.specs.declared.nodes.Loaded.{Loaded}
-use Rattle.coco_recover.specs.declared.opening.Logs.{Logs}
-use Rattle.coco_recover.proofs.Having.{numbers_from, opened_of}
+use Rattle.coco_recover.proofs.Having.{greatest_listed, opened_of}
 use Rattle.coco_recover.proofs.Keeping.{each_all, keeps_below}
 use Rattle.coco_recover.proofs.Loading.{greatest_below}
 use Rattle.coco_recover.proofs.OneMap.{one_map, one_map-on}
@@ -121,28 +120,28 @@ entries_are_readied keep files c store holds has =
 
 -- ---- the store
 
-module _ (of_base : BaseDonesFollow) (of_commits : CommittedDonesFollow) (last : LastLayout) (committed : Committed) (loaded : Loaded) (based : Based) (logs : Logs) (prepared : Vec ℕ Global)
-    (good : IsGoodLast last) (are : AreCommitted (setting_of last) committed) (read : AreRead last committed loaded logs.nodes.items last.entry.layout.nodes)
-    (rows : IsBased (setting_of last) based) (root : IsFresh logs.root 0 layouts_kind) (chief : IsFresh logs.chief last.entry.layout.chief_file commits_kind)
+module _ (h : StoreHistory) (loaded : Loaded) (nodes : Vec LogState Global) (prepared : Vec ℕ Global) (had : IsHistoryRead h) (read : AreRead h.last h.committed loaded nodes.items h.last.entry.layout.nodes)
     (greatest : prepared.items ≡ map greatest_prepared (nodes_of loaded)) where
-  are_logs : AreLogs last.entry.layout logs
+  are_logs : AreLogs h.last.entry.layout (record { root = h.root; chief = h.chief; nodes = nodes })
   are_logs = record {
-    root = root;
-    chief = chief;
+    root = had.root;
+    chief = had.chief;
     count = read.as_many;
-    nodes = read.fresh logs.root;
-    apart = λ n less same. (names_apart last.entry good.is).node-chief n less (sym chief.in_file ∙ same ∙ (read.fresh logs.root n less).in_file);
+    nodes = read.fresh h.root;
+    apart = λ n less same. (names_apart h.last.entry had.good.is).node-chief n less (sym had.chief.in_file ∙ same ∙ (read.fresh h.root n less).in_file);
   }
 
-  pub is_sound : IsSoundStore (opened_of last committed loaded based logs prepared)
+  pub is_sound : IsSoundStore (opened_of h loaded nodes prepared)
   is_sound =
-      let s = setting_of last in
-      let base = (base_of s (entries_of committed.base.items)).rows in
-      let epochs = commit_epochs committed.commits.items in
+      let s = setting_of h.last in
+      let good = had.good in
+      let remembered = had.committed.remembered in
+      let base = (base_of s (entries_of h.committed.base.items)).rows in
+      let epochs = commit_epochs h.committed.commits.items in
       let entries = entries_at (nodes_of loaded) in
       let next = read.are.next in
-      let above = all_left (λ (e : ℕ). e < loaded.next) (last.entry.layout.base_epoch ∷ epochs) (flat_map prepared_epochs (nodes_of loaded)) next.above in
-      let behind = all_right (λ (e : ℕ). e < loaded.next) (last.entry.layout.base_epoch ∷ epochs) (flat_map prepared_epochs (nodes_of loaded)) next.above in
+      let above = all_left (λ (e : ℕ). e < loaded.next) (s.entry.layout.base_epoch ∷ epochs) (flat_map prepared_epochs (nodes_of loaded)) next.above in
+      let behind = all_right (λ (e : ℕ). e < loaded.next) (s.entry.layout.base_epoch ∷ epochs) (flat_map prepared_epochs (nodes_of loaded)) next.above in
       let first : 0 < loaded.next = omega (arith, next.next) in
       record {
         is = good.is;
@@ -151,27 +150,26 @@ module _ (of_base : BaseDonesFollow) (of_commits : CommittedDonesFollow) (last :
         maps = maps_read s base epochs entries;
         tables = read.are.tables;
         map = one_map s base epochs entries;
-        primaries = shards_hold last.entry.layout (maps_read s base epochs entries) loaded.tables.shards.items loaded.tables.copies.items read.are.tables (one_map s base epochs entries)
+        primaries = shards_hold s.entry.layout (maps_read s base epochs entries) loaded.tables.shards.items loaded.tables.copies.items read.are.tables (one_map s base epochs entries)
             (λ p below. sym (one_map-on s base epochs entries p below));
-        tabled = rows_tabled s (entries_of committed.base.items) epochs entries are.remembered.base good.limits.nodes.0
+        tabled = rows_tabled s (entries_of h.committed.base.items) epochs entries remembered.base good.limits.nodes.0
             (λ n less. read.each n less);
-        base_tabled = subst (AllByRecursion (λ r. IsTabled last.procs r.0)) (sym rows.values) (values_tabled s (entries_of based.history.entries.items) rows.behind.each);
-        rises = are.rises;
-        below = subst (AllByRecursion (λ (e : ℕ). e < loaded.next)) (sym are.remembered.epochs) above.1;
-        keeps = keeps_below of_base of_commits s committed are.remembered loaded.next above.0 above.1;
+        base_tabled = subst (AllByRecursion (λ r. IsTabled s.tree r.0)) (sym had.values) (values_tabled s (entries_of h.committed.base.items) remembered.base);
+        rises = had.committed.rises;
+        below = subst (AllByRecursion (λ (e : ℕ). e < loaded.next)) (sym remembered.epochs) above.1;
+        keeps = keeps_below s h.committed remembered loaded.next above.0 above.1;
         each_node = ap (length {A = ℕ}) greatest ∙ length-map (nodes_of loaded) greatest_prepared ∙ read.nodes;
         prepared_below = subst (AllByRecursion (λ (e : ℕ). e < loaded.next)) (sym greatest) (nodes_below loaded.next (nodes_of loaded) first behind);
         entries = λ n. prepared_epochs (entries n);
         readied = record {
-          greatest = greatest ∙ numbers_from entries 0 (nodes_of loaded) (λ i less. ap entries (omega arith))
-              ∙ ap (λ (n : ℕ). map (λ m. greatest_prepared (entries m)) (range_with_len 0 n)) read.nodes;
+          greatest = greatest ∙ greatest_listed (nodes_of loaded) s.entry.layout.nodes read.nodes;
           committed = read.whole;
           below = λ n less. node_below (λ (e : ℕ). e < loaded.next) (nodes_of loaded) n behind;
         };
         first = first;
         above_base = above.0;
-        end = next_below (last.entry.layout.base_epoch ∷ epochs ++ flat_map prepared_epochs (nodes_of loaded)) loaded.next next
-            (epochs_below last committed loaded last.entry.layout.nodes good are read.nodes read.each);
+        end = next_below (s.entry.layout.base_epoch ∷ epochs ++ flat_map prepared_epochs (nodes_of loaded)) loaded.next next
+            (epochs_below h.last h.committed loaded s.entry.layout.nodes good had.committed read.nodes read.each);
         early = good.early;
         logs = are_logs;
       }

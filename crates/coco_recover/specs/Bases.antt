@@ -7,6 +7,7 @@ use Rattle.coco_read.specs.EntryRules.{EntryRules}
 use Rattle.coco_rules.specs.Basing.{IsBehindBase}
 use Rattle.coco_rules.specs.Behind.{IsBehind}
 use Rattle.coco_rules.specs.declared.base.BaseRules.{BaseRules}
+use Rattle.coco_rules.specs.declared.commits.HistoryRules.{HistoryRules}
 use Rattle.coco_store.specs.Entries.{BaseEntry, Dones, Head, IsBaseEntry, Values, base_bytes}
 use Rattle.coco_store.specs.Refusals.{BaseBreaks, base_behind}
 use Rattle.coco_store.specs.Rules.{EachBehind, IsNextBase, IsWhole, Setting, base_of, base_values, floor_in, kept_dones}
@@ -74,3 +75,7 @@ pub record IsBased (s : Setting) (based : Based) : Type 0 where
   pub behind : IsHistoryOfBase s based.history
   pub maps : HoldMap s.entry.layout (base_of s (entries_of based.history.entries.items)).rows based.tables.shards.items based.tables.copies.items
   pub values : flat_map (λ rows. rows) based.rows.items ≡ base_values (entries_of based.history.entries.items)
+
+-- the base of what was kept, with what decides about the committed epochs
+abbrev pub based_of : HistoryRules → Gathered → Based
+based_of rules g = record { history = record { rules = rules; kept = g.kept; entries = g.entries }; tables = g.tables; rows = g.rows }

@@ -1,6 +1,7 @@
 pub mod Bases
 pub mod Codes
 pub mod Commits
+pub mod History
 pub mod Layouts
 pub mod Lost
 pub mod Nodes

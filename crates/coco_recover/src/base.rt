@@ -8,7 +8,7 @@ ghost use Rattle.coco_rules.specs.Judged.{Judges};
 ghost use Rattle.coco_store.specs.Entries.{BaseEntry, IsBaseEntry, base_bytes};
 ghost use Rattle.coco_store.specs.Refusals.{BaseBreaks, base_behind, base_in};
 ghost use Rattle.coco_store.specs.Rules.{EachBehind, IsNextBase, Setting};
-ghost use Rattle.coco_recover.specs.Bases.{IsBased, IsGathered, entries_of, entry_of};
+ghost use Rattle.coco_recover.specs.Bases.{IsBased, IsGathered, based_of, entries_of, entry_of};
 ghost use Rattle.coco_recover.specs.Layouts.{setting_of};
 
 use crate::layouts::LastLayout;
@@ -17,10 +17,7 @@ use coco_ast::Checked;
 use coco_entry::{BaseHead, EntryFault, read_base_dones, read_base_rows, read_head};
 use coco_io::told::Told;
 use coco_kept::Kept;
-use coco_load::{
-    PackedRows, Tables, keep_dones, kept_dones_follow_the_files, packed_rows,
-    tables_follow_the_files,
-};
+use coco_load::{PackedRows, Tables, keep_dones, packed_rows};
 use coco_read::Rules;
 use coco_rules::{BaseRules, HistoryRules};
 use coco_types::{Dones, MapRows, NoMemory};
@@ -169,8 +166,6 @@ impl Gathered {
         ensures entries { self.new.entries.items ≡ self.old.entries.items ++ part ∷ [] }
         ensures keep { self.new.keep ≡ self.old.keep }
     {
-        kept_dones_follow_the_files();
-        tables_follow_the_files();
         self.entries.add(slice::from_ref(&part));
         match part {
             BasePart::Head(head) => {
@@ -185,6 +180,21 @@ impl Gathered {
                 self.rows.push(packed)?;
                 Ok(())
             }
+        }
+    }
+
+    // The base, with what decides about the committed epochs.
+    fn into_based(self, rules: HistoryRules) -> Based
+        ensures { result ≡ based_of rules self }
+    {
+        Based {
+            history: BaseHistory {
+                rules,
+                kept: self.kept,
+                entries: self.entries,
+            },
+            tables: self.tables,
+            rows: self.rows,
         }
     }
 }
@@ -202,22 +212,8 @@ impl Based {
         ensures none { IfOk result (λ based. entries_of based.history.entries.items ≡ []) }
         ensures keep { IfOk result (λ based. based.history.kept.keep ≡ keep) }
     {
-        let Gathered {
-            keep: _,
-            kept,
-            tables,
-            rows,
-            entries,
-        } = Gathered::new(alloc, last, keep)?;
-        Ok(Based {
-            history: BaseHistory {
-                rules: HistoryRules::new(alloc, &last.entry),
-                kept,
-                entries,
-            },
-            tables,
-            rows,
-        })
+        let gathered = Gathered::new(alloc, last, keep)?;
+        Ok(gathered.into_based(HistoryRules::new(alloc, &last.entry)))
     }
 }
 
@@ -251,28 +247,7 @@ impl<'a> BaseReading<'a> {
         if self.is_spent {
             return Err(NoMemory);
         }
-        let BaseReading {
-            rules,
-            gathered,
-            ..
-        } = self;
-        let Gathered {
-            keep: _,
-            kept,
-            tables,
-            rows,
-            entries,
-        } = gathered;
-        let rules = rules.into_history();
-        Ok(Based {
-            history: BaseHistory {
-                rules,
-                kept,
-                entries,
-            },
-            tables,
-            rows,
-        })
+        Ok(self.gathered.into_based(self.rules.into_history()))
     }
 }
 

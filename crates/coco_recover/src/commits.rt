@@ -12,7 +12,7 @@ use crate::refusal::refused;
 use coco_entry::{Commit, read_commit};
 use coco_io::told::Told;
 use coco_kept::Kept;
-use coco_load::{epochs_begin_with_the_base, keep_dones, kept_dones_follow_the_files, next_epoch};
+use coco_load::{epochs_begin_with_the_base, keep_dones, next_epoch};
 use coco_read::Rules;
 use coco_rules::HistoryRules;
 use coco_types::NoMemory;
@@ -133,7 +133,6 @@ impl<'a> Rules for CommitReading<'a> {
         if let Some(at) = self.rules.next(&self.last.procs, &commit)? {
             return Ok(Some(at));
         }
-        kept_dones_follow_the_files();
         self.committed.commits.add(slice::from_ref(&commit));
         self.committed.epochs.push(commit.epoch)?;
         self.committed.next = next_epoch(self.committed.next, commit.epoch);

@@ -29,7 +29,7 @@ use crate::{
 use coco_ast::Checked;
 use coco_entry::Layout;
 use coco_host::Host;
-use coco_load::{Tables, tables_follow_the_files};
+use coco_load::Tables;
 use coco_log::Log;
 use coco_read::{OpenFault, read_file};
 use coco_store::kinds::{BASE, COMMITS, LAYOUTS, PREPARED};
@@ -175,8 +175,6 @@ pub(crate) fn read_next_node<H: Host>(
     ensures read { IsOnlyRead H.Host host.old host.new }
     ensures counts { Counts result (H.disk_faults host.old) (H.disk_faults host.new) }
 {
-    // The law by which the tables hold what each node has; the call does nothing.
-    tables_follow_the_files();
     let Loaded {
         tables,
         next,
@@ -203,17 +201,11 @@ pub(crate) fn read_next_node<H: Host>(
     ))
 }
 
-fn add_log(logs: &mut Vec<Log>, log: Log) -> Result<(), NoMemory>
-    ensures { OnOk result (logs.new.items ≡ logs.old.items ++ log ∷ []) }
+/// Adds an item to a list.
+pub(crate) fn add<T: Drop>(items: &mut Vec<T>, item: T) -> Result<(), NoMemory>
+    ensures { OnOk result (items.new.items ≡ items.old.items ++ item ∷ []) }
 {
-    logs.push(log)?;
-    Ok(())
-}
-
-fn add_epoch(prepared: &mut Vec<u64>, epoch: u64) -> Result<(), NoMemory>
-    ensures { OnOk result (prepared.new.items ≡ prepared.old.items ++ epoch ∷ []) }
-{
-    prepared.push(epoch)?;
+    items.push(item)?;
     Ok(())
 }
 
@@ -243,8 +235,8 @@ pub(crate) fn read_nodes<H: Host>(
     for node in 0..last.entry.layout.nodes {
         let (more, log, greatest) = read_next_node(alloc, host, last, committed, node, loaded)?;
         loaded = more;
-        add_log(&mut logs, log)?;
-        add_epoch(&mut prepared, greatest)?;
+        add(&mut logs, log)?;
+        add(&mut prepared, greatest)?;
     }
     Ok((loaded, logs, prepared))
 }

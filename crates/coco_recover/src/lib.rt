@@ -4,6 +4,7 @@
 pub mod base;
 pub mod commits;
 mod files;
+mod history;
 pub mod layouts;
 pub mod lost;
 pub mod nodes;

@@ -22,7 +22,7 @@ use crate::files::read_prepared_file;
 use coco_ast::Checked;
 use coco_entry::Layout;
 use coco_host::Host;
-use coco_load::{PackedRows, Tables, tables_follow_the_files};
+use coco_load::{PackedRows, Tables};
 use coco_log::Log;
 use coco_read::OpenFault;
 use coco_types::NoMemory;
@@ -58,8 +58,6 @@ pub fn read_node<H: Host>(
     ensures read { IsOnlyRead H.Host host.old host.new }
     ensures counts { Counts result (H.disk_faults host.old) (H.disk_faults host.new) }
 {
-    // The law by which the tables hold what the node has; the call does nothing.
-    tables_follow_the_files();
     let tables = with_base(alloc, layout, base)?;
     let (read, log) = read_prepared_file(alloc, host, layout, procs, epochs, node, tables)?;
     let NodeRead { tables, .. } = read;

@@ -18,7 +18,7 @@ use coco_ast::Checked;
 use coco_copy::CopyTable;
 use coco_entry::{Layout, Prepared, read_prepared};
 use coco_io::told::Told;
-use coco_load::{Tables, tables_follow_the_files};
+use coco_load::Tables;
 use coco_read::Rules;
 use coco_rules::NodeRules;
 use coco_shard::Shard;
@@ -95,7 +95,6 @@ impl Loaded {
             → HoldMap s.entry.layout (base_of s (entries_of committed.now.base.items)).rows tables.shards.items tables.copies.items → IsLoaded s committed.now result }
         ensures none { nodes_of result ≡ [] }
     {
-        tables_follow_the_files();
         Loaded {
             tables,
             next: committed.next,
@@ -119,7 +118,6 @@ fn load(
         → is_committed ≡ is_member nat_eq epochs prepared.now.epoch → HoldRead s base epochs entries tables.old.shards.items tables.old.copies.items
         → HoldRead s base epochs (with_entry node prepared.now entries) tables.new.shards.items tables.new.copies.items) }
 {
-    tables_follow_the_files();
     if is_committed {
         tables.load_prepared(layout, node, prepared.rows.as_slice())
     } else {
@@ -141,7 +139,6 @@ impl<'a> NodeReading<'a> {
         requires tables { AreTables layout.now tables.shards.items tables.copies.items }
         ensures { result ≡ record { under = node_basis layout.now procs.now epochs.now node tables.shards.items tables.copies.items; taken = [] } }
     {
-        tables_follow_the_files();
         let mut shards = Told::new();
         let mut copies = Told::new();
         shards.add(tables.shards.as_slice());
@@ -215,7 +212,6 @@ impl<'a> Rules for NodeReading<'a> {
             Err(at) => return Ok(Some(at)),
         };
         load(&mut self.tables, layout, self.node, &prepared, is_committed)?;
-        tables_follow_the_files();
         self.greatest = self.greatest.max(prepared.epoch);
         self.taken.add(slice::from_ref(&prepared));
         self.is_spent = false;

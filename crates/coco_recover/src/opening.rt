@@ -1,31 +1,29 @@
 //! A store opened: what is had of it in memory, and the logs that it is written to.
 
-ghost use Rattle.std.specs.Prelude.{◌≡◌, ◌≢◌, ℕ, ◌<◌, ◌≤◌, length, None, Some, Err, IfOk, IfSome, OnOk};
+ghost use Rattle.std.specs.Prelude.{◌≡◌, ◌≢◌, ℕ, ◌≤◌, false, length, None, Some, Err, IfOk, OnOk};
 ghost use Rattle.coco_types.specs.Limits.{most_kept};
 ghost use Rattle.coco_host.specs.Files.{Files};
-ghost use Rattle.coco_append.specs.Gaining.{RestsOn, Stands};
-ghost use Rattle.coco_log.specs.LogState.{IsFresh, IsOnlyRead};
+ghost use Rattle.coco_append.specs.Gaining.{RestsOn};
+ghost use Rattle.coco_log.specs.LogState.{IsOnlyRead};
 ghost use Rattle.coco_read.specs.declared.fault.OpenFault.TheVariants as fault;
 ghost use Rattle.coco_read.specs.Faults.{Counts};
 ghost use Rattle.coco_store.specs.Contents.{Contents, Holds, IsGoodStore};
-ghost use Rattle.coco_store.specs.Entries.{layouts_kind};
 ghost use Rattle.coco_store.specs.Refusals.{IsFirstRefusal};
-ghost use Rattle.coco_recover.specs.Layouts.{IsGoodLast};
+ghost use Rattle.coco_recover.specs.History.{kept_by};
 ghost use Rattle.coco_recover.specs.Opening.{AllStand, EntriesAreReadied, IsOpening, IsSoundStore, OpenedStand, entry_in, its_keep, no_keep};
-ghost use Rattle.coco_recover.specs.Steps.{HoldsLast};
 
-use crate::files::{read_base, read_commits, read_layouts, read_nodes};
-use crate::{Based, LastLayout};
+use crate::LastLayout;
+use crate::files::read_nodes;
+use crate::history::{StoreHistory, read_history};
 use coco_ast::Checked;
 use coco_copy::CopyTable;
 use coco_entry::{Layout, LayoutEntry};
 use coco_host::Host;
 use coco_kept::Kept;
-use coco_load::{PackedRows, Tables, kept_dones_follow_the_files, tables_follow_the_files};
+use coco_load::{PackedRows, Tables};
 use coco_log::Log;
 use coco_read::OpenFault;
 use coco_shard::Shard;
-use coco_store::{a_refused_store_is_none, a_store_is_its_logs, files_hold_one_store};
 use std::alloc::Global;
 
 /// The logs that a store is written to: that of its layouts, the coordinator's, and that of each node.
@@ -80,11 +78,7 @@ pub fn recover<H: Host>(alloc: Global, host: &mut H) -> Result<Opened, OpenFault
     ensures read { IsOnlyRead H.Host host.old host.new }
     ensures counts { Counts result (H.disk_faults host.old) (H.disk_faults host.new) }
 {
-    // The law by which no store is refused; the call does nothing.
-    a_refused_store_is_none();
-    let (last, root) = read_layouts(alloc, host)?;
-    let keep = last.entry.keep;
-    open_behind(alloc, host, last, root, keep)
+    recover_with(alloc, host, false)
 }
 
 /// The same, but all replies are kept.
@@ -99,47 +93,36 @@ pub fn recover_whole<H: Host>(alloc: Global, host: &mut H) -> Result<Opened, Ope
     ensures read { IsOnlyRead H.Host host.old host.new }
     ensures counts { Counts result (H.disk_faults host.old) (H.disk_faults host.new) }
 {
-    // The law by which no store is refused; the call does nothing.
-    a_refused_store_is_none();
-    let (last, root) = read_layouts(alloc, host)?;
-    open_behind(alloc, host, last, root, None)
+    recover_with(alloc, host, true)
 }
 
-// Reads the files that the last layout names.
-fn open_behind<H: Host>(
-    alloc: Global,
-    host: &mut H,
-    last: LastLayout,
-    root: Log,
-    keep: Option<u16>,
-) -> Result<Opened, OpenFault>
-    requires good { IsGoodLast last }
-    requires root { IsFresh root 0 layouts_kind }
-    requires keep { IfSome keep (λ n. 0 < n) }
-    ensures ok { IfOk result (λ store. (files : Files) → H.reads host.old ≡ Some files → HoldsLast files last → IsOpening (λ c. keep) files store) }
-    ensures entry { IfOk result (λ store. entry_in store ≡ last.entry) }
-    ensures keep { IfOk result (λ store. store.kept.keep ≡ keep) }
-    ensures few { IfOk result (λ store. keep ≡ last.entry.keep → length store.kept.dones ≤ most_kept) }
+// The same, with all replies kept or those that the layout's keep number says.
+fn recover_with<H: Host>(alloc: Global, host: &mut H, is_whole: bool) -> Result<Opened, OpenFault>
+    ensures ok { IfOk result (λ store. (files : Files) → H.reads host.old ≡ Some files → IsOpening (λ c. kept_by is_whole c.setting.entry) files store) }
+    ensures keep { IfOk result (λ store. store.kept.keep ≡ kept_by is_whole (entry_in store)) }
+    ensures few { is_whole ≡ false → IfOk result (λ store. length store.kept.dones ≤ most_kept) }
     ensures sound { IfOk result IsSoundStore }
-    ensures stand { IfOk result (λ store. Stands root (H.reads host.old) (H.may_leave host.old) → AllStand store.logs (H.reads host.new) (H.may_leave host.new)) }
-    ensures rests { OnOk result ((files : Files) (c : Contents) → H.reads host.old ≡ Some files → HoldsLast files last → Stands root (H.reads host.old) (H.may_leave host.old)
-        → IsGoodStore files c → RestsOn c (H.reads host.new) (H.may_leave host.new)) }
-    ensures refused { (file at : ℕ) (files : Files) → result ≡ Err (fault.NotAStore file at) → H.reads host.old ≡ Some files → HoldsLast files last → IsFirstRefusal files file at }
+    ensures stand { IfOk result (λ store. AllStand store.logs (H.reads host.new) (H.may_leave host.new)) }
+    ensures rests { OnOk result ((files : Files) (c : Contents) → H.reads host.old ≡ Some files → IsGoodStore files c → RestsOn c (H.reads host.new) (H.may_leave host.new)) }
+    ensures refused { (file at : ℕ) (files : Files) → result ≡ Err (fault.NotAStore file at) → H.reads host.old ≡ Some files → IsFirstRefusal files file at }
     ensures read { IsOnlyRead H.Host host.old host.new }
     ensures counts { Counts result (H.disk_faults host.old) (H.disk_faults host.new) }
 {
-    // The laws by which this is what the files hold; the calls do nothing.
-    tables_follow_the_files();
-    kept_dones_follow_the_files();
-    files_hold_one_store();
-    a_store_is_its_logs();
-    let Based {
-        history,
+    let (history, tables) = read_history(alloc, host, is_whole)?;
+    let (loaded, nodes, prepared) = read_nodes(
+        alloc,
+        host,
+        &history.last,
+        &history.committed,
         tables,
+    )?;
+    let StoreHistory {
+        last,
+        committed,
         rows,
-    } = read_base(alloc, host, &last, keep)?;
-    let (committed, chief) = read_commits(alloc, host, &last, history)?;
-    let (loaded, nodes, prepared) = read_nodes(alloc, host, &last, &committed, tables)?;
+        root,
+        chief,
+    } = history;
     let LastLayout {
         entry,
         procs,

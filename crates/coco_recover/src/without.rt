@@ -5,7 +5,7 @@ ghost use Rattle.coco_entry.specs.declared.commit.Commit.{Commit as CommitEntry}
 ghost use Rattle.coco_entry.specs.declared.prepared.Prepared.{Prepared as PreparedEntry};
 ghost use Rattle.coco_host.specs.Files.{Files};
 ghost use Rattle.coco_load.specs.Tables.{HoldMap};
-ghost use Rattle.coco_log.specs.LogState.{IsOnlyRead, IsOpened, LogState};
+ghost use Rattle.coco_log.specs.LogState.{IsOnlyRead, IsOpened};
 ghost use Rattle.coco_read.specs.declared.fault.OpenFault.TheVariants as fault;
 ghost use Rattle.coco_read.specs.Faults.{Counts};
 ghost use Rattle.coco_store.specs.Contents.{Contents, file_of};
@@ -18,15 +18,15 @@ ghost use Rattle.coco_recover.specs.Nodes.{HoldsNodes, IsLoaded, IsNode, nodes_o
 ghost use Rattle.coco_recover.specs.Steps.{HoldsCommitted, HoldsEntries, HoldsLast, HoldsParts, IsRead};
 ghost use Rattle.coco_recover.specs.Without.{AreOthersHeld, ArePartsOf, AreSoundParts, BehindGatesButForANode, GoodStoresAreButForANode, HoldsBut, IsFirstRefusalBut, IsGoodBut, IsLogBut, log_in, OneRefusalButForANode, PartsStand, RefusedButForANodeIsNone, RestsBut, StoresAreButForANode};
 
-use crate::files::{read_base, read_commits, read_layouts, read_next_node};
-use crate::{Based, Committed, LastLayout, Loaded};
+use crate::files::{add, read_next_node};
+use crate::history::{StoreHistory, read_history};
+use crate::{Committed, LastLayout, Loaded};
 use coco_entry::{Layout, LayoutEntry};
 use coco_host::Host;
 use coco_io::told::Told;
-use coco_load::{Tables, tables_follow_the_files};
+use coco_load::Tables;
 use coco_log::Log;
 use coco_read::OpenFault;
-use coco_types::NoMemory;
 use std::alloc::Global;
 use std::slice;
 
@@ -71,14 +71,15 @@ pub fn read_without<H: Host>(alloc: Global, host: &mut H, node: u8) -> Result<Pa
     ensures read { IsOnlyRead H.Host host.old host.new }
     ensures counts { Counts result (H.disk_faults host.old) (H.disk_faults host.new) }
 {
-    let (last, root) = read_layouts(alloc, host)?;
-    let Based {
-        history,
-        tables,
+    let (history, tables) = read_history(alloc, host, false)?;
+    let nodes = read_others(alloc, host, &history.last, &history.committed, node, tables)?;
+    let StoreHistory {
+        last,
+        committed,
+        root,
+        chief,
         ..
-    } = read_base(alloc, host, &last, last.entry.keep)?;
-    let (committed, chief) = read_commits(alloc, host, &last, history)?;
-    let nodes = read_others(alloc, host, &last, &committed, node, tables)?;
+    } = history;
     let LayoutEntry {
         layout,
         keep,
@@ -121,16 +122,9 @@ fn read_others<H: Host>(
     for node in 0..last.entry.layout.nodes {
         let (more, log) = read_other(alloc, host, last, committed, node, left_out, loaded)?;
         loaded = more;
-        add_log(&mut logs, log)?;
+        add(&mut logs, log)?;
     }
     Ok(logs)
-}
-
-fn add_log(logs: &mut Vec<Option<Log>>, log: Option<Log>) -> Result<(), NoMemory>
-    ensures { OnOk result (logs.new.items ≡ logs.old.items ++ log ∷ []) }
-{
-    logs.push(log)?;
-    Ok(())
 }
 
 // What is loaded with the next node, and the node's log. Of the one that is left out nothing is read.
@@ -167,7 +161,6 @@ fn passed(loaded: Loaded) -> Loaded
     ensures loaded { (b : Basis) (commits : List CommitEntry) → HoldsNodes b commits (nodes_of loaded) loaded → HoldsNodes b commits (nodes_of result) result }
     ensures nodes { nodes_of result ≡ nodes_of loaded ++ [] ∷ [] }
 {
-    tables_follow_the_files();
     let Loaded {
         tables,
         next,

@@ -7,11 +7,13 @@ ghost use Rattle.coco_types.specs.Packing.{lent_value, IsText};
 ghost use Rattle.coco_types.specs.declared.value.Value.{Value as Datum};
 ghost use Rattle.coco_rows.specs.Versions.{newest_beside, newest_of, at_rest, is_touched};
 
+mod listed;
 mod mark;
 mod rooms;
 mod stored;
 
 use coco_types::{Lent, Value};
+pub use listed::{EpochRow, add_row, drop_row, list_key, make_room, settle};
 pub use mark::Mark;
 pub use rooms::{Room, Rooms, Slip};
 use std::mem;
@@ -145,5 +147,23 @@ impl Row {
         self.rts = 0;
         self.mark = Mark::none();
         self.stable.is_some()
+    }
+}
+
+impl EpochRow for Row {
+    ghost use Rattle.coco_rows.specs.Versions.{row_kind};
+
+    ghost kind = { row_kind };
+
+    fn is_noted(&self) -> bool {
+        self.is_touched()
+    }
+
+    fn rest(&mut self, promotes: bool) -> bool {
+        if promotes {
+            self.promote()
+        } else {
+            self.revert()
+        }
     }
 }

@@ -6,7 +6,7 @@ use Rattle.std.specs.Option.{option_map}
 use Rattle.std.specs.Ordering.{is_lt}
 use Rattle.std.specs.declared.cmp.Ordering.{Ordering}
 use Rattle.std.specs.declared.cmp.Ordering.TheVariants.{Less, Equal, Greater}
-use Rattle.std.proofs.lemmas.Bool.{eqb-true, eq-eqb, leb-true, le-leb}
+use Rattle.std.proofs.lemmas.Bool.{eqb-true, eq-eqb, leb-true, le-leb, and_from}
 use Rattle.std.proofs.lemmas.Bool.Decides.{nat_tests}
 use Rattle.std.proofs.lemmas.List.Concat.{flat_map-append}
 use Rattle.coco_types.specs.RowKey.{RowKey, key_cmp}
@@ -20,7 +20,7 @@ use Rattle.coco_entry.specs.Bases.{base_done_bytes, base_row_bytes}
 use Rattle.coco_entry.specs.Rows.{key_rises}
 use Rattle.coco_entry.specs.declared.base.BaseHead.{BaseHead}
 use Rattle.coco_entry.specs.declared.base.TheConstants.{MOST_ITEMS}
-use Rattle.coco_entry.proofs.GrammarLemmas.{both_true, true_both}
+use Rattle.coco_entry.proofs.GrammarLemmas.{both_true}
 use Rattle.coco_store.specs.Entries.{BaseEntry, Head, Dones, Values, base_bytes}
 use Rattle.coco_store.specs.Refusals.{BaseBreaks, IsFirst, ItemBreaks, bad_order, bad_kept_done, bad_value, order_place}
 use Rattle.coco_store.specs.Rules.{IsKeptDone, IsNextValue, IsWhole, MayFollow, Setting, base_values, dones_of, floor_in, kept_dones, values_of}
@@ -258,7 +258,7 @@ pub whole_so : (before : List BaseEntry) (rules : BaseRules) (dones rows both : 
     → IsTrue both ↔ IsWhole before
 whole_so before rules dones rows both told d r is = (
   λ e. let two = both_true dones rows (sym is ∙ e) in (whole_base before rules told).0 (d.0 two.0) (r.0 two.1),
-  λ whole. let two = (whole_base before rules told).1 whole in is ∙ true_both dones rows (d.1 two.0) (r.1 two.1),
+  λ whole. let two = (whole_base before rules told).1 whole in is ∙ and_from dones rows (d.1 two.0) (r.1 two.1),
 )
 
 -- ---- rows

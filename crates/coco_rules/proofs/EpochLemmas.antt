@@ -1,9 +1,9 @@
 -- The greatest epoch so far decides which may come next.
 use Rattle.std.proofs.Common.{◌≡◌, ℕ, ◌<◌, max, sym, true, false, ◌&&◌, ltb, List, [], ◌∷◌, ◌++◌, ◌∙◌, arith}
 use Rattle.std.specs.List.{AllByRecursion}
-use Rattle.std.proofs.lemmas.Bool.{ltb-true, lt-ltb}
+use Rattle.std.proofs.lemmas.Bool.{ltb-true, lt-ltb, and_from}
 use Rattle.coco_types.specs.Limits.{epochs_end}
-use Rattle.coco_entry.proofs.GrammarLemmas.{both_true, true_both}
+use Rattle.coco_entry.proofs.GrammarLemmas.{both_true}
 use Rattle.coco_store.specs.Rules.{IsNextEpoch}
 use Rattle.coco_rules.specs.Behind.{greatest}
 
@@ -27,7 +27,7 @@ epoch_is base before epoch e =
 
 pub is_epoch : (base : ℕ) (before : List ℕ) (epoch : ℕ) → IsNextEpoch base before epoch → ltb (greatest base before) epoch && ltb epoch epochs_end ≡ true
 is_epoch base before epoch next =
-    true_both (ltb (greatest base before) epoch) (ltb epoch epochs_end) (lt-ltb (greatest base before) epoch (below_all base before epoch next.above_base next.rises)) (lt-ltb epoch epochs_end next.below_end)
+    and_from (ltb (greatest base before) epoch) (ltb epoch epochs_end) (lt-ltb (greatest base before) epoch (below_all base before epoch next.above_base next.rises)) (lt-ltb epoch epochs_end next.below_end)
 
 pub no_epoch : (base : ℕ) (before : List ℕ) (epoch : ℕ) → ltb (greatest base before) epoch && ltb epoch epochs_end ≡ false → ¬ (IsNextEpoch base before epoch)
 no_epoch base before epoch e next = let no : true ≡ false = sym (is_epoch base before epoch next) ∙ e in cc

@@ -5,7 +5,7 @@ use Rattle.std.specs.Option.{option_map}
 use Rattle.std.specs.Bool.{MatchBool}
 use Rattle.std.specs.List.Sorted.{IsPermutation}
 use Rattle.std.specs.Set.{is_member}
-use Rattle.std.proofs.lemmas.Bool.{eqb-true, eq-eqb, ltb-true, lt-ltb, leb-true, le-leb}
+use Rattle.std.proofs.lemmas.Bool.{eqb-true, eq-eqb, ltb-true, lt-ltb, leb-true, le-leb, and_from, or_left, or_right}
 use Rattle.std.proofs.lemmas.Bool.Decides.{nat_tests}
 use Rattle.std.proofs.lemmas.List.{map-append}
 use Rattle.std.proofs.lemmas.List.Elements.{filter-append}
@@ -20,7 +20,7 @@ use Rattle.coco_ast.specs.Tree.{Procedures}
 use Rattle.coco_ast.proofs.Lists.{all_append, all_right, all_weaker}
 use Rattle.coco_entry.specs.Bases.{is_before, stamp_of, stamp_rises}
 use Rattle.coco_entry.specs.declared.base.Stamp.{Stamp}
-use Rattle.coco_entry.proofs.GrammarLemmas.{both_true, true_both}
+use Rattle.coco_entry.proofs.GrammarLemmas.{both_true}
 use Rattle.coco_store.specs.Rules.{HasRoom, IsNextDone, IsTime, Setting}
 use Rattle.coco_rules.specs.Noting.{AreNoted, EndsAt, count_of, has_room, has_time, is_allowed, room_behind}
 use Rattle.coco_rules.specs.declared.dones.Noted.{Noted}
@@ -33,7 +33,7 @@ time_is false time e = let two = both_true (leb 1 time) (leb time most_time) e i
 
 is_time : (snapshot : Bool) (time : ℕ) → IsTime snapshot time → has_time snapshot time ≡ true
 is_time true time h = eq-eqb time 0 h
-is_time false time h = true_both (leb 1 time) (leb time most_time) (le-leb 1 time h.0) (le-leb time most_time h.1)
+is_time false time h = and_from (leb 1 time) (leb time most_time) (le-leb 1 time h.0) (le-leb time most_time h.1)
 
 room_is : (keep : Option ℕ) (before : List Done) → has_room (room_behind keep before) ≡ true → HasRoom keep before
 room_is None before e = omega (arith, ltb-true 0 (most_kept - length before) e)
@@ -53,14 +53,6 @@ either : (a b : Bool) → (a || b) ≡ true → (a ≡ true) ⊎ (b ≡ true)
 either true b e = inl refl
 either false b e = inr e
 
-on_left : (a b : Bool) → a ≡ true → (a || b) ≡ true
-on_left true b e = refl
-on_left false b e = let no : false ≡ true = e in cc
-
-on_right : (a b : Bool) → b ≡ true → (a || b) ≡ true
-on_right true b e = refl
-on_right false b e = e
-
 before_is : (d e : Done) → is_before (stamp_of d) (stamp_of e) ≡ true → IsBefore d e
 before_is d e h =
     elim (either (ltb d.epoch e.epoch) _ h) [
@@ -77,12 +69,12 @@ before_is d e h =
     ]
 
 is_before_so : (d e : Done) → IsBefore d e → is_before (stamp_of d) (stamp_of e) ≡ true
-is_before_so d e (inl p) = on_left (ltb d.epoch e.epoch) _ (lt-ltb d.epoch e.epoch p)
+is_before_so d e (inl p) = or_left (ltb d.epoch e.epoch) _ (lt-ltb d.epoch e.epoch p)
 is_before_so d e (inr (p, inl r)) =
-    on_right (ltb d.epoch e.epoch) _ (true_both (eqb d.epoch e.epoch) _ (eq-eqb d.epoch e.epoch p) (on_left (ltb d.time e.time) _ (lt-ltb d.time e.time r)))
+    or_right (ltb d.epoch e.epoch) _ (and_from (eqb d.epoch e.epoch) _ (eq-eqb d.epoch e.epoch p) (or_left (ltb d.time e.time) _ (lt-ltb d.time e.time r)))
 is_before_so d e (inr (p, inr u)) =
-    on_right (ltb d.epoch e.epoch) _ (true_both (eqb d.epoch e.epoch) _ (eq-eqb d.epoch e.epoch p)
-    (on_right (ltb d.time e.time) _ (true_both (eqb d.time e.time) _ (eq-eqb d.time e.time u.0) (lt-ltb d.id e.id u.1))))
+    or_right (ltb d.epoch e.epoch) _ (and_from (eqb d.epoch e.epoch) _ (eq-eqb d.epoch e.epoch p)
+    (or_right (ltb d.time e.time) _ (and_from (eqb d.time e.time) _ (eq-eqb d.time e.time u.0) (lt-ltb d.id e.id u.1))))
 
 pub before_both : (d e f : Done) → IsBefore d e → IsBefore e f → IsBefore d f
 before_both d e f (inl p) (inl q) = inl (omega (arith, p, q))
@@ -153,10 +145,10 @@ counted keep before noted done are rises = go noted.last refl are.last
 
 pub next_allowed : (s : Setting) (before : List Done) (noted : Noted) (done : Done) → AreNoted s.entry.keep before noted → IsNextDone s before done → is_allowed s.tree noted done ≡ true
 next_allowed s before noted done are next =
-    true_both (is_taken (procedure_at s.tree.procs done.call.proc_no) done.call) _ next.fits
-    (true_both (has_time done.call.snapshot done.time) _ (is_time done.call.snapshot done.time next.time)
-    (true_both (stamp_rises noted.last (stamp_of done)) _ (is_rising before noted.last done are.last next.rises)
-    (true_both (ltb (count_of noted.last noted.of_epoch done.epoch) most_batch_lines) (has_room noted.room)
+    and_from (is_taken (procedure_at s.tree.procs done.call.proc_no) done.call) _ next.fits
+    (and_from (has_time done.call.snapshot done.time) _ (is_time done.call.snapshot done.time next.time)
+    (and_from (stamp_rises noted.last (stamp_of done)) _ (is_rising before noted.last done are.last next.rises)
+    (and_from (ltb (count_of noted.last noted.of_epoch done.epoch) most_batch_lines) (has_room noted.room)
     (lt-ltb _ _ (omega (arith, counted s.entry.keep before noted done are next.rises, next.few)))
     (ap has_room are.room ∙ is_room s.entry.keep before next.room))))
 

@@ -4,6 +4,7 @@ ghost use Rattle.coco_types.specs.Limits.{most_batch_lines, most_kept};
 ghost use Rattle.coco_cluster.specs.Around.{around};
 ghost use Rattle.coco_cluster.specs.Standing.{AllStand, IsSound};
 ghost use Rattle.coco_serve.specs.Serving.{Runs};
+ghost use Rattle.coco_lines.specs.Reads.{source_moment};
 
 use crate::bounds::RunBounds;
 use crate::ending::Served;
@@ -49,8 +50,8 @@ pub fn answer_lines<
     requires room { length cluster.old.kept.dones ≤ most_kept }
     requires stand { AllStand cluster.old (H.reads host.old) (H.may_leave host.old) }
     ensures { Runs H.Host cluster.old bounds
-        (record { source = record { given = S.given input.old; left = S.remaining input.old; at_end = S.at_end input.old }; source_faults = S.faults input.old; say_faults = H.say_faults host.old; disk_faults = H.disk_faults host.old; around = around N.Net P.Power net.old power.old })
-        (record { source = record { given = S.given input.new; left = S.remaining input.new; at_end = S.at_end input.new }; source_faults = S.faults input.new; say_faults = H.say_faults host.new; disk_faults = H.disk_faults host.new; around = around N.Net P.Power net.new power.new })
+        (record { source = source_moment S.Source input.old; source_faults = S.faults input.old; say_faults = H.say_faults host.old; disk_faults = H.disk_faults host.old; around = around N.Net P.Power net.old power.old })
+        (record { source = source_moment S.Source input.new; source_faults = S.faults input.new; say_faults = H.say_faults host.new; disk_faults = H.disk_faults host.new; around = around N.Net P.Power net.new power.new })
         result host.old host.new }
 {
     let mut reader = Reader::new(alloc);

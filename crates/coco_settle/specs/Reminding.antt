@@ -3,7 +3,7 @@ use Rattle.std.specs.Prelude.{◌≡◌, length}
 use Rattle.coco_members.specs.declared.members.Members.{Members}
 
 -- But for cores and tables all stays: the logs, what else is in hand of each node, and how many nodes there are.
-pub record KeepsRest (k after : Members) : Type 0 where
+pub record KeepsLogs (k after : Members) : Type 0 where
   pub log : after.log ≡ k.log
   pub voters : after.voters ≡ k.voters
   pub cores : length after.cores.items ≡ length k.cores.items

@@ -10,9 +10,8 @@ ghost use Rattle.coco_letters.specs.GivingUp.{Awaits, since};
 ghost use Rattle.coco_letters.specs.Telling.{Adds, IsOfFinish};
 ghost use Rattle.coco_letters.specs.Worlds.{GoesOn};
 ghost use Rattle.coco_members.specs.AtRest.{scene_of, AreAtRest, AreMembers, ShardsHaveMap};
-ghost use Rattle.coco_vote.specs.Counting.{GivesOn};
-ghost use Rattle.coco_letters.specs.Turns.{SendsMore};
-ghost use Rattle.coco_settle.specs.Reminding.{KeepsRest};
+ghost use Rattle.coco_settle.specs.Reminding.{KeepsLogs};
+ghost use Rattle.coco_vote.specs.Keeping.{KeepsLetters};
 
 use coco_finish::{finish, have_all_finished, unfinished_nodes_are_told};
 use coco_letters::chief_reminds;
@@ -29,18 +28,15 @@ fn remind_all<N: Net>(alloc: Global, net: &mut N, members: &mut Members) -> Resu
     ensures rest { OnOk result ((next : ℕ) → AreAtRest next (N.sent net.old) members.old → AreAtRest next (N.sent net.new) members.new) }
     ensures finish { OnOk result (Finish (chief_of members.old.chief).last members.old.cores.items members.new.cores.items members.old.tables members.new.tables) }
     ensures committed { OnOk result ((chief_of members.new.chief).committed ≡ (chief_of members.old.chief).committed) }
-    ensures stays { KeepsRest members.old members.new }
+    ensures stays { KeepsLogs members.old members.new }
     ensures map { (m : Rows) → HaveMap m members.old.tables → HaveMap m members.new.tables }
     ensures shards { OnOk result ((m : Rows) → ShardsHaveMap m members.old.tables → ShardsHaveMap m members.new.tables) }
     ensures all { IfOk result (λ all. MatchBool all (HaveAllFinished (chief_of members.new.chief))
         (IsSilent (chief_of members.old.chief).last (chief_of members.new.chief) (N.sent net.old) (N.given net.old) (N.sent net.new) (N.given net.new) (N.faults net.old) (N.faults net.new))) }
     ensures awaits { IfOk result (λ all. all ≡ false → Awaits (since (N.sent net.old) (N.sent net.new)) (since (N.given net.old) (N.given net.new))) }
     ensures said { OnOk result (Adds (IsOfFinish (chief_of members.old.chief).last) (N.sent net.old) (N.sent net.new)) }
-    ensures sent { SendsMore (N.sent net.old) (N.sent net.new) }
+    ensures letters { KeepsLetters N.Net net.old net.new }
     ensures world { OnOk result (GoesOn (scene_of members.old (N.sent net.old)) (scene_of members.new (N.sent net.new))) }
-    ensures net { GivesOn (N.given net.old) (N.faults net.old) (N.last_seed net.old) (N.given net.new) (N.faults net.new) (N.last_seed net.new) }
-    ensures faults { N.faults net.old ≤ N.faults net.new }
-    ensures seed { N.last_seed net.new ≡ N.last_seed net.old }
 {
     let last = members.chief.last();
     chief_reminds(alloc, net, &members.chief)?;
@@ -65,7 +61,7 @@ pub fn remind<N: Net>(alloc: Global, net: &mut N, members: &mut Members) -> Resu
     ensures rest { OnOk result ((next : ℕ) → AreAtRest next (N.sent net.old) members.old → AreAtRest next (N.sent net.new) members.new) }
     ensures finish { OnOk result (Finish (chief_of members.old.chief).last members.old.cores.items members.new.cores.items members.old.tables members.new.tables) }
     ensures committed { OnOk result ((chief_of members.new.chief).committed ≡ (chief_of members.old.chief).committed) }
-    ensures stays { KeepsRest members.old members.new }
+    ensures stays { KeepsLogs members.old members.new }
     ensures map { (m : Rows) → HaveMap m members.old.tables → HaveMap m members.new.tables }
     ensures shards { OnOk result ((m : Rows) → ShardsHaveMap m members.old.tables → ShardsHaveMap m members.new.tables) }
     ensures untouched { HaveAllFinished (chief_of members.old.chief) → (result ≡ Ok true) × (net.new ≡ net.old) × (members.new ≡ members.old) }
@@ -75,11 +71,8 @@ pub fn remind<N: Net>(alloc: Global, net: &mut N, members: &mut Members) -> Resu
     ensures awaits { IfOk result (λ all. all ≡ false → Awaits (since (N.sent net.old) (N.sent net.new)) (since (N.given net.old) (N.given net.new))) }
     // The letters, the world and the counts.
     ensures said { OnOk result (Adds (IsOfFinish (chief_of members.old.chief).last) (N.sent net.old) (N.sent net.new)) }
-    ensures sent { SendsMore (N.sent net.old) (N.sent net.new) }
+    ensures letters { KeepsLetters N.Net net.old net.new }
     ensures world { OnOk result (GoesOn (scene_of members.old (N.sent net.old)) (scene_of members.new (N.sent net.new))) }
-    ensures net { GivesOn (N.given net.old) (N.faults net.old) (N.last_seed net.old) (N.given net.new) (N.faults net.new) (N.last_seed net.new) }
-    ensures faults { N.faults net.old ≤ N.faults net.new }
-    ensures seed { N.last_seed net.new ≡ N.last_seed net.old }
 {
     let nodes = members.cores.len() as u8;
     if have_all_finished(&members.chief, nodes) {

@@ -19,10 +19,9 @@ ghost use Rattle.coco_standing.specs.Standing.{TablesStand, all_behind};
 ghost use Rattle.coco_store.specs.Contents.{Contents};
 ghost use Rattle.coco_store.specs.Laws.{MayCommit, with_commit};
 ghost use Rattle.coco_vote.specs.Asking.{IsLater};
-ghost use Rattle.coco_vote.specs.Counting.{GivesOn};
 ghost use Rattle.coco_vote.specs.Taking.{AreReady, StayWhole};
-ghost use Rattle.coco_letters.specs.Turns.{SendsMore};
 ghost use Rattle.coco_settle.specs.Settling.{AreToFinish, HasCommitted, KeepsChief, MarkStops};
+ghost use Rattle.coco_vote.specs.Keeping.{KeepsLetters};
 
 use coco_finish::{commit, finish, stop_last, unfinished_nodes_are_told};
 use coco_host::Host;
@@ -64,10 +63,7 @@ fn finish_committed<N: Net, P: Power>(
     ensures early { P.early_stops power.new ≡ P.early_stops power.old }
     ensures later { IsLater P.Power power.old power.new }
     ensures says { OnOk result (Adds (IsOfSettling epoch) (N.sent net.old) (N.sent net.new)) }
-    ensures sent { SendsMore (N.sent net.old) (N.sent net.new) }
-    ensures net { GivesOn (N.given net.old) (N.faults net.old) (N.last_seed net.old) (N.given net.new) (N.faults net.new) (N.last_seed net.new) }
-    ensures faults { N.faults net.old ≤ N.faults net.new }
-    ensures seed { N.last_seed net.new ≡ N.last_seed net.old }
+    ensures letters { KeepsLetters N.Net net.old net.new }
 {
     mark_all(members.tables.behind.as_mut_slice());
     stop_last(
@@ -136,10 +132,7 @@ pub fn settle<H: Host, N: Net, P: Power>(
     ensures early { P.early_stops power.new ≡ P.early_stops power.old }
     ensures later { IsLater P.Power power.old power.new }
     ensures says { OnOk result (Adds (IsOfSettling epoch) (N.sent net.old) (N.sent net.new)) }
-    ensures sent { SendsMore (N.sent net.old) (N.sent net.new) }
-    ensures net { GivesOn (N.given net.old) (N.faults net.old) (N.last_seed net.old) (N.given net.new) (N.faults net.new) (N.last_seed net.new) }
-    ensures faults { N.faults net.old ≤ N.faults net.new }
-    ensures seed { N.last_seed net.new ≡ N.last_seed net.old }
+    ensures letters { KeepsLetters N.Net net.old net.new }
 {
     commit(
         host,

@@ -4,10 +4,9 @@ use Rattle.std.specs.Option.{option_map, unwrap_or, is_some}
 use Rattle.std.specs.Map.{lookup, set_value}
 use Rattle.std.specs.BTreeMap.{is_at}
 use Rattle.std.specs.FinMap.{get, insert, remove}
-use Rattle.std.proofs.lemmas.Map.{lookup-set_value}
-use Rattle.std.proofs.lemmas.Cmp.{eq_by_cmp_equiv}
 use Rattle.coco_types.specs.RowKey.{RowKey, key_cmp}
 use Rattle.coco_rows.specs.declared.Row.{Row}
+use Rattle.coco_rows.proofs.Parts.{set_at}
 use Rattle.coco_types.specs.declared.call.AttemptId.{AttemptId}
 use Rattle.coco_types.specs.declared.error.NoMemory.{NoMemory}
 use Rattle.coco_shard.specs.declared.ops.Ask.{Ask}
@@ -19,7 +18,7 @@ use Rattle.coco_shard.specs.Memory.{is_lock}
 use Rattle.coco_shard.specs.RowState.{RowState, resting, row_at, with_row}
 use Rattle.coco_shard.specs.Table.{answer_in, answer_at, after_ask, left_by, key_of, leaves_row, may_make_row}
 use Rattle.coco_shard.specs.Kept.{Acts, Changes, Follows, state_of, kept_at, shown, view_of}
-use Rattle.coco_types.proofs.Keys.{is_key, one_key, keys_total}
+use Rattle.coco_types.proofs.Keys.{is_key, one_key}
 use Rattle.coco_types.proofs.KeyMaps.{get_key, get_put, get_taken, same_keyed}
 
 -- what a row says, where there is one
@@ -42,10 +41,6 @@ same_view es fs h = same_keyed _ _ (λ q. get_view fs q ∙ h q ∙ sym (get_vie
 
 pub written_view : (es fs : List (RowKey × Row)) (k : RowKey) (row : RowState) → ((q : RowKey) → state_in (kept_at fs q) ≡ cond (is_key k q) (Some row) (state_in (kept_at es q))) → view_of fs ≡ insert (view_of es) k row
 written_view es fs k row h = same_keyed _ _ (λ q. get_view fs q ∙ h q ∙ ap (cond (is_key k q) (Some row)) (sym (get_view es q)) ∙ sym (get_put (view_of es) k row q))
-
--- the entries after a row is put back, at each key
-pub set_at : (es : List (RowKey × Row)) (k : RowKey) (before after : Row) (q : RowKey) → kept_at es k ≡ Some before → kept_at (set_value (is_at (key_cmp k)) es after) q ≡ cond (is_key k q) (Some after) (kept_at es q)
-set_at es k before after q was = lookup-set_value (eq_by_cmp_equiv keys_total) (is_at (key_cmp k)) (λ x y h. ap (λ z. is_at (key_cmp z) y) (one_key k x h)) q after es (rw was refl)
 
 -- what the state says of the row of a key
 pub row_in : (es : List (RowKey × Row)) (k : RowKey) (kept : Row) → kept_at es k ≡ Some kept → row_at (view_of es) k ≡ state_of kept

@@ -1,78 +1,25 @@
 -- The values and times of a shard's rows.
-use Rattle.std.proofs.Common.{◌≡◌, ℕ, ◌≤◌, Bool, true, false, cond, ◌||◌, not, max, List, [], ◌∷◌, ◌++◌, Option, None, Some, refl, sym, ap, ◌∙◌, arith, inl, inr, ◌⊎◌}
-use Rattle.std.specs.Option.{option_map}
-use Rattle.std.specs.List.{AllByRecursion, list_any}
-use Rattle.std.specs.List.Sorted.{IsStrictlySortedBy}
-use Rattle.std.specs.Map.{keys_of, lookup}
+use Rattle.std.proofs.Common.{◌≡◌, ℕ, ◌≤◌, Bool, true, false, cond, ◌||◌, not, max, List, [], ◌∷◌, Option, None, Some, refl, sym, ap, ◌∙◌, arith, inl, inr, ◌⊎◌}
+use Rattle.std.specs.Option.{option_and_then, option_map}
+use Rattle.std.specs.List.{list_any}
 use Rattle.std.specs.BTreeMap.{is_at}
-use Rattle.std.specs.declared.cmp.Ordering.TheVariants.{Less}
 use Rattle.std.proofs.lemmas.Bool.{cases_lt}
-use Rattle.std.proofs.lemmas.Cmp.{eq_by_cmp_equiv}
-use Rattle.std.proofs.lemmas.Map.{lookup-none}
-use Rattle.std.proofs.lemmas.Map.Entries.{none_past_head}
-use Rattle.std.proofs.lemmas.Map.Keys.{IsDistinct-from_sorted, sorted_head, sorted_tail}
 use Rattle.coco_types.specs.RowKey.{RowKey, key_cmp}
 use Rattle.coco_types.specs.declared.value.Value.{Value}
-use Rattle.coco_rows.specs.Versions.{at_rest, is_touched}
+use Rattle.coco_rows.specs.Versions.{at_rest, is_touched, version_of}
 use Rattle.coco_rows.specs.declared.Row.{Row}
+use Rattle.coco_rows.specs.Listing.{IsRising}
+use Rattle.coco_rows.proofs.Parts.{part_rises, value_of_part}
 use Rattle.coco_shard.specs.RowState.{resting, row_at, value_at, Holds, IsSettled, ListsRows, IsGreatestTime}
-use Rattle.coco_shard.specs.Kept.{IsWhole, kept_at, version_of, entry_of, values_in, most_rts, rts_of, settled, view_of, state_of}
-use Rattle.coco_types.proofs.Keys.{is_key, keys_total, one_key}
+use Rattle.coco_shard.specs.Kept.{IsWhole, kept_at, values_in, most_rts, rts_of, settled, view_of, state_of}
+use Rattle.coco_types.proofs.Keys.{is_key, one_key}
 use Rattle.coco_types.proofs.KeyMaps.{same_keyed}
 use Rattle.coco_shard.proofs.Entries.{get_view, state_in, row_in, no_row_in}
 
-abbrev IsRising : List (RowKey × Row) → Type 0
-IsRising es = IsStrictlySortedBy key_cmp (keys_of es)
-
-tail_rises : (e : RowKey × Row) (es : List (RowKey × Row)) → IsRising (e ∷ es) → IsRising es
-tail_rises e es rising = sorted_tail key_cmp e.0 (keys_of es) rising
-
--- the first key stands once
-once_first : (e : RowKey × Row) (es : List (RowKey × Row)) (k : RowKey) → IsRising (e ∷ es) → is_key k e.0 ≡ true → kept_at es k ≡ None
-once_first e es k rising t = lookup-none (is_at (key_cmp k)) es (none_past_head (eq_by_cmp_equiv keys_total) k e es (IsDistinct-from_sorted key_cmp (keys_of (e ∷ es)) rising) t)
-
 -- ---- the values of one version
 
-all_kept : (P : RowKey → Type 0) (newest : Bool) (es : List (RowKey × Row)) → AllByRecursion P (keys_of es) → AllByRecursion P (keys_of (values_in newest es))
-all_kept P newest [] all = all
-all_kept P newest (e ∷ es) all =
-    elim (version_of newest e.1) as (λ v. AllByRecursion P (keys_of (entry_of e.0 v ++ values_in newest es))) [
-      | None ↦ all_kept P newest es all.1
-      | Some v ↦ (all.0, all_kept P newest es all.1)
-    ]
-
-values_rise : (newest : Bool) (es : List (RowKey × Row)) → IsRising es → IsStrictlySortedBy key_cmp (keys_of (values_in newest es))
-unfolding IsStrictlySortedBy
-values_rise newest [] rising = rising
-values_rise newest (e ∷ es) rising =
-    let rest : IsStrictlySortedBy key_cmp (keys_of (values_in newest es)) = values_rise newest es (tail_rises e es rising) in
-    let above : AllByRecursion (λ y. key_cmp e.0 y ≡ Less) (keys_of (values_in newest es)) = all_kept (λ y. key_cmp e.0 y ≡ Less) newest es (sorted_head key_cmp e.0 (keys_of es) rising) in
-    elim (version_of newest e.1) as (λ v. IsStrictlySortedBy key_cmp (keys_of (entry_of e.0 v ++ values_in newest es))) [
-      | None ↦ rest
-      | Some v ↦ (above, rest)
-    ]
-
-abbrev value_in : Bool → Option Row → Option Value
-value_in newest None = None
-value_in newest (Some kept) = version_of newest kept
-
-lookup_values : (newest : Bool) (es : List (RowKey × Row)) (k : RowKey) → IsRising es → lookup (is_at (key_cmp k)) (values_in newest es) ≡ value_in newest (kept_at es k)
-lookup_values newest [] k rising = refl
-lookup_values newest (e ∷ es) k rising =
-    let rest : lookup (is_at (key_cmp k)) (values_in newest es) ≡ value_in newest (kept_at es k) = lookup_values newest es k (tail_rises e es rising) in
-    elim (version_of newest e.1) as (λ v. version_of newest e.1 ≡ v → lookup (is_at (key_cmp k)) (entry_of e.0 v ++ values_in newest es) ≡ value_in newest (cond (is_key k e.0) (Some e.1) (kept_at es k))) [
-      | None ↦ λ is. rest ∙ elim (is_key k e.0) as (λ b. is_key k e.0 ≡ b → value_in newest (kept_at es k) ≡ value_in newest (cond b (Some e.1) (kept_at es k))) [
-        | true ↦ λ t. ap (value_in newest) (once_first e es k rising t) ∙ sym is
-        | false ↦ λ _. refl
-      ] refl
-      | Some v ↦ λ is. elim (is_key k e.0) as (λ b. cond b (Some v) (lookup (is_at (key_cmp k)) (values_in newest es)) ≡ value_in newest (cond b (Some e.1) (kept_at es k))) [
-        | true ↦ sym is
-        | false ↦ rest
-      ]
-    ] refl
-
-value_of_kept : (stable : Bool) (es : List (RowKey × Row)) (k : RowKey) → value_in (not stable) (kept_at es k) ≡ value_at stable (view_of es) k
-value_of_kept stable es k = elim (kept_at es k) as (λ o. kept_at es k ≡ o → value_in (not stable) o ≡ value_at stable (view_of es) k) [
+value_of_kept : (stable : Bool) (es : List (RowKey × Row)) (k : RowKey) → option_and_then (version_of (not stable)) (kept_at es k) ≡ value_at stable (view_of es) k
+value_of_kept stable es k = elim (kept_at es k) as (λ o. kept_at es k ≡ o → option_and_then (version_of (not stable)) o ≡ value_at stable (view_of es) k) [
   | None ↦ λ e. none_of stable ∙ sym (ap (λ row. cond stable row.stable row.newest) (no_row_in es k e))
   | Some kept ↦ λ e. some_of stable kept ∙ sym (ap (λ row. cond stable row.stable row.newest) (row_in es k kept e))
 ] refl
@@ -87,8 +34,8 @@ value_of_kept stable es k = elim (kept_at es k) as (λ o. kept_at es k ≡ o →
 
 pub lists_rows : (stable : Bool) (es : List (RowKey × Row)) → IsRising es → ListsRows (value_at stable (view_of es)) (values_in (not stable) es)
 lists_rows stable es rising = record {
-  rising = values_rise (not stable) es rising;
-  each = λ k. lookup_values (not stable) es k rising ∙ value_of_kept stable es k;
+  rising = part_rises (version_of (not stable)) es rising;
+  each = λ k. value_of_part (version_of (not stable)) es k rising ∙ value_of_kept stable es k;
 }
 
 -- ---- the greatest read time
@@ -157,7 +104,7 @@ rest_kept value = at_rest (Some value)
 
 settled_state : (stable : Bool) (es : List (RowKey × Row)) (k : RowKey) → state_in (settled (not stable) (kept_at es k)) ≡ option_map (λ value. resting (Some value)) (value_at stable (view_of es) k)
 settled_state stable es k =
-    elim (kept_at es k) as (λ o. state_in (settled (not stable) o) ≡ option_map (λ value. resting (Some value)) (value_in (not stable) o)) [
+    elim (kept_at es k) as (λ o. state_in (settled (not stable) o) ≡ option_map (λ value. resting (Some value)) (option_and_then (version_of (not stable)) o)) [
       | None ↦ refl
       | Some kept ↦ elim (version_of (not stable) kept) as (λ v. state_in (option_map rest_kept v) ≡ option_map (λ value. resting (Some value)) v) [ None ↦ refl | Some v ↦ refl ]
     ] ∙ ap (option_map (λ value. resting (Some value))) (value_of_kept stable es k)

@@ -1,8 +1,7 @@
 -- How a shard keeps its rows, and the list of the keys of those that are touched.
-use Rattle.std.specs.Prelude.{◌≡◌, ℕ, ◌+◌, ◌≤◌, Bool, true, false, if◌then◌else◌, max, List, [], ◌∷◌, ◌++◌, ◌⊎◌, length, map, sum_by, Option, None, Some, IsSome, Result, OnOk, OnErr}
-use Rattle.std.specs.List.{list_any}
-use Rattle.std.specs.Option.{unwrap_or, option_map}
-use Rattle.std.specs.Map.{lookup, set_value, values_of}
+use Rattle.std.specs.Prelude.{◌≡◌, ℕ, Bool, true, if◌then◌else◌, max, List, [], ◌∷◌, ◌⊎◌, map, Option, None, Some, Result, OnOk, OnErr}
+use Rattle.std.specs.Option.{unwrap_or}
+use Rattle.std.specs.Map.{set_value}
 use Rattle.std.specs.BTreeMap.{is_at}
 use Rattle.std.specs.FinMap.{from_entries, insert}
 use Rattle.coco_types.specs.RowKey.{RowKey, key_cmp}
@@ -11,7 +10,10 @@ use Rattle.coco_types.specs.declared.value.Value.{Value}
 use Rattle.coco_types.specs.declared.call.AttemptId.{AttemptId}
 use Rattle.coco_rows.specs.declared.Row.{Row}
 use Rattle.coco_rows.specs.declared.Newest.TheVariants.{AsStable}
-use Rattle.coco_rows.specs.Versions.{newest_of, at_rest, is_touched}
+use Rattle.coco_rows.specs.Listing as listing
+use Rattle.coco_rows.specs.Listing.{IsListing, part_of}
+pub use Rattle.coco_rows.specs.Listing.{entry_of, kept_at}
+use Rattle.coco_rows.specs.Versions.{newest_of, is_touched, version_of, row_kind}
 use Rattle.coco_shard.specs.declared.ops.Op.{Op}
 use Rattle.coco_shard.specs.declared.ops.Ask.{Ask}
 use Rattle.coco_shard.specs.declared.ops.Answer.{Answer}
@@ -29,11 +31,7 @@ pub record Follows (before after : Row) (by : AttemptId) (op : Op) (answer : Ans
 
 -- a row that isn't touched is as the last promote or revert left it
 abbrev pub IsSound : Row → Type 0
-IsSound row = is_touched row ≡ false → (row ≡ at_rest row.stable) × IsSome row.stable
-
--- a map's entry at a key
-abbrev pub kept_at : List (RowKey × Row) → RowKey → Option Row
-kept_at es k = lookup (is_at (key_cmp k)) es
+IsSound = listing.IsSound row_kind
 
 -- what contracts see of an entry, and of all of them
 abbrev pub shown : RowKey × Row → RowKey × RowState
@@ -42,16 +40,9 @@ shown e = (e.0, state_of e.1)
 abbrev pub view_of : List (RowKey × Row) → ShardState
 view_of es = from_entries (map shown es)
 
--- 1 where the row's key isn't in the list of touched keys
-abbrev pub waits : Row → ℕ
-waits row = if is_touched row then 0 else 1
-
 -- The list has the key of each touched row, once, and room for the key of every row.
-pub record IsWhole (es : List (RowKey × Row)) (touched : List RowKey) (capacity : ℕ) : Type 0 where
-  pub sound : (k : RowKey) (row : Row) → kept_at es k ≡ Some row → IsSound row
-  pub listed : (k : RowKey) (row : Row) → kept_at es k ≡ Some row → is_touched row ≡ true → list_any (is_at (key_cmp k)) touched ≡ true
-  pub once : length touched + sum_by waits (values_of es) ≤ length es
-  pub room : length es ≤ capacity
+abbrev pub IsWhole : List (RowKey × Row) → List RowKey → ℕ → Type 0
+IsWhole = IsListing row_kind
 
 -- the row, noted as touched
 abbrev pub noted : Bool → Row → Row
@@ -63,27 +54,13 @@ pub record SetsRow (old new : List (RowKey × Row)) (k : RowKey) (row : Row) : T
   pub was : kept_at old k ≡ Some before
   pub put : new ≡ set_value (is_at (key_cmp k)) old (noted (is_touched before) row)
 
--- the version that a row ends an epoch with: the newest, or the stable one
-abbrev pub version_of : Bool → Row → Option Value
-version_of promotes row = if promotes then newest_of row else row.stable
-
-abbrev pub rested : Bool → Row → Row
-rested promotes row = at_rest (version_of promotes row)
-
 -- what is left of a row at an epoch's end: nothing, where it has no value
 abbrev pub settled : Bool → Option Row → Option Row
-settled promotes None = None
-settled promotes (Some row) = option_map (λ value. at_rest (Some value)) (version_of promotes row)
-
--- a key with its value, where it has one
-abbrev pub entry_of : RowKey → Option Value → List (RowKey × Value)
-entry_of k None = []
-entry_of k (Some value) = (k, value) ∷ []
+settled = listing.settled row_kind
 
 -- the keys that have a value in one of the versions, each with it
 abbrev pub values_in : Bool → List (RowKey × Row) → List (RowKey × Value)
-values_in newest [] = []
-values_in newest (e ∷ es) = entry_of e.0 (version_of newest e.1) ++ values_in newest es
+values_in newest = part_of (version_of newest)
 
 -- a key's read time; a missing row has none
 abbrev pub rts_of : Option Row → ℕ

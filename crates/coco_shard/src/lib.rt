@@ -5,7 +5,6 @@ mod kept;
 pub mod law;
 pub mod ops;
 pub mod packed;
-mod settle;
 pub mod shard;
 mod table;
 mod tail;

@@ -11,12 +11,11 @@ ghost use Rattle.coco_shard.specs.Table.{after_ask, answer_in, installed, extend
 
 use crate::kept::read;
 use crate::ops::{Answer, Ask, Op};
-use crate::settle::settle;
 use crate::table::{act_on_missing, act_on_rows, drop_loaded, load_row, stable_of};
 use crate::tail::{put_row, read_row};
 use crate::values::{add_keys, greatest, values};
 use coco_packs::AnswersInPlace;
-use coco_rows::{Rooms, Row};
+use coco_rows::{Rooms, Row, settle};
 use coco_types::{Key, Machine, MapRows, NoMemory, Value};
 use std::alloc::Global;
 use std::collections::BTreeMap;

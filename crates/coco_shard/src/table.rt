@@ -1,9 +1,7 @@
 //! The operations on the map of rows, with the list of touched keys that always has room for every row.
 
-ghost use Rattle.std.specs.Prelude.{◌≡◌, ◌⊎◌, ◌+◌, ◌^◌, ◌<◌, ◌≤◌, ◌++◌, ◌∷◌, [], if◌then◌else◌, cond, true, false, None, Some, IsSome, IfNone, IfSome, IfOk, OnOk, OnErr, length, vec_len, vec_capacity};
-ghost use Rattle.std.specs.BTreeMap.{is_at};
-ghost use Rattle.coco_types.specs.RowKey.{RowKey, key_cmp};
-ghost use Rattle.coco_shard.specs.Kept.{Acts, IsSound, IsWhole, SetsRow, kept_at, view_of};
+ghost use Rattle.std.specs.Prelude.{◌≡◌, ◌⊎◌, true, false, None, Some, IsSome, IfNone, IfSome, IfOk, OnOk, OnErr, vec_capacity};
+ghost use Rattle.coco_shard.specs.Kept.{Acts, IsWhole, SetsRow, kept_at, view_of};
 ghost use Rattle.coco_shard.specs.Memory.{is_lock};
 ghost use Rattle.coco_shard.specs.RowState.{IsSettled, resting, stable_at};
 ghost use Rattle.coco_types.specs.Packing.{IsText};
@@ -13,8 +11,7 @@ ghost use Rattle.coco_shard.specs.Table.{key_of, leaves_row};
 
 use crate::kept::{act, touch};
 use crate::ops::{Answer, Ask, Op};
-use crate::settle::{drop_row, settle};
-use coco_rows::{Newest, Room, Rooms, Row, Stored};
+use coco_rows::{Newest, Room, Rooms, Row, Stored, add_row, drop_row, list_key, settle};
 use coco_types::{Key, NoMemory, Value};
 use std::collections::BTreeMap;
 
@@ -90,50 +87,6 @@ fn leaves_row(answer: &Answer) -> bool
         Answer::Extended | Answer::Installed | Answer::Released => true,
         Answer::Marked { .. } | Answer::Changed { .. } => false,
         Answer::NotMine { .. } | Answer::Stood(_) => false,
-    }
-}
-
-// Makes both rooms for a new row, and then puts it there.
-pub fn add_row(
-    rows: &mut BTreeMap<Key, Row>,
-    touched: &mut Vec<Key>,
-    key: Key,
-    row: Row,
-) -> Result<(), NoMemory>
-    requires whole { IsWhole rows.old.entries touched.old.items (vec_capacity touched.old) }
-    requires missing { kept_at rows.old.entries key ≡ None }
-    requires sound { IsSound row }
-    ensures whole { IsWhole rows.new.entries touched.new.items (vec_capacity touched.new) }
-    ensures ok { OnOk result ((q : RowKey) → kept_at rows.new.entries q ≡ cond (is_at (key_cmp key) q) (Some row) (kept_at rows.old.entries q)) }
-    ensures err { OnErr result (rows.new.entries ≡ rows.old.entries) }
-{
-    let touches = row.is_touched();
-    make_room(touched, rows.len())?;
-    rows.insert(key, row)?;
-    list_key(touched, key, touches);
-    Ok(())
-}
-
-// Makes room in the list for one key more than there are rows.
-fn make_room(touched: &mut Vec<Key>, rows: usize) -> Result<(), NoMemory>
-    requires few { rows < 2 ^ 63 }
-    requires each_once { vec_len touched.old ≤ rows }
-    ensures items { touched.new.items ≡ touched.old.items }
-    ensures ok { OnOk result (rows + 1 ≤ vec_capacity touched.new) }
-    ensures capacity { vec_capacity touched.old ≤ vec_capacity touched.new }
-{
-    touched.reserve(rows + 1 - touched.len())?;
-    Ok(())
-}
-
-// Puts a key into the list where it is touched for the first time. The room is there.
-pub fn list_key(touched: &mut Vec<Key>, key: Key, touches: bool)
-    requires { touches ≡ true → vec_len touched.old < vec_capacity touched.old }
-    ensures items { touched.new.items ≡ (if touches then touched.old.items ++ key ∷ [] else touched.old.items) }
-    ensures capacity { vec_capacity touched.old ≤ vec_capacity touched.new }
-{
-    if touches {
-        let _ = touched.push(key);
     }
 }
 

@@ -7,8 +7,7 @@ ghost use Rattle.coco_shard.specs.RowState.{newest_at};
 ghost use Rattle.coco_shard.specs.Table.{extended, installed};
 
 use crate::kept::{put, raise_read_time, touch};
-use crate::table::{add_row, list_key};
-use coco_rows::{Room, Rooms, Row};
+use coco_rows::{Room, Rooms, Row, add_row, list_key};
 use coco_types::{Key, NoMemory, Value};
 use std::collections::BTreeMap;
 

@@ -4,7 +4,8 @@ ghost use Rattle.std.specs.Prelude.{◌≡◌, ◌++◌, false, OnOk, IfOk};
 ghost use Rattle.std.specs.Map.{keys_of};
 ghost use Rattle.std.specs.List.Sorted.{IsStrictlySortedBy};
 ghost use Rattle.coco_types.specs.RowKey.{key_cmp};
-ghost use Rattle.coco_shard.specs.Kept.{version_of, entry_of, kept_at, values_in, most_rts, rts_of};
+ghost use Rattle.coco_rows.specs.Versions.{version_of};
+ghost use Rattle.coco_shard.specs.Kept.{entry_of, kept_at, values_in, most_rts, rts_of};
 
 use coco_rows::Row;
 use coco_types::{Key, NoMemory, Value};

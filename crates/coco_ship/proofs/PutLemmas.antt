@@ -2,7 +2,7 @@
 use Rattle.std.proofs.Common.{◌≡◌, ℕ, ◌+◌, ◌<◌, ◌≤◌, ◌&&◌, nat_le, Bool, true, false, cond, List, [], ◌∷◌, ◌++◌, length, take, get_or, Option, None, Some, refl, sym, ap, ◌∙◌, subst, arith, inl, inr, ◌⊎◌}
 use Rattle.std.specs.List.{Contains}
 use Rattle.std.specs.FinMap.{get, insert}
-use Rattle.std.proofs.lemmas.Bool.{eq-eqb, leb-true, le-leb, leb-false}
+use Rattle.std.proofs.lemmas.Bool.{eq-eqb, leb-true, le-leb, leb-false, and_from}
 use Rattle.std.proofs.lemmas.List.{take_more}
 use Rattle.std.proofs.lemmas.List.Elements.{Contains-append_left, Contains-append_right}
 use Rattle.std.proofs.lemmas.List.Folds.{list_all-append}
@@ -22,15 +22,11 @@ both_are : (a b : Bool) → (a && b) ≡ true → (a ≡ true) × (b ≡ true)
 both_are true b h = (refl, h)
 both_are false b h = cc
 
-and_is : (a b : Bool) → a ≡ true → b ≡ true → (a && b) ≡ true
-and_is true b h k = k
-and_is false b h k = cc
-
 pub covers_grows : (old new : CopyState) → Grows old new → (time : ℕ) (ws : List Write) → covers old time ws ≡ true → covers new time ws ≡ true
 covers_grows old new grows time [] h = refl
 covers_grows old new grows time (w ∷ ws) h =
     let parts = both_are (covers_at (get old.pending w.key) time) (covers old time ws) h in
-    and_is (covers_at (get new.pending w.key) time) (covers new time ws) (grows w.key time parts.0) (covers_grows old new grows time ws parts.1)
+    and_from (covers_at (get new.pending w.key) time) (covers new time ws) (grows w.key time parts.0) (covers_grows old new grows time ws parts.1)
 
 pub puts_none : (time : ℕ) (s : CopyState) → Puts time [] s s
 puts_none time s = record { epoch_stays = refl; stable_stays = refl; pending = λ k. inl refl; grows = λ k t h. h }
@@ -102,4 +98,4 @@ puts_more ws i time w s m t h is first second =
 pub covers_more : (ws : List Write) (i time : ℕ) (w : Write) (m t : CopyState) → i < length ws → w ≡ get_or ws i w → covers m time (take i ws) ≡ true → Grows m t → covers_at (get t.pending w.key) time ≡ true → covers t time (take (i + 1) ws) ≡ true
 covers_more ws i time w m t h is before grows here =
     ap (covers t time) (take_more ws i w h ∙ ap (λ v. take i ws ++ v ∷ []) (sym is)) ∙ list_all-append (λ w. covers_at (get t.pending w.key) time) (take i ws) (w ∷ [])
-    ∙ and_is (covers t time (take i ws)) (covers_at (get t.pending w.key) time && true) (covers_grows m t grows time (take i ws) before) (and_is (covers_at (get t.pending w.key) time) true here refl)
+    ∙ and_from (covers t time (take i ws)) (covers_at (get t.pending w.key) time && true) (covers_grows m t grows time (take i ws) before) (and_from (covers_at (get t.pending w.key) time) true here refl)

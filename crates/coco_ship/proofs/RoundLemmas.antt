@@ -13,6 +13,7 @@ use Rattle.coco_msg.specs.declared.message.Message.{Message}
 use Rattle.coco_msg.specs.declared.message.Message.TheVariants.{Ship, Total, Missing, All}
 use Rattle.coco_msg.specs.Bytes.{bytes_of, IsMessage}
 use Rattle.coco_net.specs.declared.letter.Posted.{Posted}
+use Rattle.coco_net.specs.declared.net.Net.{Ghosts as NetGhosts}
 use Rattle.coco_net.specs.Mail.{letters_to}
 use Rattle.coco_copy.specs.CopyState.{CopyState}
 use Rattle.coco_ship.specs.declared.line.Line.{Line}
@@ -21,11 +22,11 @@ use Rattle.coco_ship.specs.Placing.{holder_of, primary_of, table_of, IsCopy, IsR
 use Rattle.coco_ship.specs.Pieces.{AreShippable, HasPieces, IsOf, IsWritten}
 use Rattle.coco_ship.specs.Letters.{all_of, letter_of, posted_of, ship_of, AreInside, AreOther, Gains, IsInside, IsOther}
 use Rattle.coco_ship.specs.Lines.{answered, AreLines, AreWaiting, IsLine}
-use Rattle.coco_ship.specs.Shipping.{news, AreBegun, ArePhase, AreWhole, AreWritten, IsPhase, IsSilent}
+use Rattle.coco_ship.specs.Shipping.{news, AreBegun, ArePhase, AreWhole, AreWritten, IsPhase, Owes}
 use Rattle.coco_ship.specs.Sending.{answer_of, ask_of, reply_of, AreAnswers, AreAsks, IsAnswer}
 use Rattle.coco_ship.specs.Taking.{Brings, Hears, OfBoth, OfTables}
-use Rattle.coco_ship.specs.Exchanges.{AreExchanges, AreOwersAsked}
-use Rattle.coco_ship.specs.Going.{AreHonest, AreTold, HasAnswered, IsDoneBy, IsGoing, IsHonest, IsLater, IsTold, IsWaitedFor, Passes, Unless}
+use Rattle.coco_ship.specs.Going.{AreHonest, AreTold, HasAnswered, IsDoneBy, IsGoing, IsHonest, IsTold, IsWaitedFor, Unless}
+use Rattle.coco_ship.specs.Rounds.{FitRing, Passes}
 use Rattle.coco_ship.proofs.DeliverLemmas.{holder_within, news_is, news_none, out_letters, primary_within}
 use Rattle.coco_ship.proofs.GoingLemmas.{all_there, answered_kept, answered_there, answers_all_there, answers_honest, asks_honest, honest_after, honest_both, honest_some, told_total}
 use Rattle.coco_ship.proofs.KeepLemmas.{honest_kept, lines_kept}
@@ -41,33 +42,21 @@ pub on_ok_two : {T E P Q R : Type 0} (r : Result T E) → (P → Q → R) → On
 on_ok_two (Ok x) both p q = both p q
 on_ok_two (Err e) both p q = tt
 
-pub on_ok_three : {T E P Q R S : Type 0} (r : Result T E) → (P → Q → R → S) → OnOk r P → OnOk r Q → OnOk r R → OnOk r S
-on_ok_three (Ok x) all p q s = all p q s
-on_ok_three (Err e) all p q s = tt
-
 -- ---- what is sent is of the phase, and stays inside
 
-inside_ask : (ring : Ring) (p j : ℕ) (m : Message) (s : Posted) → IsRing ring → s ≡ ask_of ring p j m → IsInside s
-inside_ask ring p j m s fit is =
+inside : (ring : Ring) (from to : ℕ) (m : Message) (s : Posted) → IsRing ring → from < ring.nodes → to < ring.nodes → s ≡ posted_of from to m → IsInside s
+inside ring from to m s fit from_in to_in is =
     let most : ring.nodes ≤ 8 = fit.nodes in
-    let from : primary_of ring p < ring.nodes = primary_within ring p fit in
-    let to : holder_of ring p j < ring.nodes = holder_within ring p j fit in
-    subst IsInside (sym is) (record { from = omega (arith, from, most); to = omega (arith, to, most) })
-
-inside_reply : (ring : Ring) (p j : ℕ) (m : Message) (s : Posted) → IsRing ring → s ≡ reply_of ring p j m → IsInside s
-inside_reply ring p j m s fit is =
-    let most : ring.nodes ≤ 8 = fit.nodes in
-    let to : primary_of ring p < ring.nodes = primary_within ring p fit in
-    let from : holder_of ring p j < ring.nodes = holder_within ring p j fit in
-    subst IsInside (sym is) (record { from = omega (arith, from, most); to = omega (arith, to, most) })
+    subst IsInside (sym is) (record { from = omega (arith, from_in, most); to = omega (arith, to_in, most) })
 
 pub asks_inside : (ring : Ring) (epoch : ℕ) (pieces : List Piece) (lines : List Line) (letters : List Posted) → IsRing ring → AreAsks ring epoch pieces lines letters → AreInside letters
 asks_inside ring epoch pieces lines letters fit asks i d h =
     let s : Posted = get_or letters i d in
     let by = asks.only s (Contains-get_or letters i d h) in
+    let asked : (m : Message) → s ≡ ask_of ring by.0 by.1 m → IsInside s = λ m is. inside ring (primary_of ring by.0) (holder_of ring by.0 by.1) m s fit (primary_within ring by.0 fit) (holder_within ring by.0 by.1 fit) is in
     elim by.3 [
-      | inl ships ↦ inside_ask ring by.0 by.1 (ship_of epoch ships.0) s fit ships.2
-      | inr tells ↦ inside_ask ring by.0 by.1 (Total epoch by.0 tells.0.all) s fit tells.2
+      | inl ships ↦ asked (ship_of epoch ships.0) ships.2
+      | inr tells ↦ asked (Total epoch by.0 tells.0.all) tells.2
     ]
 
 pub asks_phase : (ring : Ring) (epoch : ℕ) (pieces : List Piece) (lines : List Line) (letters : List Posted) → AreAsks ring epoch pieces lines letters → ArePhase epoch letters
@@ -84,7 +73,7 @@ answers_inside ring epoch lines letters fit answers i d h =
     let s : Posted = get_or letters i d in
     let by = answers.only s (Contains-get_or letters i d h) in
     let answer : IsAnswer ring epoch by.0 by.1 by.3.0 s = by.3.2 in
-    inside_reply ring by.0 by.1 (answer_of epoch by.0 answer.missing) s fit answer.is
+    inside ring (holder_of ring by.0 by.1) (primary_of ring by.0) (answer_of epoch by.0 answer.missing) s fit (holder_within ring by.0 by.1 fit) (primary_within ring by.0 fit) answer.is
 
 pub answers_phase : (ring : Ring) (epoch : ℕ) (lines : List Line) (letters : List Posted) → AreAnswers ring epoch lines letters → ArePhase epoch letters
 answers_phase ring epoch lines letters answers i d h =
@@ -111,37 +100,59 @@ gained old new these is = is ∙ ap (λ (ps : List Posted). old ++ ps) (sym (new
 pub none_given : (sent given given' : List Posted) → given' ≡ given → Each (Contains sent) (news given given')
 none_given sent given given' same = subst (Each (Contains sent)) (sym (news_none given given' same)) (λ i d h. absurd (omega (arith, h)))
 
-pub passes_given : (ring : Ring) (epoch : ℕ) (sent given : List Posted) (tables : List CopyState) (sent' given' : List Posted) (tables' : List CopyState) (xs : List Posted) → sent' ≡ sent ++ xs → given' ≡ given ++ news given given'
-    → ArePhase epoch xs → OfTables ring (Brings ring epoch (news given given')) tables tables' → Each (λ t. t.epoch ≡ epoch) tables' → Each (Contains sent') (news given given') → Passes ring epoch sent given tables sent' given' tables'
-passes_given ring epoch sent given tables sent' given' tables' xs sends gives phase gains begun were_sent = record {
-  sends = gained sent sent' xs sends;
-  gives = gives;
-  phase = subst (ArePhase epoch) (sym (news_is sent sent' xs sends)) phase;
-  gains = gains;
-  begun = begun;
-  were_sent = were_sent;
-}
+-- it has gained nothing
+pub news_own : (sent : List Posted) → sent ≡ sent ++ news sent sent
+news_own sent = gained sent sent [] (sym (append-nil sent))
 
--- letters were sent, and nothing else happened
-pub passes_sent : (ring : Ring) (epoch : ℕ) (sent given : List Posted) (tables : List CopyState) (sent' given' : List Posted) (xs : List Posted) → sent' ≡ sent ++ xs → given' ≡ given
-    → ArePhase epoch xs → Each (λ t. t.epoch ≡ epoch) tables → Passes ring epoch sent given tables sent' given' tables
-passes_sent ring epoch sent given tables sent' given' xs sends gives phase begun =
-    passes_given ring epoch sent given tables sent' given' tables xs sends (gained given given' [] (gives ∙ sym (append-nil given))) phase (brings_none ring epoch (news given given') tables) begun (none_given sent' given given' gives)
+pub none_phase : (epoch : ℕ) (sent : List Posted) → ArePhase epoch (news sent sent)
+none_phase epoch sent = subst (ArePhase epoch) (sym (news_none sent sent refl)) (λ i d h. absurd (omega (arith, h)))
 
-pub passes_none : (ring : Ring) (epoch : ℕ) (sent given : List Posted) (tables : List CopyState) → Each (λ t. t.epoch ≡ epoch) tables → Passes ring epoch sent given tables sent given tables
-passes_none ring epoch sent given tables begun = passes_sent ring epoch sent given tables sent given [] (sym (append-nil sent)) refl (λ i d h. absurd (omega (arith, h))) begun
+module _ {N : Type 0} {nets : NetGhosts N} where
+  -- these letters were sent, and these given
+  passes_by : {ring : Ring} {epoch : ℕ} {ms : List Line} {us : List CopyState} (net net' : N) (ts : List CopyState) (xs ys : List Posted) → FitRing ring epoch ms us → nets.sent net' ≡ nets.sent net ++ xs → nets.given net' ≡ nets.given net ++ ys
+      → ArePhase epoch xs → OfTables ring (Brings ring epoch ys) ts us → Each (Contains (nets.sent net')) ys → nets.faults net ≤ nets.faults net' → nets.last_seed net' ≡ nets.last_seed net → Passes nets ring epoch net ts net' ms us
+  passes_by {ring} {epoch} {ms} {us} net net' ts xs ys fit sent given phase gains were_sent faults seed =
+      let given_is : ys ≡ news (nets.given net) (nets.given net') = sym (news_is (nets.given net) (nets.given net') ys given) in
+      record {
+        sends = gained (nets.sent net) (nets.sent net') xs sent;
+        gives = gained (nets.given net) (nets.given net') ys given;
+        phase = subst (ArePhase epoch) (sym (news_is (nets.sent net) (nets.sent net') xs sent)) phase;
+        gains = subst (λ (ps : List Posted). OfTables ring (Brings ring epoch ps) ts us) given_is gains;
+        fit = fit;
+        were_sent = subst (Each (Contains (nets.sent net'))) given_is were_sent;
+        faults_rise = faults;
+        seed_stays = seed;
+      }
 
-pub passes_then : (ring : Ring) (epoch : ℕ) (s0 g0 : List Posted) (t0 : List CopyState) (s1 g1 : List Posted) (t1 : List CopyState) (s2 g2 : List Posted) (t2 : List CopyState) → length t1 ≡ ring.partitions * ring.copies
-    → Passes ring epoch s0 g0 t0 s1 g1 t1 → Passes ring epoch s1 g1 t1 s2 g2 t2 → Passes ring epoch s0 g0 t0 s2 g2 t2
-passes_then ring epoch s0 g0 t0 s1 g1 t1 s2 g2 t2 count first second =
-    let sent : s2 ≡ s0 ++ (news s0 s1 ++ news s1 s2) = joined s0 s1 s2 first.sends second.sends in
-    let given : g2 ≡ g0 ++ (news g0 g1 ++ news g1 g2) = joined g0 g1 g2 first.gives second.gives in
-    passes_given ring epoch s0 g0 t0 s2 g2 t2 (news s0 s1 ++ news s1 s2) sent (gained g0 g2 (news g0 g1 ++ news g1 g2) given)
-    (All-append (λ (s : Posted). (m : Message) × IsPhase epoch m × (s.letter.bytes ≡ bytes_of m)) (news s0 s1) (news s1 s2) first.phase second.phase)
-    (subst (λ (ps : List Posted). OfTables ring (Brings ring epoch ps) t0 t2) (sym (news_is g0 g2 (news g0 g1 ++ news g1 g2) given)) (brings_both ring epoch (news g0 g1) (news g1 g2) t0 t1 t2 count first.gains second.gains))
-    second.begun
-    (subst (Each (Contains s2)) (sym (news_is g0 g2 (news g0 g1 ++ news g1 g2) given))
-    (All-append (Contains s2) (news g0 g1) (news g1 g2) (λ i d h. subst (λ (ps : List Posted). Contains ps (get_or (news g0 g1) i d)) (sym second.sends) (Contains-append_left s1 (news s1 s2) (get_or (news g0 g1) i d) (first.were_sent i d h))) second.were_sent))
+  -- letters were given, and none was sent
+  pub passes_given : {ring : Ring} {epoch : ℕ} {ms : List Line} {us : List CopyState} (net net' : N) (ts : List CopyState) (ys : List Posted) → FitRing ring epoch ms us → nets.sent net' ≡ nets.sent net → nets.given net' ≡ nets.given net ++ ys
+      → OfTables ring (Brings ring epoch ys) ts us → Each (Contains (nets.sent net)) ys → nets.faults net ≤ nets.faults net' → nets.last_seed net' ≡ nets.last_seed net → Passes nets ring epoch net ts net' ms us
+  passes_given net net' ts ys fit sent given gains were_sent faults seed =
+      passes_by net net' ts [] ys fit (sent ∙ sym (append-nil (nets.sent net))) given (λ i d h. absurd (omega (arith, h))) gains (subst (λ (z : List Posted). Each (Contains z) ys) (sym sent) were_sent) faults seed
+
+  -- letters were sent, and none was given
+  pub passes_sent : {ring : Ring} {epoch : ℕ} {ms : List Line} {us : List CopyState} (net net' : N) (xs : List Posted) → FitRing ring epoch ms us → ArePhase epoch xs → nets.sent net' ≡ nets.sent net ++ xs → nets.given net' ≡ nets.given net
+      → nets.faults net' ≡ nets.faults net → nets.last_seed net' ≡ nets.last_seed net → Passes nets ring epoch net us net' ms us
+  passes_sent {ring} {epoch} {ms} {us} net net' xs fit phase sent given faults seed =
+      passes_by net net' us xs [] fit sent (given ∙ sym (append-nil (nets.given net))) phase (brings_none ring epoch [] us) (λ i d h. absurd (omega (arith, h))) (omega (arith, faults)) seed
+
+  pub passes_none : {ring : Ring} {epoch : ℕ} {ms : List Line} {us : List CopyState} (net : N) → FitRing ring epoch ms us → Passes nets ring epoch net us net ms us
+  passes_none net fit = passes_sent net net [] fit (λ i d h. absurd (omega (arith, h))) (sym (append-nil (nets.sent net))) refl refl refl
+
+  pub passes_then : {ring : Ring} {epoch : ℕ} {a b c : N} {ts us vs : List CopyState} {ms ns : List Line} → Passes nets ring epoch a ts b ms us → Passes nets ring epoch b us c ns vs → Passes nets ring epoch a ts c ns vs
+  passes_then {ring} {epoch} {a} {b} {c} {ts} {us} {vs} one two =
+      let xs = news (nets.sent a) (nets.sent b) in
+      let ys = news (nets.given a) (nets.given b) in
+      passes_by a c ts (xs ++ news (nets.sent b) (nets.sent c)) (ys ++ news (nets.given b) (nets.given c)) two.fit (joined (nets.sent a) (nets.sent b) (nets.sent c) one.sends two.sends) (joined (nets.given a) (nets.given b) (nets.given c) one.gives two.gives)
+      (All-append (λ (s : Posted). (m : Message) × IsPhase epoch m × (s.letter.bytes ≡ bytes_of m)) xs (news (nets.sent b) (nets.sent c)) one.phase two.phase)
+      (brings_both ring epoch ys (news (nets.given b) (nets.given c)) ts us vs one.fit.table_count one.gains two.gains)
+      (All-append (Contains (nets.sent c)) ys (news (nets.given b) (nets.given c))
+      (λ i d h. subst (λ (ps : List Posted). Contains ps (get_or ys i d)) (sym two.sends) (Contains-append_left (nets.sent b) (news (nets.sent b) (nets.sent c)) (get_or ys i d) (one.were_sent i d h))) two.were_sent)
+      (omega (arith, one.faults_rise, two.faults_rise)) (two.seed_stays ∙ one.seed_stays)
+
+-- lines that are changed in place are as many
+pub fit_lines : {ring : Ring} {epoch : ℕ} {ls ms : List Line} {ts : List CopyState} → FitRing ring epoch ls ts → length ms ≡ length ls → FitRing ring epoch ms ts
+fit_lines fit same = record { is_ring = fit.is_ring; line_count = same ∙ fit.line_count; table_count = fit.table_count; begun = fit.begun }
 
 -- a part of letters of the phase
 pub phase_front : (epoch : ℕ) (xs ys zs : List Posted) → xs ++ ys ≡ zs → ArePhase epoch zs → ArePhase epoch xs
@@ -349,9 +360,6 @@ answer_written ring epoch pieces posts sent letters old mid ts us fit lines tabl
     let said = going_answered ring epoch pieces sent letters old mid ts fit lines tables were answers going in
     written_kept ring epoch pieces posts mid ts us tables (honest_some ring epoch pieces mid (sent ++ letters) posts said.honest among) going.written brings
 
-pub tables_begun : (ring : Ring) (epoch : ℕ) (pieces : List Piece) (tables : List CopyState) → length tables ≡ ring.partitions * ring.copies → Each (λ t. t.epoch ≡ epoch) tables → AreWritten ring pieces tables → AreBegun ring epoch pieces tables
-tables_begun ring epoch pieces tables count begun written = record { count = count; begun = begun; written = written }
-
 pub exchange_faults : (f0 f1 f2 : ℕ) (P Q R : Type 0) → (P → Q → R) → Unless f0 f1 P → Unless f1 f2 Q → Unless f0 f2 R
 exchange_faults f0 f1 f2 P Q R both first second = elim first [
   | inl rose ↦ elim second [
@@ -407,57 +415,39 @@ whole_all ring epoch pieces sent lines tables fit count going all p j copy = by 
         whole ring epoch pieces p t fit (subst (λ o. IfSome o (IsWritten pieces p)) is (going.written p j copy)) (λ x of. fits.there x of (fits.done done x of))
 
 -- a line that is done now, and was not: its All was given
-pub was_given : (ring : Ring) (epoch : ℕ) (posts : List Posted) (ls : List Line) (ts : List CopyState) (ms : List Line) (us : List CopyState) → length ls ≡ ring.partitions * ring.copies → length ts ≡ ring.partitions * ring.copies
-    → length ms ≡ ring.partitions * ring.copies → length us ≡ ring.partitions * ring.copies → AreWaiting ring ls → OfBoth ring (IsDoneBy ring epoch posts) ls ts ms us → (node : ℕ) → HasAnswered ring ms node
-    → (p j : ℕ) → IsCopy ring p j → holder_of ring p j ≡ node → Contains posts (all_of ring epoch p j)
-was_given ring epoch posts ls ts ms us lines tables after tables' waiting done node all p j copy holds =
-    let l = item_at ring ls lines p j copy in
-    let t = item_at ring ts tables p j copy in
-    let m = item_at ring ms after p j copy in
-    let u = item_at ring us tables' p j copy in
+pub was_given : {ring : Ring} {epoch : ℕ} {ls ms : List Line} {ts us : List CopyState} (posts : List Posted) → FitRing ring epoch ls ts → FitRing ring epoch ms us → AreWaiting ring ls → OfBoth ring (IsDoneBy ring epoch posts) ls ts ms us
+    → (p j : ℕ) → IsCopy ring p j → HasAnswered ring ms (holder_of ring p j) → Contains posts (all_of ring epoch p j)
+was_given {ring} {epoch} {ls} {ms} {ts} {us} posts fit now waiting done p j copy all =
+    let l = item_at ring ls fit.line_count p j copy in
+    let t = item_at ring ts fit.table_count p j copy in
+    let m = item_at ring ms now.line_count p j copy in
+    let u = item_at ring us now.table_count p j copy in
     let here : IsDoneBy ring epoch posts p j l.0 t.0 m.0 u.0 = done p j copy l.0 t.0 m.0 u.0 l.1 t.1 m.1 u.1 in
-    elim (here.only (all p j copy holds m.0 m.1)) [
+    elim (here.only (all p j copy refl m.0 m.1)) [
       | inl old ↦ absurd (two_sides (sym old ∙ waiting p j copy l.0 l.1))
       | inr given ↦ given
     ]
 
-pub is_silent_then : (ring : Ring) (epoch : ℕ) (sent posts : List Posted) (ls : List Line) (ts : List CopyState) (ms : List Line) (us : List CopyState) (f0 f1 node : ℕ) → length ls ≡ ring.partitions * ring.copies → length ts ≡ ring.partitions * ring.copies
-    → length ms ≡ ring.partitions * ring.copies → length us ≡ ring.partitions * ring.copies → AreWaiting ring ls → OfBoth ring (IsDoneBy ring epoch posts) ls ts ms us
-    → IsWaitedFor ring ms node → ((n : ℕ) → n < node → HasAnswered ring ms n) → f0 + 16 ≤ f1 → AreExchanges 16 (AreOwersAsked ring epoch posts) sent f0 f1 → IsSilent ring epoch sent posts f0 f1 node
-is_silent_then ring epoch sent posts ls ts ms us f0 f1 node lines tables after tables' waiting done waited least faults exchanges = record {
-  faults = faults;
-  exchanges = exchanges;
-  owes = record {
-    p = waited.p;
-    j = waited.j;
-    is_copy = waited.is_copy;
-    holds = waited.holds;
-    lacks = λ has'.
-        let l = item_at ring ls lines waited.p waited.j waited.is_copy in
-        let t = item_at ring ts tables waited.p waited.j waited.is_copy in
-        let u = item_at ring us tables' waited.p waited.j waited.is_copy in
-        let here : IsDoneBy ring epoch posts waited.p waited.j l.0 t.0 waited.line u.0 = done waited.p waited.j waited.is_copy l.0 t.0 waited.line u.0 l.1 t.1 waited.here u.1 in
-        two_sides (sym (here.given_all has') ∙ waited.waits);
-  };
-  least = λ p j copy less. was_given ring epoch posts ls ts ms us lines tables after tables' waiting done (holder_of ring p j) (least (holder_of ring p j) less) p j copy refl;
+-- a line that is waited for: its All was not given
+pub not_given : {ring : Ring} {epoch : ℕ} {ls ms : List Line} {ts us : List CopyState} {node : ℕ} (posts : List Posted) → FitRing ring epoch ls ts → FitRing ring epoch ms us → OfBoth ring (IsDoneBy ring epoch posts) ls ts ms us
+    → IsWaitedFor ring ms node → Owes ring epoch posts node
+not_given {ring} {epoch} {ls} {ms} {ts} {us} posts fit now done waited = record {
+  p = waited.p;
+  j = waited.j;
+  is_copy = waited.is_copy;
+  holds = waited.holds;
+  lacks = λ has'.
+      let l = item_at ring ls fit.line_count waited.p waited.j waited.is_copy in
+      let t = item_at ring ts fit.table_count waited.p waited.j waited.is_copy in
+      let u = item_at ring us now.table_count waited.p waited.j waited.is_copy in
+      let here : IsDoneBy ring epoch posts waited.p waited.j l.0 t.0 waited.line u.0 = done waited.p waited.j waited.is_copy l.0 t.0 waited.line u.0 l.1 t.1 waited.here u.1 in
+      two_sides (sym (here.given_all has') ∙ waited.waits);
 }
 
 -- not all have answered while one is waited for
 pub waited_not : (ring : Ring) (lines : List Line) (node : ℕ) → IsWaitedFor ring lines node → ((n : ℕ) → HasAnswered ring lines n) → ⊥
 waited_not ring lines node waited all = two_sides (sym (all node waited.p waited.j waited.is_copy waited.holds waited.line waited.here) ∙ waited.waits)
 
--- ---- what a net counts and was told
-
-pub later_none : (faults : ℕ) (seed : Option ℕ) → IsLater faults seed faults seed
-later_none faults seed = record { faults_rise = omega arith; seed_stays = refl }
-
-pub later_then : (a : ℕ) (s : Option ℕ) (b : ℕ) (t : Option ℕ) (c : ℕ) (u : Option ℕ) → IsLater a s b t → IsLater b t c u → IsLater a s c u
-later_then a s b t c u first next = record { faults_rise = omega (arith, first.faults_rise, next.faults_rise); seed_stays = next.seed_stays ∙ first.seed_stays }
-
--- nothing was counted
-pub later_same : (a : ℕ) (s : Option ℕ) (b : ℕ) (t : Option ℕ) → b ≡ a → t ≡ s → IsLater a s b t
-later_same a s b t faults seed = record { faults_rise = omega (arith, faults); seed_stays = seed }
-
--- or one fault at most
-pub later_one : (a : ℕ) (s : Option ℕ) (b : ℕ) (t : Option ℕ) → (b ≡ a) ⊎ (b ≡ a + 1) → t ≡ s → IsLater a s b t
-later_one a s b t faults seed = record { faults_rise = elim faults [ inl same ↦ omega arith | inr more ↦ omega arith ]; seed_stays = seed }
+-- a round counts one fault at most
+pub risen : (a b c : ℕ) → (b ≡ a) ⊎ (b ≡ a + 1) → c ≡ b → a ≤ c
+risen a b c one same = elim one [ inl is ↦ omega arith | inr more ↦ omega arith ]

@@ -11,7 +11,7 @@ use Rattle.std.specs.List.Retain.{DiffersFromLast, IsFiltered}
 use Rattle.std.specs.List.Sorted.{IsBinarySearchResult, IsPermutation, IsSorted}
 use Rattle.std.specs.Ordering.{eq_by_cmp}
 use Rattle.std.specs.Result.{MatchResult, OnOk, is_ok}
-use Rattle.std.proofs.lemmas.Bool.{cases_lt}
+use Rattle.std.proofs.lemmas.Bool.{cases_lt, or_left, or_right}
 use Rattle.std.proofs.lemmas.Cmp.{eq_by_cmp_equiv, nat_cmp_total, tied_itself}
 use Rattle.std.proofs.lemmas.List.{get_or_default}
 use Rattle.std.proofs.lemmas.List.Elements.{Contains-get_or}
@@ -44,14 +44,6 @@ either_is : (a b : Bool) → (a || b) ≡ true → (a ≡ true) ⊎ (b ≡ true)
 either_is true b h = inl refl
 either_is false b h = inr h
 
-left_is : (a b : Bool) → a ≡ true → (a || b) ≡ true
-left_is true b h = refl
-left_is false b h = cc
-
-right_is : (a b : Bool) → b ≡ true → (a || b) ≡ true
-right_is true b h = refl
-right_is false b h = h
-
 or_none : (a : Bool) → (a || false) ≡ true → a ≡ true
 or_none true h = refl
 or_none false h = h
@@ -59,8 +51,8 @@ or_none false h = h
 -- a place at the end
 pub adds : (old : List ℕ) (k : ℕ) → Adds old (old ++ k ∷ []) k
 adds old k = record {
-  there = at_end k ∙ right_is (is_in old k) (is_in (k ∷ []) k) (left_is (is_at (nat_cmp k) k) false (itself k));
-  stay = λ q h. at_end q ∙ left_is (is_in old q) (is_in (k ∷ []) q) h;
+  there = at_end k ∙ or_right (is_in old k) (is_in (k ∷ []) k) (or_left (is_at (nat_cmp k) k) false (itself k));
+  stay = λ q h. at_end q ∙ or_left (is_in old q) (is_in (k ∷ []) q) h;
   only = λ q h. elim (either_is (is_in old q) (is_in (k ∷ []) q) (sym (at_end q) ∙ h)) [
     | inl before ↦ inr before
     | inr last ↦ inl (one_place q k (or_none (is_at (nat_cmp q) k) last))
@@ -85,10 +77,10 @@ in_more places i q h there = elim (either_is (is_in (take i places) q) (is_in (g
 ]
 
 pub in_before : (places : List ℕ) (i q : ℕ) → i < length places → is_in (take i places) q ≡ true → is_in (take (i + 1) places) q ≡ true
-in_before places i q h there = in_split places i q h ∙ left_is (is_in (take i places) q) (is_in (get_or places i 0 ∷ []) q) there
+in_before places i q h there = in_split places i q h ∙ or_left (is_in (take i places) q) (is_in (get_or places i 0 ∷ []) q) there
 
 pub in_last : (places : List ℕ) (i : ℕ) → i < length places → is_in (take (i + 1) places) (get_or places i 0) ≡ true
-in_last places i h = in_split places i (get_or places i 0) h ∙ right_is (is_in (take i places) (get_or places i 0)) (is_in (get_or places i 0 ∷ []) (get_or places i 0)) (left_is (is_at (nat_cmp (get_or places i 0)) (get_or places i 0)) false (itself (get_or places i 0)))
+in_last places i h = in_split places i (get_or places i 0) h ∙ or_right (is_in (take i places) (get_or places i 0)) (is_in (get_or places i 0 ∷ []) (get_or places i 0)) (or_left (is_at (nat_cmp (get_or places i 0)) (get_or places i 0)) false (itself (get_or places i 0)))
 
 apart : true ≡ false → ⊥
 apart h = cc

@@ -1,7 +1,7 @@
 -- A message and a letter on all lines and tables.
 use Rattle.std.proofs.Common.{◌≡◌, ℕ, zero, suc, ◌+◌, ◌*◌, ◌<◌, cond, List, [], ◌∷◌, ◌++◌, length, take, drop, get_or, Option, Some, None, refl, sym, ap, ◌∙◌, subst, arith}
-use Rattle.std.proofs.Math.ListN.{set}
-use Rattle.std.specs.List.{slice_get, All as Each}
+use Rattle.std.proofs.Math.ListN.{length-set, set}
+use Rattle.std.specs.List.{slice_get}
 use Rattle.std.specs.Option.{IfSome, MatchOption}
 use Rattle.std.proofs.lemmas.Bool.{eq-eqb}
 use Rattle.std.proofs.lemmas.List.Elements.{All-set}
@@ -17,6 +17,7 @@ use Rattle.coco_ship.specs.declared.line.Line.{Line}
 use Rattle.coco_ship.specs.declared.ring.Ring.{Ring}
 use Rattle.coco_ship.specs.Placing.{holder_of, primary_of, table_of, IsCopy, IsRing}
 use Rattle.coco_ship.specs.Letters.{letter_of, Gains}
+use Rattle.coco_ship.specs.Rounds.{FitRing}
 use Rattle.coco_ship.specs.Taking.{at_node, Brings, Hears, IsPut, OfBoth, OfTables, Speaks, Takes, TakesAt}
 use Rattle.coco_ship.proofs.HearLemmas.{gains_none, gains_then, hears_at, hears_none, hears_stay, puts_gain}
 use Rattle.coco_ship.proofs.ManyLemmas.{at_node_more, brings_both, hears_both}
@@ -91,11 +92,20 @@ put_epoch (Missing epoch q places) t v same = ap (λ (z : CopyState). z.epoch) s
 put_epoch (All epoch q) t v same = ap (λ (z : CopyState). z.epoch) same
 put_epoch m t v same = ap (λ (z : CopyState). z.epoch) same
 
-pub begun_at : (e i : ℕ) (ts : List CopyState) (t : CopyState) → Each (λ t. t.epoch ≡ e) ts → i < length ts → t ≡ get_or ts i t → t.epoch ≡ e
-begun_at e i ts t all h is = ap (λ (z : CopyState). z.epoch) is ∙ all i t h
+-- one line and its table are changed
+pub fit_set : {ring : Ring} {e : ℕ} {ls : List Line} {ts : List CopyState} (m : Message) (i : ℕ) (n : Line) (t v : CopyState) → FitRing ring e ls ts → i < length ts → t ≡ get_or ts i t → IsPut m t v → FitRing ring e (set ls i n) (set ts i v)
+fit_set {ring} {e} {ls} {ts} m i n t v fit h is put = record {
+  is_ring = fit.is_ring;
+  line_count = length-set ls i n ∙ fit.line_count;
+  table_count = length-set ts i v ∙ fit.table_count;
+  begun = All-set (λ (z : CopyState). z.epoch ≡ e) ts i v (put_epoch m t v put ∙ ap (λ (z : CopyState). z.epoch) is ∙ fit.begun i t h) fit.begun;
+}
 
-pub begun_set : (m : Message) (e i : ℕ) (ts : List CopyState) (t v : CopyState) → Each (λ t. t.epoch ≡ e) ts → i < length ts → t ≡ get_or ts i t → IsPut m t v → Each (λ t. t.epoch ≡ e) (set ts i v)
-begun_set m e i ts t v all h is put = All-set (λ (z : CopyState). z.epoch ≡ e) ts i v (put_epoch m t v put ∙ begun_at e i ts t all h is) all
+-- the number of a copy is that of a line and of a table
+pub copy_within : {ring : Ring} {e p j k : ℕ} {ls : List Line} {ts : List CopyState} → FitRing ring e ls ts → IsCopy ring p j → k ≡ table_of ring p j → (k < length ls) × (k < length ts)
+copy_within {ring} {e} {p} {j} fit copy is =
+    let inside : table_of ring p j < ring.partitions * ring.copies = below_all ring.partitions ring.copies p j copy.partition copy.copy in
+    (omega (arith, inside, is, fit.line_count), omega (arith, inside, is, fit.table_count))
 
 -- ---- the copy's number
 

@@ -12,7 +12,7 @@ use Rattle.coco_ship.specs.Placing.{holder_of, table_of, IsCopy, IsRing}
 use Rattle.coco_ship.specs.Sets.{Misses}
 use Rattle.coco_ship.specs.Pieces.{AreShippable, IsOf}
 use Rattle.coco_ship.specs.Letters.{posted_of, ship_of}
-use Rattle.coco_ship.specs.Lines.{answered, AreCounted, AreLines, ArePlacesOf, IsLine}
+use Rattle.coco_ship.specs.Lines.{answered, AreFirst, AreLines, ArePlacesOf, IsLine}
 use Rattle.coco_ship.specs.Shipping.{news}
 use Rattle.coco_ship.specs.Sending.{AreAnswers, AreAsks, IsAnswer}
 use Rattle.coco_ship.specs.Taking.{Hears, OfBoth}
@@ -207,11 +207,11 @@ right_then ring epoch pieces s0 g0 l0 s1 g1 l1 s2 g2 sends sends' gives gives' f
 -- ---- the phase
 
 -- at the start the pieces of which the writes pend are there, and no others
-pub exact_first : (ring : Ring) (epoch : ℕ) (pieces : List Piece) (lines : List Line) (tables : List CopyState) → AreLines ring pieces lines tables → AreCounted ring pieces lines tables → AreExact ring epoch pieces tables [] lines
-exact_first ring epoch pieces lines tables fits counted p j copy line table line_is table_is = record {
-  only = λ x of h. inl ((fits p j copy line table line_is table_is).there x of h);
+pub exact_first : {ring : Ring} {pieces : List Piece} {lines : List Line} {tables : List CopyState} (epoch : ℕ) → AreFirst ring pieces lines tables → AreExact ring epoch pieces tables [] lines
+exact_first epoch first p j copy line table line_is table_is = record {
+  only = λ x of h. inl ((first.fit p j copy line table line_is table_is).there x of h);
   each = λ x of there. elim there [
-    | inl early ↦ counted p j copy line table line_is table_is x of early
+    | inl early ↦ first.counted p j copy line table line_is table_is x of early
     | inr by ↦ absurd (omega (arith, by.1.1))
   ];
 }

@@ -1,5 +1,5 @@
 -- What holds between the exchanges of a ship phase.
-use Rattle.std.specs.Prelude.{◌≡◌, ℕ, ◌+◌, ◌≤◌, ◌++◌, true, false, is_some, List, [], All as Each, Contains, Option, Some, ◌⊎◌}
+use Rattle.std.specs.Prelude.{◌≡◌, ℕ, ◌+◌, ◌≤◌, true, false, is_some, List, [], Contains, Some, ◌⊎◌}
 use Rattle.std.specs.List.{slice_get}
 use Rattle.coco_types.specs.declared.call.Piece.{Piece}
 use Rattle.coco_msg.specs.declared.message.Message.{Message}
@@ -11,11 +11,10 @@ use Rattle.coco_ship.specs.declared.line.Line.{Line}
 use Rattle.coco_ship.specs.declared.ring.Ring.{Ring}
 use Rattle.coco_ship.specs.Placing.{holder_of, table_of, IsCopy}
 use Rattle.coco_ship.specs.Sets.{is_in}
-use Rattle.coco_ship.specs.Pieces.{AreShippable, IsOf}
+use Rattle.coco_ship.specs.Pieces.{IsOf}
 use Rattle.coco_ship.specs.Letters.{all_of}
 use Rattle.coco_ship.specs.Lines.{AreLines, ArePlacesOf}
-use Rattle.coco_ship.specs.Shipping.{news, ArePhase, AreWritten}
-use Rattle.coco_ship.specs.Taking.{Brings, OfTables}
+use Rattle.coco_ship.specs.Shipping.{AreWritten}
 
 -- All pieces of a partition but those at these places are there.
 abbrev pub AreThere : Ring → List Piece → List Line → ℕ → ℕ → List ℕ → Type 0
@@ -69,34 +68,10 @@ pub record IsTold (pieces : List Piece) (p : ℕ) (line : Line) : Type 0 where
 abbrev pub AreTold : Ring → List Piece → List Line → Type 0
 AreTold ring pieces lines = (p j : ℕ) → IsCopy ring p j → (line : Line) → slice_get lines (table_of ring p j) ≡ Some line → line.is_done ≡ false → IsTold pieces p line
 
--- What rounds of the phase do, also where memory runs out: the letters that are sent are of the phase, those that are
--- given were sent, and rows change only by them.
-pub record Passes (ring : Ring) (epoch : ℕ) (sent given : List Posted) (tables : List CopyState) (sent_after given_after : List Posted) (tables_after : List CopyState) : Type 0 where
-  pub sends : sent_after ≡ sent ++ news sent sent_after
-  pub gives : given_after ≡ given ++ news given given_after
-  pub phase : ArePhase epoch (news sent sent_after)
-  pub gains : OfTables ring (Brings ring epoch (news given given_after)) tables tables_after
-  pub begun : Each (λ t. t.epoch ≡ epoch) tables_after
-  pub were_sent : Each (Contains sent_after) (news given given_after)
-
 -- The count of faults rose, or else it is as before and this holds.
 abbrev pub Unless : ℕ → ℕ → Type 0 → Type 0
 Unless faults faults_after Fact = (faults + 1 ≤ faults_after) ⊎ ((faults_after ≡ faults) × Fact)
 
--- what held of the lines and letters holds still
-abbrev pub GoesOn : Ring → ℕ → List Posted → List Line → List CopyState → List Posted → List Line → List CopyState → Type 0
-GoesOn ring epoch sent lines tables sent_after lines_after tables_after =
-    (pieces : List Piece) → AreShippable ring pieces → IsGoing ring epoch pieces sent lines tables → IsGoing ring epoch pieces sent_after lines_after tables_after
-
--- what pends was written by pieces still, also where memory runs out
-abbrev pub StaysWritten : Ring → ℕ → List Posted → List Line → List CopyState → List CopyState → Type 0
-StaysWritten ring epoch sent lines tables tables_after = (pieces : List Piece) → IsGoing ring epoch pieces sent lines tables → AreWritten ring pieces tables_after
-
 -- copies that were told all and have all have answered All
 abbrev pub Answered : Ring → List Line → List CopyState → List Line → Type 0
 Answered ring lines tables lines_after = (pieces : List Piece) → AreLines ring pieces lines tables → AreTold ring pieces lines → (node : ℕ) → HasAnswered ring lines_after node
-
--- what a net counts and was told, later: faults don't fall, and the seed stays
-pub record IsLater (faults : ℕ) (seed : Option ℕ) (faults_later : ℕ) (seed_later : Option ℕ) : Type 0 where
-  pub faults_rise : faults ≤ faults_later
-  pub seed_stays : seed_later ≡ seed

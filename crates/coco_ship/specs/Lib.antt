@@ -10,3 +10,4 @@ pub mod Going
 pub mod Examples
 pub mod There
 pub mod Exchanges
+pub mod Rounds

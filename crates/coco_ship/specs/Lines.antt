@@ -1,5 +1,5 @@
 -- What a primary and a copy know of each other, what is noted of pieces before, and what holds of both.
-use Rattle.std.specs.Prelude.{◌≡◌, ◌≢◌, ℕ, ◌<◌, ◌≤◌, [], true, false, length, List, Option, Some, None, MatchOption, ◌⊎◌}
+use Rattle.std.specs.Prelude.{◌≡◌, ◌≢◌, ℕ, ◌*◌, ◌<◌, ◌≤◌, [], true, false, length, List, Option, Some, None, MatchOption, ◌⊎◌}
 use Rattle.std.specs.List.{slice_get, slice_index_or}
 use Rattle.std.specs.Option.{option_map}
 use Rattle.coco_types.specs.declared.call.Piece.{Piece}
@@ -44,6 +44,13 @@ AreCounted ring pieces lines tables = OfEach ring (λ p j. IsCounted pieces p) l
 -- no primary has an All
 abbrev pub AreWaiting : Ring → List Line → Type 0
 AreWaiting ring lines = (p j : ℕ) → IsCopy ring p j → (line : Line) → slice_get lines (table_of ring p j) ≡ Some line → line.is_done ≡ false
+
+-- The lines of a phase that begins: they fit the pieces and tables, what pends is there, and no primary has an All.
+pub record AreFirst (ring : Ring) (pieces : List Piece) (lines : List Line) (tables : List CopyState) : Type 0 where
+  pub count : length lines ≡ ring.partitions * ring.copies
+  pub fit : AreLines ring pieces lines tables
+  pub counted : AreCounted ring pieces lines tables
+  pub waiting : AreWaiting ring lines
 
 -- A piece is noted, and as there where its writes pend.
 pub record Notes (old : Noted) (table : CopyState) (x : Piece) (new : Noted) : Type 0 where

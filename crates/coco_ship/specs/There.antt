@@ -10,12 +10,11 @@ use Rattle.coco_ship.specs.declared.line.Line.{Line}
 use Rattle.coco_ship.specs.declared.ring.Ring.{Ring}
 use Rattle.coco_ship.specs.Placing.{holder_of, table_of, IsCopy}
 use Rattle.coco_ship.specs.Sets.{is_in}
-use Rattle.coco_ship.specs.Pieces.{covers, AreShippable, IsOf}
+use Rattle.coco_ship.specs.Pieces.{covers, IsOf}
 use Rattle.coco_ship.specs.Letters.{posted_of, ship_of}
 use Rattle.coco_ship.specs.Lines.{ArePlacesOf, OfEach}
 use Rattle.coco_ship.specs.Sending.{answer_of, ask_of, reply_of}
 use Rattle.coco_ship.specs.Shipping.{news}
-use Rattle.coco_ship.specs.Going.{IsGoing}
 
 -- A piece is there for a copy where what pended at the start for each of its writes had at least its time, or where a
 -- Ship of it was given to the copy's node.
@@ -77,15 +76,6 @@ abbrev pub AddsRight : Ring → ℕ → List Piece → List Posted → List Post
 AddsRight ring epoch pieces sent given lines sent_after given_after =
     (starts : List CopyState) (so_far : List Posted) → length starts ≡ ring.partitions * ring.copies → AreExact ring epoch pieces starts so_far lines
     → AreRight ring epoch pieces starts (so_far ++ news given given_after) (news sent sent_after)
-
--- whichever pieces the lines fit, lines stay exact, and what is sent is right
-abbrev pub KeepsExact : Ring → ℕ → List Posted → List Posted → List Line → List CopyState → List Posted → List Line → Type 0
-KeepsExact ring epoch sent given lines tables given_after lines_after =
-    (pieces : List Piece) → AreShippable ring pieces → IsGoing ring epoch pieces sent lines tables → StaysExact ring epoch pieces given lines given_after lines_after
-
-abbrev pub KeepsRight : Ring → ℕ → List Posted → List Posted → List Line → List CopyState → List Posted → List Posted → Type 0
-KeepsRight ring epoch sent given lines tables sent_after given_after =
-    (pieces : List Piece) → IsGoing ring epoch pieces sent lines tables → AddsRight ring epoch pieces sent given lines sent_after given_after
 
 -- where lines were exact, each piece is there now
 abbrev pub HaveCome : Ring → ℕ → List Piece → List Posted → List Line → List Posted → Type 0

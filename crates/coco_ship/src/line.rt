@@ -2,7 +2,7 @@
 
 ghost use Rattle.std.specs.Prelude.{◌≡◌, ◌*◌, ◌<◌, All, length, IfOk, OnOk};
 ghost use Rattle.std.specs.FinMap.{get};
-ghost use Rattle.coco_ship.specs.Lines.{none_noted, AllBegin, AreCounted, AreLines, AreNoted, AreWaiting, Begins, Notes, NotesPiece};
+ghost use Rattle.coco_ship.specs.Lines.{none_noted, AllBegin, AreFirst, AreNoted, Begins, Notes, NotesPiece};
 ghost use Rattle.coco_ship.specs.Pieces.{covers, covers_at, AreShippable};
 
 use crate::Ring;
@@ -161,10 +161,7 @@ pub(crate) fn lines_of(
 ) -> Result<Vec<Line>, NoMemory>
     requires pieces { AreShippable ring pieces.now }
     requires copies { length copies.now ≡ ring.partitions * ring.copies }
-    ensures count { IfOk result (λ lines. length lines.items ≡ ring.partitions * ring.copies) }
-    ensures lines { IfOk result (λ lines. AreLines ring pieces.now lines.items copies.now) }
-    ensures counted { IfOk result (λ lines. AreCounted ring pieces.now lines.items copies.now) }
-    ensures waiting { IfOk result (λ lines. AreWaiting ring lines.items) }
+    ensures { IfOk result (λ lines. AreFirst ring pieces.now lines.items copies.now) }
 {
     let notes = notes_of(alloc, ring, pieces, copies)?;
     let lines = lines_for(alloc, notes.as_slice())?;

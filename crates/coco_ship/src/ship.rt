@@ -1,17 +1,19 @@
 //! The exchanges of the ship phase.
 
-ghost use Rattle.std.specs.Prelude.{◌≡◌, ◌+◌, ◌*◌, ◌<◌, ◌≤◌, ℕ, ◌⊎◌, All, Contains, IfErr, ◌++◌, OnOk, MatchOption, length};
+ghost use Rattle.std.specs.Prelude.{◌≡◌, ◌+◌, ◌*◌, ◌<◌, ◌≤◌, ℕ, ◌⊎◌, All, Contains, IfErr, ◌++◌, List, OnOk, MatchOption, length};
 ghost use Rattle.std.specs.Bool.{MatchBool};
+ghost use Rattle.coco_types.specs.declared.call.Piece.{Piece as Work};
 ghost use Rattle.coco_ship.specs.declared.ship.ShipFault.TheVariants.{NoMemory as Spent};
-ghost use Rattle.coco_ship.specs.Going.{Answered, AreTold, GoesOn, HasAnswered, IsDoneBy, IsGoing, IsLater, IsWaitedFor, Passes, StaysWritten, Unless};
+ghost use Rattle.coco_ship.specs.Going.{Answered, AreTold, HasAnswered, IsDoneBy, IsGoing, IsWaitedFor, Unless};
 ghost use Rattle.coco_ship.specs.Taking.{waiting_below, Brings, Hears, OfBoth, OfTables};
 ghost use Rattle.coco_ship.specs.Exchanges.{AreAsked};
 ghost use Rattle.coco_ship.specs.Letters.{AreInside, AreOther};
 ghost use Rattle.coco_ship.specs.Lines.{AreWaiting};
 ghost use Rattle.coco_ship.specs.Pieces.{AreShippable};
 ghost use Rattle.coco_ship.specs.Placing.{IsRing};
-ghost use Rattle.coco_ship.specs.There.{AddsRight, AreAllThere, AreRight, HaveCome, KeepsExact, KeepsRight, StaysExact};
-ghost use Rattle.coco_ship.specs.Shipping.{news, AreBegun, ArePhase, AreWhole, AreWritten, GainOnly, HaveAnswered, OnSilent};
+ghost use Rattle.coco_ship.specs.Rounds.{FitRing, GoesOn, HasEnded, Passes, Ships};
+ghost use Rattle.coco_ship.specs.There.{AreAllThere, AreRight};
+ghost use Rattle.coco_ship.specs.Shipping.{news, AreBegun, ArePhase, AreWhole, GainOnly, HaveAnswered, OnSilent};
 
 use crate::Ring;
 use crate::answer::answers;
@@ -58,13 +60,10 @@ fn hand_out<N: Net>(
     lines: &mut [Line],
     copies: &mut [CopyTable],
 ) -> Result<(), NoMemory>
-    requires ring { IsRing ring }
-    requires lines { length lines.old ≡ ring.partitions * ring.copies }
-    requires copies { length copies.old ≡ ring.partitions * ring.copies }
-    requires begun { All (λ t. t.epoch ≡ epoch) copies.old }
+    requires fit { FitRing ring epoch lines.old copies.old }
     ensures ok { OnOk result (OfBoth ring (Hears ring epoch (waiting_below (N.waiting net.old) ring.nodes)) lines.old copies.old lines.new copies.new) }
     ensures tables { OfTables ring (Brings ring epoch (waiting_below (N.waiting net.old) ring.nodes)) copies.old copies.new }
-    ensures begun { All (λ t. t.epoch ≡ epoch) copies.new }
+    ensures fit { FitRing ring epoch lines.new copies.new }
     ensures given { N.given net.new ≡ N.given net.old }
     ensures sent { N.sent net.new ≡ N.sent net.old }
     ensures faults { N.faults net.new ≡ N.faults net.old }
@@ -86,19 +85,12 @@ fn deliver<N: Net>(
     lines: &mut [Line],
     copies: &mut [CopyTable],
 ) -> Result<(), NoMemory>
-    requires ring { IsRing ring }
-    requires lines { length lines.old ≡ ring.partitions * ring.copies }
-    requires copies { length copies.old ≡ ring.partitions * ring.copies }
-    requires begun { All (λ t. t.epoch ≡ epoch) copies.old }
-    ensures ok { OnOk result (OfBoth ring (Hears ring epoch (news (N.given net.old) (N.given net.new))) lines.old copies.old lines.new copies.new) }
-    ensures tables { OfTables ring (Brings ring epoch (news (N.given net.old) (N.given net.new))) copies.old copies.new }
-    ensures begun { All (λ t. t.epoch ≡ epoch) copies.new }
-    ensures given { N.given net.new ≡ N.given net.old ++ news (N.given net.old) (N.given net.new) }
-    ensures were_sent { All (Contains (N.sent net.old)) (news (N.given net.old) (N.given net.new)) }
+    requires fit { FitRing ring epoch lines.old copies.old }
+    ensures passes { Passes N.Net ring epoch net.old copies.old net.new lines.new copies.new }
+    ensures heard { OnOk result (OfBoth ring (Hears ring epoch (news (N.given net.old) (N.given net.new))) lines.old copies.old lines.new copies.new) }
     ensures new_ones { OnOk result (N.faults net.new ≡ N.faults net.old → All (Contains (news (N.given net.old) (N.given net.new))) (N.fresh net.old)) }
     ensures sent { N.sent net.new ≡ N.sent net.old }
     ensures faults { OnOk result ((N.faults net.new ≡ N.faults net.old) ⊎ (N.faults net.new ≡ N.faults net.old + 1)) }
-    ensures later { IsLater (N.faults net.old) (N.last_seed net.old) (N.faults net.new) (N.last_seed net.new) }
 {
     net.round()?;
     hand_out(alloc, net, ring, epoch, lines, copies)
@@ -114,19 +106,15 @@ fn carry<N: Net>(
     lines: &mut [Line],
     copies: &mut [CopyTable],
 ) -> Result<(), NoMemory>
-    requires ring { IsRing ring }
-    requires lines { length lines.old ≡ ring.partitions * ring.copies }
-    requires copies { length copies.old ≡ ring.partitions * ring.copies }
-    requires begun { All (λ t. t.epoch ≡ epoch) copies.old }
+    requires fit { FitRing ring epoch lines.old copies.old }
     requires inside { AreInside letters.items }
     requires phase { ArePhase epoch letters.items }
-    ensures passes { Passes ring epoch (N.sent net.old) (N.given net.old) copies.old (N.sent net.new) (N.given net.new) copies.new }
+    ensures passes { Passes N.Net ring epoch net.old copies.old net.new lines.new copies.new }
     ensures sent { OnOk result (N.sent net.new ≡ N.sent net.old ++ letters.items) }
     ensures only { All (Contains letters.items) (news (N.sent net.old) (N.sent net.new)) }
     ensures were_sent { All (Contains (N.sent net.old ++ letters.items)) (news (N.given net.old) (N.given net.new)) }
     ensures heard { OnOk result (OfBoth ring (Hears ring epoch (news (N.given net.old) (N.given net.new))) lines.old copies.old lines.new copies.new) }
     ensures came { OnOk result (Unless (N.faults net.old) (N.faults net.new) (All (Contains (news (N.given net.old) (N.given net.new))) letters.items)) }
-    ensures later { IsLater (N.faults net.old) (N.last_seed net.old) (N.faults net.new) (N.last_seed net.new) }
 {
     send_all(net, letters)?;
     deliver(alloc, net, ring, epoch, lines, copies)
@@ -142,21 +130,13 @@ fn ask_round<N: Net>(
     lines: &mut [Line],
     copies: &mut [CopyTable],
 ) -> Result<(), NoMemory>
-    requires ring { IsRing ring }
+    requires fit { FitRing ring epoch lines.old copies.old }
     requires pieces { AreShippable ring pieces.now }
-    requires lines { length lines.old ≡ ring.partitions * ring.copies }
-    requires copies { length copies.old ≡ ring.partitions * ring.copies }
-    requires begun { All (λ t. t.epoch ≡ epoch) copies.old }
     requires going { IsGoing ring epoch pieces.now (N.sent net.old) lines.old copies.old }
-    ensures passes { Passes ring epoch (N.sent net.old) (N.given net.old) copies.old (N.sent net.new) (N.given net.new) copies.new }
-    ensures going { OnOk result (IsGoing ring epoch pieces.now (N.sent net.new) lines.new copies.new) }
-    ensures written { AreWritten ring pieces.now copies.new }
-    ensures exact { OnOk result (StaysExact ring epoch pieces.now (N.given net.old) lines.old (N.given net.new) lines.new) }
-    ensures right { AddsRight ring epoch pieces.now (N.sent net.old) (N.given net.old) lines.old (N.sent net.new) (N.given net.new) }
-    ensures done { OnOk result (OfBoth ring (IsDoneBy ring epoch (news (N.given net.old) (N.given net.new))) lines.old copies.old lines.new copies.new) }
+    ensures ships { Ships N.Net ring epoch pieces.now net.old lines.old copies.old net.new lines.new copies.new }
+    ensures goes { OnOk result (GoesOn N.Net ring epoch pieces.now net.old lines.old copies.old net.new lines.new copies.new) }
     ensures asked { OnOk result (AreAsked ring epoch lines.old (news (N.sent net.old) (N.sent net.new))) }
     ensures told { OnOk result (Unless (N.faults net.old) (N.faults net.new) (AreTold ring pieces.now lines.new)) }
-    ensures later { IsLater (N.faults net.old) (N.last_seed net.old) (N.faults net.new) (N.last_seed net.new) }
 {
     let letters = asks(alloc, ring, epoch, pieces, lines)?;
     carry(alloc, net, ring, epoch, letters, lines, copies)
@@ -171,18 +151,12 @@ fn answer_round<N: Net>(
     lines: &mut [Line],
     copies: &mut [CopyTable],
 ) -> Result<(), NoMemory>
-    requires ring { IsRing ring }
-    requires lines { length lines.old ≡ ring.partitions * ring.copies }
-    requires copies { length copies.old ≡ ring.partitions * ring.copies }
-    requires begun { All (λ t. t.epoch ≡ epoch) copies.old }
-    ensures passes { Passes ring epoch (N.sent net.old) (N.given net.old) copies.old (N.sent net.new) (N.given net.new) copies.new }
-    ensures going { OnOk result (GoesOn ring epoch (N.sent net.old) lines.old copies.old (N.sent net.new) lines.new copies.new) }
-    ensures written { StaysWritten ring epoch (N.sent net.old) lines.old copies.old copies.new }
-    ensures exact { OnOk result (KeepsExact ring epoch (N.sent net.old) (N.given net.old) lines.old copies.old (N.given net.new) lines.new) }
-    ensures right { KeepsRight ring epoch (N.sent net.old) (N.given net.old) lines.old copies.old (N.sent net.new) (N.given net.new) }
+    requires fit { FitRing ring epoch lines.old copies.old }
+    ensures passes { Passes N.Net ring epoch net.old copies.old net.new lines.new copies.new }
+    ensures ships { (pieces : List Work) → IsGoing ring epoch pieces (N.sent net.old) lines.old copies.old → Ships N.Net ring epoch pieces net.old lines.old copies.old net.new lines.new copies.new }
+    ensures goes { OnOk result ((pieces : List Work) → AreShippable ring pieces → IsGoing ring epoch pieces (N.sent net.old) lines.old copies.old → GoesOn N.Net ring epoch pieces net.old lines.old copies.old net.new lines.new copies.new) }
     ensures done { OnOk result (OfBoth ring (IsDoneBy ring epoch (news (N.given net.old) (N.given net.new))) lines.old copies.old lines.new copies.new) }
     ensures answered { OnOk result (Unless (N.faults net.old) (N.faults net.new) (Answered ring lines.old copies.old lines.new)) }
-    ensures later { IsLater (N.faults net.old) (N.last_seed net.old) (N.faults net.new) (N.last_seed net.new) }
 {
     let letters = answers(alloc, ring, epoch, lines)?;
     carry(alloc, net, ring, epoch, letters, lines, copies)
@@ -198,22 +172,14 @@ fn exchange<N: Net>(
     lines: &mut [Line],
     copies: &mut [CopyTable],
 ) -> Result<(), NoMemory>
-    requires ring { IsRing ring }
+    requires fit { FitRing ring epoch lines.old copies.old }
     requires pieces { AreShippable ring pieces.now }
-    requires lines { length lines.old ≡ ring.partitions * ring.copies }
-    requires copies { length copies.old ≡ ring.partitions * ring.copies }
-    requires begun { All (λ t. t.epoch ≡ epoch) copies.old }
     requires going { IsGoing ring epoch pieces.now (N.sent net.old) lines.old copies.old }
-    ensures passes { Passes ring epoch (N.sent net.old) (N.given net.old) copies.old (N.sent net.new) (N.given net.new) copies.new }
-    ensures going { OnOk result (IsGoing ring epoch pieces.now (N.sent net.new) lines.new copies.new) }
-    ensures written { AreWritten ring pieces.now copies.new }
-    ensures exact { OnOk result (StaysExact ring epoch pieces.now (N.given net.old) lines.old (N.given net.new) lines.new) }
-    ensures right { AddsRight ring epoch pieces.now (N.sent net.old) (N.given net.old) lines.old (N.sent net.new) (N.given net.new) }
-    ensures done { OnOk result (OfBoth ring (IsDoneBy ring epoch (news (N.given net.old) (N.given net.new))) lines.old copies.old lines.new copies.new) }
+    ensures ships { Ships N.Net ring epoch pieces.now net.old lines.old copies.old net.new lines.new copies.new }
+    ensures goes { OnOk result (GoesOn N.Net ring epoch pieces.now net.old lines.old copies.old net.new lines.new copies.new) }
     ensures asked { OnOk result (AreAsked ring epoch lines.old (news (N.sent net.old) (N.sent net.new))) }
     // An exchange without a fault ends the phase.
     ensures faults { OnOk result (Unless (N.faults net.old) (N.faults net.new) ((node : ℕ) → HasAnswered ring lines.new node)) }
-    ensures later { IsLater (N.faults net.old) (N.last_seed net.old) (N.faults net.new) (N.last_seed net.new) }
 {
     ask_round(alloc, net, ring, epoch, pieces, lines, copies)?;
     answer_round(alloc, net, ring, epoch, lines, copies)
@@ -259,22 +225,14 @@ fn exchanges<N: Net>(
     lines: &mut [Line],
     copies: &mut [CopyTable],
 ) -> Result<(), ShipFault>
-    requires ring { IsRing ring }
+    requires fit { FitRing ring epoch lines.old copies.old }
     requires pieces { AreShippable ring pieces.now }
-    requires lines { length lines.old ≡ ring.partitions * ring.copies }
-    requires copies { length copies.old ≡ ring.partitions * ring.copies }
-    requires begun { All (λ t. t.epoch ≡ epoch) copies.old }
     requires going { IsGoing ring epoch pieces.now (N.sent net.old) lines.old copies.old }
     requires waiting { AreWaiting ring lines.old }
-    ensures passes { Passes ring epoch (N.sent net.old) (N.given net.old) copies.old (N.sent net.new) (N.given net.new) copies.new }
-    ensures written { AreWritten ring pieces.now copies.new }
-    ensures whole { OnOk result (AreWhole ring epoch pieces.now copies.new) }
-    ensures there { OnOk result (HaveCome ring epoch pieces.now (N.given net.old) lines.old (N.given net.new)) }
-    ensures right { AddsRight ring epoch pieces.now (N.sent net.old) (N.given net.old) lines.old (N.sent net.new) (N.given net.new) }
-    ensures answered { OnOk result (HaveAnswered ring epoch (news (N.given net.old) (N.given net.new))) }
+    ensures ships { Ships N.Net ring epoch pieces.now net.old lines.old copies.old net.new lines.new copies.new }
+    ensures ended { OnOk result (HasEnded N.Net ring epoch pieces.now net.old lines.old net.new copies.new) }
     ensures alone { ring.copies ≡ 0 → N.sent net.new ≡ N.sent net.old }
     ensures silent { IfErr result (OnSilent ring epoch (news (N.sent net.old) (N.sent net.new)) (news (N.given net.old) (N.given net.new)) (N.faults net.old) (N.faults net.new)) }
-    ensures later { IsLater (N.faults net.old) (N.last_seed net.old) (N.faults net.new) (N.last_seed net.new) }
 {
     for _exchange in 0..EXCHANGES {
         match silent(ring, lines) {

@@ -1,11 +1,12 @@
 //! What nodes do with the letters that they are given: as the holder of a copy, and as a primary.
 
-ghost use Rattle.std.specs.Prelude.{◌≡◌, ◌≢◌, ◌*◌, ◌<◌, ℕ, All as Each, Some, [], ◌∷◌, true, length, IfOk, IfSome, MatchOption, OnOk};
+ghost use Rattle.std.specs.Prelude.{◌≡◌, ◌≢◌, ℕ, Some, [], ◌∷◌, true, IfOk, IfSome, MatchOption, OnOk};
 ghost use Rattle.coco_msg.specs.Bytes.{bytes_of, epoch_of, IsMessage};
 ghost use Rattle.coco_msg.specs.declared.message.Message.{Message as Told};
 ghost use Rattle.coco_ship.specs.Letters.{letter_of};
 ghost use Rattle.coco_ship.specs.Pieces.{covers};
 ghost use Rattle.coco_ship.specs.Placing.{holder_of, primary_of, table_of, IsCopy, IsRing};
+ghost use Rattle.coco_ship.specs.Rounds.{FitRing};
 ghost use Rattle.coco_ship.specs.Taking.{at_node, Brings, Hears, IsPut, OfBoth, OfTables, Puts, Speaks, Takes, TakesAt, TakesMissing, TakesShip};
 
 use crate::Ring;
@@ -146,14 +147,11 @@ fn take_message(
     lines: &mut [Line],
     copies: &mut [CopyTable],
 ) -> Result<(), NoMemory>
-    requires ring { IsRing ring }
-    requires lines { length lines.old ≡ ring.partitions * ring.copies }
-    requires copies { length copies.old ≡ ring.partitions * ring.copies }
+    requires fit { FitRing ring (epoch_of message) lines.old copies.old }
     requires readable { IsMessage message }
-    requires begun { Each (λ t. t.epoch ≡ epoch_of message) copies.old }
     ensures ok { OnOk result (OfBoth ring (TakesAt ring node from message) lines.old copies.old lines.new copies.new) }
     ensures tables { OfTables ring (Brings ring (epoch_of message) (at_node node (letter_of from message ∷ []))) copies.old copies.new }
-    ensures begun { Each (λ t. t.epoch ≡ epoch_of message) copies.new }
+    ensures fit { FitRing ring (epoch_of message) lines.new copies.new }
 {
     match spoken_of(ring, node, from, &message) {
         Some(t) => take_at(alloc, room, &mut lines[t], &mut copies[t], message),
@@ -187,13 +185,10 @@ fn take_letter(
     lines: &mut [Line],
     copies: &mut [CopyTable],
 ) -> Result<(), NoMemory>
-    requires ring { IsRing ring }
-    requires lines { length lines.old ≡ ring.partitions * ring.copies }
-    requires copies { length copies.old ≡ ring.partitions * ring.copies }
-    requires begun { Each (λ t. t.epoch ≡ epoch) copies.old }
+    requires fit { FitRing ring epoch lines.old copies.old }
     ensures ok { OnOk result (OfBoth ring (Hears ring epoch (at_node node (letter.now ∷ []))) lines.old copies.old lines.new copies.new) }
     ensures tables { OfTables ring (Brings ring epoch (at_node node (letter.now ∷ []))) copies.old copies.new }
-    ensures begun { Each (λ t. t.epoch ≡ epoch) copies.new }
+    ensures fit { FitRing ring epoch lines.new copies.new }
 {
     match message_now(room, epoch, letter)? {
         Some(message) => take_message(alloc, room, ring, node, letter.from, message, lines, copies),
@@ -211,13 +206,10 @@ pub(crate) fn take_letters(
     lines: &mut [Line],
     copies: &mut [CopyTable],
 ) -> Result<(), NoMemory>
-    requires ring { IsRing ring }
-    requires lines { length lines.old ≡ ring.partitions * ring.copies }
-    requires copies { length copies.old ≡ ring.partitions * ring.copies }
-    requires begun { Each (λ t. t.epoch ≡ epoch) copies.old }
+    requires fit { FitRing ring epoch lines.old copies.old }
     ensures ok { OnOk result (OfBoth ring (Hears ring epoch (at_node node (letters.now))) lines.old copies.old lines.new copies.new) }
     ensures tables { OfTables ring (Brings ring epoch (at_node node (letters.now))) copies.old copies.new }
-    ensures begun { Each (λ t. t.epoch ≡ epoch) copies.new }
+    ensures fit { FitRing ring epoch lines.new copies.new }
 {
     let mut room = Vec::new(alloc);
     for letter in letters {

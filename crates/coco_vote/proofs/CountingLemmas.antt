@@ -3,7 +3,7 @@ use Rattle.std.proofs.Common.{◌≡◌, ◌⊎◌, inl, inr, ℕ, zero, suc, �
 use Rattle.std.specs.Prelude.{◌&&◌, if◌then◌else◌, ◌==◌}
 use Rattle.std.specs.List.{Contains, list_all}
 use Rattle.std.proofs.Math.ListN.{set, length-set}
-use Rattle.std.proofs.lemmas.Bool.{and_parts, eqb-true, eqb-false, ltb-true, lt-ltb}
+use Rattle.std.proofs.lemmas.Bool.{and_parts, eqb-true, eqb-false, ltb-true, lt-ltb, and_from}
 use Rattle.std.proofs.lemmas.List.{get_or-set_same, get_or-set_other}
 use Rattle.std.proofs.lemmas.List.Elements.{Contains-append_cases, Contains-append_left, Contains-append_right}
 use Rattle.coco_chief.specs.Chief.{Chief}
@@ -100,9 +100,6 @@ module _ (e : ℕ) (Given New : ℕ → Type 0) (chief : Chief) (from : ℕ) (vo
 
 -- ---- by message
 
-both_true : (a b : Bool) → a ≡ true → b ≡ true → (a && b) ≡ true
-both_true a b p q = ap (λ (x : Bool). x && b) p ∙ q
-
 same_yes : (a b : ℕ) → ◌≡◌ {A = Message} (Vote a true) (Vote b true) → a ≡ b
 same_yes a b is = cc
 
@@ -190,7 +187,7 @@ module _ (e : ℕ) (some : 0 < e) (fits : e < 2 ^ 64) (Given : ℕ → Type 0) (
       heard : (n : ℕ) → n < chief.nodes → New n → (ltb l.from chief.nodes && ltb 0 (epoch_of m)) ≡ true
       heard n less is =
           let same : m ≡ Vote e true = same_heard l.from l m (Vote e true) from (is_vote n e l fits is) in
-          both_true (ltb l.from chief.nodes) (ltb 0 (epoch_of m)) (lt-ltb l.from chief.nodes (subst (λ (k : ℕ). k < chief.nodes) (from_node n is) less)) (ap (λ (x : Message). ltb 0 (epoch_of x)) same ∙ lt-ltb 0 e some)
+          and_from (ltb l.from chief.nodes) (ltb 0 (epoch_of m)) (lt-ltb l.from chief.nodes (subst (λ (k : ℕ). k < chief.nodes) (from_node n is) less)) (ap (λ (x : Message). ltb 0 (epoch_of x)) same ∙ lt-ltb 0 e some)
 
   taken : (m : Message) → IsFrom l.from l m → Counts (handled l.from m chief).1
   taken m from = by_test (λ (turn : Turn). Counts turn.1) (ltb l.from chief.nodes && ltb 0 (epoch_of m)) (on_message l.from m chief) ([], chief)

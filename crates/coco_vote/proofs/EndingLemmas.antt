@@ -3,7 +3,7 @@ use Rattle.std.proofs.Common.{◌≡◌, ◌≢◌, ◌⊎◌, inl, inr, ℕ, �
 use Rattle.std.specs.Prelude.{◌&&◌, if◌then◌else◌, ◌==◌}
 use Rattle.std.specs.List.{slice_get, Contains}
 use Rattle.std.proofs.Math.ListN.{set, length-set}
-use Rattle.std.proofs.lemmas.Bool.{and_parts, eq-eqb, eqb-false, eqb-true, lt-ltb}
+use Rattle.std.proofs.lemmas.Bool.{and_parts, eq-eqb, eqb-false, eqb-true, lt-ltb, and_from}
 use Rattle.std.proofs.lemmas.Option.{same_Some, slice_get_within}
 use Rattle.coco_msg.specs.declared.action.Action.{Action}
 use Rattle.coco_msg.specs.declared.action.Action.TheVariants.{Revert}
@@ -97,9 +97,6 @@ message_silent e n (Query of) core awaited = absurd cc
 abbrev IsOver : ℕ → Node → Type 0
 IsOver e core = core.durable ≡ e → core.decision ≡ Unknown → ⊥
 
-both_true : (a b : Bool) → a ≡ true → b ≡ true → (a && b) ≡ true
-both_true a b p q = ap (λ (x : Bool). x && b) p ∙ q
-
 reverted_over : (e : ℕ) (core : Node) → IsOver e (record core { decision = Aborted })
 reverted_over e core is unknown = cc
 
@@ -108,8 +105,8 @@ abort_over e core =
     by_test (λ (turn : Turn). IsOver e turn.1) (awaits e core) (Revert e ∷ [], record core { decision = Aborted }) (if e == core.forcing then ([], record core { forcing = 0 }) else ([], core))
     (λ _. reverted_over e core)
     (λ none. by_test (λ (turn : Turn). IsOver e turn.1) (e == core.forcing) ([], record core { forcing = 0 }) ([], core)
-    (λ _ is unknown. not_both (awaits e core) (both_true (e == core.durable) (is_unknown core.decision) (eq-eqb e core.durable (sym is)) (ap is_unknown unknown)) none)
-    (λ _ is unknown. not_both (awaits e core) (both_true (e == core.durable) (is_unknown core.decision) (eq-eqb e core.durable (sym is)) (ap is_unknown unknown)) none))
+    (λ _ is unknown. not_both (awaits e core) (and_from (e == core.durable) (is_unknown core.decision) (eq-eqb e core.durable (sym is)) (ap is_unknown unknown)) none)
+    (λ _ is unknown. not_both (awaits e core) (and_from (e == core.durable) (is_unknown core.decision) (eq-eqb e core.durable (sym is)) (ap is_unknown unknown)) none))
 
 told_over : (e : ℕ) (core : Node) → 0 < e → IsOver e (handled 8 (Abort e) core).1
 told_over e core some = by_test (λ (turn : Turn). IsOver e turn.1) (ltb 0 e) (on_abort e core) ([], core) (λ _. abort_over e core) (λ none. absurd (not_both (ltb 0 e) (lt-ltb 0 e some) none))

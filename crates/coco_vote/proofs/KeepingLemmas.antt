@@ -10,14 +10,13 @@ use Rattle.coco_net.specs.declared.net.Net.{Ghosts as NetGhosts}
 use Rattle.coco_power.specs.declared.power.Power.{Ghosts as PowerGhosts}
 use Rattle.coco_letters.specs.Turns.{AreFresh, Counts, SendsMore}
 use Rattle.coco_letters.specs.declared.voter.Voter.{Voter}
-use Rattle.coco_letters.proofs.SendingLemmas.{sends_fresh, sends_none, sends_then}
 use Rattle.coco_log.specs.LogState.{LogState, SameBut}
 use Rattle.coco_vote.specs.Asking.{IsLater}
-use Rattle.coco_vote.specs.Counting.{GivesOn}
-use Rattle.coco_vote.specs.Keeping.{KeepsRest, WritesLog}
+use Rattle.coco_vote.specs.Keeping.{KeepsLetters, KeepsRest, WritesLog}
 use Rattle.coco_vote.specs.Taking.{KeepPlaces, SameElsewhere}
 use Rattle.coco_vote.proofs.FileLemmas.{become_none, become_then, become_wider, but_both, but_elsewhere, but_same, elsewhere_both, elsewhere_first, elsewhere_same, follow_none, follow_then, follow_wider}
-use Rattle.coco_vote.proofs.GivingLemmas.{gives_counts, gives_round, gives_same, gives_then}
+use Rattle.coco_vote.proofs.GivingLemmas.{gives_counts}
+use Rattle.coco_vote.proofs.LetterLemmas.{letters_round, letters_same, letters_sent, letters_then}
 use Rattle.coco_vote.proofs.PowerLemmas.{later_same, later_then}
 use Rattle.coco_vote.proofs.VoterLemmas.{elsewhere_still, places_same, places_set, places_then}
 
@@ -64,28 +63,24 @@ module _ {H N P : Type 0} {frame : HostGhosts H} {nets : NetGhosts N} {powers : 
     crash = follow_none (SameElsewhere voters) (elsewhere_same voters) (frame.may_leave host);
     said = refl;
     stream = refl;
-    sent = sends_none (nets.sent net) (nets.sent net) refl;
     later = later_same powers power;
-    net = gives_same (nets.given net) (nets.faults net) (nets.last_seed net);
+    letters = letters_same net;
   }
 
   pub rest_same : (voters : List Voter) (host : H) (net : N) (power : P) → KeepsRest frame nets powers voters voters host host net net power power
   rest_same voters host net power = rest_places voters voters host net power (places_same voters)
 
   -- only the net was used
-  pub rest_net : (voters : List Voter) (host : H) (net net_new : N) (power : P) → SendsMore (nets.sent net) (nets.sent net_new)
-      → GivesOn (nets.given net) (nets.faults net) (nets.last_seed net) (nets.given net_new) (nets.faults net_new) (nets.last_seed net_new)
-      → KeepsRest frame nets powers voters voters host host net net_new power power
-  rest_net voters host net net_new power sends gives = record {
+  pub rest_net : (voters : List Voter) (host : H) (net net_new : N) (power : P) → KeepsLetters nets net net_new → KeepsRest frame nets powers voters voters host host net net_new power power
+  rest_net voters host net net_new power letters = record {
     places = places_same voters;
     others = λ other away stands. stands;
     read = become_none (SameElsewhere voters) (elsewhere_same voters) (frame.reads host);
     crash = follow_none (SameElsewhere voters) (elsewhere_same voters) (frame.may_leave host);
     said = refl;
     stream = refl;
-    sent = sends;
     later = later_same powers power;
-    net = gives;
+    letters = letters;
   }
 
   pub rest_then : {a b c : List Voter} {h i j : H} {l m n : N} {p q r : P}
@@ -99,9 +94,8 @@ module _ {H N P : Type 0} {frame : HostGhosts H} {nets : NetGhosts N} {powers : 
         (follow_wider (SameElsewhere b) (SameElsewhere a) (elsewhere_first a b one.places) (frame.may_leave i) (frame.may_leave j) two.crash);
     said = two.said ∙ one.said;
     stream = two.stream ∙ one.stream;
-    sent = sends_then (nets.sent l) (nets.sent m) (nets.sent n) one.sent two.sent;
     later = later_then powers p q r one.later two.later;
-    net = gives_then (nets.given l) (nets.faults l) (nets.last_seed l) (nets.given m) (nets.faults m) (nets.last_seed m) (nets.given n) (nets.faults n) (nets.last_seed n) one.net two.net;
+    letters = letters_then one.letters two.letters;
   }
 
   -- a round
@@ -110,15 +104,14 @@ module _ {H N P : Type 0} {frame : HostGhosts H} {nets : NetGhosts N} {powers : 
       → OnOk r ((nets.faults net_new ≡ nets.faults net) ⊎ (nets.faults net_new ≡ nets.faults net + 1))
       → OnErr r ((nets.given net_new ≡ nets.given net) × (nets.fresh net_new ≡ nets.fresh net) × (nets.faults net_new ≡ nets.faults net))
       → nets.last_seed net_new ≡ nets.last_seed net → KeepsRest frame nets powers voters voters host host net net_new power power
-  rest_round voters host net net_new power r sent gives faults err seed = rest_net voters host net net_new power (sends_none (nets.sent net) (nets.sent net_new) sent)
-      (gives_round r (nets.sent net) (nets.fresh net) (nets.waiting net_new) (nets.given net) (nets.faults net) (nets.last_seed net) (nets.given net_new) (nets.faults net_new) (nets.last_seed net_new) (nets.fresh net_new) gives faults err seed)
+  rest_round voters host net net_new power r sent gives faults err seed = rest_net voters host net net_new power (letters_round r sent gives faults err seed)
 
   -- letters were sent, and none was given
   pub rest_sends : (voters : List Voter) (host : H) (net net_new : N) (power : P) → SendsMore (nets.sent net) (nets.sent net_new)
       → Counts (nets.given net) (nets.faults net) (nets.last_seed net) (nets.given net_new) (nets.faults net_new) (nets.last_seed net_new)
       → KeepsRest frame nets powers voters voters host host net net_new power power
-  rest_sends voters host net net_new power sends counts = rest_net voters host net net_new power sends
-      (gives_counts (nets.given net) (nets.faults net) (nets.last_seed net) (nets.given net_new) (nets.faults net_new) (nets.last_seed net_new) counts)
+  rest_sends voters host net net_new power sends counts = rest_net voters host net net_new power
+      (record { sends = sends; gives = gives_counts (nets.given net) (nets.faults net) (nets.last_seed net) (nets.given net_new) (nets.faults net_new) (nets.last_seed net_new) counts })
 
   -- the same nodes by other names
   pub rest_of : {a b c d : List Voter} {h i : H} {l m : N} {p q : P} → a ≡ b → d ≡ c → KeepsRest frame nets powers a c h i l m p q → KeepsRest frame nets powers b d h i l m p q
@@ -137,9 +130,8 @@ module _ {H N P : Type 0} {frame : HostGhosts H} {nets : NetGhosts N} {powers : 
     crash = follow_wider (SameBut voter.log.file) (SameElsewhere voters) inside (frame.may_leave h) (frame.may_leave i) log.crash;
     said = log.said;
     stream = log.stream;
-    sent = sends_fresh (nets.sent l) (nets.fresh l) (nets.sent m) (nets.fresh m) fresh;
     later = later;
-    net = gives_counts (nets.given l) (nets.faults l) (nets.last_seed l) (nets.given m) (nets.faults m) (nets.last_seed m) counts;
+    letters = letters_sent fresh counts;
   }
     where
       inside : (x y : Files) → SameBut voter.log.file x y → SameElsewhere voters x y

@@ -14,4 +14,5 @@ pub mod EndingLemmas
 pub mod SayingLemmas
 pub mod FileLemmas
 pub mod WholeLemmas
+pub mod LetterLemmas
 pub mod KeepingLemmas

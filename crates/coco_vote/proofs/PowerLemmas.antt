@@ -1,9 +1,8 @@
 -- A power that is asked for points of an epoch, one behind another.
 use Rattle.std.proofs.Common.{◌≡◌, inl, inr, ℕ, ◌+◌, ◌-◌, ◌^◌, ◌<◌, ◌≤◌, min, Bool, true, false, eqb, refl, ap, ◌∙◌, arith}
 use Rattle.std.specs.Prelude.{◌&&◌, not, nat_le, ◌==◌, if◌then◌else◌}
-use Rattle.std.proofs.lemmas.Bool.{cases_lt, eq-eqb, ne_eqb, or_left}
+use Rattle.std.proofs.lemmas.Bool.{cases_lt, eq-eqb, ne_eqb, or_left, and_right, or_right}
 use Rattle.coco_power.specs.Counting.{asked_after, begins, begun_after, RisesWhere}
-use Rattle.coco_world.proofs.Tools.{or_right}
 use Rattle.coco_vote.specs.Asking.{IsLater, RisesIf}
 use Rattle.coco_power.specs.declared.power.Power.{Ghosts as PowerGhosts}
 
@@ -14,13 +13,9 @@ pub rises_if : (test : Bool) (old new : ℕ) → RisesWhere test old new → Ris
 rises_if true old new rises = rises.1.1 refl
 rises_if false old new rises = elim (cases_lt old new) [ inl less ↦ never (rises.1.0 less) | inr most ↦ omega (arith, rises.0) ]
 
-and_false : (a b : Bool) → b ≡ false → (a && b) ≡ false
-and_false true b is = is
-and_false false b is = refl
-
 -- no epoch begins behind the first point
 begins_none : (node point : ℕ) → 1 < point → begins node point ≡ false
-begins_none node point behind = and_false (eqb node 0) (eqb point 1) (ne_eqb point 1 (λ same. omega (arith, same, behind)))
+begins_none node point behind = and_right (eqb node 0) (eqb point 1) (ne_eqb point 1 (λ same. omega (arith, same, behind)))
 
 module _ {P : Type 0} (powers : PowerGhosts P) where
   pub later_same : (p : P) → IsLater powers p p

@@ -12,6 +12,11 @@ use Rattle.coco_vote.specs.Asking.{IsLater}
 use Rattle.coco_vote.specs.Counting.{GivesOn}
 use Rattle.coco_vote.specs.Taking.{IsElsewhere, KeepPlaces, SameElsewhere}
 
+-- No letter was forgotten, and no count fell.
+pub record KeepsLetters {N : Type 0} (nets : NetGhosts N) (net net_new : N) : Type 0 where
+  pub sends : SendsMore (nets.sent net) (nets.sent net_new)
+  pub gives : GivesOn (nets.given net) (nets.faults net) (nets.last_seed net) (nets.given net_new) (nets.faults net_new) (nets.last_seed net_new)
+
 -- A log lies where it lay, only its file may have changed, and nothing was said.
 pub record WritesLog {H : Type 0} (frame : HostGhosts H) (log log_new : LogState) (host host_new : H) : Type 0 where
   pub file : log_new.file ≡ log.file
@@ -31,6 +36,5 @@ pub record KeepsRest {H N P : Type 0} (frame : HostGhosts H) (nets : NetGhosts N
   pub crash : Follows (SameElsewhere voters_old) (frame.may_leave host_old) (frame.may_leave host_new)
   pub said : frame.said host_new ≡ frame.said host_old
   pub stream : frame.say_faults host_new ≡ frame.say_faults host_old
-  pub sent : SendsMore (nets.sent net_old) (nets.sent net_new)
   pub later : IsLater powers power_old power_new
-  pub net : GivesOn (nets.given net_old) (nets.faults net_old) (nets.last_seed net_old) (nets.given net_new) (nets.faults net_new) (nets.last_seed net_new)
+  pub letters : KeepsLetters nets net_old net_new

@@ -7,12 +7,12 @@ ghost use Rattle.coco_net.specs.declared.letter.Posted.{Posted as Sent};
 ghost use Rattle.coco_node.specs.Node.{Node as NodeState};
 ghost use Rattle.coco_node.specs.declared.machine.TheConstants.{COORDINATOR as Chiefs};
 ghost use Rattle.coco_letters.specs.Telling.{Adds, IsOfChief, IsOfVote};
-ghost use Rattle.coco_letters.specs.Turns.{AreSent, SendsMore};
+ghost use Rattle.coco_letters.specs.Turns.{AreSent};
 ghost use Rattle.coco_letters.specs.Worlds.{GoesBetween, GoesOn};
 ghost use Rattle.coco_log.specs.Faults.{CountsFault};
 ghost use Rattle.coco_store.specs.Contents.{Contents};
-ghost use Rattle.coco_vote.specs.Counting.{prepare_of, GivesOn, HasCounted, IsAye};
-ghost use Rattle.coco_vote.specs.Keeping.{KeepsRest};
+ghost use Rattle.coco_vote.specs.Counting.{prepare_of, HasCounted, IsAye};
+ghost use Rattle.coco_vote.specs.Keeping.{KeepsLetters, KeepsRest};
 ghost use Rattle.coco_vote.specs.Nearing.{all_ahead, Nears};
 ghost use Rattle.coco_vote.specs.Preparing.{have_durable, Ballot, MayForce, RestsVoted, Votes};
 ghost use Rattle.coco_vote.specs.Taking.{has_lost, vote_of, AreApart, AreHeld, AreMarked, AreReady, AreTold, AreVoting, CountsStops, HaveLogs, KeepsCores, UnlessLost, StayWhole};
@@ -48,12 +48,11 @@ pub(crate) fn collect<N: Net>(
     // Where it doesn't wait for votes it stays in its phase.
     ensures rests { OnOk result (is_voting (chief_of chief.old).phase ≡ false → ((chief_of chief.new).phase ≡ (chief_of chief.old).phase) × ((chief_of chief.new).current ≡ (chief_of chief.old).current)) }
     ensures says { OnOk result (Adds IsOfChief (N.sent net.old) (N.sent net.new)) }
-    ensures sent { SendsMore (N.sent net.old) (N.sent net.new) }
+    ensures letters { KeepsLetters N.Net net.old net.new }
     // What was fresh is given, where no letter was lost.
     ensures gives { OnOk result ((more : List Sent) (p : Sent) → N.given net.new ≡ N.given net.old ++ more → N.faults net.new ≡ N.faults net.old → Contains (N.fresh net.old) p → Contains more p) }
     ensures were_sent { OnOk result ((more : List Sent) (p : Sent) → N.given net.new ≡ N.given net.old ++ more → Contains more p → Contains (N.sent net.new) p) }
     ensures world { OnOk result ((cores : List NodeState) → GoesOn (record { cores = cores; chief = chief_of chief.old; sent = N.sent net.old }) (record { cores = cores; chief = chief_of chief.new; sent = N.sent net.new })) }
-    ensures net { GivesOn (N.given net.old) (N.faults net.old) (N.last_seed net.old) (N.given net.new) (N.faults net.new) (N.last_seed net.new) }
 {
     chief_takes(alloc, net, chief)?;
     net.round()?;

@@ -9,7 +9,7 @@ ghost use Rattle.coco_node.specs.declared.machine.TheConstants.{COORDINATOR as C
 ghost use Rattle.coco_chief.specs.Chief.{Chief as ChiefState};
 ghost use Rattle.coco_world.specs.World.{put};
 ghost use Rattle.coco_letters.specs.Saying.{posted};
-ghost use Rattle.coco_letters.specs.Turns.{AreFresh, Counts, IsForcing};
+ghost use Rattle.coco_letters.specs.Turns.{IsForcing, OnlySends};
 ghost use Rattle.coco_letters.specs.Worlds.{GoesBetween, GoesOnStopped, Prepares, SameEntries};
 ghost use Rattle.coco_log.specs.Faults.{CountsFault};
 ghost use Rattle.coco_store.specs.Contents.{Contents};
@@ -99,9 +99,7 @@ pub fn begin_anew<N: Net>(
     ensures voter { OnOk result (voter.new ≡ record voter.old { is_lost = true }) }
     ensures log { voter.new.log ≡ voter.old.log }
     ensures held { voter.new.held ≡ voter.old.held }
-    ensures fresh { AreFresh (N.sent net.old) (N.fresh net.old) (N.sent net.new) (N.fresh net.new) }
-    ensures waiting { (p : ℕ) → N.waiting net.new p ≡ N.waiting net.old p }
-    ensures counts { Counts (N.given net.old) (N.faults net.old) (N.last_seed net.old) (N.given net.new) (N.faults net.new) (N.last_seed net.new) }
+    ensures sends { OnlySends N.Net net.old net.new }
 {
     restart(alloc, cores, node, epoch, None)?;
     node_asks(alloc, net, cores, node)?;
@@ -131,9 +129,7 @@ pub(crate) fn end_vote<N: Net, P: Power>(
     ensures later { IsLater P.Power power.old power.new }
     ensures stops { IfOk result (λ step. TellsStops step (P.stops_seen power.old) (P.early_stops power.old) (P.stops_seen power.new) (P.early_stops power.new)) }
     ensures asked { P.asked power.new node 5 ≡ true }
-    ensures fresh { AreFresh (N.sent net.old) (N.fresh net.old) (N.sent net.new) (N.fresh net.new) }
-    ensures waiting { (p : ℕ) → N.waiting net.new p ≡ N.waiting net.old p }
-    ensures counts { Counts (N.given net.old) (N.faults net.old) (N.last_seed net.old) (N.given net.new) (N.faults net.new) (N.last_seed net.new) }
+    ensures sends { OnlySends N.Net net.old net.new }
 {
     voter.asked_after_vote = true;
     if power.stops(node, 5) {
@@ -165,9 +161,7 @@ fn vote<N: Net, P: Power>(
     ensures later { IsLater P.Power power.old power.new }
     ensures stops { IfOk result (λ step. TellsStops step (P.stops_seen power.old) (P.early_stops power.old) (P.stops_seen power.new) (P.early_stops power.new)) }
     ensures asked { IfOk result (λ step. P.asked power.old node 3 ≡ true → AreAsked step (P.asked power.new node)) }
-    ensures fresh { AreFresh (N.sent net.old) (N.fresh net.old) (N.sent net.new) (N.fresh net.new) }
-    ensures waiting { (p : ℕ) → N.waiting net.new p ≡ N.waiting net.old p }
-    ensures counts { Counts (N.given net.old) (N.faults net.old) (N.last_seed net.old) (N.given net.new) (N.faults net.new) (N.last_seed net.new) }
+    ensures sends { OnlySends N.Net net.old net.new }
 {
     if power.stops(node, 4) {
         begin_anew(alloc, net, cores, voter, node, epoch)?;
@@ -215,9 +209,7 @@ pub fn force_and_vote<H: Host, N: Net, P: Power>(
     ensures later { IsLater P.Power power.old power.new }
     ensures stops { IfOk result (λ step. TellsStops step (P.stops_seen power.old) (P.early_stops power.old) (P.stops_seen power.new) (P.early_stops power.new)) }
     ensures asked { IfOk result (λ step. AreAsked step (P.asked power.new node)) }
-    ensures fresh { AreFresh (N.sent net.old) (N.fresh net.old) (N.sent net.new) (N.fresh net.new) }
-    ensures waiting { (p : ℕ) → N.waiting net.new p ≡ N.waiting net.old p }
-    ensures counts { Counts (N.given net.old) (N.faults net.old) (N.last_seed net.old) (N.given net.new) (N.faults net.new) (N.last_seed net.new) }
+    ensures sends { OnlySends N.Net net.old net.new }
 {
     let alloc = *body.allocator();
     if power.stops(node, 3) {

@@ -9,10 +9,10 @@ ghost use Rattle.coco_msg.specs.declared.message.Message.TheVariants.{Abort as A
 ghost use Rattle.coco_net.specs.declared.letter.Letter.{Letter as Mail};
 ghost use Rattle.coco_node.specs.declared.machine.TheConstants.{COORDINATOR as Chiefs};
 ghost use Rattle.coco_letters.specs.Telling.{Adds, IsOfChief};
-ghost use Rattle.coco_letters.specs.Turns.{AreFresh, AreSent, Counts, IsFrom, SendsMore};
+ghost use Rattle.coco_letters.specs.Turns.{AreFresh, AreSent, Counts, IsFrom, OnlySends};
 ghost use Rattle.coco_letters.specs.Worlds.{GoesOn};
-ghost use Rattle.coco_vote.specs.Counting.{GivesOn};
 ghost use Rattle.coco_vote.specs.Ending.{GiveUp, IsOverAt};
+ghost use Rattle.coco_vote.specs.Keeping.{KeepsLetters};
 
 use crate::exchange::collect;
 use coco_chief::ChiefCore;
@@ -39,9 +39,7 @@ fn hear_end<N: Net>(
     ensures told { OnOk result (IsFrom Chiefs letter.now (Aborts epoch) → IsOverAt epoch node cores.new) }
     ensures silent { OnOk result (N.sent net.new ≡ N.sent net.old) }
     ensures world { OnOk result ((chief : ChiefState) → GoesOn (record { cores = cores.old; chief = chief; sent = N.sent net.old }) (record { cores = cores.new; chief = chief; sent = N.sent net.new })) }
-    ensures fresh { AreFresh (N.sent net.old) (N.fresh net.old) (N.sent net.new) (N.fresh net.new) }
-    ensures waiting { (p : ℕ) → N.waiting net.new p ≡ N.waiting net.old p }
-    ensures counts { Counts (N.given net.old) (N.faults net.old) (N.last_seed net.old) (N.given net.new) (N.faults net.new) (N.last_seed net.new) }
+    ensures sends { OnlySends N.Net net.old net.new }
 {
     node_gives_up(alloc, net, cores, node, epoch, letter)?;
     Ok(())
@@ -123,9 +121,8 @@ pub fn give_up<N: Net>(
     // Where no letter was lost, each node knows that the epoch is aborted.
     ensures told { OnOk result (N.faults net.new ≡ N.faults net.old → (n : ℕ) → n < length cores.old → IsOverAt epoch n cores.new) }
     ensures said { OnOk result (Adds IsOfChief (N.sent net.old) (N.sent net.new)) }
-    ensures sent { SendsMore (N.sent net.old) (N.sent net.new) }
+    ensures letters { KeepsLetters N.Net net.old net.new }
     ensures world { OnOk result (GoesOn (record { cores = cores.old; chief = chief_of chief.old; sent = N.sent net.old }) (record { cores = cores.new; chief = chief_of chief.new; sent = N.sent net.new })) }
-    ensures net { GivesOn (N.given net.old) (N.faults net.old) (N.last_seed net.old) (N.given net.new) (N.faults net.new) (N.last_seed net.new) }
 {
     chief_aborts(alloc, net, chief)?;
     net.round()?;

@@ -5,7 +5,7 @@ ghost use Rattle.coco_msg.specs.declared.message.Message.TheVariants.{Prepare as
 ghost use Rattle.coco_node.specs.declared.machine.TheConstants.{COORDINATOR as Chiefs};
 ghost use Rattle.coco_chief.specs.Chief.{Chief as ChiefState};
 ghost use Rattle.coco_letters.specs.Telling.{Adds, IsOfVote};
-ghost use Rattle.coco_letters.specs.Turns.{AreFresh, AreSent, Counts, IsFrom};
+ghost use Rattle.coco_letters.specs.Turns.{AreFresh, AreSent, Counts, IsFrom, OnlySends};
 ghost use Rattle.coco_letters.specs.Worlds.{GoesBetween, GoesOn, SameEntries};
 ghost use Rattle.coco_log.specs.Faults.{CountsFault};
 ghost use Rattle.coco_store.specs.Contents.{Contents};
@@ -46,9 +46,7 @@ fn hear_vote<N: Net>(
     requires voting { AreVoting epoch cores.old }
     ensures heard { IfOk result (λ heard. HeardSo heard node epoch letter.now cores.old (N.sent net.old) cores.new (N.sent net.new)) }
     ensures world { OnOk result ((chief : ChiefState) → GoesOn (record { cores = cores.old; chief = chief; sent = N.sent net.old }) (record { cores = cores.new; chief = chief; sent = N.sent net.new })) }
-    ensures fresh { AreFresh (N.sent net.old) (N.fresh net.old) (N.sent net.new) (N.fresh net.new) }
-    ensures waiting { (p : ℕ) → N.waiting net.new p ≡ N.waiting net.old p }
-    ensures counts { Counts (N.given net.old) (N.faults net.old) (N.last_seed net.old) (N.given net.new) (N.faults net.new) (N.last_seed net.new) }
+    ensures sends { OnlySends N.Net net.old net.new }
 {
     node_votes(alloc, net, cores, node, epoch, letter)
 }
@@ -77,9 +75,7 @@ fn vote_again<N: Net, P: Power>(
     ensures later { IsLater P.Power power.old power.new }
     ensures stops { IfOk result (λ step. TellsStops step (P.stops_seen power.old) (P.early_stops power.old) (P.stops_seen power.new) (P.early_stops power.new)) }
     ensures asked { IsMarked node voter.old (P.asked power.old) → P.asked power.new node 5 ≡ true }
-    ensures fresh { AreFresh (N.sent net.old) (N.fresh net.old) (N.sent net.new) (N.fresh net.new) }
-    ensures waiting { (p : ℕ) → N.waiting net.new p ≡ N.waiting net.old p }
-    ensures counts { Counts (N.given net.old) (N.faults net.old) (N.last_seed net.old) (N.given net.new) (N.faults net.new) (N.last_seed net.new) }
+    ensures sends { OnlySends N.Net net.old net.new }
 {
     if voter.asked_after_vote {
         return Ok(Step::Voted);
@@ -134,9 +130,7 @@ fn take_letter<H: Host, N: Net, P: Power>(
     // The counts.
     ensures later { IsLater P.Power power.old power.new }
     ensures stops { IfOk result (λ stops. CountsStops stops (P.stops_seen power.old) (P.early_stops power.old) (P.stops_seen power.new) (P.early_stops power.new)) }
-    ensures fresh { AreFresh (N.sent net.old) (N.fresh net.old) (N.sent net.new) (N.fresh net.new) }
-    ensures waiting { (p : ℕ) → N.waiting net.new p ≡ N.waiting net.old p }
-    ensures counts { Counts (N.given net.old) (N.faults net.old) (N.last_seed net.old) (N.given net.new) (N.faults net.new) (N.last_seed net.new) }
+    ensures sends { OnlySends N.Net net.old net.new }
 {
     let alloc = *body.allocator();
     match hear_vote(alloc, net, cores, node, epoch, letter)? {

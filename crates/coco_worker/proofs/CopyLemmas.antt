@@ -11,9 +11,9 @@ use Rattle.coco_copy.specs.Puts.{after_ask, answer_in}
 use Rattle.coco_copy.specs.declared.ops.CopyAsk.{CopyAsk}
 use Rattle.coco_copy.specs.declared.ops.CopyAnswer.{CopyAnswer}
 use Rattle.coco_desks.specs.Gains.{AreSame, Gain}
-use Rattle.coco_desks.proofs.GainLemmas.{gain_as, gain_set, gain_then, stepped_calls}
+use Rattle.coco_desks.proofs.GainLemmas.{gain_as, gain_none, gain_set, gain_then, stepped_calls}
 use Rattle.coco_journaled.specs.Passes.{Passing, Steps}
-use Rattle.coco_worker.specs.Copying.{asked, node_of, partition_of, put, puts_at}
+use Rattle.coco_worker.specs.Copying.{asked, node_of, partition_of, put, put_at, puts_at}
 use Rattle.coco_pieces.specs.Pieces.{writes_on}
 use Rattle.coco_worker.specs.declared.copies.WorkerCommit.{WorkerCommit}
 
@@ -55,10 +55,9 @@ elsewhere carries c table w away =
     ] refl
 
 -- a write is put where the net carries it
-here : (carries : Carries) (c : WorkerCommit) (table : ℕ) (w : Write) (carried : Bool) → w.key.row % c.partitions ≡ partition_of c.config table → carried ≡ carries c.config.epoch c.worker c.place (node_of c.config table) → puts_at carries c table (w ∷ []) ≡ cond {A = List CopyAsk} carried (put c w ∷ []) []
-here carries c table w carried is net =
+here : (carries : Carries) (c : WorkerCommit) (table : ℕ) (w : Write) → w.key.row % c.partitions ≡ partition_of c.config table → puts_at carries c table (w ∷ []) ≡ cond {A = List CopyAsk} (carries c.config.epoch c.worker c.place (node_of c.config table)) (put c w ∷ []) []
+here carries c table w is =
     ap (λ b. cond (carries c.config.epoch c.worker c.place (node_of c.config table)) (map (put c) (cond {A = List Write} b (w ∷ []) [])) []) (eq-eqb (w.key.row % c.partitions) (partition_of c.config table) is)
-    ∙ ap (λ b. cond {A = List CopyAsk} b (put c w ∷ []) []) (sym net)
 
 -- the table of a copy, and what stands at it
 pub at_table : (c : WorkerCommit) (p k : ℕ) → k < c.config.copies → partition_of c.config (p * c.config.copies + k) ≡ p
@@ -74,9 +73,9 @@ is_table : (c : WorkerCommit) (table p k : ℕ) → partition_of c.config table 
 is_table c table p k is at = sym (div-add-mod' table c.config.copies) ∙ ap (λ q. q * c.config.copies + table % c.config.copies) is ∙ ap (λ q. p * c.config.copies + q) at
 
 -- what the next copy of the write's partition is asked
-pub below_step : (carries : Carries) (c : WorkerCommit) (w : Write) (k table : ℕ) (carried : Bool) → k < c.config.copies → carried ≡ carries c.config.epoch c.worker c.place ((w.key.row % c.partitions + k + 1) % c.config.nodes)
-    → puts_below k carries c table (w ∷ []) ++ cond (nat_eq (w.key.row % c.partitions * c.config.copies + k) table) (cond {A = List CopyAsk} carried (put c w ∷ []) []) [] ≡ puts_below (k + 1) carries c table (w ∷ [])
-below_step carries c w k table carried lt net = by_table (nat_eq at table) refl
+pub below_step : (carries : Carries) (c : WorkerCommit) (w : Write) (k table : ℕ) → k < c.config.copies
+    → puts_below k carries c table (w ∷ []) ++ put_at carries c (w.key.row % c.partitions) k w table ≡ puts_below (k + 1) carries c table (w ∷ [])
+below_step carries c w k table lt = by_table (nat_eq at table) refl
   where
     p : ℕ
     p = w.key.row % c.partitions
@@ -87,8 +86,12 @@ below_step carries c w k table carried lt net = by_table (nat_eq at table) refl
     all : List CopyAsk
     all = puts_at carries c table (w ∷ [])
 
-    at_it : at ≡ table → all ≡ cond {A = List CopyAsk} carried (put c w ∷ []) []
-    at_it e = here carries c table w carried (sym (at_table c p k lt) ∙ ap (partition_of c.config) e) (net ∙ ap (carries c.config.epoch c.worker c.place) (sym (at_node c p k lt) ∙ ap (node_of c.config) e))
+    one : List CopyAsk
+    one = cond (carries c.config.epoch c.worker c.place ((w.key.row % c.partitions + k + 1) % c.config.nodes)) (put c w ∷ []) []
+
+    at_it : at ≡ table → all ≡ one
+    at_it e = here carries c table w (sym (at_table c p k lt) ∙ ap (partition_of c.config) e)
+        ∙ ap (λ node. cond {A = List CopyAsk} (carries c.config.epoch c.worker c.place node) (put c w ∷ []) []) (ap (node_of c.config) (sym e) ∙ at_node c p k lt)
 
     away : (at ≡ table → ⊥) → table % c.config.copies ≡ k → all ≡ []
     away other e = elsewhere carries c table w (λ is. other (sym (is_table c table p k (sym is) e)))
@@ -99,11 +102,11 @@ below_step carries c w k table carried lt net = by_table (nat_eq at table) refl
     by_copy other false true a b = sym (away other (let lo = ltb-false (table % c.config.copies) k a in let hi = ltb-true (table % c.config.copies) (k + 1) b in omega arith))
     by_copy other false false a b = refl
 
-    by_table : (b : Bool) → nat_eq at table ≡ b → cond (nat_lt (table % c.config.copies) k) all [] ++ cond b (cond {A = List CopyAsk} carried (put c w ∷ []) []) [] ≡ cond (nat_lt (table % c.config.copies) (k + 1)) all []
+    by_table : (b : Bool) → nat_eq at table ≡ b → cond (nat_lt (table % c.config.copies) k) all [] ++ cond b one [] ≡ cond (nat_lt (table % c.config.copies) (k + 1)) all []
     by_table true is =
         let e : at ≡ table = eqb-true at table is in
         let copy : table % c.config.copies ≡ k = ap (λ t. t % c.config.copies) (sym e) ∙ at_copy c p k lt in
-        ap (λ b. cond b all [] ++ cond {A = List CopyAsk} carried (put c w ∷ []) []) (le-ltb (table % c.config.copies) k (omega arith))
+        ap (λ b. cond b all [] ++ one) (le-ltb (table % c.config.copies) k (omega arith))
         ∙ sym (at_it e) ∙ ap (λ b. cond b all []) (sym (lt-ltb (table % c.config.copies) (k + 1) (omega arith)))
     by_table false is = by_copy (λ e. (let h : true ≡ false = sym (eq-eqb at table e) ∙ is in cc)) (nat_lt (table % c.config.copies) k) (nat_lt (table % c.config.copies) (k + 1)) refl refl
 
@@ -115,38 +118,39 @@ CopyPass = Passing CopyState CopyAsk CopyAnswer
 pub table_within : (parts count n p k len : ℕ) → len ≡ parts * count → n ≡ count → p < parts → k < count → p * n + k < len
 table_within parts count n p k len many is lp lk = subst (λ (m : ℕ). p * m + k < len) (sym is) (let h = mul-add-lt p count k parts lp lk in omega arith)
 
-pub row_at : (row n m p : ℕ) → p ≡ row % n → n ≡ m → p ≡ row % m
-row_at row n m p is same = is ∙ ap (λ k. row % k) same
-
-pub table_at : (p q k n count : ℕ) → q ≡ p → n ≡ count → q * n + k ≡ p * count + k
-table_at p q k n count is same = ap (λ x. x * n + k) is ∙ ap (λ x. p * x + k) same
-
 -- what the net says of the node that a copy stands on
-pub carried_to : (carries : Carries) (c : WorkerCommit) (p k q nodes : ℕ) (carried : Bool) → carried ≡ carries c.config.epoch c.worker c.place ((q + k + 1) % nodes) → q ≡ p → nodes ≡ c.config.nodes
-    → carried ≡ carries c.config.epoch c.worker c.place ((p + k + 1) % c.config.nodes)
-carried_to carries c p k q nodes carried net is same = net ∙ ap (λ n. carries c.config.epoch c.worker c.place ((n + k + 1) % nodes)) is ∙ ap (λ n. carries c.config.epoch c.worker c.place ((p + k + 1) % n)) same
+pub carried_to : (carries : Carries) (c : WorkerCommit) (p k nodes : ℕ) (carried : Bool) → carried ≡ carries c.config.epoch c.worker c.place ((p + k + 1) % nodes) → nodes ≡ c.config.nodes → carried ≡ carries c.config.epoch c.worker c.place ((p + k + 1) % c.config.nodes)
+carried_to carries c p k nodes carried net same = net ∙ ap (λ n. carries c.config.epoch c.worker c.place ((p + k + 1) % n)) same
 
-module _ (carries : Carries) (c : WorkerCommit) (w : Write) (k : ℕ) (lt : k < c.config.copies) (old passes : List CopyPass) (so : Gain asked old passes (λ table. puts_below k carries c table (w ∷ []))) where
-  -- the net doesn't carry the write to the next copy
-  pub copied_skip : false ≡ carries c.config.epoch c.worker c.place ((w.key.row % c.partitions + k + 1) % c.config.nodes) → Gain asked old passes (λ table. puts_below (k + 1) carries c table (w ∷ []))
-  copied_skip net = gain_as asked old passes (λ table. puts_below k carries c table (w ∷ [])) (λ table. puts_below (k + 1) carries c table (w ∷ [])) so
-      (λ table _. sym (append-nil (puts_below k carries c table (w ∷ []))) ∙ ap (λ (xs : List CopyAsk). puts_below k carries c table (w ∷ []) ++ xs) (sym (nothing (nat_eq (w.key.row % c.partitions * c.config.copies + k) table)))
-      ∙ below_step carries c w k table false lt net)
-    where
-      nothing : (b : Bool) → cond {A = List CopyAsk} b [] [] ≡ []
-      nothing true = refl
-      nothing false = refl
+module _ (carries : Carries) (c : WorkerCommit) (w : Write) where
+  -- one copy more is asked
+  pub copied_more : (k p n : ℕ) (a b d : List CopyPass) → k < c.config.copies → p ≡ w.key.row % n → n ≡ c.partitions → AreSame a b → Gain asked a b (λ table. puts_below k carries c table (w ∷ [])) → Gain asked b d (put_at carries c p k w)
+      → Gain asked a d (λ table. puts_below (k + 1) carries c table (w ∷ []))
+  copied_more k p n a b d lt at count same so next =
+      let here : Gain asked b d (put_at carries c (w.key.row % c.partitions) k w) = subst (λ (q : ℕ). Gain asked b d (put_at carries c q k w)) (at ∙ ap (λ (m : ℕ). w.key.row % m) count) next in
+      gain_as asked a d (λ table. puts_below k carries c table (w ∷ []) ++ put_at carries c (w.key.row % c.partitions) k w table) (λ table. puts_below (k + 1) carries c table (w ∷ []))
+      (gain_then asked a b d (λ table. puts_below k carries c table (w ∷ [])) (put_at carries c (w.key.row % c.partitions) k w) same so here) (λ table _. below_step carries c w k table lt)
 
-  -- the next copy is asked
-  pub copied_step : (i : ℕ) (q d : CopyPass) (answer : CopyAnswer) → AreSame old passes → i ≡ w.key.row % c.partitions * c.config.copies + k → i < length passes → Steps answer_in after_ask (slice_index_or passes i d) (put c w) answer q
-      → true ≡ carries c.config.epoch c.worker c.place ((w.key.row % c.partitions + k + 1) % c.config.nodes) → Gain asked old (slice_set passes i q) (λ table. puts_below (k + 1) carries c table (w ∷ []))
-  copied_step i q d answer same is within steps net =
-      let more : ℕ → List CopyAsk = λ table. cond {A = List CopyAsk} (nat_eq (w.key.row % c.partitions * c.config.copies + k) table) (put c w ∷ []) [] in
-      let one : Gain asked passes (slice_set passes i q) more = gain_set asked passes i q d (put c w) more within (stepped_calls answer_in after_ask asked (slice_index_or passes i d) q (put c w) answer (put c w) steps (λ _. refl))
-      (ap (λ b. cond {A = List CopyAsk} b (put c w ∷ []) []) (eq-eqb (w.key.row % c.partitions * c.config.copies + k) i (sym is)))
-      (λ j away. ap (λ b. cond {A = List CopyAsk} b (put c w ∷ []) []) (ne_eqb (w.key.row % c.partitions * c.config.copies + k) j (λ e. away (is ∙ e)))) in
-      gain_as asked old (slice_set passes i q) (λ table. puts_below k carries c table (w ∷ []) ++ more table) (λ table. puts_below (k + 1) carries c table (w ∷ []))
-      (gain_then asked old passes (slice_set passes i q) (λ table. puts_below k carries c table (w ∷ [])) more same so one) (λ table _. below_step carries c w k table true lt net)
+  -- ---- one write, at one copy
+
+  module _ (p k : ℕ) (carried : Bool) (net : carried ≡ carries c.config.epoch c.worker c.place ((p + k + 1) % c.config.nodes)) (passes : List CopyPass) where
+    at_copy_is : (table : ℕ) → cond (nat_eq (p * c.config.copies + k) table) (cond carried (put c w ∷ []) []) [] ≡ put_at carries c p k w table
+    at_copy_is table = ap (λ b. cond (nat_eq (p * c.config.copies + k) table) (cond {A = List CopyAsk} b (put c w ∷ []) []) []) net
+
+    -- the net doesn't carry the write to the copy
+    pub put_skip : carried ≡ false → Gain asked passes passes (put_at carries c p k w)
+    put_skip not = gain_as asked passes passes (λ _. []) (put_at carries c p k w) (gain_none asked passes)
+        (λ table _. nothing (nat_eq (p * c.config.copies + k) table) ∙ ap (λ b. cond (nat_eq (p * c.config.copies + k) table) (cond {A = List CopyAsk} b (put c w ∷ []) []) []) (sym not) ∙ at_copy_is table)
+      where
+        nothing : (b : Bool) → [] ≡ cond {A = List CopyAsk} b [] []
+        nothing true = refl
+        nothing false = refl
+
+    -- the copy is asked
+    pub put_step : carried ≡ true → (i : ℕ) (q d : CopyPass) (answer : CopyAnswer) → i ≡ p * c.config.copies + k → i < length passes → Steps answer_in after_ask (slice_index_or passes i d) (put c w) answer q → Gain asked passes (slice_set passes i q) (put_at carries c p k w)
+    put_step is i q d answer at within steps = gain_set asked passes i q d (put c w) (put_at carries c p k w) within (stepped_calls answer_in after_ask asked (slice_index_or passes i d) q (put c w) answer (put c w) steps (λ _. refl))
+        (sym (at_copy_is i) ∙ ap (λ b. cond {A = List CopyAsk} b (cond carried (put c w ∷ []) []) []) (eq-eqb (p * c.config.copies + k) i (sym at)) ∙ ap (λ b. cond {A = List CopyAsk} b (put c w ∷ []) []) is)
+        (λ j away. sym (at_copy_is j) ∙ ap (λ b. cond {A = List CopyAsk} b (cond carried (put c w ∷ []) []) []) (ne_eqb (p * c.config.copies + k) j (λ e. away (at ∙ e))))
 
 -- one write more is delivered
 pub delivered_more : (carries : Carries) (c : WorkerCommit) (ws : List Write) (i : ℕ) (w : Write) (a b d : List CopyPass) → i < length ws → w ≡ slice_index_or ws i w → AreSame a b → Gain asked a b (λ table. puts_at carries c table (take i ws))

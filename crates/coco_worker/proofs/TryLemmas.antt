@@ -1,9 +1,11 @@
 -- Scripts that a slot gains: from one stretch to the next, and the attempts at one request.
 use Rattle.std.proofs.Common.{◌≡◌, ℕ, suc, ◌+◌, ◌<◌, true, List, [], ◌∷◌, ◌++◌, length, Option, None, Some, refl, sym, ap, ◌∙◌, subst, arith, append_assoc}
+use Rattle.std.specs.Global.{Vec}
 use Rattle.std.specs.List.{AllByRecursion, filter_map, flat_map}
 use Rattle.std.proofs.lemmas.List.{append-nil, length-append}
 use Rattle.std.proofs.lemmas.List.Concat.{flat_map-append}
 use Rattle.std.proofs.lemmas.List.Elements.{filter_map-append}
+use Rattle.std.proofs.lemmas.Option.{same_Some}
 use Rattle.coco_types.specs.declared.call.AttemptId.{AttemptId}
 use Rattle.coco_types.specs.declared.call.Request.{Request}
 use Rattle.coco_types.specs.declared.call.Write.{Write}
@@ -14,14 +16,14 @@ use Rattle.coco_desks.proofs.GainLemmas.{gain_as, gain_none, gain_then}
 use Rattle.coco_gate.specs.declared.passes.Passage.{Passage}
 use Rattle.coco_occ.specs.Script.{IsScript}
 use Rattle.coco_occ.specs.Steps.{at_shard}
-use Rattle.coco_occ.specs.Trying.{Trying, Ready, Ended, has_ended}
+use Rattle.coco_occ.specs.Trying.{Trying, has_ended}
 use Rattle.coco_occ.specs.declared.outcome.Ended.{Ended as Unmade}
 use Rattle.coco_occ.specs.declared.outcome.Outcome.{Outcome}
 use Rattle.coco_occ.specs.declared.outcome.Tried.{Tried}
 use Rattle.coco_occ.specs.declared.script.Step.{Step}
 use Rattle.coco_order.specs.Execution.{all_at_shard, is_conflict}
-use Rattle.coco_worker.specs.Gains.{Make, entered}
-use Rattle.coco_worker.specs.Trying.{Adds, AreNumbered, HasEnded, IsAt, IsOver, IsTriedAt, TriesOnce, TriesOnly, TriesOut, ends_of, points_behind, points_of, time_of, unmade_of}
+use Rattle.coco_worker.specs.Gains.{Make, ShardPass, entered}
+use Rattle.coco_worker.specs.Trying.{Adds, AddsScript, AreNumbered, HasEnded, IsAt, IsGated, IsOver, IsTriedAt, Runs, TriesOnce, TriesOnly, TriesOut, at_start, ends_of, point, points_behind, points_of, time_of, unmade_of}
 use Rattle.coco_worker.specs.declared.slot.Slot.{Slot}
 use Rattle.coco_worker.proofs.ScriptLemmas.{all_at_shard_append}
 
@@ -60,11 +62,11 @@ adds_weaker P Q a b ts weaker adds = record {
 
 -- ---- the points that it passes
 
-pub gated_more : (gate worker : ℕ) (ts us : List Tried) (ps qs : List Passage) (t : Tried) (outcome : Outcome) → t.outcome ≡ outcome → us ≡ ts ++ t ∷ []
-    → qs ≡ (ps ++ record { gate = gate; worker = worker; point = 1 } ∷ []) ++ points_behind gate worker outcome → ps ≡ flat_map (points_of gate worker) ts → qs ≡ flat_map (points_of gate worker) us
+gated_more : (gate worker : ℕ) (ts us : List Tried) (ps qs : List Passage) (t : Tried) (outcome : Outcome) → t.outcome ≡ outcome → us ≡ ts ++ t ∷ []
+    → qs ≡ (ps ++ point gate worker 1 ∷ []) ++ points_behind gate worker outcome → ps ≡ flat_map (points_of gate worker) ts → qs ≡ flat_map (points_of gate worker) us
 gated_more gate worker ts us ps qs t outcome is more passed was =
-    passed ∙ append_assoc ps (record { gate = gate; worker = worker; point = 1 } ∷ []) (points_behind gate worker outcome)
-    ∙ ap (λ (o : Outcome). ps ++ record { gate = gate; worker = worker; point = 1 } ∷ points_behind gate worker o) (sym is)
+    passed ∙ append_assoc ps (point gate worker 1 ∷ []) (points_behind gate worker outcome)
+    ∙ ap (λ (o : Outcome). ps ++ point gate worker 1 ∷ points_behind gate worker o) (sym is)
     ∙ ap (λ (xs : List Passage). xs ++ points_of gate worker t) was
     ∙ ap (λ (xs : List Passage). flat_map (points_of gate worker) ts ++ xs) (sym (append-nil (points_of gate worker t)))
     ∙ sym (flat_map-append (points_of gate worker) ts (t ∷ []))
@@ -72,34 +74,53 @@ gated_more gate worker ts us ps qs t outcome is more passed was =
 
 -- ---- one attempt at a request
 
--- an attempt that was ready has ended, and its script is added
-pub tries_once : (procs : Procedures) (request : Request) (place partitions : ℕ) (a b : Slot) (t u : Trying) (by : AttemptId) (script : List Step) (tried : Tried) (outcome : Outcome) (writes : List Write)
-    → t ≡ record { procs = procs; call = request.call; by = by; partitions = partitions; script = []; standing = Ready } → IsScript t.procs t.call t.by t.partitions u.script outcome writes → u.standing ≡ Ended outcome writes
-    → script ≡ u.script → tried ≡ record { place = place; by = by; script = script; outcome = outcome } → by.worker ≡ a.worker → by.number ≡ length a.transcript → b.transcript ≡ a.transcript ++ tried ∷ []
-    → Make a.passes.items b.passes.items (λ shard. at_shard shard u.script) → TriesOnce procs request place partitions a b (Some u) outcome
-tries_once procs request place partitions a b t u by script tried outcome writes ready whole ended copied is worker number more made =
-    let mine : IsScript procs request.call by partitions u.script outcome writes = subst (λ (v : Trying). IsScript v.procs v.call v.by v.partitions u.script outcome writes) ready whole in
-    let own : IsScript procs request.call by partitions script outcome writes = subst (λ (xs : List Step). IsScript procs request.call by partitions xs outcome writes) (sym copied) mine in
-    let at : IsAt procs request a.worker place partitions tried writes = record {
-      at = ap (λ (v : Tried). v.place) is;
-      by_worker = ap (λ (v : Tried). v.by.worker) is ∙ worker;
-      script = subst (λ (v : Tried). IsScript procs request.call v.by partitions v.script v.outcome writes) (sym is) own;
-    } in
-    let same : tried.script ≡ u.script = ap (λ (v : Tried). v.script) is ∙ copied in
-    record {
-      tried = tried;
-      writes = writes;
-      adds = record {
-        transcript = more;
-        made = gain_as entered a.passes.items b.passes.items (λ shard. at_shard shard u.script) (λ shard. all_at_shard shard (tried ∷ [])) made
-            (λ shard _. ap (at_shard shard) (sym same) ∙ sym (append-nil (at_shard shard tried.script)));
-        whole = ((writes, at), tt);
-        numbered = (ap (λ (v : Tried). v.by.number) is ∙ number, tt);
-      };
-      is = at;
-      outcome_is = ap (λ (v : Tried). v.outcome) is;
-      ended = ended;
-    }
+-- what it ran from
+pub runs_from : (old room : Option Trying) (t first : Trying) (passes a b : List ShardPass) → old ≡ Some t → old ≡ Some first → passes ≡ a → Runs t room passes b → Runs first room a b
+runs_from old room t first passes a b at ready same runs = subst (λ (ps : List ShardPass). Runs first room ps b) same (subst (λ (u : Trying). Runs u room passes b) (same_Some t first (sym at ∙ ready)) runs)
+
+-- what is in the room of an attempt that ran
+pub ran_so : (first t : Trying) (room : Option Trying) (a b : List ShardPass) (runs : Runs first room a b) → room ≡ Some t → t ≡ record first { script = runs.script; standing = runs.standing }
+ran_so first t room a b runs at = same_Some t (record first { script = runs.script; standing = runs.standing }) (sym at ∙ runs.left)
+
+module _ {gate place : ℕ} {by : AttemptId} {t : Trying} {b d : Slot} {outcome : Outcome} (adds : AddsScript gate place by t b d outcome) (a : Slot) (transcript : b.transcript ≡ a.transcript) where
+  abbrev tried : Tried
+  tried = record { place = place; by = by; script = t.script; outcome = outcome }
+
+  added : d.transcript ≡ a.transcript ++ tried ∷ []
+  added = adds.added ∙ ap (λ (ts : List Tried). ts ++ tried ∷ []) transcript
+
+  -- an attempt that ran has ended, and its script is added
+  pub tries_once : (procs : Procedures) (request : Request) (partitions : ℕ) (room : Option Trying) → room ≡ Some t → by.number ≡ length a.transcript → by.worker ≡ a.worker
+      → Runs (at_start procs request.call by partitions) room a.passes.items b.passes.items → d.passes ≡ b.passes → TriesOnce procs request place partitions a d room outcome
+  tries_once procs request partitions room at number worker runs kept =
+      let is : t ≡ record (at_start procs request.call by partitions) { script = runs.script; standing = runs.standing } = ran_so (at_start procs request.call by partitions) t room a.passes.items b.passes.items runs at in
+      let same : t.script ≡ runs.script = ap (λ (u : Trying). u.script) is in
+      let whole : IsAt procs request a.worker place partitions tried adds.writes = record {
+        at = refl;
+        by_worker = worker;
+        script = subst (λ (xs : List Step). IsScript procs request.call by partitions xs outcome adds.writes) (sym same) (runs.whole outcome adds.writes (sym (ap (λ (u : Trying). u.standing) is) ∙ adds.ended));
+      } in
+      record {
+        tried = tried;
+        writes = adds.writes;
+        adds = record {
+          transcript = added;
+          made = gain_as entered a.passes.items d.passes.items (λ shard. at_shard shard runs.script) (λ shard. all_at_shard shard (tried ∷ []))
+              (subst (λ (ps : List ShardPass). Make a.passes.items ps (λ shard. at_shard shard runs.script)) (sym (ap (λ (v : Vec ShardPass). v.items) kept)) runs.made)
+              (λ shard _. ap (at_shard shard) (sym same) ∙ sym (append-nil (at_shard shard t.script)));
+          whole = ((adds.writes, whole), tt);
+          numbered = (number, tt);
+        };
+        is = whole;
+        outcome_is = refl;
+        ended = subst (HasEnded outcome adds.writes) (sym at) adds.ended;
+      }
+
+  -- and its points are passed
+  pub gated_once : b.passed ≡ a.passed ++ point gate a.worker 1 ∷ [] → b.worker ≡ a.worker → d.worker ≡ a.worker → IsGated gate a → IsGated gate d
+  gated_once passed same worker was = subst (λ (w : ℕ). d.passed ≡ flat_map (points_of gate w) d.transcript) (sym worker)
+      (gated_more gate a.worker a.transcript d.transcript a.passed d.passed tried outcome refl added
+      (adds.passed ∙ ap (λ (ps : List Passage). ps ++ points_behind gate b.worker outcome) passed ∙ ap (λ (w : ℕ). (a.passed ++ point gate a.worker 1 ∷ []) ++ points_behind gate w outcome) same) was)
 
 -- ---- the attempts at a request
 

@@ -1,9 +1,9 @@
 -- Requests that are worked off: one, and from one stretch to the next.
-use Rattle.std.proofs.Common.{◌≡◌, ℕ, ◌<◌, ◌≤◌, Bool, true, false, cond, nat_lt, MatchBool, List, [], ◌∷◌, ◌++◌, map, length, Option, None, Some, Result, Ok, Err, OnOk, refl, sym, ap, ◌∙◌, subst, append_assoc, slice_index_or}
+use Rattle.std.proofs.Common.{◌≡◌, ℕ, ◌<◌, ◌≤◌, Bool, true, false, cond, nat_lt, MatchBool, List, [], ◌∷◌, ◌++◌, map, length, Option, None, Some, refl, sym, ap, ◌∙◌, subst, append_assoc, slice_index_or}
 use Rattle.std.specs.List.{AllByRecursion, flat_map, slice_get}
 use Rattle.std.proofs.lemmas.Bool.{lt-ltb, le-ltb}
 use Rattle.std.proofs.lemmas.List.Elements.{filter-append}
-use Rattle.std.proofs.lemmas.Option.{slice_get-get_or}
+use Rattle.std.proofs.lemmas.Option.{same_Some, slice_get-get_or}
 use Rattle.std.proofs.lemmas.List.{append-nil, map-append}
 use Rattle.std.proofs.lemmas.List.Concat.{flat_map-append}
 use Rattle.coco_types.specs.declared.call.Piece.{Piece}
@@ -15,7 +15,8 @@ use Rattle.coco_claim.specs.Seats.{Draws, Drawer, has_ended}
 use Rattle.coco_claim.proofs.Drawing.{any_last}
 use Rattle.coco_desks.specs.Gains.{AreSame, Gain}
 use Rattle.coco_desks.proofs.GainLemmas.{gain_as, gain_none, gain_then}
-use Rattle.coco_occ.specs.Trying.{Trying}
+use Rattle.coco_occ.specs.Trying.{Trying, Standing, Ready, Waits, Ended}
+use Rattle.coco_occ.specs.declared.outcome.Outcome.{Outcome}
 use Rattle.coco_occ.specs.declared.outcome.Ended.{Ended as Unmade}
 use Rattle.coco_occ.specs.declared.outcome.Tailed.{Tailed}
 use Rattle.coco_occ.specs.declared.outcome.Tried.{Tried}
@@ -23,8 +24,8 @@ use Rattle.coco_order.specs.Execution.{Tries, all_tries, all_at_shard, concat_tr
 use Rattle.coco_worker.specs.Copying.{asked, puts_at}
 use Rattle.coco_worker.specs.Gains.{Make, ShardPass}
 use Rattle.coco_pieces.specs.Pieces.{request_pieces}
-use Rattle.coco_worker.specs.Trying.{Adds, IsAt, IsTriedAt, TriesOnly, TriesOut, ends_of}
-use Rattle.coco_worker.specs.Working.{Job, IsWhole, IsTriedBy, Worked, IsWorkedOff, Works, WorksDrawn, commit_at, copied, copies_at, pieces_at, pieces_of, places_among, places_of, scripts_of, tail_of, tailed}
+use Rattle.coco_worker.specs.Trying.{Adds, HasEnded, IsAt, IsTriedAt, TriesOnly, TriesOut, ends_of}
+use Rattle.coco_worker.specs.Working.{Job, IsWhole, IsTriedBy, Keeps, Worked, IsWorkedOff, Works, WorksDrawn, commit_at, copied, copies_at, pieces_at, pieces_of, places_among, places_of, scripts_of, tail_of, tailed}
 use Rattle.coco_worker.specs.declared.slot.EpochConfig.{EpochConfig}
 use Rattle.coco_worker.specs.declared.slot.Slot.{Slot}
 use Rattle.coco_worker.proofs.CopyLemmas.{CopyPass}
@@ -148,8 +149,8 @@ works_so_none j s = record {
 }
 
 -- a draw changes nothing but the seat
-pub works_redrawn : (j : Job) (a b : Slot) (seat : Drawer) (ws : List Worked) → Works j a b ws → Works j a (record b { seat = seat }) ws
-works_redrawn j a b seat ws works = record {
+works_reseated : (j : Job) (a b : Slot) (first last : Drawer) (ws : List Worked) → Works j a b ws → Works j (record a { seat = first }) (record b { seat = last }) ws
+works_reseated j a b first last ws works = record {
   each = works.each;
   adds = record {
     transcript = works.adds.transcript;
@@ -162,19 +163,8 @@ works_redrawn j a b seat ws works = record {
   copies = works.copies;
 }
 
-redrawn_first : (j : Job) (b c : Slot) (seat : Drawer) (ws : List Worked) → Works j (record b { seat = seat }) c ws → Works j b c ws
-redrawn_first j b c seat ws works = record {
-  each = works.each;
-  adds = record {
-    transcript = works.adds.transcript;
-    made = works.adds.made;
-    whole = works.adds.whole;
-    numbered = works.adds.numbered;
-  };
-  pieces = works.pieces;
-  tail = works.tail;
-  copies = works.copies;
-}
+pub works_redrawn : (j : Job) (a b : Slot) (seat : Drawer) (ws : List Worked) → Works j a b ws → Works j a (record b { seat = seat }) ws
+works_redrawn j a b seat ws works = works_reseated j a b a.seat seat ws works
 
 -- one request more, that the seat drew
 pub works_so_more : (j : Job) (a b c : Slot) (seat : Drawer) (w : Worked) (place : ℕ) → AreSame a.passes.items b.passes.items → AreSame a.copy_passes.items b.copy_passes.items
@@ -182,7 +172,7 @@ pub works_so_more : (j : Job) (a b c : Slot) (seat : Drawer) (w : Worked) (place
     → WorksSoFar j a c
 works_so_more j a b c seat w place same same_copies so draws below at works kept = record {
   worked = so.worked ++ w ∷ [];
-  works = works_then j a b c so.worked (w ∷ []) same same_copies so.works (redrawn_first j b c seat (w ∷ []) works);
+  works = works_then j a b c so.worked (w ∷ []) same same_copies so.works (works_reseated j (record b { seat = seat }) c b.seat c.seat (w ∷ []) works);
   drawn = kept ∙ draws ∙ ap (λ (d : Drawer). record d { drawn = d.drawn ++ place ∷ [] }) so.drawn
       ∙ ap (λ (xs : List ℕ). record a.seat { drawn = xs }) (append_assoc a.seat.drawn (places_of so.worked) (place ∷ []) ∙ ap (λ (xs : List ℕ). a.seat.drawn ++ xs) places);
   below = subst (AllByRecursion (λ x. x < length j.requests)) places (all_append (λ x. x < length j.requests) (places_of so.worked) (place ∷ []) so.below (below, tt));
@@ -228,14 +218,14 @@ works_drawn j a b seat so count draws ended = by_end (has_ended b.seat) refl dra
 
 -- its commit has its pieces, and is brought to the copies
 pub lands_commit : (j : Job) (request : Request) (place time : ℕ) (a b c : Slot) (writes : List Write) (ends : List Unmade) → TriesOnly a b → c ≡ record b { copy_passes = c.copy_passes; pieces = c.pieces }
-    → c.pieces ≡ b.pieces ++ request_pieces j.partitions place time writes → Gain asked b.copy_passes.items c.copy_passes.items (λ table. puts_at j.carries (commit_at j place time) table writes)
-    → Lands j request place a b c writes ends (Some time)
-lands_commit j request place time a b c writes ends tries others pieces copies = record {
+    → Keeps j.carries (record (commit_at j place time) { worker = b.worker }) b c writes → b.worker ≡ j.worker → Lands j request place a b c writes ends (Some time)
+lands_commit j request place time a b c writes ends tries others keeps worker = record {
   transcript = ap (λ (s : Slot). s.transcript) others;
   passes = ap (λ (s : Slot). s.passes.items) others;
-  pieces = pieces ∙ ap (λ (s : Slot). s.pieces ++ request_pieces j.partitions place time writes) tries;
+  pieces = keeps.pieces ∙ ap (λ (s : Slot). s.pieces ++ request_pieces j.partitions place time writes) tries;
   tail = ap (λ (s : Slot). s.tail) (others ∙ ap (λ (s : Slot). record s { copy_passes = c.copy_passes; pieces = c.pieces }) tries) ∙ sym (append-nil a.tail);
-  copies = subst (λ (ps : List CopyPass). Gain asked ps c.copy_passes.items (λ table. puts_at j.carries (commit_at j place time) table writes)) (ap (λ (s : Slot). s.copy_passes.items) tries) copies;
+  copies = subst (λ (w : ℕ). Gain asked a.copy_passes.items c.copy_passes.items (λ table. puts_at j.carries (record (commit_at j place time) { worker = w }) table writes)) worker
+      (subst (λ (ps : List CopyPass). Gain asked ps c.copy_passes.items (λ table. puts_at j.carries (record (commit_at j place time) { worker = b.worker }) table writes)) (ap (λ (s : Slot). s.copy_passes.items) tries) keeps.copied);
 }
 
 pub tail_more : (b : Slot) (tail : List Tailed) (request : Request) (ends : List Unmade) → tail ≡ b.tail ++ record { id = request.id; ends = ends } ∷ [] → record b { tail = tail } ≡ record b { tail = b.tail ++ record { id = request.id; ends = ends } ∷ [] }
@@ -256,7 +246,12 @@ lands_tail j request place a b c writes ends tries others = record {
 abbrev pub WorkedAt : Job → ℕ → Slot → Slot → Type 0
 WorkedAt j place a d = (w : Worked) × (w.tries.place ≡ place) × Works j a d (w ∷ [])
 
--- what a step that may fail says, by what it ensures twice where it didn't
-pub by_both : {X E A B C : Type 0} (r : Result X E) → OnOk r A → OnOk r B → (A → B → C) → OnOk r C
-by_both (Ok x) a b then = then a b
-by_both (Err e) a b then = tt
+-- the writes of an attempt in the room that has ended
+pub same_writes : (room : Option Trying) (t : Trying) (outcome other : Outcome) (writes found : List Write) → room ≡ Some t → t.standing ≡ Ended other found → HasEnded outcome writes room → found ≡ writes
+same_writes None t outcome other writes found at is ended = absurd ended
+same_writes (Some a) t outcome other writes found at is ended = ap written (sym is ∙ ap (λ (u : Trying). u.standing) (sym (same_Some a t at)) ∙ ended)
+  where
+    written : Standing → List Write
+    written Ready = []
+    written (Waits shard ask) = []
+    written (Ended o ws) = ws

@@ -1,5 +1,6 @@
 -- What a commit asks of the copies at once, where the net carries it.
-use Rattle.std.specs.Prelude.{ℕ, ◌+◌, ◌/◌, ◌%◌, Bool, if◌then◌else◌, List, [], map}
+use Rattle.std.specs.Prelude.{◌≡◌, ℕ, ◌+◌, ◌*◌, ◌/◌, ◌%◌, ◌<◌, ◌≤◌, nat_eq, Bool, if◌then◌else◌, List, [], ◌∷◌, map}
+use Rattle.coco_types.specs.Limits.{most_partitions}
 use Rattle.coco_types.specs.declared.call.Write.{Write}
 use Rattle.coco_copy.specs.declared.ops.CopyAsk.{CopyAsk}
 use Rattle.coco_copy.specs.declared.ops.CopyAsk.TheVariants.{Put}
@@ -12,6 +13,13 @@ use Rattle.coco_worker.specs.declared.copies.WorkerCommit.{WorkerCommit}
 -- what a copy was asked by a call
 abbrev pub asked : Placed CopyAsk CopyAnswer → CopyAsk
 asked c = c.ask
+
+-- so many tables are the copies of the commit's partitions, and there are nodes for them
+pub record MayDeliver (c : WorkerCommit) (tables : ℕ) : Type 0 where
+  pub some : 0 < c.partitions
+  pub most : c.partitions ≤ most_partitions
+  pub nodes : 0 < c.config.nodes
+  pub tables_are : tables ≡ c.partitions * c.config.copies
 
 -- Of so many copies of each partition, copy j of partition p stands behind the j - 1 before it and those of the partitions before.
 abbrev pub partition_of : EpochConfig → ℕ → ℕ
@@ -27,3 +35,8 @@ put c w = Put c.config.epoch c.time w
 -- those of the commit's writes that are on the table's partition, where the net carries them to the table's node
 abbrev pub puts_at : (ℕ → ℕ → ℕ → ℕ → Bool) → WorkerCommit → ℕ → List Write → List CopyAsk
 puts_at carries c table writes = if carries c.config.epoch c.worker c.place (node_of c.config table) then map (put c) (writes_on c.partitions (partition_of c.config table) writes) else []
+
+-- what a write asks of a table as the partition's copy at a place, where the net carries it to the copy's node
+abbrev pub put_at : (ℕ → ℕ → ℕ → ℕ → Bool) → WorkerCommit → ℕ → ℕ → Write → ℕ → List CopyAsk
+put_at carries c partition copy w table =
+    if nat_eq (partition * c.config.copies + copy) table then (if carries c.config.epoch c.worker c.place ((partition + copy + 1) % c.config.nodes) then put c w ∷ [] else []) else []

@@ -1,22 +1,26 @@
 -- The attempts of a worker at one request.
-use Rattle.std.specs.Prelude.{◌≡◌, ⊤, ℕ, suc, true, List, [], ◌∷◌, ◌++◌, length, Option, None, Some, if◌then◌else◌}
+use Rattle.std.specs.Prelude.{◌≡◌, ⊤, ℕ, suc, ◌<◌, ◌≤◌, true, List, [], ◌∷◌, ◌++◌, length, Option, None, Some, if◌then◌else◌}
 use Rattle.std.specs.List.{filter_map, flat_map, AllByRecursion}
+use Rattle.coco_types.specs.Limits.{most_partitions}
 use Rattle.coco_types.specs.declared.call.AttemptId.{AttemptId}
 use Rattle.coco_types.specs.declared.call.Call.{Call}
 use Rattle.coco_types.specs.declared.call.Request.{Request}
 use Rattle.coco_types.specs.declared.call.Write.{Write}
+use Rattle.coco_ast.specs.Fitting.{Fits}
 use Rattle.coco_ast.specs.Tree.{Procedures}
 use Rattle.coco_gate.specs.declared.passes.Passage.{Passage}
 use Rattle.coco_occ.specs.Script.{IsScript}
-use Rattle.coco_occ.specs.Trying.{Trying, Ready, Ended, has_ended}
+use Rattle.coco_occ.specs.Steps.{at_shard}
+use Rattle.coco_occ.specs.Trying.{Trying, Standing, Ready, Ended, has_ended}
 use Rattle.coco_occ.specs.declared.outcome.Ended.{Ended as Unmade}
 use Rattle.coco_occ.specs.declared.outcome.Ended.TheVariants as unmade
 use Rattle.coco_occ.specs.declared.outcome.Outcome.{Outcome}
 use Rattle.coco_occ.specs.declared.outcome.Outcome.TheVariants.{Committed, Conflict, OverTime}
 use Rattle.coco_occ.specs.declared.outcome.Tried.{Tried}
+use Rattle.coco_occ.specs.declared.script.Step.{Step}
 use Rattle.coco_order.specs.Execution.{Tries, AreTries, all_tries, all_at_shard}
 use Rattle.coco_order.specs.Outcome.{is_commit}
-use Rattle.coco_worker.specs.Gains.{Make}
+use Rattle.coco_worker.specs.Gains.{Make, ShardPass}
 use Rattle.coco_worker.specs.declared.slot.Slot.{Slot}
 
 -- ---- the room of an attempt
@@ -26,9 +30,13 @@ abbrev pub IsOver : Option Trying → Type 0
 IsOver None = ⊤
 IsOver (Some a) = has_ended a.standing ≡ true
 
--- it has an attempt at its start
+-- an attempt at its start
+abbrev pub at_start : Procedures → Call → AttemptId → ℕ → Trying
+at_start procs call by partitions = record { procs = procs; call = call; by = by; partitions = partitions; script = []; standing = Ready }
+
+-- the room has one at its start
 abbrev pub IsReady : Procedures → Call → AttemptId → ℕ → Option Trying → Type 0
-IsReady procs call by partitions room = room ≡ Some (record { procs = procs; call = call; by = by; partitions = partitions; script = []; standing = Ready })
+IsReady procs call by partitions room = room ≡ Some (at_start procs call by partitions)
 
 -- it has an attempt that has ended so
 abbrev pub HasEnded : Outcome → List Write → Option Trying → Type 0
@@ -77,13 +85,17 @@ pub record Adds (P : Tried → Type 0) (before after : Slot) (ts : List Tried) :
 
 -- ---- the gate
 
+-- a point of a gate that a worker has passed
+abbrev pub point : ℕ → ℕ → ℕ → Passage
+point gate worker n = record { gate = gate; worker = worker; point = n }
+
 -- the point that an attempt has passed once it has ended so
 abbrev pub points_behind : ℕ → ℕ → Outcome → List Passage
-points_behind gate worker outcome = if is_commit outcome then record { gate = gate; worker = worker; point = 2 } ∷ [] else []
+points_behind gate worker outcome = if is_commit outcome then point gate worker 2 ∷ [] else []
 
 -- the points of an attempt: 1 where it begins, and 2 where it has committed
 abbrev pub points_of : ℕ → ℕ → Tried → List Passage
-points_of gate worker t = record { gate = gate; worker = worker; point = 1 } ∷ points_behind gate worker t.outcome
+points_of gate worker t = point gate worker 1 ∷ points_behind gate worker t.outcome
 
 -- the worker has passed the points of each attempt in its transcript, one after another, and no others
 abbrev pub IsGated : ℕ → Slot → Type 0
@@ -94,6 +106,29 @@ IsGated gate s = s.passed ≡ flat_map (points_of gate s.worker) s.transcript
 -- nothing of the slot has changed but its transcript, what its passes of shards did, and which points it passed
 abbrev pub TriesOnly : Slot → Slot → Type 0
 TriesOnly before after = after ≡ record before { passes = after.passes; transcript = after.transcript; passed = after.passed }
+
+-- the call fits, and there are so many shards as there may be
+pub record MayTry (procs : Procedures) (request : Request) (partitions : ℕ) : Type 0 where
+  pub fits : Fits procs request.call
+  pub some : 0 < partitions
+  pub most : partitions ≤ most_partitions
+
+-- An attempt that was so has ended in this room with a whole script, and nothing else of it has changed. Each pass of a
+-- shard made its steps there.
+pub record Runs (first : Trying) (room : Option Trying) (before after : List ShardPass) : Type 0 where
+  pub script : List Step
+  pub standing : Standing
+  pub left : room ≡ Some (record first { script = script; standing = standing })
+  pub ended : has_ended standing ≡ true
+  pub whole : (outcome : Outcome) (writes : List Write) → standing ≡ Ended outcome writes → IsScript first.procs first.call first.by first.partitions script outcome writes
+  pub made : Make before after (λ shard. at_shard shard script)
+
+-- the transcript has the attempt's script more, which ended so, and the worker has passed the points behind its end
+pub record AddsScript (gate place : ℕ) (by : AttemptId) (t : Trying) (before after : Slot) (outcome : Outcome) : Type 0 where
+  pub writes : List Write
+  pub ended : t.standing ≡ Ended outcome writes
+  pub added : after.transcript ≡ before.transcript ++ record { place = place; by = by; script = t.script; outcome = outcome } ∷ []
+  pub passed : after.passed ≡ before.passed ++ points_behind gate before.worker outcome
 
 -- One script more at the request, with this outcome, whose attempt the room still has.
 pub record TriesOnce (procs : Procedures) (request : Request) (place partitions : ℕ) (before after : Slot) (room : Option Trying) (outcome : Outcome) : Type 0 where

@@ -75,6 +75,11 @@ tailed id ends (Some time) = []
 abbrev pub tail_of : Worked → List Tailed
 tail_of w = tailed w.request.id (ends_of (all_tries w.tries)) (commit_time w)
 
+-- the slot has the pieces of a commit with these writes, and its passes of copy tables put those that the net carries
+pub record Keeps (carries : ℕ → ℕ → ℕ → ℕ → Bool) (c : WorkerCommit) (before after : Slot) (writes : List Write) : Type 0 where
+  pub pieces : after.pieces ≡ before.pieces ++ request_pieces c.partitions c.place c.time writes
+  pub copied : Gain asked before.copy_passes.items after.copy_passes.items (λ table. puts_at carries c table writes)
+
 -- what a commit asks of a table at once
 abbrev pub commit_at : Job → ℕ → ℕ → WorkerCommit
 commit_at j place time = record { config = j.config; partitions = j.partitions; worker = j.worker; place = place; time = time }

@@ -1,15 +1,14 @@
 //! What a commit brings to the copies at once, where the net carries it.
 
-ghost use Rattle.std.specs.Prelude.{◌≡◌, ◌*◌, ◌<◌, ◌≤◌, [], ◌∷◌, length, OnOk};
+ghost use Rattle.std.specs.Prelude.{◌≡◌, ◌<◌, [], ◌∷◌, length, OnOk};
 ghost use Rattle.coco_desks.specs.Gains.{AreOf, AreSame, Gain};
-ghost use Rattle.coco_worker.specs.Copying.{asked, put, puts_at};
+ghost use Rattle.coco_worker.specs.Copying.{MayDeliver, asked, put, put_at, puts_at};
 
 use crate::slot::EpochConfig;
 use coco_copy::{CopyAsk, CopyTable};
 use coco_journaled::{Journaled, Pass};
 use coco_net::Net;
 use coco_pieces::partition_of;
-use coco_types::limits::MOST_PARTITIONS;
 use coco_types::{NoMemory, Write};
 use std::sync::Wait;
 
@@ -32,10 +31,7 @@ pub fn deliver<N: Net>(
     commit: WorkerCommit,
     writes: &[Write],
 ) -> Result<(), NoMemory>
-    requires some { 0 < commit.partitions }
-    requires most { commit.partitions ≤ MOST_PARTITIONS }
-    requires nodes { 0 < commit.config.nodes }
-    requires tables { length copies.now ≡ commit.partitions * commit.config.copies }
+    requires may { MayDeliver commit (length copies.now) }
     requires locks { AreOf copies.now passes.old }
     ensures same { AreSame passes.old passes.new }
     ensures copied { OnOk result (Gain asked passes.old passes.new (λ table. puts_at (N.carries net.now) commit table writes.now)) }
@@ -55,28 +51,44 @@ fn put_write<N: Net>(
     commit: WorkerCommit,
     write: &Write,
 ) -> Result<(), NoMemory>
-    requires some { 0 < commit.partitions }
-    requires most { commit.partitions ≤ MOST_PARTITIONS }
-    requires nodes { 0 < commit.config.nodes }
-    requires tables { length copies.now ≡ commit.partitions * commit.config.copies }
+    requires may { MayDeliver commit (length copies.now) }
     requires locks { AreOf copies.now passes.old }
     ensures same { AreSame passes.old passes.new }
     ensures copied { OnOk result (Gain asked passes.old passes.new (λ table. puts_at (N.carries net.now) commit table (write.now ∷ []))) }
 {
-    let EpochConfig {
-        epoch,
-        nodes,
-        copies: count,
-        ..
-    } = commit.config;
     let partition = partition_of(write.key, usize::from(commit.partitions));
-    for copy in 0..usize::from(count) {
-        let node = (partition + copy + 1) % usize::from(nodes);
-        if net.carries(epoch, commit.worker, commit.place, node as u8) {
-            let table = partition * usize::from(count) + copy;
-            copies[table].step(rt, &mut passes[table], put_of(commit, write))?;
-        }
+    for copy in 0..usize::from(commit.config.copies) {
+        put_copy(rt, net, copies, passes, commit, partition, copy, write)?;
     }
+    Ok(())
+}
+
+// One write of a partition, into one of the partition's copies.
+fn put_copy<N: Net>(
+    rt: &impl Wait,
+    net: &N,
+    copies: &[Journaled<CopyTable>],
+    passes: &mut [Pass<CopyTable>],
+    commit: WorkerCommit,
+    partition: usize,
+    copy: usize,
+    write: &Write,
+) -> Result<(), NoMemory>
+    requires may { MayDeliver commit (length copies.now) }
+    requires partition { partition < commit.partitions }
+    requires copy { copy < commit.config.copies }
+    requires locks { AreOf copies.now passes.old }
+    ensures same { AreSame passes.old passes.new }
+    ensures copied { OnOk result (Gain asked passes.old passes.new (put_at (N.carries net.now) commit partition copy write.now)) }
+{
+    let config = commit.config;
+    let node = (partition + copy + 1) % usize::from(config.nodes);
+    if !net.carries(config.epoch, commit.worker, commit.place, node as u8) {
+        return Ok(());
+    }
+    let count = usize::from(config.copies);
+    let table = partition * count + copy;
+    copies[table].step(rt, &mut passes[table], put_of(commit, write))?;
     Ok(())
 }
 

@@ -1,15 +1,13 @@
 //! One attempt: each of its asks goes to its shard under the shard's lock.
 
-ghost use Rattle.std.specs.Prelude.{◌≡◌, ℕ, ◌<◌, [], ◌∷◌, true, List, length, OnOk};
-ghost use Rattle.coco_types.specs.declared.call.Write.{Write as Written};
+ghost use Rattle.std.specs.Prelude.{◌≡◌, ℕ, ◌<◌, [], ◌∷◌, length, Some, OnOk};
 ghost use Rattle.coco_desks.specs.Gains.{AreOf, AreSame};
 ghost use Rattle.coco_shard.specs.declared.ops.Ask.{Ask as Asked};
 ghost use Rattle.coco_shard.specs.declared.ops.Answer.{Answer as Answered};
-ghost use Rattle.coco_occ.specs.Script.{IsScript};
 ghost use Rattle.coco_occ.specs.Steps.{at_shard};
-ghost use Rattle.coco_occ.specs.Trying.{Ready, Waits, Ended, answered, has_ended, IsSound};
-ghost use Rattle.coco_occ.specs.declared.outcome.Outcome.{Outcome as End};
+ghost use Rattle.coco_occ.specs.Trying.{Ready, Waits, answered, IsSound};
 ghost use Rattle.coco_worker.specs.Gains.{Make};
+ghost use Rattle.coco_worker.specs.Trying.{Runs};
 
 use coco_ast::Checked;
 use coco_journaled::{Journaled, Pass};
@@ -33,10 +31,7 @@ pub fn run_attempt(
     requires partitions { attempt.old.partitions ≡ length shards.now }
     requires locks { AreOf shards.now passes.old }
     ensures same { AreSame passes.old passes.new }
-    ensures left { OnOk result (attempt.new ≡ record attempt.old { script = attempt.new.script; standing = attempt.new.standing }) }
-    ensures ended { OnOk result (has_ended attempt.new.standing ≡ true) }
-    ensures whole { OnOk result ((outcome : End) (writes : List Written) → attempt.new.standing ≡ Ended outcome writes → IsScript attempt.old.procs attempt.old.call attempt.old.by attempt.old.partitions attempt.new.script outcome writes) }
-    ensures made { OnOk result (Make passes.old passes.new (λ shard. at_shard shard attempt.new.script)) }
+    ensures ran { OnOk result (Runs attempt.old (Some attempt.new) passes.old passes.new) }
 {
     // One place for all answers, which are large.
     let mut answer = Answer::Released;

@@ -1,15 +1,14 @@
 //! A worker's way through an epoch: it draws requests until none is left, and works each off.
 
-ghost use Rattle.std.specs.Prelude.{◌≡◌, ◌*◌, ◌<◌, ◌≤◌, [], ◌∷◌, ◌++◌, List, length, OnOk};
+ghost use Rattle.std.specs.Prelude.{◌≡◌, ◌*◌, ◌<◌, ◌≤◌, [], ◌∷◌, List, length, OnOk};
 ghost use Rattle.std.specs.List.{AllByRecursion};
 ghost use Rattle.coco_types.specs.declared.call.Write.{Write as Written};
 ghost use Rattle.coco_ast.specs.Fitting.{Fits};
-ghost use Rattle.coco_desks.specs.Gains.{AreOf, AreSame, Gain};
+ghost use Rattle.coco_desks.specs.Gains.{AreOf, AreSame};
 ghost use Rattle.coco_occ.specs.declared.outcome.Outcome.{Outcome as End};
-ghost use Rattle.coco_worker.specs.Copying.{asked, puts_at};
-ghost use Rattle.coco_pieces.specs.Pieces.{request_pieces};
+ghost use Rattle.coco_worker.specs.Copying.{MayDeliver};
 ghost use Rattle.coco_worker.specs.Trying.{HasEnded, IsGated, IsOver};
-ghost use Rattle.coco_worker.specs.Working.{Job, Worked, Works, WorksDrawn};
+ghost use Rattle.coco_worker.specs.Working.{Job, Keeps, Worked, Works, WorksDrawn};
 
 use crate::copies::{WorkerCommit, deliver};
 use crate::slot::{EpochConfig, Slot};
@@ -24,7 +23,7 @@ use coco_occ::{Attempt, Ends, Tailed};
 use coco_pieces::add_pieces;
 use coco_shard::Shard;
 use coco_types::limits::MOST_PARTITIONS;
-use coco_types::{NoMemory, Request};
+use coco_types::{NoMemory, Request, Write};
 use std::alloc::Global;
 use std::sync::Wait;
 
@@ -140,30 +139,37 @@ fn keep<N: Net>(
     room: &Option<Attempt>,
     slot: &mut Slot,
 ) -> Result<(), NoMemory>
-    requires some { 0 < commit.partitions }
-    requires most { commit.partitions ≤ MOST_PARTITIONS }
-    requires nodes { 0 < commit.config.nodes }
-    requires tables { length copies.now ≡ commit.partitions * commit.config.copies }
+    requires may { MayDeliver commit (length copies.now) }
     requires copy_locks { AreOf copies.now slot.old.copy_passes.items }
     requires ended { (outcome : End) × (writes : List Written) × HasEnded outcome writes room.now }
     ensures same { AreSame slot.old.copy_passes.items slot.new.copy_passes.items }
     ensures others { slot.new ≡ record slot.old { copy_passes = slot.new.copy_passes; pieces = slot.new.pieces } }
-    ensures pieces { OnOk result ((outcome : End) (writes : List Written) → HasEnded outcome writes room.now →
-        slot.new.pieces ≡ slot.old.pieces ++ request_pieces commit.partitions commit.place commit.time writes) }
-    ensures copied { OnOk result ((outcome : End) (writes : List Written) → HasEnded outcome writes room.now →
-        Gain asked slot.old.copy_passes.items slot.new.copy_passes.items (λ table. puts_at (N.carries net.now) commit table writes)) }
+    ensures kept { OnOk result ((outcome : End) (writes : List Written) → HasEnded outcome writes room.now → Keeps (N.carries net.now) commit slot.old slot.new writes) }
 {
     let Some(attempt) = room else { unreachable!() };
     let writes = attempt.writes().as_slice();
+    keep_writes(rt, alloc, copies, net, commit, writes, slot)
+}
+
+// Adds the pieces of a commit with these writes, and brings the writes to the copies.
+fn keep_writes<N: Net>(
+    rt: &impl Wait,
+    alloc: Global,
+    copies: &[Journaled<CopyTable>],
+    net: &N,
+    commit: WorkerCommit,
+    writes: &[Write],
+    slot: &mut Slot,
+) -> Result<(), NoMemory>
+    requires may { MayDeliver commit (length copies.now) }
+    requires copy_locks { AreOf copies.now slot.old.copy_passes.items }
+    ensures same { AreSame slot.old.copy_passes.items slot.new.copy_passes.items }
+    ensures others { slot.new ≡ record slot.old { copy_passes = slot.new.copy_passes; pieces = slot.new.pieces } }
+    ensures kept { OnOk result (Keeps (N.carries net.now) commit slot.old slot.new writes.now) }
+{
     let count = usize::from(commit.partitions);
-    add_pieces(
-        alloc,
-        &mut slot.pieces,
-        count,
-        commit.place,
-        commit.time,
-        writes,
-    )?;
+    let pieces = &mut slot.pieces;
+    add_pieces(alloc, pieces, count, commit.place, commit.time, writes)?;
     let passes = slot.copy_passes.as_mut_slice();
     deliver(rt, net, copies, passes, commit, writes)
 }

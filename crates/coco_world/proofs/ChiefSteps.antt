@@ -2,7 +2,7 @@
 use Rattle.std.proofs.Common.{◌≡◌, ◌⊎◌, inl, inr, ℕ, zero, suc, ◌+◌, ◌<◌, ◌≤◌, Bool, true, false, eqb, ltb, List, [], ◌∷◌, ◌++◌, length, get_or, set, refl, sym, ap, subst, ◌∙◌, arith}
 use Rattle.std.specs.Prelude.{◌&&◌, ◌||◌, if◌then◌else◌, slice_set, slice_index_or, replicate}
 use Rattle.std.specs.List.{AllByRecursion, list_all}
-use Rattle.std.proofs.lemmas.Bool.{eq-eqb, eqb-true, eqb-false, and_parts, and_from, ltb-true, cases_lt}
+use Rattle.std.proofs.lemmas.Bool.{eq-eqb, eqb-true, eqb-false, and_parts, and_from, ltb-true, cases_lt, or_from}
 use Rattle.std.proofs.Math.ListN.{length-set, length-replicate}
 use Rattle.coco_msg.specs.declared.action.Action.{Action}
 use Rattle.coco_msg.specs.declared.action.Action.TheVariants.{Send, Force, Promote, Revert}
@@ -16,7 +16,7 @@ use Rattle.coco_chief.specs.Table.{Turn, to_each, to_unfinished, is_voting, is_o
 use Rattle.coco_world.specs.World.{World, Letter, Among}
 use Rattle.coco_world.specs.Steps.{IsAbove, after_chief}
 use Rattle.coco_world.specs.Agreement.{IsKnown, IsDead, LetterHolds, ChiefHolds, Holds}
-use Rattle.coco_world.proofs.Tools.{by_test, or_false, true_or_false, not_both, has-new, has-more, has-other, has-cases}
+use Rattle.coco_world.proofs.Tools.{by_test, true_or_false, not_both, has-new, has-more, has-other, has-cases}
 use Rattle.coco_world.proofs.Keeping.{SendHolds, with_chief, chief_keeps}
 
 -- ---- phases and flags

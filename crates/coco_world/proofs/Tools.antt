@@ -2,7 +2,7 @@
 use Rattle.std.proofs.Common.{◌≡◌, ◌⊎◌, inl, inr, ℕ, zero, suc, ◌+◌, ◌<◌, ◌≤◌, max, Bool, true, false, eqb, ltb, List, [], ◌∷◌, ◌++◌, length, get_or, refl, sym, ap, subst, ◌∙◌, arith}
 use Rattle.std.specs.Prelude.{◌&&◌, ◌||◌, if◌then◌else◌, slice_set, replicate, Option, Some, None}
 use Rattle.std.specs.List.{AllByRecursion, list_all}
-use Rattle.std.proofs.lemmas.Bool.{eqb-true, eqb-false, eq-eqb, ne_eqb, and_parts, cases_lt, ltb-true}
+use Rattle.std.proofs.lemmas.Bool.{eqb-true, eqb-false, eq-eqb, ne_eqb, and_parts, cases_lt, ltb-true, or_right, or_from}
 use Rattle.coco_node.specs.Node.{greatest}
 use Rattle.coco_chief.specs.Chief.{has}
 use Rattle.coco_world.specs.World.{Among, put}
@@ -11,17 +11,9 @@ pub by_test : {X : Type 0} (P : X → Type 0) (b : Bool) (x y : X) → (b ≡ tr
 by_test P true x y t f = t refl
 by_test P false x y t f = f refl
 
-pub or_right : (a b : Bool) → b ≡ true → (a || b) ≡ true
-or_right true b e = refl
-or_right false b e = e
-
 pub or_cases : (a b : Bool) → (a || b) ≡ true → (a ≡ true) ⊎ (b ≡ true)
 or_cases true b e = inl refl
 or_cases false b e = inr e
-
-pub or_false : (a b : Bool) → a ≡ false → b ≡ false → (a || b) ≡ false
-or_false true b e h = e
-or_false false b e h = h
 
 pub true_or_false : (b : Bool) → (b ≡ true) ⊎ (b ≡ false)
 true_or_false true = inl refl
@@ -40,7 +32,7 @@ pub has-more : (xs : List ℕ) (e x : ℕ) → has xs x ≡ true → has (e ∷ 
 has-more xs e x h = or_right (eqb e x) (has xs x) h
 
 pub has-other : (xs : List ℕ) (e x : ℕ) → (e ≡ x → ⊥) → has xs x ≡ false → has (e ∷ xs) x ≡ false
-has-other xs e x ne h = or_false (eqb e x) (has xs x) (ne_eqb e x ne) h
+has-other xs e x ne h = or_from (eqb e x) (has xs x) (ne_eqb e x ne) h
 
 pub has-cases : (xs : List ℕ) (e x : ℕ) → has (e ∷ xs) x ≡ true → (e ≡ x) ⊎ (has xs x ≡ true)
 has-cases xs e x h = elim (or_cases (eqb e x) (has xs x) h) [ inl t ↦ inl (eqb-true e x t) | inr t ↦ inr t ]

@@ -4,6 +4,7 @@ use Rattle.coco_words.specs.Commands.{IsOnlyCommand}
 use Rattle.coco_words.specs.declared.Command.{Command}
 use Rattle.coco.specs.Commands.{Does}
 use Rattle.coco.proofs.EndingLemmas.{needs}
+use Rattle.coco_lines.specs.Reads.{source_moment}
 use Rattle.coco.proofs.top.obey.Goals as goal
 use Rattle.coco_commands.specs.Serving.{Outside, around}
 
@@ -12,8 +13,8 @@ execute-requires-clause-agree g c _ _ = c.in-Ok.ensures.ok.is.3
 
 pub returns-in-Ok-clause-obeys : goal.returns-in-Ok-clause-obeys
 returns-in-Ok-clause-obeys g c =
-    let before : Outside = record { source = record { given = g.I.Source.given c.args.input.now; left = g.I.Source.remaining c.args.input.now; at_end = g.I.Source.at_end c.args.input.now }; source_faults = g.I.Source.faults c.args.input.now; say_faults = g.H.Host.say_faults c.args.host.now; disk_faults = g.H.Host.disk_faults c.args.host.now; around = around g.N.Net g.P.Power c.args.net.now c.args.power.now } in
-    let after : Outside = record { source = record { given = g.I.Source.given c.execute.new.input; left = g.I.Source.remaining c.execute.new.input; at_end = g.I.Source.at_end c.execute.new.input }; source_faults = g.I.Source.faults c.execute.new.input; say_faults = g.H.Host.say_faults c.execute.new.host; disk_faults = g.H.Host.disk_faults c.execute.new.host; around = around g.N.Net g.P.Power c.execute.new.net c.execute.new.power } in
+    let before : Outside = record { source = source_moment g.I.Source c.args.input.now; source_faults = g.I.Source.faults c.args.input.now; say_faults = g.H.Host.say_faults c.args.host.now; disk_faults = g.H.Host.disk_faults c.args.host.now; around = around g.N.Net g.P.Power c.args.net.now c.args.power.now } in
+    let after : Outside = record { source = source_moment g.I.Source c.execute.new.input; source_faults = g.I.Source.faults c.execute.new.input; say_faults = g.H.Host.say_faults c.execute.new.host; disk_faults = g.H.Host.disk_faults c.execute.new.host; around = around g.N.Net g.P.Power c.execute.new.net c.execute.new.power } in
     record {
       command = λ command is.
           inl (subst (λ (k : Command). Does g.H.Host k c.execute.result before after c.args.host.now c.execute.new.host)

@@ -2,7 +2,7 @@ use Rattle.std.proofs.Common.{◌≤◌, ◌<◌, take, Err, length, refl, ap, s
 use Rattle.coco_types.specs.Limits.{most_batch_lines, most_input_bytes}
 use Rattle.coco_io.specs.Counts.{Rose}
 use Rattle.coco_lines.specs.ReaderState.{ReaderState}
-use Rattle.coco_lines.specs.Reads.{SourceMoment}
+use Rattle.coco_lines.specs.Reads.{SourceMoment, source_moment}
 use Rattle.coco_query.specs.Frozen.{HoldsFrozen}
 use Rattle.coco_asks.specs.Answering.{Streams}
 use Rattle.coco_asks.specs.declared.ending.Asked.TheVariants as ending
@@ -12,7 +12,7 @@ use Rattle.coco_asks.proofs.input.answer_asks.Goals as goal
 
 pub batches-init : goal.batches-init
 batches-init g c = record {
-  asking = asking_new g.H.Host c.args.procs.now c.args.tables.items c.args.bounds.epoch g.met.H.Host.only_now c.new-reader.result (record { given = g.S.Source.given c.args.input.now; left = g.S.Source.remaining c.args.input.now; at_end = g.S.Source.at_end c.args.input.now }) c.args.host.now c.new-reader.ensures;
+  asking = asking_new g.H.Host c.args.procs.now c.args.tables.items c.args.bounds.epoch g.met.H.Host.only_now c.new-reader.result (source_moment g.S.Source c.args.input.now) c.args.host.now c.new-reader.ensures;
   tables = refl;
   within = subst (λ (r : ReaderState). r.given ≤ most_input_bytes) (sym c.new-reader.ensures) (lit≤ tt);
   end = λ met. absurd (true≢false (sym met ∙ ap (λ r. r.ended) c.new-reader.ensures));
@@ -30,11 +30,11 @@ answer_batch-answered-requires-clause-some g c κs within = (let n = ap length c
 pub returns-in-Err-NoMemory-clause-answers : goal.returns-in-Err-NoMemory-clause-answers
 returns-in-Err-NoMemory-clause-answers g c =
     let inv = c.batches.invariant in
-    let m0 : SourceMoment = (record { given = g.S.Source.given c.args.input.now; left = g.S.Source.remaining c.args.input.now; at_end = g.S.Source.at_end c.args.input.now }) in
-    let m1 : SourceMoment = (record { given = g.S.Source.given c.batches.input; left = g.S.Source.remaining c.batches.input; at_end = g.S.Source.at_end c.batches.input }) in
-    let m2 : SourceMoment = (record { given = g.S.Source.given c.read_lines.new.source; left = g.S.Source.remaining c.read_lines.new.source; at_end = g.S.Source.at_end c.read_lines.new.source }) in
-    let before : Streams = record { source = (record { given = g.S.Source.given c.args.input.now; left = g.S.Source.remaining c.args.input.now; at_end = g.S.Source.at_end c.args.input.now }); source_faults = g.S.Source.faults c.args.input.now; say_faults = g.H.Host.say_faults c.args.host.now } in
-    let after : Streams = record { source = (record { given = g.S.Source.given c.read_lines.new.source; left = g.S.Source.remaining c.read_lines.new.source; at_end = g.S.Source.at_end c.read_lines.new.source }); source_faults = g.S.Source.faults c.read_lines.new.source; say_faults = g.H.Host.say_faults c.batches.host } in
+    let m0 : SourceMoment = source_moment g.S.Source c.args.input.now in
+    let m1 : SourceMoment = source_moment g.S.Source c.batches.input in
+    let m2 : SourceMoment = source_moment g.S.Source c.read_lines.new.source in
+    let before : Streams = record { source = (source_moment g.S.Source c.args.input.now); source_faults = g.S.Source.faults c.args.input.now; say_faults = g.H.Host.say_faults c.args.host.now } in
+    let after : Streams = record { source = (source_moment g.S.Source c.read_lines.new.source); source_faults = g.S.Source.faults c.read_lines.new.source; say_faults = g.H.Host.say_faults c.batches.host } in
     let to = broken_memory g.H.Host c.args.procs.now c.args.tables.items c.args.bounds.epoch c.batches.reader c.read_lines.new.reader m0 m1 m2 c.args.host.now c.batches.host inv.asking c.in-Err-NoMemory.field-0 c.in-Err-NoMemory.ensures.breaks in
     let counts = rw c.in-Err-NoMemory.field-0-is at c.in-Err-NoMemory.ensures.counts in
     answers_so g.H.Host c.args.procs.now c.args.tables.items c.args.bounds.epoch c.read_lines.new.reader before after ending.NoMemory c.args.host.now c.batches.host to (counts ∙ inv.reads, inv.says)
@@ -42,11 +42,11 @@ returns-in-Err-NoMemory-clause-answers g c =
 pub returns-in-Err-Failed-clause-answers : goal.returns-in-Err-Failed-clause-answers
 returns-in-Err-Failed-clause-answers g c =
     let inv = c.batches.invariant in
-    let m0 : SourceMoment = (record { given = g.S.Source.given c.args.input.now; left = g.S.Source.remaining c.args.input.now; at_end = g.S.Source.at_end c.args.input.now }) in
-    let m1 : SourceMoment = (record { given = g.S.Source.given c.batches.input; left = g.S.Source.remaining c.batches.input; at_end = g.S.Source.at_end c.batches.input }) in
-    let m2 : SourceMoment = (record { given = g.S.Source.given c.read_lines.new.source; left = g.S.Source.remaining c.read_lines.new.source; at_end = g.S.Source.at_end c.read_lines.new.source }) in
-    let before : Streams = record { source = (record { given = g.S.Source.given c.args.input.now; left = g.S.Source.remaining c.args.input.now; at_end = g.S.Source.at_end c.args.input.now }); source_faults = g.S.Source.faults c.args.input.now; say_faults = g.H.Host.say_faults c.args.host.now } in
-    let after : Streams = record { source = (record { given = g.S.Source.given c.read_lines.new.source; left = g.S.Source.remaining c.read_lines.new.source; at_end = g.S.Source.at_end c.read_lines.new.source }); source_faults = g.S.Source.faults c.read_lines.new.source; say_faults = g.H.Host.say_faults c.batches.host } in
+    let m0 : SourceMoment = source_moment g.S.Source c.args.input.now in
+    let m1 : SourceMoment = source_moment g.S.Source c.batches.input in
+    let m2 : SourceMoment = source_moment g.S.Source c.read_lines.new.source in
+    let before : Streams = record { source = (source_moment g.S.Source c.args.input.now); source_faults = g.S.Source.faults c.args.input.now; say_faults = g.H.Host.say_faults c.args.host.now } in
+    let after : Streams = record { source = (source_moment g.S.Source c.read_lines.new.source); source_faults = g.S.Source.faults c.read_lines.new.source; say_faults = g.H.Host.say_faults c.batches.host } in
     let to = broken_failed g.H.Host c.args.procs.now c.args.tables.items c.args.bounds.epoch c.batches.reader c.read_lines.new.reader m0 m1 m2 c.args.host.now c.batches.host inv.asking c.in-Err-Failed.field-0 c.in-Err-Failed.ensures.breaks c.in-Err-Failed.field-0-is in
     let counts = rw c.in-Err-Failed.field-0-is at c.in-Err-Failed.ensures.counts in
     answers_so g.H.Host c.args.procs.now c.args.tables.items c.args.bounds.epoch c.read_lines.new.reader before after ending.ReadFault c.args.host.now c.batches.host to (inl (subst (λ k. Rose k (g.S.Source.faults c.read_lines.new.source)) inv.reads counts), inv.says)
@@ -54,33 +54,33 @@ returns-in-Err-Failed-clause-answers g c =
 pub returns-in-Err-TooMuch-clause-answers : goal.returns-in-Err-TooMuch-clause-answers
 returns-in-Err-TooMuch-clause-answers g c =
     let inv = c.batches.invariant in
-    let m0 : SourceMoment = (record { given = g.S.Source.given c.args.input.now; left = g.S.Source.remaining c.args.input.now; at_end = g.S.Source.at_end c.args.input.now }) in
-    let m1 : SourceMoment = (record { given = g.S.Source.given c.batches.input; left = g.S.Source.remaining c.batches.input; at_end = g.S.Source.at_end c.batches.input }) in
-    let m2 : SourceMoment = (record { given = g.S.Source.given c.read_lines.new.source; left = g.S.Source.remaining c.read_lines.new.source; at_end = g.S.Source.at_end c.read_lines.new.source }) in
-    let before : Streams = record { source = (record { given = g.S.Source.given c.args.input.now; left = g.S.Source.remaining c.args.input.now; at_end = g.S.Source.at_end c.args.input.now }); source_faults = g.S.Source.faults c.args.input.now; say_faults = g.H.Host.say_faults c.args.host.now } in
-    let after : Streams = record { source = (record { given = g.S.Source.given c.read_lines.new.source; left = g.S.Source.remaining c.read_lines.new.source; at_end = g.S.Source.at_end c.read_lines.new.source }); source_faults = g.S.Source.faults c.read_lines.new.source; say_faults = g.H.Host.say_faults c.batches.host } in
+    let m0 : SourceMoment = source_moment g.S.Source c.args.input.now in
+    let m1 : SourceMoment = source_moment g.S.Source c.batches.input in
+    let m2 : SourceMoment = source_moment g.S.Source c.read_lines.new.source in
+    let before : Streams = record { source = (source_moment g.S.Source c.args.input.now); source_faults = g.S.Source.faults c.args.input.now; say_faults = g.H.Host.say_faults c.args.host.now } in
+    let after : Streams = record { source = (source_moment g.S.Source c.read_lines.new.source); source_faults = g.S.Source.faults c.read_lines.new.source; say_faults = g.H.Host.say_faults c.batches.host } in
     let to = broken_much g.H.Host c.args.procs.now c.args.tables.items c.args.bounds.epoch c.batches.reader c.read_lines.new.reader m0 m1 m2 c.args.host.now c.batches.host inv.asking c.in-Err-TooMuch.field-0 c.in-Err-TooMuch.ensures.breaks c.in-Err-TooMuch.field-0-is in
     answers_so g.H.Host c.args.procs.now c.args.tables.items c.args.bounds.epoch c.read_lines.new.reader before after ending.ReadFault c.args.host.now c.batches.host to (inr (sym to.count ∙ c.in-Err-TooMuch.ensures.too_much (ap Err c.in-Err-TooMuch.field-0-is)), inv.says)
 
 pub returns-in_default-clause-answers : goal.returns-in_default-clause-answers
 returns-in_default-clause-answers g c =
     let inv = c.batches.invariant in
-    let m0 : SourceMoment = (record { given = g.S.Source.given c.args.input.now; left = g.S.Source.remaining c.args.input.now; at_end = g.S.Source.at_end c.args.input.now }) in
-    let m1 : SourceMoment = (record { given = g.S.Source.given c.batches.input; left = g.S.Source.remaining c.batches.input; at_end = g.S.Source.at_end c.batches.input }) in
-    let m2 : SourceMoment = (record { given = g.S.Source.given c.read_lines.new.source; left = g.S.Source.remaining c.read_lines.new.source; at_end = g.S.Source.at_end c.read_lines.new.source }) in
-    let before : Streams = record { source = (record { given = g.S.Source.given c.args.input.now; left = g.S.Source.remaining c.args.input.now; at_end = g.S.Source.at_end c.args.input.now }); source_faults = g.S.Source.faults c.args.input.now; say_faults = g.H.Host.say_faults c.args.host.now } in
-    let after : Streams = record { source = (record { given = g.S.Source.given c.read_lines.new.source; left = g.S.Source.remaining c.read_lines.new.source; at_end = g.S.Source.at_end c.read_lines.new.source }); source_faults = g.S.Source.faults c.read_lines.new.source; say_faults = g.H.Host.say_faults c.batches.host } in
+    let m0 : SourceMoment = source_moment g.S.Source c.args.input.now in
+    let m1 : SourceMoment = source_moment g.S.Source c.batches.input in
+    let m2 : SourceMoment = source_moment g.S.Source c.read_lines.new.source in
+    let before : Streams = record { source = (source_moment g.S.Source c.args.input.now); source_faults = g.S.Source.faults c.args.input.now; say_faults = g.H.Host.say_faults c.args.host.now } in
+    let after : Streams = record { source = (source_moment g.S.Source c.read_lines.new.source); source_faults = g.S.Source.faults c.read_lines.new.source; say_faults = g.H.Host.say_faults c.batches.host } in
     let to = unanswered g.H.Host c.args.procs.now c.args.tables.items c.args.bounds.epoch c.batches.reader c.read_lines.new.reader m0 m1 m2 c.args.host.now c.batches.host inv.asking c.in-Ok.lines.items c.in-Ok.ensures.lines in
     answers_so g.H.Host c.args.procs.now c.args.tables.items c.args.bounds.epoch c.read_lines.new.reader before after ending.NoMemory c.args.host.now c.batches.host to (c.in-Ok.ensures.counts ∙ inv.reads, inv.says)
 
 pub returns-in-Err-Failed-say_all-clause-answers : goal.returns-in-Err-Failed-say_all-clause-answers
 returns-in-Err-Failed-say_all-clause-answers g c =
     let inv = c.batches.invariant in
-    let m0 : SourceMoment = (record { given = g.S.Source.given c.args.input.now; left = g.S.Source.remaining c.args.input.now; at_end = g.S.Source.at_end c.args.input.now }) in
-    let m1 : SourceMoment = (record { given = g.S.Source.given c.batches.input; left = g.S.Source.remaining c.batches.input; at_end = g.S.Source.at_end c.batches.input }) in
-    let m2 : SourceMoment = (record { given = g.S.Source.given c.read_lines.new.source; left = g.S.Source.remaining c.read_lines.new.source; at_end = g.S.Source.at_end c.read_lines.new.source }) in
-    let before : Streams = record { source = (record { given = g.S.Source.given c.args.input.now; left = g.S.Source.remaining c.args.input.now; at_end = g.S.Source.at_end c.args.input.now }); source_faults = g.S.Source.faults c.args.input.now; say_faults = g.H.Host.say_faults c.args.host.now } in
-    let after : Streams = record { source = (record { given = g.S.Source.given c.read_lines.new.source; left = g.S.Source.remaining c.read_lines.new.source; at_end = g.S.Source.at_end c.read_lines.new.source }); source_faults = g.S.Source.faults c.read_lines.new.source; say_faults = g.H.Host.say_faults c.say_all.new.host } in
+    let m0 : SourceMoment = source_moment g.S.Source c.args.input.now in
+    let m1 : SourceMoment = source_moment g.S.Source c.batches.input in
+    let m2 : SourceMoment = source_moment g.S.Source c.read_lines.new.source in
+    let before : Streams = record { source = (source_moment g.S.Source c.args.input.now); source_faults = g.S.Source.faults c.args.input.now; say_faults = g.H.Host.say_faults c.args.host.now } in
+    let after : Streams = record { source = (source_moment g.S.Source c.read_lines.new.source); source_faults = g.S.Source.faults c.read_lines.new.source; say_faults = g.H.Host.say_faults c.say_all.new.host } in
     let said = c.in-Err-Failed-say_all.ensures.err in
     let text = c.in-Ok-answered.texts.items in
     let part = part_said (g.H.Host.said c.batches.host) (g.H.Host.said c.say_all.new.host) c.as_slice.result.now c.in-Ok-answered.texts.items said.0 c.as_slice.ensures.value said.2 in
@@ -93,11 +93,11 @@ returns-in-Err-Failed-say_all-clause-answers g c =
 pub returns-in-Err-NoMemory-say_all-clause-answers : goal.returns-in-Err-NoMemory-say_all-clause-answers
 returns-in-Err-NoMemory-say_all-clause-answers g c =
     let inv = c.batches.invariant in
-    let m0 : SourceMoment = (record { given = g.S.Source.given c.args.input.now; left = g.S.Source.remaining c.args.input.now; at_end = g.S.Source.at_end c.args.input.now }) in
-    let m1 : SourceMoment = (record { given = g.S.Source.given c.batches.input; left = g.S.Source.remaining c.batches.input; at_end = g.S.Source.at_end c.batches.input }) in
-    let m2 : SourceMoment = (record { given = g.S.Source.given c.read_lines.new.source; left = g.S.Source.remaining c.read_lines.new.source; at_end = g.S.Source.at_end c.read_lines.new.source }) in
-    let before : Streams = record { source = (record { given = g.S.Source.given c.args.input.now; left = g.S.Source.remaining c.args.input.now; at_end = g.S.Source.at_end c.args.input.now }); source_faults = g.S.Source.faults c.args.input.now; say_faults = g.H.Host.say_faults c.args.host.now } in
-    let after : Streams = record { source = (record { given = g.S.Source.given c.read_lines.new.source; left = g.S.Source.remaining c.read_lines.new.source; at_end = g.S.Source.at_end c.read_lines.new.source }); source_faults = g.S.Source.faults c.read_lines.new.source; say_faults = g.H.Host.say_faults c.say_all.new.host } in
+    let m0 : SourceMoment = source_moment g.S.Source c.args.input.now in
+    let m1 : SourceMoment = source_moment g.S.Source c.batches.input in
+    let m2 : SourceMoment = source_moment g.S.Source c.read_lines.new.source in
+    let before : Streams = record { source = (source_moment g.S.Source c.args.input.now); source_faults = g.S.Source.faults c.args.input.now; say_faults = g.H.Host.say_faults c.args.host.now } in
+    let after : Streams = record { source = (source_moment g.S.Source c.read_lines.new.source); source_faults = g.S.Source.faults c.read_lines.new.source; say_faults = g.H.Host.say_faults c.say_all.new.host } in
     let said = c.in-Err-NoMemory-say_all.ensures.err in
     let text = c.in-Ok-answered.texts.items in
     let part = part_said (g.H.Host.said c.batches.host) (g.H.Host.said c.say_all.new.host) c.as_slice.result.now c.in-Ok-answered.texts.items said.0 c.as_slice.ensures.value said.2 in
@@ -110,11 +110,11 @@ returns-in-Err-NoMemory-say_all-clause-answers g c =
 pub returns-then-count-lt-MOST_BATCH_LINES-clause-answers : goal.returns-then-count-lt-MOST_BATCH_LINES-clause-answers
 returns-then-count-lt-MOST_BATCH_LINES-clause-answers g c =
     let inv = c.batches.invariant in
-    let m0 : SourceMoment = (record { given = g.S.Source.given c.args.input.now; left = g.S.Source.remaining c.args.input.now; at_end = g.S.Source.at_end c.args.input.now }) in
-    let m1 : SourceMoment = (record { given = g.S.Source.given c.batches.input; left = g.S.Source.remaining c.batches.input; at_end = g.S.Source.at_end c.batches.input }) in
-    let m2 : SourceMoment = (record { given = g.S.Source.given c.read_lines.new.source; left = g.S.Source.remaining c.read_lines.new.source; at_end = g.S.Source.at_end c.read_lines.new.source }) in
-    let before : Streams = record { source = (record { given = g.S.Source.given c.args.input.now; left = g.S.Source.remaining c.args.input.now; at_end = g.S.Source.at_end c.args.input.now }); source_faults = g.S.Source.faults c.args.input.now; say_faults = g.H.Host.say_faults c.args.host.now } in
-    let after : Streams = record { source = (record { given = g.S.Source.given c.read_lines.new.source; left = g.S.Source.remaining c.read_lines.new.source; at_end = g.S.Source.at_end c.read_lines.new.source }); source_faults = g.S.Source.faults c.read_lines.new.source; say_faults = g.H.Host.say_faults c.say_all.new.host } in
+    let m0 : SourceMoment = source_moment g.S.Source c.args.input.now in
+    let m1 : SourceMoment = source_moment g.S.Source c.batches.input in
+    let m2 : SourceMoment = source_moment g.S.Source c.read_lines.new.source in
+    let before : Streams = record { source = (source_moment g.S.Source c.args.input.now); source_faults = g.S.Source.faults c.args.input.now; say_faults = g.H.Host.say_faults c.args.host.now } in
+    let after : Streams = record { source = (source_moment g.S.Source c.read_lines.new.source); source_faults = g.S.Source.faults c.read_lines.new.source; say_faults = g.H.Host.say_faults c.say_all.new.host } in
     let text = c.in-Ok-answered.texts.items in
     let all = all_said (g.H.Host.said c.batches.host) (g.H.Host.said c.say_all.new.host) c.as_slice.result.now c.in-Ok-answered.texts.items c.as_slice.ensures.value c.in-Ok-say_all.ensures.ok in
     let only = says_more g.H.Host c.args.host.now c.batches.host c.say_all.new.host inv.asking.text text inv.asking.only all c.say_all.ensures.same c.say_all.ensures.crash c.say_all.ensures.sees in
@@ -130,9 +130,9 @@ batches-smaller g c = (let given = c.in-Ok.ensures.given in let within = c.in-Ok
 pub batches-preserved : goal.batches-preserved
 batches-preserved g c =
     let inv = c.batches.invariant in
-    let m0 : SourceMoment = (record { given = g.S.Source.given c.args.input.now; left = g.S.Source.remaining c.args.input.now; at_end = g.S.Source.at_end c.args.input.now }) in
-    let m1 : SourceMoment = (record { given = g.S.Source.given c.batches.input; left = g.S.Source.remaining c.batches.input; at_end = g.S.Source.at_end c.batches.input }) in
-    let m2 : SourceMoment = (record { given = g.S.Source.given c.read_lines.new.source; left = g.S.Source.remaining c.read_lines.new.source; at_end = g.S.Source.at_end c.read_lines.new.source }) in
+    let m0 : SourceMoment = source_moment g.S.Source c.args.input.now in
+    let m1 : SourceMoment = source_moment g.S.Source c.batches.input in
+    let m2 : SourceMoment = source_moment g.S.Source c.read_lines.new.source in
     let text = c.in-Ok-answered.texts.items in
     let all = all_said (g.H.Host.said c.batches.host) (g.H.Host.said c.say_all.new.host) c.as_slice.result.now c.in-Ok-answered.texts.items c.as_slice.ensures.value c.in-Ok-say_all.ensures.ok in
     let only = says_more g.H.Host c.args.host.now c.batches.host c.say_all.new.host inv.asking.text text inv.asking.only all c.say_all.ensures.same c.say_all.ensures.crash c.say_all.ensures.sees in

@@ -1,7 +1,7 @@
 use Rattle.std.proofs.Common.{◌≡◌, ◌+◌, ◌<◌, ◌∷◌, [], Option, length, refl, ap, sym, subst, ◌∙◌, arith, length-append}
 use Rattle.std.specs.Prelude.{IfErr}
 use Rattle.std.proofs.lemmas.Result.{err_from_is_err_and}
-use Rattle.coco_lines.specs.Reads.{Numbers, SourceMoment}
+use Rattle.coco_lines.specs.Reads.{Numbers, SourceMoment, source_moment}
 use Rattle.coco_lines.specs.declared.reader.Line.{Line}
 use Rattle.coco_batches.specs.BatchReading.{AreGiven, BreaksOff}
 use Rattle.coco_batches.proofs.BatchLemmas.{breaks_at_line, breaks_at_read}
@@ -13,7 +13,7 @@ loop-place-init g c = record {
   count = ap (length {A = Line}) c.new-lines.ensures.items;
   given = omega (arith, ap (length {A = Line}) c.new-lines.ensures.items);
   within = c.requires.given;
-  reading = given_start c.args.reader.now (record { given = g.S.Source.given c.args.source.now; left = g.S.Source.remaining c.args.source.now; at_end = g.S.Source.at_end c.args.source.now }) c.new-lines.result.items c.new-lines.ensures.items;
+  reading = given_start c.args.reader.now (source_moment g.S.Source c.args.source.now) c.new-lines.result.items c.new-lines.ensures.items;
   end = λ met. met;
   faults = refl;
 }
@@ -22,9 +22,9 @@ pub loop-place-preserved : goal.loop-place-preserved
 loop-place-preserved g c =
     let old = c.loop-place.invariant in
     let numbers = subst (λ (o : Option Line). Numbers o c.loop-place.reader c.next.new.self) c.in-Some.is c.in_ok-line.ensures.numbers in
-    let a : SourceMoment = (record { given = g.S.Source.given c.args.source.now; left = g.S.Source.remaining c.args.source.now; at_end = g.S.Source.at_end c.args.source.now }) in
-    let b : SourceMoment = (record { given = g.S.Source.given c.loop-place.source; left = g.S.Source.remaining c.loop-place.source; at_end = g.S.Source.at_end c.loop-place.source }) in
-    let n : SourceMoment = (record { given = g.S.Source.given c.next.new.source; left = g.S.Source.remaining c.next.new.source; at_end = g.S.Source.at_end c.next.new.source }) in
+    let a : SourceMoment = source_moment g.S.Source c.args.source.now in
+    let b : SourceMoment = source_moment g.S.Source c.loop-place.source in
+    let n : SourceMoment = source_moment g.S.Source c.next.new.source in
     let more = c.in_ok-add-in-Some.ensures in
     let one : length c.add.new.lines.items ≡ length c.loop-place.lines.items + 1 = ap (length {A = Line}) more ∙ length-append c.loop-place.lines.items (c.in-Some.line ∷ []) in
     record {
@@ -40,9 +40,9 @@ loop-place-preserved g c =
 pub returns-in_err-line-clause-breaks : goal.returns-in_err-line-clause-breaks
 returns-in_err-line-clause-breaks g c =
     let old = c.loop-place.invariant in
-    let a : SourceMoment = (record { given = g.S.Source.given c.args.source.now; left = g.S.Source.remaining c.args.source.now; at_end = g.S.Source.at_end c.args.source.now }) in
-    let b : SourceMoment = (record { given = g.S.Source.given c.loop-place.source; left = g.S.Source.remaining c.loop-place.source; at_end = g.S.Source.at_end c.loop-place.source }) in
-    let n : SourceMoment = (record { given = g.S.Source.given c.next.new.source; left = g.S.Source.remaining c.next.new.source; at_end = g.S.Source.at_end c.next.new.source }) in
+    let a : SourceMoment = source_moment g.S.Source c.args.source.now in
+    let b : SourceMoment = source_moment g.S.Source c.loop-place.source in
+    let n : SourceMoment = source_moment g.S.Source c.next.new.source in
     let p = err_from_is_err_and c.from_residual.result c.from_residual.ensures.1 in
     let many = ap (length {A = Line}) old.reading.are ∙ numbered-length (c.args.reader.now.given + 1) old.reading.lines in
     let few : length old.reading.lines < c.args.size = omega (arith, old.count, many, c.loop-place-test.true) in
@@ -53,9 +53,9 @@ returns-in_err-line-clause-breaks g c =
 pub returns-in_err-add-in-Some-clause-breaks : goal.returns-in_err-add-in-Some-clause-breaks
 returns-in_err-add-in-Some-clause-breaks g c =
     let old = c.loop-place.invariant in
-    let a : SourceMoment = (record { given = g.S.Source.given c.args.source.now; left = g.S.Source.remaining c.args.source.now; at_end = g.S.Source.at_end c.args.source.now }) in
-    let b : SourceMoment = (record { given = g.S.Source.given c.loop-place.source; left = g.S.Source.remaining c.loop-place.source; at_end = g.S.Source.at_end c.loop-place.source }) in
-    let n : SourceMoment = (record { given = g.S.Source.given c.next.new.source; left = g.S.Source.remaining c.next.new.source; at_end = g.S.Source.at_end c.next.new.source }) in
+    let a : SourceMoment = source_moment g.S.Source c.args.source.now in
+    let b : SourceMoment = source_moment g.S.Source c.loop-place.source in
+    let n : SourceMoment = source_moment g.S.Source c.next.new.source in
     let p = err_from_is_err_and c.from_residual-in_err-add-in-Some.result c.from_residual-in_err-add-in-Some.ensures.1 in
     subst (λ r. IfErr r (BreaksOff c.args.reader.now c.next.new.self a n c.args.size)) (sym p.1)
     (subst (BreaksOff c.args.reader.now c.next.new.self a n c.args.size) (sym p.2)
@@ -67,8 +67,8 @@ returns-in_err-add-in-Some-clause-end g c = λ met. c.in_ok-line.ensures.end (c.
 pub returns-in-None-clause-lines : goal.returns-in-None-clause-lines
 returns-in-None-clause-lines g c =
     let old = c.loop-place.invariant in
-    let a : SourceMoment = (record { given = g.S.Source.given c.args.source.now; left = g.S.Source.remaining c.args.source.now; at_end = g.S.Source.at_end c.args.source.now }) in
-    let b : SourceMoment = (record { given = g.S.Source.given c.loop-place.source; left = g.S.Source.remaining c.loop-place.source; at_end = g.S.Source.at_end c.loop-place.source }) in
-    let n : SourceMoment = (record { given = g.S.Source.given c.next.new.source; left = g.S.Source.remaining c.next.new.source; at_end = g.S.Source.at_end c.next.new.source }) in
+    let a : SourceMoment = source_moment g.S.Source c.args.source.now in
+    let b : SourceMoment = source_moment g.S.Source c.loop-place.source in
+    let n : SourceMoment = source_moment g.S.Source c.next.new.source in
     let end = given_ends c.args.reader.now c.loop-place.reader c.next.new.self a b n c.loop-place.lines.items _ c.in-None.is c.in_ok-line.ensures.reads old.reading in
     record { reading = end.0; few = omega (arith, old.count, c.loop-place-test.true); ends = λ _. (end.1, end.2) }

@@ -101,7 +101,7 @@ returns-in_err-all-clause-rest g c =
     (ap (λ (x : Members). x.voters) c.are_shipped.ensures.stays)
     (stays_shipped g.H.Host g.N.Net g.P.Power k mid c.args.host.now c.args.net.now c.are_shipped.new.net c.args.power.now c.are_shipped.ensures.shards c.are_shipped.ensures.keep c.are_shipped.ensures.sent c.are_shipped.ensures.net)
     (stays_voting g.H.Host g.N.Net g.P.Power mid c.vote.new.members c.args.host.now c.vote.new.host c.are_shipped.new.net c.vote.new.net c.args.power.now c.vote.new.power
-    c.vote.ensures.keeps.tables c.vote.ensures.rest.others c.vote.ensures.rest.said c.vote.ensures.rest.stream c.vote.ensures.rest.sent c.vote.ensures.rest.net c.vote.ensures.rest.later)
+    c.vote.ensures.keeps.tables c.vote.ensures.rest.others c.vote.ensures.rest.said c.vote.ensures.rest.stream c.vote.ensures.rest.letters.sends c.vote.ensures.rest.letters.gives c.vote.ensures.rest.later)
 
 -- ---- decided
 
@@ -120,7 +120,7 @@ returns-clause-decided g c =
     let m : Around = around g.N.Net g.P.Power c.are_shipped.new.net c.args.power.now in
     let b : Around = around g.N.Net g.P.Power c.vote.new.net c.vote.new.power in
     let shipped : IsLater a m = later_used a m c.are_shipped.ensures.sent c.are_shipped.ensures.net (omega arith) in
-    let asked : IsLater m b = later_used m b c.vote.ensures.rest.sent c.vote.ensures.rest.net c.vote.ensures.rest.later.early_rises in
+    let asked : IsLater m b = later_used m b c.vote.ensures.rest.letters.sends c.vote.ensures.rest.letters.gives c.vote.ensures.rest.later.early_rises in
     let chief : Chief = chief_of new.chief in
     let now : mid ≡ record k { tables = mid.tables } = c.are_shipped.ensures.stays in
     let same : length mid.cores.items ≡ length k.cores.items = ap (λ (n : Members). length n.cores.items) now in
@@ -172,4 +172,4 @@ returns-clause-rest g c =
     (ap (λ (x : Members). x.voters) c.are_shipped.ensures.stays)
     (stays_shipped g.H.Host g.N.Net g.P.Power k mid c.args.host.now c.args.net.now c.are_shipped.new.net c.args.power.now c.are_shipped.ensures.shards c.are_shipped.ensures.keep c.are_shipped.ensures.sent c.are_shipped.ensures.net)
     (stays_voting g.H.Host g.N.Net g.P.Power mid c.vote.new.members c.args.host.now c.vote.new.host c.are_shipped.new.net c.vote.new.net c.args.power.now c.vote.new.power
-    c.vote.ensures.keeps.tables c.vote.ensures.rest.others c.vote.ensures.rest.said c.vote.ensures.rest.stream c.vote.ensures.rest.sent c.vote.ensures.rest.net c.vote.ensures.rest.later)
+    c.vote.ensures.keeps.tables c.vote.ensures.rest.others c.vote.ensures.rest.said c.vote.ensures.rest.stream c.vote.ensures.rest.letters.sends c.vote.ensures.rest.letters.gives c.vote.ensures.rest.later)

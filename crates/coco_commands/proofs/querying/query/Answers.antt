@@ -3,6 +3,7 @@ use Rattle.coco_asks.specs.Answering.{Streams}
 use Rattle.coco_store.specs.Contents.{history_of}
 use Rattle.coco_ast.specs.History.{map_of, up_to}
 use Rattle.coco_commands.proofs.AskingLemmas.{cause_since, may_be_asked, says_of, unasked}
+use Rattle.coco_lines.specs.Reads.{source_moment}
 use Rattle.coco_commands.proofs.querying.query.Goals as goal
 
 pub answer_asks-requires-clause-some : goal.answer_asks-requires-clause-some
@@ -14,7 +15,7 @@ returns-in-Ok-tables_at g c = λ around.
     let read = c.in-Ok.ensures.read in
     let tables = c.in-Ok-tables_at.ensures in
     let after : Streams = record {
-      source = record { given = g.S.Source.given c.answer_asks.new.input; left = g.S.Source.remaining c.answer_asks.new.input; at_end = g.S.Source.at_end c.answer_asks.new.input };
+      source = source_moment g.S.Source c.answer_asks.new.input;
       source_faults = g.S.Source.faults c.answer_asks.new.input;
       say_faults = g.H.Host.say_faults c.answer_asks.new.host;
     } in
@@ -27,7 +28,7 @@ returns-in-Ok-tables_at g c = λ around.
       gives = asks.gives;
       asked = c.answer_asks.result;
       ends = c.ending_of_asking.ensures;
-      cause = cause_since asks.bytes (record { given = g.S.Source.given c.args.input.now; left = g.S.Source.remaining c.args.input.now; at_end = g.S.Source.at_end c.args.input.now }) (g.S.Source.faults c.args.input.now)
+      cause = cause_since asks.bytes (source_moment g.S.Source c.args.input.now) (g.S.Source.faults c.args.input.now)
           (g.H.Host.say_faults c.args.host.now) (g.H.Host.say_faults c.recover_whole.new.host) after c.answer_asks.result c.in-Ok.ensures.read.stream asks.cause;
       disk = c.answer_asks.ensures.disk ∙ c.in-Ok.ensures.counts;
       around = refl;

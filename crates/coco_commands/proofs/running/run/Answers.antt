@@ -3,6 +3,7 @@ use Rattle.coco_cluster.specs.Around.{Around, around}
 use Rattle.coco_cluster.specs.Standing.{IsSound}
 use Rattle.coco_serve.specs.Serving.{Outside}
 use Rattle.coco_commands.proofs.RunLemmas.{cause_from}
+use Rattle.coco_lines.specs.Reads.{source_moment}
 use Rattle.coco_commands.proofs.running.run.Goals as goal
 
 pub answer_lines-requires-clause-sound : goal.answer_lines-requires-clause-sound
@@ -13,7 +14,7 @@ returns-in-Ok g c =
     let runs = c.answer_lines.ensures in
     let since : Around = around g.N.Net g.P.Power c.args.net.now c.args.power.now in
     let after : Outside = record {
-      source = record { given = g.S.Source.given c.answer_lines.new.input; left = g.S.Source.remaining c.answer_lines.new.input; at_end = g.S.Source.at_end c.answer_lines.new.input };
+      source = source_moment g.S.Source c.answer_lines.new.input;
       source_faults = g.S.Source.faults c.answer_lines.new.input;
       say_faults = g.H.Host.say_faults c.answer_lines.new.host;
       disk_faults = g.H.Host.disk_faults c.answer_lines.new.host;
@@ -30,7 +31,7 @@ returns-in-Ok g c =
       served = c.answer_lines.result;
       ends = c.ending_of_run.ensures;
       later = runs.later;
-      cause = cause_from c.in-Ok.cluster.next_epoch runs.bytes (record { given = g.S.Source.given c.args.input.now; left = g.S.Source.remaining c.args.input.now; at_end = g.S.Source.at_end c.args.input.now }) (g.S.Source.faults c.args.input.now)
+      cause = cause_from c.in-Ok.cluster.next_epoch runs.bytes (source_moment g.S.Source c.args.input.now) (g.S.Source.faults c.args.input.now)
           (g.H.Host.say_faults c.args.host.now) (g.H.Host.disk_faults c.args.host.now) (g.H.Host.say_faults c.open_cluster.new.host) (g.H.Host.disk_faults c.open_cluster.new.host) since after c.answer_lines.result c.in-Ok.ensures.read.stream c.in-Ok.ensures.disk runs.cause;
       serves = λ files d are good. (let both = c.in-Ok.ensures.stands files d are good in runs.serves d both.0 both.1);
     })

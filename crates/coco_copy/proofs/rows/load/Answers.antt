@@ -1,19 +1,21 @@
-use Rattle.std.proofs.Common.{◌≡◌, ◌∙◌, ap, sym, List, Option, Some, None, IsSome, cond, refl, subst, vec_capacity, arith, inl, inr, OnOk}
-use Rattle.std.specs.Option.{option_and_then}
+use Rattle.std.proofs.Common.{◌≡◌, ◌∙◌, ap, sym, List, Option, Some, None, IsSome, cond, refl, subst, vec_capacity, inl, inr, OnOk}
+use Rattle.std.specs.Option.{is_some, option_and_then}
 use Rattle.std.specs.BTreeMap.{is_at}
 use Rattle.coco_types.specs.RowKey.{RowKey, key_cmp}
 use Rattle.coco_copy.specs.declared.kept.Kept.{Kept}
 use Rattle.coco_types.specs.declared.value.Value.{Value}
-use Rattle.coco_copy.specs.Kept.{kept_at, pending_of, view_of, SetsStable}
-use Rattle.coco_copy.proofs.Parts.{set_at}
+use Rattle.coco_rows.proofs.Listing.{dropped_whole, set_rises}
+use Rattle.coco_rows.proofs.Parts.{set_at}
+use Rattle.coco_copy.specs.Kept.{kept_at, pending_of, row_kind, view_of, SetsStable}
 use Rattle.coco_copy.proofs.Views.{added_view, dropped_view, loaded_view, none_there, on_err_of}
-use Rattle.coco_copy.proofs.Whole.{dropped_whole, loaded_whole, nothing_kept, set_rises, stands_alone, whole_kept}
+use Rattle.coco_copy.proofs.Whole.{loaded_whole, nothing_kept, stands_alone}
 use Rattle.coco_copy.proofs.rows.load.Goals as goal
 
 pub returns-then-not-keeps_row-clause-whole : goal.returns-then-not-keeps_row-clause-whole
 returns-then-not-keeps_row-clause-whole c =
-    dropped_whole c.args.rows.now.entries c.drop_row.new.rows.entries c.args.listed.now.items (vec_capacity c.args.listed.now) c.args.key c.requires
-    (nothing_kept c.args.value.now (kept_at c.args.rows.now.entries c.args.key) (sym c.keeps_row.ensures ∙ c.if-not-keeps_row.true)).1
+    let nothing = nothing_kept c.args.value.now (kept_at c.args.rows.now.entries c.args.key) (sym c.keeps_row.ensures ∙ c.if-not-keeps_row.true) in
+    dropped_whole row_kind c.args.rows.now.entries c.drop_row.new.rows.entries c.args.listed.now.items (vec_capacity c.args.listed.now) c.args.key c.requires
+    (λ kept is. sym (ap (λ o. is_some (option_and_then pending_of o)) is) ∙ nothing.1)
     c.drop_row.ensures.rising c.drop_row.ensures.entries c.drop_row.ensures.at c.drop_row.ensures.len
 
 pub returns-then-not-keeps_row-clause-state : goal.returns-then-not-keeps_row-clause-state
@@ -27,9 +29,7 @@ returns-in_err-packed-clause-missing c = on_err_of c.from_residual.result (λ _.
 pub returns-in-None-clause-whole : goal.returns-in-None-clause-whole
 returns-in-None-clause-whole c =
     let set = subst (SetsStable c.args.rows.now.entries c.load_at.new.rows.entries c.args.key) c.in_ok-packed.ensures.packed c.in-None.ensures.set in
-    whole_kept _ c.load_at.new.rows.entries _ c.args.listed.now.items _ _
-    (loaded_whole c.args.rows.now.entries c.args.listed.now.items (vec_capacity c.args.listed.now) c.args.key c.args.value.now set.before c.requires set.was (sym c.keeps_row.ensures ∙ c.if-not-keeps_row.false))
-    set.put refl (omega arith)
+    loaded_whole c.args.rows.now.entries c.load_at.new.rows.entries c.args.listed.now.items (vec_capacity c.args.listed.now) c.args.key c.args.value.now set.before c.requires set.was (sym c.keeps_row.ensures ∙ c.if-not-keeps_row.false) set.put
 
 pub returns-in-None-clause-state : goal.returns-in-None-clause-state
 returns-in-None-clause-state c = λ epoch.
@@ -39,11 +39,13 @@ returns-in-None-clause-state c = λ epoch.
     ∙ loaded_view c.args.rows.now.entries _ c.requires.rising (set_rises c.args.rows.now.entries c.args.key after c.requires.rising) c.args.key (Some after)
     (λ q. set_at c.args.rows.now.entries c.args.key set.before after q set.was) c.args.value.now refl (ap (option_and_then pending_of) (sym set.was)) epoch
 
-pub add_row-requires-clause-stands : goal.add_row-requires-clause-stands
-add_row-requires-clause-stands c = λ _.
-    let missing = c.in-Some.ensures.missing in
-    subst (λ o. IsSome o) (sym (missing.0 ∙ c.in_ok-packed.ensures.packed))
-    (stands_alone c.args.value.now (kept_at c.args.rows.now.entries c.args.key) (sym c.keeps_row.ensures ∙ c.if-not-keeps_row.false) missing.1)
+pub add_row-requires-clause-sound : goal.add_row-requires-clause-sound
+add_row-requires-clause-sound c = λ _.
+    let missing = c.in-Some.ensures.missing in (
+      refl,
+      subst (λ o. IsSome o) (sym (missing.0 ∙ c.in_ok-packed.ensures.packed))
+          (stands_alone c.args.value.now (kept_at c.args.rows.now.entries c.args.key) (sym c.keeps_row.ensures ∙ c.if-not-keeps_row.false) missing.1),
+    )
 
 pub returns-in-Some-clause-state : goal.returns-in-Some-clause-state
 returns-in-Some-clause-state c =

@@ -1,30 +1,20 @@
-use Rattle.std.proofs.Common.{refl, None, sym, ap, ◌∙◌}
+use Rattle.std.proofs.Common.{refl, sym, ap}
 use Rattle.std.specs.Option.{option_map}
-use Rattle.std.proofs.lemmas.Result.{err_from_is_err_and}
-use Rattle.coco_bytes.specs.Lists.{items_at}
-use Rattle.coco_bytes.proofs.ListLemmas.{rest_begins, rest_goes_on, rest_ends, last_item-push}
-use Rattle.coco_entry.specs.Bases.{base_row_at}
-use Rattle.coco_entry.proofs.Loops.{fails_with}
+use Rattle.coco_bytes.proofs.ListLemmas.{last_item-push}
+use Rattle.coco_entry.proofs.Loops.{begins, goes_on, ends, fails}
 use Rattle.coco_entry.proofs.base.get_each_row.Goals as goal
 
 pub returns-in_err-row-clause-read : goal.returns-in_err-row-clause-read
-returns-in_err-row-clause-read c =
-    let p = err_from_is_err_and c.from_residual.result c.from_residual.ensures.1 in
-    rw (p.1, p.2) (fails_with (λ before. base_row_at (option_map (λ r. r.0) before)) c.loop.rows c.args.count c.loop.counter c.args.from.now c.loop.end (items_at (λ before. base_row_at (option_map (λ r. r.0) before)) None c.args.count c.args.from.now c.args.at) c.in_err-row.field-0.0 c.loop-test.true (rw (← c.loop.invariant.last) c.in_err-row.ensures.read) c.loop.invariant.so_far)
+returns-in_err-row-clause-read c = fails c.loop.invariant.read c.loop-test.true c.from_residual.result c.in_err-row.field-0.0 c.from_residual.ensures.1 (rw (← c.loop.invariant.last) c.in_err-row.ensures.read)
 
 pub returns-clause-read : goal.returns-clause-read
-returns-clause-read c = sym c.loop.invariant.so_far ∙ rest_ends (λ before. base_row_at (option_map (λ r. r.0) before)) c.loop.rows c.args.count c.loop.counter c.args.from.now c.loop.end c.loop-test.false
+returns-clause-read c = ends c.loop.invariant.read c.loop-test.false
 
 pub loop-init : goal.loop-init
-loop-init c = record {
-  so_far = rest_begins (λ before. base_row_at (option_map (λ r. r.0) before)) c.new-rows.result c.args.count c.args.from.now c.args.at c.new-rows.ensures;
-  last = rw c.new-rows.ensures refl;
-  within = c.requires;
-}
+loop-init c = record { read = begins c.new-rows.ensures c.requires; last = rw c.new-rows.ensures refl }
 
 pub loop-preserved : goal.loop-preserved
 loop-preserved c = record {
-  so_far = rest_goes_on (λ before. base_row_at (option_map (λ r. r.0) before)) c.loop.rows c.push.new.self c.args.count c.loop.counter c.args.from.now c.loop.end c.in_ok-row.row c.in_ok-row.after c.loop-test.true (rw (← c.loop.invariant.last) c.in_ok-row.ensures.read) c.in_ok-push.ensures.ok ∙ c.loop.invariant.so_far;
+  read = goes_on c.loop.invariant.read c.loop-test.true c.in_ok-push.ensures.ok c.in_ok-row.ensures.within (rw (← c.loop.invariant.last) c.in_ok-row.ensures.read);
   last = rw c.in_ok-push.ensures.ok (sym (ap (option_map (λ r. r.0)) (last_item-push c.loop.rows c.in_ok-row.row)));
-  within = c.in_ok-row.ensures.within;
 }

@@ -1,15 +1,11 @@
-use Rattle.std.proofs.Common.{length}
-use Rattle.coco_bytes.specs.Fields.{u32_bytes}
-use Rattle.coco_entry.specs.Bases.{base_row_bytes, IsBaseRow}
-use Rattle.coco_entry.proofs.FitLemmas.{put_more, fit_more}
+use Rattle.coco_entry.proofs.FitLemmas.{put_all, put_more}
 use Rattle.coco_entry.proofs.base.put_each_row.Goals as goal
 
 pub loop-row-preserved : goal.loop-row-preserved
-loop-row-preserved c =
-    let xs = c.args.rows.now in
-    let i = c.loop-row.row-index in
-    let x = c.row-item.result in
-    record {
-      bytes = put_more base_row_bytes c.args.out.now.items (u32_bytes (length xs)) xs i x x c.loop-row.out.items c.put_base_row.new.out.items c.loop-row-test.true c.row-item.is c.loop-row.invariant.bytes c.in_ok-put_base_row.ensures.ok;
-      fit = fit_more IsBaseRow xs i x x c.loop-row-test.true c.row-item.is c.loop-row.invariant.fit c.in_ok-put_base_row.ensures.fits;
-    }
+loop-row-preserved c = put_more c.loop-row.invariant c.loop-row-test.true c.row-item.is c.in_ok-put_base_row.ensures.ok c.in_ok-put_base_row.ensures.fits
+
+pub returns-clause-ok : goal.returns-clause-ok
+returns-clause-ok c = (put_all c.loop-row.invariant c.loop-row-test.false).0
+
+pub returns-clause-fit : goal.returns-clause-fit
+returns-clause-fit c = (put_all c.loop-row.invariant c.loop-row-test.false).1

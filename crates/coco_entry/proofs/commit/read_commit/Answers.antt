@@ -1,11 +1,7 @@
-use Rattle.std.proofs.Common.{◌++◌, arith}
+use Rattle.std.proofs.Common.{arith}
 use Rattle.coco_entry.proofs.GrammarLemmas.{reads_exactly}
 use Rattle.coco_entry.proofs.EntryLemmas.{commit_agrees}
-use Rattle.coco_bytes.specs.Fields.{u64_bytes}
-use Rattle.coco_bytes.specs.Lists.{counted}
-use Rattle.coco_entry.specs.Calls.{done_bytes}
-use Rattle.coco_entry.specs.Commits.{IsCommit, commit_at}
 use Rattle.coco_entry.proofs.commit.read_commit.Goals as goal
 
 pub returns : goal.returns
-returns c = reads_exactly 2 (commit_at) (λ c. u64_bytes c.epoch ++ counted done_bytes c.dones) IsCommit commit_agrees (omega arith) c.args.body.now c.get_whole.result (λ i. omega (arith, c.type_inv.body i)) c.get_whole.ensures
+returns c = reads_exactly 2 commit_agrees (omega arith) c.args.body.now c.get_whole.result (λ i. omega (arith, c.type_inv.body i)) c.get_whole.ensures

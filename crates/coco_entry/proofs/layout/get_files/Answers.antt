@@ -22,7 +22,7 @@ loop-init c = record {
 
 pub loop-preserved : goal.loop-preserved
 loop-preserved c = record {
-  so_far = rw (c.in_ok-push.ensures.ok, c.in_ok-push-2.ensures.ok) (files_go_on c.loop.named c.loop.files c.args.count c.loop.counter c.args.from.now c.loop.end c.in_ok-file.file c.in_ok-file.after c.loop-test.true (rw c.as_slice.ensures at c.in_ok-file.ensures.read) ∙ c.loop.invariant.so_far);
+  so_far = rw (c.in_ok-push.ensures.ok, c.in_ok-push-2.ensures.ok) (files_go_on c.loop.named c.loop.files c.args.count c.loop.counter c.args.from.now c.loop.end c.in_ok-file.file c.in_ok-file.after c.loop-test.true (sym (rw c.as_slice.ensures at c.in_ok-file.ensures.read)) ∙ c.loop.invariant.so_far);
   named = rw (c.in_ok-push.ensures.ok, c.in_ok-push-2.ensures.ok, c.loop.invariant.named) (append_assoc c.args.named.now c.loop.files (c.in_ok-file.file ∷ []));
   within = c.in_ok-file.ensures.within;
 }

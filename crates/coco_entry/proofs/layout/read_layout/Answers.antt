@@ -1,9 +1,7 @@
-use Rattle.std.proofs.Common.{◌++◌, arith}
+use Rattle.std.proofs.Common.{arith}
 use Rattle.coco_entry.proofs.GrammarLemmas.{reads_exactly}
 use Rattle.coco_entry.proofs.LayoutLemmas.{layout_agrees}
-use Rattle.coco_bytes.specs.Fields.{u8_bytes}
-use Rattle.coco_entry.specs.Layouts.{version_of, fields_bytes, later_bytes, IsLayout, layout_at}
 use Rattle.coco_entry.proofs.layout.read_layout.Goals as goal
 
 pub returns : goal.returns
-returns c = reads_exactly 1 (layout_at) (λ e. u8_bytes (version_of e.keep e.base_file) ++ (fields_bytes e.layout ++ later_bytes e.keep e.base_file)) IsLayout layout_agrees (omega arith) c.args.body.now c.get_whole.result (λ i. omega (arith, c.type_inv.body i)) c.get_whole.ensures
+returns c = reads_exactly 1 layout_agrees (omega arith) c.args.body.now c.get_whole.result (λ i. omega (arith, c.type_inv.body i)) c.get_whole.ensures

@@ -1,10 +1,7 @@
-use Rattle.std.proofs.Common.{◌++◌, arith}
+use Rattle.std.proofs.Common.{arith}
 use Rattle.coco_entry.proofs.GrammarLemmas.{reads_exactly}
 use Rattle.coco_entry.proofs.EntryLemmas.{prepared_agrees}
-use Rattle.coco_bytes.specs.Fields.{u64_bytes}
-use Rattle.coco_bytes.specs.Lists.{counted}
-use Rattle.coco_entry.specs.Rows.{row_bytes, IsPrepared, prepared_at}
 use Rattle.coco_entry.proofs.prepared.read_prepared.Goals as goal
 
 pub returns : goal.returns
-returns c = reads_exactly 3 (prepared_at) (λ p. u64_bytes p.epoch ++ counted row_bytes p.rows) IsPrepared prepared_agrees (omega arith) c.args.body.now c.get_whole.result (λ i. omega (arith, c.type_inv.body i)) c.get_whole.ensures
+returns c = reads_exactly 3 prepared_agrees (omega arith) c.args.body.now c.get_whole.result (λ i. omega (arith, c.type_inv.body i)) c.get_whole.ensures

@@ -1,72 +1,59 @@
-use Rattle.std.proofs.Common.{ℕ, List, subst}
+use Rattle.std.proofs.Common.{ℕ, sym, subst}
 use Rattle.coco_chief.specs.Shown.{chief_of}
 use Rattle.coco_chief.specs.Chief.{Chief}
-use Rattle.coco_net.specs.declared.letter.Posted.{Posted}
-use Rattle.coco_node.specs.Node.{Node}
-use Rattle.coco_letters.specs.Worlds.{Scene}
-use Rattle.coco_letters.proofs.TellingLemmas.{adds_finish, adds_then}
-use Rattle.coco_letters.proofs.WorldLemmas.{goes_on_then}
+use Rattle.coco_letters.proofs.TellingLemmas.{adds_finish}
 use Rattle.coco_finish.specs.Exchanges.{HaveAllFinished, HearsGiven, UnlessFault}
-use Rattle.coco_finish.proofs.ExchangeLemmas.{reminded_asks, reminded_fresh, told_by_chief}
-use Rattle.coco_letters.proofs.SendingLemmas.{sends_fresh, sends_then}
-use Rattle.coco_vote.proofs.GivingLemmas.{gives_counts, gives_then}
+use Rattle.coco_finish.proofs.ExchangeLemmas.{reminded_asks, reminded_fresh, told_by_chief, hears_same}
+use Rattle.coco_vote.proofs.LetterLemmas.{letters_sent, letters_then}
+use Rattle.coco_finish.proofs.PhaseLemmas.{finished_then, tables_same}
+use Rattle.coco_finish.specs.Phase.{HasFinished}
+use Rattle.coco_finish.proofs.FinishLemmas.{finish_same}
 use Rattle.coco_finish.proofs.finishing.remind_and_exchange.Goals as goal
 
-pub returns-clause-in_step : goal.returns-clause-in_step
-returns-clause-in_step g c = λ step.
-    c.in_ok-exchange.ensures.in_step (record {
-      behind = step.behind;
-      told = told_by_chief c.args.epoch (g.N.Net.sent c.args.net.now) (g.N.Net.sent c.chief_reminds.new.net) c.args.tables.now.behind.items c.in_ok-chief_reminds.ensures.says step.told;
-      up = step.up;
-    })
+pub exchange-requires-clause-may : goal.exchange-requires-clause-may
+exchange-requires-clause-may g c = c.requires.may
 
-pub returns-clause-hears : goal.returns-clause-hears
-returns-clause-hears g c =
-    subst (λ (ps : List Posted). HearsGiven (chief_of c.args.chief.now) ps (chief_of c.exchange.new.chief) (g.N.Net.given c.exchange.new.net)) c.chief_reminds.ensures.counts.given_stays c.in_ok-exchange.ensures.hears
+pub returns-in_err-chief_reminds-clause-keep : goal.returns-in_err-chief_reminds-clause-keep
+returns-in_err-chief_reminds-clause-keep g c = tables_same c.args.tables.now c.requires.may.whole
+
+pub returns-clause-done : goal.returns-clause-done
+returns-clause-done g c =
+    let sent = g.N.Net.sent in
+    let chief : Chief = chief_of c.args.chief.now in
+    let did = c.in_ok-chief_reminds.ensures in
+    let reminded : HasFinished g.N.Net c.args.epoch c.args.cores.now c.args.cores.now chief chief c.args.tables.now c.args.tables.now c.args.net.now c.chief_reminds.new.net = record {
+      finish = finish_same c.args.epoch c.args.cores.now c.args.tables.now;
+      can = c.requires.may.can;
+      in_step = λ step. record {
+        behind = step.behind;
+        told = told_by_chief c.args.epoch (sent c.args.net.now) (sent c.chief_reminds.new.net) c.args.tables.now.behind.items did.says step.told;
+        up = step.up;
+      };
+      hears = subst (HearsGiven chief (g.N.Net.given c.args.net.now) chief) (sym c.chief_reminds.ensures.sends.counts.given_stays) (hears_same chief (g.N.Net.given c.args.net.now));
+      said = adds_finish c.args.epoch (sent c.args.net.now) (sent c.chief_reminds.new.net) did.says;
+      world = did.world c.args.cores.now;
+    } in
+    finished_then reminded c.in_ok-exchange.ensures.done
 
 pub returns-clause-asks : goal.returns-clause-asks
 returns-clause-asks g c =
-    reminded_asks c.args.epoch (chief_of c.args.chief.now) (g.N.Net.sent c.args.net.now) (g.N.Net.sent c.chief_reminds.new.net) c.requires.some c.requires.last c.in_ok-chief_reminds.ensures.turns (g.N.Net.sent c.exchange.new.net) c.in_ok-exchange.ensures.said
+    reminded_asks c.args.epoch (chief_of c.args.chief.now) (g.N.Net.sent c.args.net.now) (g.N.Net.sent c.chief_reminds.new.net) c.requires.may.some c.requires.last c.in_ok-chief_reminds.ensures.turns (g.N.Net.sent c.exchange.new.net) c.in_ok-exchange.ensures.done.said
 
 pub returns-clause-ends : goal.returns-clause-ends
 returns-clause-ends g c =
-    subst (λ (faults : ℕ). UnlessFault faults (g.N.Net.faults c.exchange.new.net) (HaveAllFinished (chief_of c.exchange.new.chief))) c.chief_reminds.ensures.counts.faults_stay
+    subst (λ (faults : ℕ). UnlessFault faults (g.N.Net.faults c.exchange.new.net) (HaveAllFinished (chief_of c.exchange.new.chief))) c.chief_reminds.ensures.sends.counts.faults_stay
     (c.in_ok-exchange.ensures.ends
-    (reminded_fresh c.args.epoch (chief_of c.args.chief.now) (g.N.Net.sent c.args.net.now) (g.N.Net.sent c.chief_reminds.new.net) c.requires.some c.requires.last c.in_ok-chief_reminds.ensures.turns
-    (g.N.Net.fresh c.args.net.now) (g.N.Net.fresh c.chief_reminds.new.net) c.in_ok-chief_reminds.ensures.fresh))
+    (reminded_fresh c.args.epoch (chief_of c.args.chief.now) (g.N.Net.sent c.args.net.now) (g.N.Net.sent c.chief_reminds.new.net) c.requires.may.some c.requires.last c.in_ok-chief_reminds.ensures.turns
+    (g.N.Net.fresh c.args.net.now) (g.N.Net.fresh c.chief_reminds.new.net) c.in_ok-chief_reminds.ensures.sends.fresh))
 
-pub returns-clause-said : goal.returns-clause-said
-returns-clause-said g c =
-    adds_then (g.N.Net.sent c.args.net.now) (g.N.Net.sent c.chief_reminds.new.net) (g.N.Net.sent c.exchange.new.net)
-    (adds_finish c.args.epoch (g.N.Net.sent c.args.net.now) (g.N.Net.sent c.chief_reminds.new.net) c.in_ok-chief_reminds.ensures.says)
-    c.in_ok-exchange.ensures.said
+pub returns-in_err-chief_reminds-clause-letters : goal.returns-in_err-chief_reminds-clause-letters
+returns-in_err-chief_reminds-clause-letters g c =
+    letters_sent c.chief_reminds.ensures.sends.fresh c.chief_reminds.ensures.sends.counts
 
-pub returns-clause-world : goal.returns-clause-world
-returns-clause-world g c =
-    let scene : List Node → Chief → List Posted → Scene = λ cores chief sent. record { cores = cores; chief = chief; sent = sent } in
-    goes_on_then (scene c.args.cores.now (chief_of c.args.chief.now) (g.N.Net.sent c.args.net.now)) (scene c.args.cores.now (chief_of c.args.chief.now) (g.N.Net.sent c.chief_reminds.new.net))
-    (scene c.exchange.new.cores (chief_of c.exchange.new.chief) (g.N.Net.sent c.exchange.new.net)) (c.in_ok-chief_reminds.ensures.world c.args.cores.now) c.in_ok-exchange.ensures.world
+pub returns-in_err-exchange-clause-letters : goal.returns-in_err-exchange-clause-letters
+returns-in_err-exchange-clause-letters g c =
+    letters_then (letters_sent c.chief_reminds.ensures.sends.fresh c.chief_reminds.ensures.sends.counts) c.exchange.ensures.letters
 
-pub returns-in_err-chief_reminds-clause-sends : goal.returns-in_err-chief_reminds-clause-sends
-returns-in_err-chief_reminds-clause-sends g c =
-    sends_fresh (g.N.Net.sent c.args.net.now) (g.N.Net.fresh c.args.net.now) (g.N.Net.sent c.chief_reminds.new.net) (g.N.Net.fresh c.chief_reminds.new.net) c.chief_reminds.ensures.fresh
-
-pub returns-in_err-chief_reminds-clause-net : goal.returns-in_err-chief_reminds-clause-net
-returns-in_err-chief_reminds-clause-net g c =
-    gives_counts (g.N.Net.given c.args.net.now) (g.N.Net.faults c.args.net.now) (g.N.Net.last_seed c.args.net.now) (g.N.Net.given c.chief_reminds.new.net) (g.N.Net.faults c.chief_reminds.new.net) (g.N.Net.last_seed c.chief_reminds.new.net) c.chief_reminds.ensures.counts
-
-pub returns-in_err-exchange-clause-sends : goal.returns-in_err-exchange-clause-sends
-returns-in_err-exchange-clause-sends g c =
-    sends_then (g.N.Net.sent c.args.net.now) (g.N.Net.sent c.chief_reminds.new.net) (g.N.Net.sent c.exchange.new.net) (sends_fresh (g.N.Net.sent c.args.net.now) (g.N.Net.fresh c.args.net.now) (g.N.Net.sent c.chief_reminds.new.net) (g.N.Net.fresh c.chief_reminds.new.net) c.chief_reminds.ensures.fresh) (c.exchange.ensures.sends)
-
-pub returns-in_err-exchange-clause-net : goal.returns-in_err-exchange-clause-net
-returns-in_err-exchange-clause-net g c =
-    gives_then (g.N.Net.given c.args.net.now) (g.N.Net.faults c.args.net.now) (g.N.Net.last_seed c.args.net.now) (g.N.Net.given c.chief_reminds.new.net) (g.N.Net.faults c.chief_reminds.new.net) (g.N.Net.last_seed c.chief_reminds.new.net) (g.N.Net.given c.exchange.new.net) (g.N.Net.faults c.exchange.new.net) (g.N.Net.last_seed c.exchange.new.net) (gives_counts (g.N.Net.given c.args.net.now) (g.N.Net.faults c.args.net.now) (g.N.Net.last_seed c.args.net.now) (g.N.Net.given c.chief_reminds.new.net) (g.N.Net.faults c.chief_reminds.new.net) (g.N.Net.last_seed c.chief_reminds.new.net) c.chief_reminds.ensures.counts) (c.exchange.ensures.net)
-
-pub returns-clause-sends : goal.returns-clause-sends
-returns-clause-sends g c =
-    sends_then (g.N.Net.sent c.args.net.now) (g.N.Net.sent c.chief_reminds.new.net) (g.N.Net.sent c.exchange.new.net) (sends_fresh (g.N.Net.sent c.args.net.now) (g.N.Net.fresh c.args.net.now) (g.N.Net.sent c.chief_reminds.new.net) (g.N.Net.fresh c.chief_reminds.new.net) c.chief_reminds.ensures.fresh) (c.exchange.ensures.sends)
-
-pub returns-clause-net : goal.returns-clause-net
-returns-clause-net g c =
-    gives_then (g.N.Net.given c.args.net.now) (g.N.Net.faults c.args.net.now) (g.N.Net.last_seed c.args.net.now) (g.N.Net.given c.chief_reminds.new.net) (g.N.Net.faults c.chief_reminds.new.net) (g.N.Net.last_seed c.chief_reminds.new.net) (g.N.Net.given c.exchange.new.net) (g.N.Net.faults c.exchange.new.net) (g.N.Net.last_seed c.exchange.new.net) (gives_counts (g.N.Net.given c.args.net.now) (g.N.Net.faults c.args.net.now) (g.N.Net.last_seed c.args.net.now) (g.N.Net.given c.chief_reminds.new.net) (g.N.Net.faults c.chief_reminds.new.net) (g.N.Net.last_seed c.chief_reminds.new.net) c.chief_reminds.ensures.counts) (c.exchange.ensures.net)
+pub returns-clause-letters : goal.returns-clause-letters
+returns-clause-letters g c =
+    letters_then (letters_sent c.chief_reminds.ensures.sends.fresh c.chief_reminds.ensures.sends.counts) c.exchange.ensures.letters

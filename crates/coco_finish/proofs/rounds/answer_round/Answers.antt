@@ -11,8 +11,9 @@ use Rattle.coco_letters.proofs.WaitingLemmas.{round_sent}
 use Rattle.coco_finish.specs.Exchanges.{UnlessFault}
 use Rattle.coco_finish.specs.Finishing.{finished_of}
 use Rattle.coco_finish.proofs.ExchangeLemmas.{came_all, hears_given, told_by_chief, up_so}
-use Rattle.coco_letters.proofs.SendingLemmas.{sends_fresh, sends_none, sends_then}
-use Rattle.coco_vote.proofs.GivingLemmas.{gives_counts, gives_round, gives_then}
+use Rattle.coco_vote.proofs.LetterLemmas.{letters_round, letters_sent, letters_then}
+use Rattle.coco_finish.proofs.FinishLemmas.{finish_same}
+use Rattle.coco_letters.proofs.TellingLemmas.{adds_finish}
 use Rattle.coco_finish.proofs.rounds.answer_round.Goals as goal
 
 pub chief_takes-requires-clause-sent : goal.chief_takes-requires-clause-sent
@@ -21,13 +22,30 @@ chief_takes-requires-clause-sent g c =
     subst (λ (ps : List Posted). AreSent ps (g.N.Net.waiting c.round.new.self)) (sym c.round.ensures.sent)
     (round_sent (g.N.Net.sent c.args.net.now) (g.N.Net.fresh c.args.net.now) (g.N.Net.faults c.args.net.now) (g.N.Net.faults c.round.new.self) (g.N.Net.waiting c.round.new.self) (g.N.Net.given c.args.net.now) (g.N.Net.given c.round.new.self) gives)
 
-pub returns-clause-hears : goal.returns-clause-hears
-returns-clause-hears g c =
+pub returns-clause-done : goal.returns-clause-done
+returns-clause-done g c = λ cores tables can.
+    let sent = g.N.Net.sent in
+    let chief : Chief = chief_of c.args.chief.now in
+    let after : Chief = chief_of c.chief_takes.new.chief in
     let gives = c.in_ok-round.ensures.ok in
     let did = c.in_ok-chief_takes.ensures in
-    let fits : (chief_of c.args.chief.now).last < 2 ^ 64 = omega (arith, c.requires.last, c.ranges.epoch.fits) in
-    hears_given (chief_of c.args.chief.now) (chief_of c.chief_takes.new.chief) (g.N.Net.sent c.args.net.now) (g.N.Net.fresh c.args.net.now) (g.N.Net.faults c.args.net.now) (g.N.Net.faults c.round.new.self) (g.N.Net.waiting c.round.new.self)
-    gives.0 (g.N.Net.given c.args.net.now) (g.N.Net.given c.chief_takes.new.net) fits (c.chief_takes.ensures.counts.given_stays ∙ gives.1) gives.2 did.finished did.votes
+    let fits : chief.last < 2 ^ 64 = omega (arith, c.requires.last, c.ranges.epoch.fits) in
+    let were : AreSent (sent c.args.net.now) (g.N.Net.waiting c.round.new.self) =
+    round_sent (sent c.args.net.now) (g.N.Net.fresh c.args.net.now) (g.N.Net.faults c.args.net.now) (g.N.Net.faults c.round.new.self) (g.N.Net.waiting c.round.new.self) (g.N.Net.given c.args.net.now) (g.N.Net.given c.round.new.self) gives in
+    let says : Adds IsOfChief (sent c.args.net.now) (sent c.chief_takes.new.net) = subst (λ (ps : List Posted). Adds IsOfChief ps (sent c.chief_takes.new.net)) c.round.ensures.sent did.says in
+    record {
+      finish = finish_same c.args.epoch cores tables;
+      can = can;
+      in_step = λ step. record {
+        behind = step.behind;
+        told = told_by_chief c.args.epoch (sent c.args.net.now) (sent c.chief_takes.new.net) tables.behind.items says step.told;
+        up = up_so c.args.epoch chief after tables.behind.items (sent c.args.net.now) (g.N.Net.waiting c.round.new.self) c.requires.last were did.finished step.told step.up;
+      };
+      hears = hears_given chief after (sent c.args.net.now) (g.N.Net.fresh c.args.net.now) (g.N.Net.faults c.args.net.now) (g.N.Net.faults c.round.new.self) (g.N.Net.waiting c.round.new.self)
+          gives.0 (g.N.Net.given c.args.net.now) (g.N.Net.given c.chief_takes.new.net) fits (c.chief_takes.ensures.counts.given_stays ∙ gives.1) gives.2 did.finished did.votes;
+      said = adds_finish c.args.epoch (sent c.args.net.now) (sent c.chief_takes.new.net) says;
+      world = subst (λ (ps : List Posted). GoesOn (record { cores = cores; chief = chief; sent = ps }) (record { cores = cores; chief = after; sent = sent c.chief_takes.new.net })) c.round.ensures.sent (did.world cores);
+    }
 
 pub returns-clause-came : goal.returns-clause-came
 returns-clause-came g c =
@@ -41,45 +59,14 @@ returns-clause-came g c =
     (came_all chief after (g.N.Net.sent c.args.net.now) (g.N.Net.fresh c.args.net.now) (g.N.Net.faults c.args.net.now) (g.N.Net.faults c.round.new.self) (g.N.Net.waiting c.round.new.self)
     gives.0 (g.N.Net.given c.args.net.now) (g.N.Net.given c.chief_takes.new.net) fits (c.chief_takes.ensures.counts.given_stays ∙ gives.1) gives.2 did.finished did.votes c.in_ok-round.ensures.faults))
 
-pub returns-clause-says : goal.returns-clause-says
-returns-clause-says g c = subst (λ (ps : List Posted). Adds IsOfChief ps (g.N.Net.sent c.chief_takes.new.net)) c.round.ensures.sent c.in_ok-chief_takes.ensures.says
+pub returns-in_err-round-clause-letters : goal.returns-in_err-round-clause-letters
+returns-in_err-round-clause-letters g c =
+    letters_round c.round.result c.round.ensures.sent c.round.ensures.ok c.round.ensures.faults c.round.ensures.err c.round.ensures.seed
 
-pub returns-clause-world : goal.returns-clause-world
-returns-clause-world g c = λ cores.
-    subst (λ (ps : List Posted). GoesOn (record { cores = cores; chief = chief_of c.args.chief.now; sent = ps }) (record { cores = cores; chief = chief_of c.chief_takes.new.chief; sent = g.N.Net.sent c.chief_takes.new.net })) c.round.ensures.sent
-    (c.in_ok-chief_takes.ensures.world cores)
+pub returns-in_err-chief_takes-clause-letters : goal.returns-in_err-chief_takes-clause-letters
+returns-in_err-chief_takes-clause-letters g c =
+    letters_then (letters_round c.round.result c.round.ensures.sent c.round.ensures.ok c.round.ensures.faults c.round.ensures.err c.round.ensures.seed) (letters_sent c.chief_takes.ensures.fresh c.chief_takes.ensures.counts)
 
-pub returns-clause-in_step : goal.returns-clause-in_step
-returns-clause-in_step g c = λ cores marks step.
-    let sent : AreSent (g.N.Net.sent c.args.net.now) (g.N.Net.waiting c.round.new.self) =
-    round_sent (g.N.Net.sent c.args.net.now) (g.N.Net.fresh c.args.net.now) (g.N.Net.faults c.args.net.now) (g.N.Net.faults c.round.new.self) (g.N.Net.waiting c.round.new.self) (g.N.Net.given c.args.net.now) (g.N.Net.given c.round.new.self) c.in_ok-round.ensures.ok in
-    let says : Adds IsOfChief (g.N.Net.sent c.args.net.now) (g.N.Net.sent c.chief_takes.new.net) = subst (λ (ps : List Posted). Adds IsOfChief ps (g.N.Net.sent c.chief_takes.new.net)) c.round.ensures.sent c.in_ok-chief_takes.ensures.says in
-    record {
-      behind = step.behind;
-      told = told_by_chief c.args.epoch (g.N.Net.sent c.args.net.now) (g.N.Net.sent c.chief_takes.new.net) marks says step.told;
-      up = up_so c.args.epoch (chief_of c.args.chief.now) (chief_of c.chief_takes.new.chief) marks (g.N.Net.sent c.args.net.now) (g.N.Net.waiting c.round.new.self) c.requires.last sent c.in_ok-chief_takes.ensures.finished step.told step.up;
-    }
-
-pub returns-in_err-round-clause-sends : goal.returns-in_err-round-clause-sends
-returns-in_err-round-clause-sends g c =
-    sends_none (g.N.Net.sent c.args.net.now) (g.N.Net.sent c.round.new.self) c.round.ensures.sent
-
-pub returns-in_err-round-clause-net : goal.returns-in_err-round-clause-net
-returns-in_err-round-clause-net g c =
-    gives_round c.round.result (g.N.Net.sent c.args.net.now) (g.N.Net.fresh c.args.net.now) (g.N.Net.waiting c.round.new.self) (g.N.Net.given c.args.net.now) (g.N.Net.faults c.args.net.now) (g.N.Net.last_seed c.args.net.now) (g.N.Net.given c.round.new.self) (g.N.Net.faults c.round.new.self) (g.N.Net.last_seed c.round.new.self) (g.N.Net.fresh c.round.new.self) c.round.ensures.ok c.round.ensures.faults c.round.ensures.err c.round.ensures.seed
-
-pub returns-in_err-chief_takes-clause-sends : goal.returns-in_err-chief_takes-clause-sends
-returns-in_err-chief_takes-clause-sends g c =
-    sends_then (g.N.Net.sent c.args.net.now) (g.N.Net.sent c.round.new.self) (g.N.Net.sent c.chief_takes.new.net) (sends_none (g.N.Net.sent c.args.net.now) (g.N.Net.sent c.round.new.self) c.round.ensures.sent) (sends_fresh (g.N.Net.sent c.round.new.self) (g.N.Net.fresh c.round.new.self) (g.N.Net.sent c.chief_takes.new.net) (g.N.Net.fresh c.chief_takes.new.net) c.chief_takes.ensures.fresh)
-
-pub returns-in_err-chief_takes-clause-net : goal.returns-in_err-chief_takes-clause-net
-returns-in_err-chief_takes-clause-net g c =
-    gives_then (g.N.Net.given c.args.net.now) (g.N.Net.faults c.args.net.now) (g.N.Net.last_seed c.args.net.now) (g.N.Net.given c.round.new.self) (g.N.Net.faults c.round.new.self) (g.N.Net.last_seed c.round.new.self) (g.N.Net.given c.chief_takes.new.net) (g.N.Net.faults c.chief_takes.new.net) (g.N.Net.last_seed c.chief_takes.new.net) (gives_round c.round.result (g.N.Net.sent c.args.net.now) (g.N.Net.fresh c.args.net.now) (g.N.Net.waiting c.round.new.self) (g.N.Net.given c.args.net.now) (g.N.Net.faults c.args.net.now) (g.N.Net.last_seed c.args.net.now) (g.N.Net.given c.round.new.self) (g.N.Net.faults c.round.new.self) (g.N.Net.last_seed c.round.new.self) (g.N.Net.fresh c.round.new.self) c.round.ensures.ok c.round.ensures.faults c.round.ensures.err c.round.ensures.seed) (gives_counts (g.N.Net.given c.round.new.self) (g.N.Net.faults c.round.new.self) (g.N.Net.last_seed c.round.new.self) (g.N.Net.given c.chief_takes.new.net) (g.N.Net.faults c.chief_takes.new.net) (g.N.Net.last_seed c.chief_takes.new.net) c.chief_takes.ensures.counts)
-
-pub returns-clause-sends : goal.returns-clause-sends
-returns-clause-sends g c =
-    sends_then (g.N.Net.sent c.args.net.now) (g.N.Net.sent c.round.new.self) (g.N.Net.sent c.chief_takes.new.net) (sends_none (g.N.Net.sent c.args.net.now) (g.N.Net.sent c.round.new.self) c.round.ensures.sent) (sends_fresh (g.N.Net.sent c.round.new.self) (g.N.Net.fresh c.round.new.self) (g.N.Net.sent c.chief_takes.new.net) (g.N.Net.fresh c.chief_takes.new.net) c.chief_takes.ensures.fresh)
-
-pub returns-clause-net : goal.returns-clause-net
-returns-clause-net g c =
-    gives_then (g.N.Net.given c.args.net.now) (g.N.Net.faults c.args.net.now) (g.N.Net.last_seed c.args.net.now) (g.N.Net.given c.round.new.self) (g.N.Net.faults c.round.new.self) (g.N.Net.last_seed c.round.new.self) (g.N.Net.given c.chief_takes.new.net) (g.N.Net.faults c.chief_takes.new.net) (g.N.Net.last_seed c.chief_takes.new.net) (gives_round c.round.result (g.N.Net.sent c.args.net.now) (g.N.Net.fresh c.args.net.now) (g.N.Net.waiting c.round.new.self) (g.N.Net.given c.args.net.now) (g.N.Net.faults c.args.net.now) (g.N.Net.last_seed c.args.net.now) (g.N.Net.given c.round.new.self) (g.N.Net.faults c.round.new.self) (g.N.Net.last_seed c.round.new.self) (g.N.Net.fresh c.round.new.self) c.round.ensures.ok c.round.ensures.faults c.round.ensures.err c.round.ensures.seed) (gives_counts (g.N.Net.given c.round.new.self) (g.N.Net.faults c.round.new.self) (g.N.Net.last_seed c.round.new.self) (g.N.Net.given c.chief_takes.new.net) (g.N.Net.faults c.chief_takes.new.net) (g.N.Net.last_seed c.chief_takes.new.net) c.chief_takes.ensures.counts)
+pub returns-clause-letters : goal.returns-clause-letters
+returns-clause-letters g c =
+    letters_then (letters_round c.round.result c.round.ensures.sent c.round.ensures.ok c.round.ensures.faults c.round.ensures.err c.round.ensures.seed) (letters_sent c.chief_takes.ensures.fresh c.chief_takes.ensures.counts)

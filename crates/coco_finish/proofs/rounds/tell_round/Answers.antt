@@ -15,8 +15,8 @@ use Rattle.coco_letters.proofs.WorldLemmas.{goes_on_then}
 use Rattle.coco_finish.specs.Exchanges.{commit_of, UnlessFault}
 use Rattle.coco_finish.specs.Finishing.{finished_of, AreTold}
 use Rattle.coco_finish.proofs.ExchangeLemmas.{fresh_more, hears_given, told_all, told_by_chief, up_so, up_still}
-use Rattle.coco_letters.proofs.SendingLemmas.{sends_fresh, sends_none, sends_then}
-use Rattle.coco_vote.proofs.GivingLemmas.{gives_counts, gives_round, gives_then}
+use Rattle.coco_vote.proofs.LetterLemmas.{letters_round, letters_sent, letters_then}
+use Rattle.coco_finish.proofs.PhaseLemmas.{tables_same}
 use Rattle.coco_finish.proofs.rounds.tell_round.Goals as goal
 
 pub nodes_finish-requires-clause-sent : goal.nodes_finish-requires-clause-sent
@@ -24,30 +24,55 @@ nodes_finish-requires-clause-sent g c =
     subst (λ (ps : List Posted). AreSent ps (g.N.Net.waiting c.round.new.self)) (sym c.round.ensures.sent)
     (round_sent (g.N.Net.sent c.args.net.now) (g.N.Net.fresh c.args.net.now) (g.N.Net.faults c.args.net.now) (g.N.Net.faults c.round.new.self) (g.N.Net.waiting c.round.new.self) (g.N.Net.given c.args.net.now) (g.N.Net.given c.round.new.self) c.in_ok-round.ensures.ok)
 
-pub returns-clause-in_step : goal.returns-clause-in_step
-returns-clause-in_step g c = λ step.
-    let sent : AreSent (g.N.Net.sent c.args.net.now) (g.N.Net.waiting c.round.new.self) =
-    round_sent (g.N.Net.sent c.args.net.now) (g.N.Net.fresh c.args.net.now) (g.N.Net.faults c.args.net.now) (g.N.Net.faults c.round.new.self) (g.N.Net.waiting c.round.new.self) (g.N.Net.given c.args.net.now) (g.N.Net.given c.round.new.self) c.in_ok-round.ensures.ok in
-    let finished : CountsFinished (g.N.Net.waiting c.round.new.self 8) (chief_of c.args.chief.now) (chief_of c.chief_takes.new.chief) =
-    subst (λ (ls : List Letter). CountsFinished ls (chief_of c.args.chief.now) (chief_of c.chief_takes.new.chief)) (c.nodes_finish.ensures.others 8 c.requires.few) c.in_ok-chief_takes.ensures.finished in
-    record {
-      behind = c.in_ok-nodes_finish.ensures.are_behind step.behind;
-      told = told_by_chief c.args.epoch (g.N.Net.sent c.nodes_finish.new.net) (g.N.Net.sent c.chief_takes.new.net) c.nodes_finish.new.tables.behind.items c.in_ok-chief_takes.ensures.says
-          (c.in_ok-nodes_finish.ensures.told step.behind (subst (λ (ps : List Posted). AreTold c.args.epoch ps c.args.tables.now.behind.items) (sym c.round.ensures.sent) step.told));
-      up = up_still c.args.epoch (chief_of c.chief_takes.new.chief) c.args.cores.now c.nodes_finish.new.cores c.args.tables.now c.nodes_finish.new.tables c.in_ok-nodes_finish.ensures.finish
-          (up_so c.args.epoch (chief_of c.args.chief.now) (chief_of c.chief_takes.new.chief) c.args.tables.now.behind.items (g.N.Net.sent c.args.net.now) (g.N.Net.waiting c.round.new.self) c.requires.last sent finished step.told step.up);
-    }
+pub nodes_finish-requires-clause-few : goal.nodes_finish-requires-clause-few
+nodes_finish-requires-clause-few g c = c.requires.may.few
 
-pub returns-clause-hears : goal.returns-clause-hears
-returns-clause-hears g c =
+pub nodes_finish-requires-clause-some : goal.nodes_finish-requires-clause-some
+nodes_finish-requires-clause-some g c = c.requires.may.some
+
+pub nodes_finish-requires-clause-whole : goal.nodes_finish-requires-clause-whole
+nodes_finish-requires-clause-whole g c = c.requires.may.whole
+
+pub nodes_finish-requires-clause-behind : goal.nodes_finish-requires-clause-behind
+nodes_finish-requires-clause-behind g c = c.requires.may.behind
+
+pub nodes_finish-requires-clause-can : goal.nodes_finish-requires-clause-can
+nodes_finish-requires-clause-can g c = c.requires.may.can
+
+pub returns-clause-done : goal.returns-clause-done
+returns-clause-done g c =
+    let sent = g.N.Net.sent in
+    let chief : Chief = chief_of c.args.chief.now in
+    let after : Chief = chief_of c.chief_takes.new.chief in
     let gives = c.in_ok-round.ensures.ok in
+    let nodes = c.in_ok-nodes_finish.ensures.done in
     let did = c.in_ok-chief_takes.ensures in
-    let fits : (chief_of c.args.chief.now).last < 2 ^ 64 = omega (arith, c.requires.last, c.ranges.epoch.fits) in
-    let same : g.N.Net.waiting c.nodes_finish.new.net 8 ≡ g.N.Net.waiting c.round.new.self 8 = c.nodes_finish.ensures.others 8 c.requires.few in
-    hears_given (chief_of c.args.chief.now) (chief_of c.chief_takes.new.chief) (g.N.Net.sent c.args.net.now) (g.N.Net.fresh c.args.net.now) (g.N.Net.faults c.args.net.now) (g.N.Net.faults c.round.new.self) (g.N.Net.waiting c.round.new.self)
-    gives.0 (g.N.Net.given c.args.net.now) (g.N.Net.given c.chief_takes.new.net) fits (c.chief_takes.ensures.counts.given_stays ∙ c.nodes_finish.ensures.counts.given_stays ∙ gives.1) gives.2
-    (subst (λ (ls : List Letter). CountsFinished ls (chief_of c.args.chief.now) (chief_of c.chief_takes.new.chief)) same did.finished)
-    (subst (λ (ls : List Letter). CountsVotes ls (chief_of c.args.chief.now) (chief_of c.chief_takes.new.chief)) same did.votes)
+    let fits : chief.last < 2 ^ 64 = omega (arith, c.requires.last, c.ranges.epoch.fits) in
+    let were : AreSent (sent c.args.net.now) (g.N.Net.waiting c.round.new.self) =
+    round_sent (sent c.args.net.now) (g.N.Net.fresh c.args.net.now) (g.N.Net.faults c.args.net.now) (g.N.Net.faults c.round.new.self) (g.N.Net.waiting c.round.new.self) (g.N.Net.given c.args.net.now) (g.N.Net.given c.round.new.self) gives in
+    let same : g.N.Net.waiting c.nodes_finish.new.net 8 ≡ g.N.Net.waiting c.round.new.self 8 = c.nodes_finish.ensures.others 8 c.requires.may.few in
+    let finished : CountsFinished (g.N.Net.waiting c.round.new.self 8) chief after = subst (λ (ls : List Letter). CountsFinished ls chief after) same did.finished in
+    let scene : List Node → Chief → List Posted → Scene = λ cores chief sent. record { cores = cores; chief = chief; sent = sent } in
+    record {
+      finish = nodes.finish;
+      can = nodes.can;
+      in_step = λ step. record {
+        behind = nodes.are_behind step.behind;
+        told = told_by_chief c.args.epoch (sent c.nodes_finish.new.net) (sent c.chief_takes.new.net) c.nodes_finish.new.tables.behind.items did.says
+            (nodes.told step.behind (subst (λ (ps : List Posted). AreTold c.args.epoch ps c.args.tables.now.behind.items) (sym c.round.ensures.sent) step.told));
+        up = up_still c.args.epoch after c.args.cores.now c.nodes_finish.new.cores c.args.tables.now c.nodes_finish.new.tables nodes.finish
+            (up_so c.args.epoch chief after c.args.tables.now.behind.items (sent c.args.net.now) (g.N.Net.waiting c.round.new.self) c.requires.last were finished step.told step.up);
+      };
+      hears = hears_given chief after (sent c.args.net.now) (g.N.Net.fresh c.args.net.now) (g.N.Net.faults c.args.net.now) (g.N.Net.faults c.round.new.self) (g.N.Net.waiting c.round.new.self)
+          gives.0 (g.N.Net.given c.args.net.now) (g.N.Net.given c.chief_takes.new.net) fits (c.chief_takes.ensures.counts.given_stays ∙ c.nodes_finish.ensures.counts.given_stays ∙ gives.1) gives.2
+          finished (subst (λ (ls : List Letter). CountsVotes ls chief after) same did.votes);
+      said = adds_then (sent c.args.net.now) (sent c.nodes_finish.new.net) (sent c.chief_takes.new.net)
+          (subst (λ (ps : List Posted). Adds (IsOfFinish c.args.epoch) ps (sent c.nodes_finish.new.net)) c.round.ensures.sent nodes.said)
+          (adds_finish c.args.epoch (sent c.nodes_finish.new.net) (sent c.chief_takes.new.net) did.says);
+      world = goes_on_then (scene c.args.cores.now chief (sent c.args.net.now)) (scene c.nodes_finish.new.cores chief (sent c.nodes_finish.new.net)) (scene c.nodes_finish.new.cores after (sent c.chief_takes.new.net))
+          (subst (λ (ps : List Posted). GoesOn (scene c.args.cores.now chief ps) (scene c.nodes_finish.new.cores chief (sent c.nodes_finish.new.net))) c.round.ensures.sent (nodes.world chief))
+          (did.world c.nodes_finish.new.cores);
+    }
 
 pub returns-clause-answers : goal.returns-clause-answers
 returns-clause-answers g c =
@@ -56,51 +81,24 @@ returns-clause-answers g c =
     let fits : c.args.epoch < 2 ^ 64 = omega (arith, c.ranges.epoch.fits) in
     subst (λ (faults : ℕ). UnlessFault (g.N.Net.faults c.args.net.now) faults ((n : ℕ) → n < length c.args.cores.now → Contains (g.N.Net.fresh c.args.net.now) (commit_of n c.args.epoch) → Contains (g.N.Net.fresh c.chief_takes.new.net) (finished_of n c.args.epoch))) (sym faults)
     (told_all c.args.epoch (length c.args.cores.now) (g.N.Net.sent c.args.net.now) (g.N.Net.fresh c.args.net.now) (g.N.Net.faults c.args.net.now) (g.N.Net.faults c.round.new.self) (g.N.Net.waiting c.round.new.self)
-    gives.0 (g.N.Net.fresh c.chief_takes.new.net) fits c.requires.few gives.2 c.in_ok-round.ensures.faults
+    gives.0 (g.N.Net.fresh c.chief_takes.new.net) fits c.requires.may.few gives.2 c.in_ok-round.ensures.faults
     (λ n l lt waits tells. fresh_more (g.N.Net.sent c.nodes_finish.new.net) (g.N.Net.fresh c.nodes_finish.new.net) (g.N.Net.sent c.chief_takes.new.net) (g.N.Net.fresh c.chief_takes.new.net) c.in_ok-chief_takes.ensures.fresh (finished_of n c.args.epoch) (c.in_ok-nodes_finish.ensures.answers n l lt waits tells)))
 
-pub returns-clause-said : goal.returns-clause-said
-returns-clause-said g c =
-    adds_then (g.N.Net.sent c.args.net.now) (g.N.Net.sent c.nodes_finish.new.net) (g.N.Net.sent c.chief_takes.new.net)
-    (subst (λ (ps : List Posted). Adds (IsOfFinish c.args.epoch) ps (g.N.Net.sent c.nodes_finish.new.net)) c.round.ensures.sent c.in_ok-nodes_finish.ensures.said)
-    (adds_finish c.args.epoch (g.N.Net.sent c.nodes_finish.new.net) (g.N.Net.sent c.chief_takes.new.net) c.in_ok-chief_takes.ensures.says)
+pub returns-in_err-round-clause-letters : goal.returns-in_err-round-clause-letters
+returns-in_err-round-clause-letters g c =
+    letters_round c.round.result c.round.ensures.sent c.round.ensures.ok c.round.ensures.faults c.round.ensures.err c.round.ensures.seed
 
-pub returns-clause-world : goal.returns-clause-world
-returns-clause-world g c =
-    let scene : List Node → Chief → List Posted → Scene = λ cores chief sent. record { cores = cores; chief = chief; sent = sent } in
-    goes_on_then (scene c.args.cores.now (chief_of c.args.chief.now) (g.N.Net.sent c.args.net.now)) (scene c.nodes_finish.new.cores (chief_of c.args.chief.now) (g.N.Net.sent c.nodes_finish.new.net))
-    (scene c.nodes_finish.new.cores (chief_of c.chief_takes.new.chief) (g.N.Net.sent c.chief_takes.new.net))
-    (subst (λ (ps : List Posted). GoesOn (scene c.args.cores.now (chief_of c.args.chief.now) ps) (scene c.nodes_finish.new.cores (chief_of c.args.chief.now) (g.N.Net.sent c.nodes_finish.new.net))) c.round.ensures.sent (c.in_ok-nodes_finish.ensures.world (chief_of c.args.chief.now)))
-    (c.in_ok-chief_takes.ensures.world c.nodes_finish.new.cores)
+pub returns-in_err-nodes_finish-clause-letters : goal.returns-in_err-nodes_finish-clause-letters
+returns-in_err-nodes_finish-clause-letters g c =
+    letters_then (letters_round c.round.result c.round.ensures.sent c.round.ensures.ok c.round.ensures.faults c.round.ensures.err c.round.ensures.seed) (letters_sent c.nodes_finish.ensures.fresh c.nodes_finish.ensures.counts)
 
-pub returns-in_err-round-clause-sends : goal.returns-in_err-round-clause-sends
-returns-in_err-round-clause-sends g c =
-    sends_none (g.N.Net.sent c.args.net.now) (g.N.Net.sent c.round.new.self) c.round.ensures.sent
+pub returns-in_err-chief_takes-clause-letters : goal.returns-in_err-chief_takes-clause-letters
+returns-in_err-chief_takes-clause-letters g c =
+    letters_then (letters_then (letters_round c.round.result c.round.ensures.sent c.round.ensures.ok c.round.ensures.faults c.round.ensures.err c.round.ensures.seed) (letters_sent c.nodes_finish.ensures.fresh c.nodes_finish.ensures.counts)) (letters_sent c.chief_takes.ensures.fresh c.chief_takes.ensures.counts)
 
-pub returns-in_err-round-clause-net : goal.returns-in_err-round-clause-net
-returns-in_err-round-clause-net g c =
-    gives_round c.round.result (g.N.Net.sent c.args.net.now) (g.N.Net.fresh c.args.net.now) (g.N.Net.waiting c.round.new.self) (g.N.Net.given c.args.net.now) (g.N.Net.faults c.args.net.now) (g.N.Net.last_seed c.args.net.now) (g.N.Net.given c.round.new.self) (g.N.Net.faults c.round.new.self) (g.N.Net.last_seed c.round.new.self) (g.N.Net.fresh c.round.new.self) c.round.ensures.ok c.round.ensures.faults c.round.ensures.err c.round.ensures.seed
+pub returns-clause-letters : goal.returns-clause-letters
+returns-clause-letters g c =
+    letters_then (letters_then (letters_round c.round.result c.round.ensures.sent c.round.ensures.ok c.round.ensures.faults c.round.ensures.err c.round.ensures.seed) (letters_sent c.nodes_finish.ensures.fresh c.nodes_finish.ensures.counts)) (letters_sent c.chief_takes.ensures.fresh c.chief_takes.ensures.counts)
 
-pub returns-in_err-nodes_finish-clause-sends : goal.returns-in_err-nodes_finish-clause-sends
-returns-in_err-nodes_finish-clause-sends g c =
-    sends_then (g.N.Net.sent c.args.net.now) (g.N.Net.sent c.round.new.self) (g.N.Net.sent c.nodes_finish.new.net) (sends_none (g.N.Net.sent c.args.net.now) (g.N.Net.sent c.round.new.self) c.round.ensures.sent) (sends_fresh (g.N.Net.sent c.round.new.self) (g.N.Net.fresh c.round.new.self) (g.N.Net.sent c.nodes_finish.new.net) (g.N.Net.fresh c.nodes_finish.new.net) c.nodes_finish.ensures.fresh)
-
-pub returns-in_err-nodes_finish-clause-net : goal.returns-in_err-nodes_finish-clause-net
-returns-in_err-nodes_finish-clause-net g c =
-    gives_then (g.N.Net.given c.args.net.now) (g.N.Net.faults c.args.net.now) (g.N.Net.last_seed c.args.net.now) (g.N.Net.given c.round.new.self) (g.N.Net.faults c.round.new.self) (g.N.Net.last_seed c.round.new.self) (g.N.Net.given c.nodes_finish.new.net) (g.N.Net.faults c.nodes_finish.new.net) (g.N.Net.last_seed c.nodes_finish.new.net) (gives_round c.round.result (g.N.Net.sent c.args.net.now) (g.N.Net.fresh c.args.net.now) (g.N.Net.waiting c.round.new.self) (g.N.Net.given c.args.net.now) (g.N.Net.faults c.args.net.now) (g.N.Net.last_seed c.args.net.now) (g.N.Net.given c.round.new.self) (g.N.Net.faults c.round.new.self) (g.N.Net.last_seed c.round.new.self) (g.N.Net.fresh c.round.new.self) c.round.ensures.ok c.round.ensures.faults c.round.ensures.err c.round.ensures.seed) (gives_counts (g.N.Net.given c.round.new.self) (g.N.Net.faults c.round.new.self) (g.N.Net.last_seed c.round.new.self) (g.N.Net.given c.nodes_finish.new.net) (g.N.Net.faults c.nodes_finish.new.net) (g.N.Net.last_seed c.nodes_finish.new.net) c.nodes_finish.ensures.counts)
-
-pub returns-in_err-chief_takes-clause-sends : goal.returns-in_err-chief_takes-clause-sends
-returns-in_err-chief_takes-clause-sends g c =
-    sends_then (g.N.Net.sent c.args.net.now) (g.N.Net.sent c.nodes_finish.new.net) (g.N.Net.sent c.chief_takes.new.net) (sends_then (g.N.Net.sent c.args.net.now) (g.N.Net.sent c.round.new.self) (g.N.Net.sent c.nodes_finish.new.net) (sends_none (g.N.Net.sent c.args.net.now) (g.N.Net.sent c.round.new.self) c.round.ensures.sent) (sends_fresh (g.N.Net.sent c.round.new.self) (g.N.Net.fresh c.round.new.self) (g.N.Net.sent c.nodes_finish.new.net) (g.N.Net.fresh c.nodes_finish.new.net) c.nodes_finish.ensures.fresh)) (sends_fresh (g.N.Net.sent c.nodes_finish.new.net) (g.N.Net.fresh c.nodes_finish.new.net) (g.N.Net.sent c.chief_takes.new.net) (g.N.Net.fresh c.chief_takes.new.net) c.chief_takes.ensures.fresh)
-
-pub returns-in_err-chief_takes-clause-net : goal.returns-in_err-chief_takes-clause-net
-returns-in_err-chief_takes-clause-net g c =
-    gives_then (g.N.Net.given c.args.net.now) (g.N.Net.faults c.args.net.now) (g.N.Net.last_seed c.args.net.now) (g.N.Net.given c.nodes_finish.new.net) (g.N.Net.faults c.nodes_finish.new.net) (g.N.Net.last_seed c.nodes_finish.new.net) (g.N.Net.given c.chief_takes.new.net) (g.N.Net.faults c.chief_takes.new.net) (g.N.Net.last_seed c.chief_takes.new.net) (gives_then (g.N.Net.given c.args.net.now) (g.N.Net.faults c.args.net.now) (g.N.Net.last_seed c.args.net.now) (g.N.Net.given c.round.new.self) (g.N.Net.faults c.round.new.self) (g.N.Net.last_seed c.round.new.self) (g.N.Net.given c.nodes_finish.new.net) (g.N.Net.faults c.nodes_finish.new.net) (g.N.Net.last_seed c.nodes_finish.new.net) (gives_round c.round.result (g.N.Net.sent c.args.net.now) (g.N.Net.fresh c.args.net.now) (g.N.Net.waiting c.round.new.self) (g.N.Net.given c.args.net.now) (g.N.Net.faults c.args.net.now) (g.N.Net.last_seed c.args.net.now) (g.N.Net.given c.round.new.self) (g.N.Net.faults c.round.new.self) (g.N.Net.last_seed c.round.new.self) (g.N.Net.fresh c.round.new.self) c.round.ensures.ok c.round.ensures.faults c.round.ensures.err c.round.ensures.seed) (gives_counts (g.N.Net.given c.round.new.self) (g.N.Net.faults c.round.new.self) (g.N.Net.last_seed c.round.new.self) (g.N.Net.given c.nodes_finish.new.net) (g.N.Net.faults c.nodes_finish.new.net) (g.N.Net.last_seed c.nodes_finish.new.net) c.nodes_finish.ensures.counts)) (gives_counts (g.N.Net.given c.nodes_finish.new.net) (g.N.Net.faults c.nodes_finish.new.net) (g.N.Net.last_seed c.nodes_finish.new.net) (g.N.Net.given c.chief_takes.new.net) (g.N.Net.faults c.chief_takes.new.net) (g.N.Net.last_seed c.chief_takes.new.net) c.chief_takes.ensures.counts)
-
-pub returns-clause-sends : goal.returns-clause-sends
-returns-clause-sends g c =
-    sends_then (g.N.Net.sent c.args.net.now) (g.N.Net.sent c.nodes_finish.new.net) (g.N.Net.sent c.chief_takes.new.net) (sends_then (g.N.Net.sent c.args.net.now) (g.N.Net.sent c.round.new.self) (g.N.Net.sent c.nodes_finish.new.net) (sends_none (g.N.Net.sent c.args.net.now) (g.N.Net.sent c.round.new.self) c.round.ensures.sent) (sends_fresh (g.N.Net.sent c.round.new.self) (g.N.Net.fresh c.round.new.self) (g.N.Net.sent c.nodes_finish.new.net) (g.N.Net.fresh c.nodes_finish.new.net) c.nodes_finish.ensures.fresh)) (sends_fresh (g.N.Net.sent c.nodes_finish.new.net) (g.N.Net.fresh c.nodes_finish.new.net) (g.N.Net.sent c.chief_takes.new.net) (g.N.Net.fresh c.chief_takes.new.net) c.chief_takes.ensures.fresh)
-
-pub returns-clause-net : goal.returns-clause-net
-returns-clause-net g c =
-    gives_then (g.N.Net.given c.args.net.now) (g.N.Net.faults c.args.net.now) (g.N.Net.last_seed c.args.net.now) (g.N.Net.given c.nodes_finish.new.net) (g.N.Net.faults c.nodes_finish.new.net) (g.N.Net.last_seed c.nodes_finish.new.net) (g.N.Net.given c.chief_takes.new.net) (g.N.Net.faults c.chief_takes.new.net) (g.N.Net.last_seed c.chief_takes.new.net) (gives_then (g.N.Net.given c.args.net.now) (g.N.Net.faults c.args.net.now) (g.N.Net.last_seed c.args.net.now) (g.N.Net.given c.round.new.self) (g.N.Net.faults c.round.new.self) (g.N.Net.last_seed c.round.new.self) (g.N.Net.given c.nodes_finish.new.net) (g.N.Net.faults c.nodes_finish.new.net) (g.N.Net.last_seed c.nodes_finish.new.net) (gives_round c.round.result (g.N.Net.sent c.args.net.now) (g.N.Net.fresh c.args.net.now) (g.N.Net.waiting c.round.new.self) (g.N.Net.given c.args.net.now) (g.N.Net.faults c.args.net.now) (g.N.Net.last_seed c.args.net.now) (g.N.Net.given c.round.new.self) (g.N.Net.faults c.round.new.self) (g.N.Net.last_seed c.round.new.self) (g.N.Net.fresh c.round.new.self) c.round.ensures.ok c.round.ensures.faults c.round.ensures.err c.round.ensures.seed) (gives_counts (g.N.Net.given c.round.new.self) (g.N.Net.faults c.round.new.self) (g.N.Net.last_seed c.round.new.self) (g.N.Net.given c.nodes_finish.new.net) (g.N.Net.faults c.nodes_finish.new.net) (g.N.Net.last_seed c.nodes_finish.new.net) c.nodes_finish.ensures.counts)) (gives_counts (g.N.Net.given c.nodes_finish.new.net) (g.N.Net.faults c.nodes_finish.new.net) (g.N.Net.last_seed c.nodes_finish.new.net) (g.N.Net.given c.chief_takes.new.net) (g.N.Net.faults c.chief_takes.new.net) (g.N.Net.last_seed c.chief_takes.new.net) c.chief_takes.ensures.counts)
+pub returns-in_err-round-clause-keep : goal.returns-in_err-round-clause-keep
+returns-in_err-round-clause-keep g c = tables_same c.args.tables.now c.requires.may.whole

@@ -5,8 +5,6 @@ use Rattle.std.proofs.lemmas.Option.{slice_get-get_or}
 use Rattle.coco_chief.specs.Chief.{Chief}
 use Rattle.coco_letters.specs.declared.voter.Voter.{Voter}
 use Rattle.coco_letters.specs.Worlds.{SameEntries, Scene}
-use Rattle.coco_letters.proofs.HearingLemmas.{counts_then, fresh_none}
-use Rattle.coco_letters.proofs.TakingLemmas.{fresh_then}
 use Rattle.coco_letters.proofs.TellingLemmas.{adds_same, adds_then}
 use Rattle.coco_letters.proofs.WorldLemmas.{between_then}
 use Rattle.coco_net.specs.declared.letter.Posted.{Posted}
@@ -15,6 +13,7 @@ use Rattle.coco_vote.proofs.PowerLemmas.{later_same, later_then}
 use Rattle.coco_vote.proofs.WholeLemmas.{all_whole_same, all_whole_then, whole_set}
 use Rattle.coco_vote.proofs.StepLemmas.{between_none, same_then}
 use Rattle.coco_finish.proofs.StoppingLemmas.{asked_more, can_step, in_step_step, newest_step, says_step, some_none, some_step, waits_step}
+use Rattle.coco_letters.proofs.OnlyLemmas.{only_then, sends_nothing}
 use Rattle.coco_finish.proofs.stopping.stop_last.Goals as goal
 
 pub loop-node-init : goal.loop-node-init
@@ -31,9 +30,7 @@ loop-node-init g c = record {
   later = later_same g.P.Power c.args.power.now;
   asked = λ n less. absurd (omega (arith, less));
   world = λ chief. between_none (g.P.Power.stopped c.args.power.now) (g.P.Power.stopped c.args.power.now) (λ n lt. omega arith) SameEntries (record { cores = c.args.cores.now; chief = chief; sent = g.N.Net.sent c.args.net.now }) (λ w v same. same);
-  fresh = fresh_none (g.N.Net.sent c.args.net.now) (g.N.Net.fresh c.args.net.now);
-  waiting = λ p. refl;
-  counts = record { given_stays = refl; faults_stay = refl; seed_stays = refl };
+  sends = sends_nothing c.args.net.now;
 }
 
 pub loop-node-preserved : goal.loop-node-preserved
@@ -74,12 +71,8 @@ loop-node-preserved g c =
       asked = asked_more k (g.P.Power.asked now.power) (g.P.Power.asked after.power) eight (λ n lt was. c.stop_here.ensures.later.asked_stays n 6 lt (lit≤ tt) was) before.asked c.stop_here.ensures.asked;
       world = λ chief. between_then SameEntries SameEntries SameEntries same_then (g.P.Power.stopped start.power.now) (g.P.Power.stopped now.power) (g.P.Power.stopped after.power)
           (scene start.cores.now chief (g.N.Net.sent start.net.now)) (scene now.cores chief (g.N.Net.sent now.net)) (scene after.cores chief (g.N.Net.sent after.net)) (before.world chief) (did.world chief);
-      fresh = fresh_then (g.N.Net.sent start.net.now) (g.N.Net.fresh start.net.now) (g.N.Net.sent now.net) (g.N.Net.fresh now.net) (g.N.Net.sent after.net) (g.N.Net.fresh after.net) before.fresh did.fresh;
-      waiting = λ p. c.stop_here.ensures.waiting p ∙ before.waiting p;
-      counts = counts_then (g.N.Net.given start.net.now) (g.N.Net.faults start.net.now) (g.N.Net.last_seed start.net.now) (g.N.Net.given now.net) (g.N.Net.faults now.net) (g.N.Net.last_seed now.net)
-          (g.N.Net.given after.net) (g.N.Net.faults after.net) (g.N.Net.last_seed after.net) before.counts c.stop_here.ensures.counts;
+      sends = only_then before.sends c.stop_here.ensures.sends;
     }
 
-pub returns-in_err-stop_here-clause-fresh : goal.returns-in_err-stop_here-clause-fresh
-returns-in_err-stop_here-clause-fresh g c =
-    fresh_then (g.N.Net.sent c.args.net.now) (g.N.Net.fresh c.args.net.now) (g.N.Net.sent c.loop-node.net) (g.N.Net.fresh c.loop-node.net) (g.N.Net.sent c.stop_here.new.net) (g.N.Net.fresh c.stop_here.new.net) (c.loop-node.invariant.fresh) (c.stop_here.ensures.fresh)
+pub returns-in_err-stop_here-clause-sends : goal.returns-in_err-stop_here-clause-sends
+returns-in_err-stop_here-clause-sends g c = only_then c.loop-node.invariant.sends c.stop_here.ensures.sends

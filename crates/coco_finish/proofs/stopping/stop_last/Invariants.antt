@@ -2,7 +2,7 @@ use Rattle.std.proofs.Common.{◌≡◌, ◌<◌, ◌≤◌, ℕ, Bool, List, tr
 use Rattle.std.specs.List.{slice_get}
 use Rattle.coco_chief.specs.Chief.{Chief}
 use Rattle.coco_letters.specs.Telling.{Adds, IsOfSettling}
-use Rattle.coco_letters.specs.Turns.{AreFresh, Counts}
+use Rattle.coco_letters.specs.Turns.{OnlySends}
 use Rattle.coco_letters.specs.Worlds.{GoesBetween, SameEntries}
 use Rattle.coco_vote.specs.Asking.{IsLater}
 use Rattle.coco_vote.specs.Taking.{StayWhole}
@@ -26,7 +26,5 @@ invariant-loop-node g l = record {
   later : IsLater g.P.Power l.initial.power l.power;
   asked : (n : ℕ) → n < l.node → g.P.Power.asked l.power n 6 ≡ true;
   world : (chief : Chief) → GoesBetween (g.P.Power.stopped l.initial.power) (g.P.Power.stopped l.power) SameEntries (record { cores = l.initial.cores; chief = chief; sent = g.N.Net.sent l.initial.net }) (record { cores = l.cores; chief = chief; sent = g.N.Net.sent l.net });
-  fresh : AreFresh (g.N.Net.sent l.initial.net) (g.N.Net.fresh l.initial.net) (g.N.Net.sent l.net) (g.N.Net.fresh l.net);
-  waiting : (p : ℕ) → g.N.Net.waiting l.net p ≡ g.N.Net.waiting l.initial.net p;
-  counts : Counts (g.N.Net.given l.initial.net) (g.N.Net.faults l.initial.net) (g.N.Net.last_seed l.initial.net) (g.N.Net.given l.net) (g.N.Net.faults l.net) (g.N.Net.last_seed l.net);
+  sends : OnlySends g.N.Net l.initial.net l.net;
 }

@@ -1,28 +1,24 @@
-use Rattle.std.proofs.Common.{◌<◌, ◌≤◌, ℕ, List, refl, ◌∙◌, arith}
-use Rattle.coco_chief.specs.Chief.{Chief}
-use Rattle.coco_letters.specs.Worlds.{Scene}
+use Rattle.std.proofs.Common.{◌<◌, ◌≤◌, ℕ, refl, ◌∙◌, arith}
 use Rattle.coco_letters.proofs.HearingLemmas.{counts_then, fresh_none}
 use Rattle.coco_letters.proofs.TakingLemmas.{fresh_then}
-use Rattle.coco_letters.proofs.TellingLemmas.{adds_same, adds_then}
-use Rattle.coco_letters.proofs.WorldLemmas.{goes_on_then, nothing_goes}
-use Rattle.coco_net.specs.declared.letter.Posted.{Posted}
-use Rattle.coco_node.specs.Node.{Node}
-use Rattle.coco_finish.proofs.FinishLemmas.{finish_same, finish_then}
 use Rattle.coco_finish.proofs.LoopLemmas.{answers_more, taken_more}
+use Rattle.coco_finish.proofs.PhaseLemmas.{tables_same, tables_then, taken_same, taken_then}
 use Rattle.coco_finish.proofs.taking.nodes_finish.Goals as goal
+
+pub finish_at-requires-clause-whole : goal.finish_at-requires-clause-whole
+finish_at-requires-clause-whole g c = c.loop-node.invariant.keep.whole
+
+pub finish_at-requires-clause-can : goal.finish_at-requires-clause-can
+finish_at-requires-clause-can g c = c.loop-node.invariant.done.can
+
+pub returns-in_err-finish_at-clause-keep : goal.returns-in_err-finish_at-clause-keep
+returns-in_err-finish_at-clause-keep g c = tables_then c.loop-node.invariant.keep c.finish_at.ensures.keep
 
 pub loop-node-init : goal.loop-node-init
 loop-node-init g c = record {
-  whole = c.requires.whole;
-  marks = refl;
-  can = c.requires.can;
-  finish = finish_same c.args.epoch c.args.cores.now c.args.tables.now;
-  map = λ m has. has;
-  are_behind = λ are. are;
-  told = λ are told. told;
-  said = adds_same (g.N.Net.sent c.args.net.now);
+  done = taken_same c.args.epoch c.args.cores.now c.args.tables.now c.args.net.now c.requires.can;
+  keep = tables_same c.args.tables.now c.requires.whole;
   answers = λ n q less. absurd (omega (arith, less));
-  world = λ chief. nothing_goes (record { cores = c.args.cores.now; chief = chief; sent = g.N.Net.sent c.args.net.now });
   sent = c.requires.sent;
   taken = λ n less. absurd (omega (arith, less));
   waits = λ p le. refl;
@@ -31,7 +27,7 @@ loop-node-init g c = record {
 }
 
 pub finish_at-requires-clause-behind : goal.finish_at-requires-clause-behind
-finish_at-requires-clause-behind g c = omega (arith, c.loop-node.invariant.marks, c.loop-node.auto.cores, c.requires.behind)
+finish_at-requires-clause-behind g c = omega (arith, c.loop-node.invariant.keep.behind, c.loop-node.auto.cores, c.requires.behind)
 
 pub loop-node-preserved : goal.loop-node-preserved
 loop-node-preserved g c =
@@ -41,19 +37,11 @@ loop-node-preserved g c =
     let after = c.finish_at.new in
     let did = c.in_ok-finish_at.ensures in
     let e : ℕ = c.args.epoch in
-    let scene : List Node → Chief → List Posted → Scene = λ cores chief sent. record { cores = cores; chief = chief; sent = sent } in
     record {
-      whole = c.finish_at.ensures.whole;
-      marks = c.finish_at.ensures.behind ∙ before.marks;
-      can = did.can;
-      finish = finish_then e start.cores.now now.cores after.cores start.tables.now now.tables after.tables before.finish did.finish;
-      map = λ m has. c.finish_at.ensures.map m (before.map m has);
-      are_behind = λ are. did.are_behind (before.are_behind are);
-      told = λ are told. did.told (before.are_behind are) (before.told are told);
-      said = adds_then (g.N.Net.sent start.net.now) (g.N.Net.sent now.net) (g.N.Net.sent after.net) before.said did.said;
+      done = taken_then before.done did.done;
+      keep = tables_then before.keep c.finish_at.ensures.keep;
       answers = answers_more e c.loop-node.node (g.N.Net.waiting start.net.now) (g.N.Net.waiting now.net) (g.N.Net.sent now.net) (g.N.Net.fresh now.net) (g.N.Net.sent after.net) (g.N.Net.fresh after.net) did.fresh
           (before.waits c.loop-node.node (omega arith)) before.answers did.answers;
-      world = λ chief. goes_on_then (scene start.cores.now chief (g.N.Net.sent start.net.now)) (scene now.cores chief (g.N.Net.sent now.net)) (scene after.cores chief (g.N.Net.sent after.net)) (before.world chief) (did.world chief);
       sent = did.sent;
       taken = taken_more c.loop-node.node (g.N.Net.waiting now.net) (g.N.Net.waiting after.net) before.taken did.taken c.finish_at.ensures.others;
       waits = λ p le. let less : c.loop-node.node ≤ p = omega (arith, le) in c.finish_at.ensures.others p (λ same. omega (arith, same, le)) ∙ before.waits p less;
@@ -61,9 +49,6 @@ loop-node-preserved g c =
       counts = counts_then (g.N.Net.given start.net.now) (g.N.Net.faults start.net.now) (g.N.Net.last_seed start.net.now) (g.N.Net.given now.net) (g.N.Net.faults now.net) (g.N.Net.last_seed now.net)
           (g.N.Net.given after.net) (g.N.Net.faults after.net) (g.N.Net.last_seed after.net) before.counts c.finish_at.ensures.counts;
     }
-
-pub returns-in_err-finish_at-clause-map : goal.returns-in_err-finish_at-clause-map
-returns-in_err-finish_at-clause-map g c = λ m has. c.finish_at.ensures.map m (c.loop-node.invariant.map m has)
 
 pub returns-in_err-finish_at-clause-others : goal.returns-in_err-finish_at-clause-others
 returns-in_err-finish_at-clause-others g c = λ p le.

@@ -1,27 +1,17 @@
-use Rattle.std.proofs.Common.{◌≡◌, ◌<◌, ◌≤◌, ℕ, [], length}
+use Rattle.std.proofs.Common.{◌≡◌, ◌<◌, ◌≤◌, ℕ, []}
 use Rattle.std.specs.List.{Contains}
-use Rattle.coco_ast.specs.Keyed.{Rows}
-use Rattle.coco_chief.specs.Chief.{Chief}
-use Rattle.coco_letters.specs.Telling.{Adds, IsOfFinish}
 use Rattle.coco_letters.specs.Turns.{AreFresh, AreSent, Counts}
-use Rattle.coco_letters.specs.Worlds.{GoesOn}
 use Rattle.coco_net.specs.declared.letter.Letter.{Letter}
-use Rattle.coco_finish.specs.Finishing.{finished_of, AllCanFinish, AreBehind, AreTold, AreWhole, Finish, HaveMap, TellsCommitted}
+use Rattle.coco_finish.specs.Finishing.{finished_of, TellsCommitted}
+use Rattle.coco_finish.specs.Phase.{KeepTables, HaveTaken}
 use Rattle.coco_finish.proofs.taking.nodes_finish.Given as goal
 
 -- what came of the nodes so far
 abbrev pub invariant-loop-node : goal.invariant-loop-node
 invariant-loop-node g l = record {
-  whole : AreWhole l.tables;
-  marks : length l.tables.behind.items ≡ length l.initial.tables.behind.items;
-  can : AllCanFinish l.epoch l.cores;
-  finish : Finish l.epoch l.initial.cores l.cores l.initial.tables l.tables;
-  map : (m : Rows) → HaveMap m l.initial.tables → HaveMap m l.tables;
-  are_behind : AreBehind l.epoch l.initial.cores l.initial.tables.behind.items → AreBehind l.epoch l.cores l.tables.behind.items;
-  told : AreBehind l.epoch l.initial.cores l.initial.tables.behind.items → AreTold l.epoch (g.N.Net.sent l.initial.net) l.initial.tables.behind.items → AreTold l.epoch (g.N.Net.sent l.net) l.tables.behind.items;
-  said : Adds (IsOfFinish l.epoch) (g.N.Net.sent l.initial.net) (g.N.Net.sent l.net);
+  done : HaveTaken g.N.Net l.epoch l.initial.cores l.cores l.initial.tables l.tables l.initial.net l.net;
+  keep : KeepTables l.initial.tables l.tables;
   answers : (n : ℕ) (q : Letter) → n < l.node → Contains (g.N.Net.waiting l.initial.net n) q → TellsCommitted l.epoch q → Contains (g.N.Net.fresh l.net) (finished_of n l.epoch);
-  world : (chief : Chief) → GoesOn (record { cores = l.initial.cores; chief = chief; sent = g.N.Net.sent l.initial.net }) (record { cores = l.cores; chief = chief; sent = g.N.Net.sent l.net });
   sent : AreSent (g.N.Net.sent l.net) (g.N.Net.waiting l.net);
   taken : (n : ℕ) → n < l.node → g.N.Net.waiting l.net n ≡ [];
   waits : (p : ℕ) → l.node ≤ p → g.N.Net.waiting l.net p ≡ g.N.Net.waiting l.initial.net p;

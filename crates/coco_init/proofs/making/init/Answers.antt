@@ -1,5 +1,5 @@
 use Rattle.std.proofs.Common.{subst}
-use Rattle.coco_lines.specs.Reads.{SourceMoment}
+use Rattle.coco_lines.specs.Reads.{SourceMoment, source_moment}
 use Rattle.coco_make.specs.NewStore.{new_layout}
 use Rattle.coco_store.specs.Texts.{IsAcceptedText}
 use Rattle.coco_init.proofs.InputLemmas.{gives_same}
@@ -11,8 +11,8 @@ returns-clause-initiates g c =
     let text = c.in_ok-text.text in
     let tree = c.in_ok-accepted.field-0 in
     let taken = c.in_ok-text.ensures.takes in
-    let first : SourceMoment = record { given = g.S.Source.given c.args.input.now; left = g.S.Source.remaining c.args.input.now; at_end = g.S.Source.at_end c.args.input.now } in
-    let last : SourceMoment = record { given = g.S.Source.given c.read_text.new.input; left = g.S.Source.remaining c.read_text.new.input; at_end = g.S.Source.at_end c.read_text.new.input } in
+    let first : SourceMoment = source_moment g.S.Source c.args.input.now in
+    let last : SourceMoment = source_moment g.S.Source c.read_text.new.input in
     let accepted = subst (λ l. IsAcceptedText l tree) c.as_slice.ensures c.in_ok-accepted.ensures in (
       text,
       gives_same {before = first} {after = last} taken.bytes text taken.reads.0 taken.gives,

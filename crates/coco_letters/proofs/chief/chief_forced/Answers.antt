@@ -6,10 +6,10 @@ use Rattle.coco_net.specs.declared.letter.Posted.{Posted}
 use Rattle.coco_chief.specs.Shown.{chief_of}
 use Rattle.coco_chief.specs.Table.{forced, Turn}
 use Rattle.coco_letters.specs.Saying.{posts_of, AreToSay}
-use Rattle.coco_letters.proofs.HearingLemmas.{fresh_none}
 use Rattle.coco_letters.proofs.SayingLemmas.{each_says}
 use Rattle.coco_letters.proofs.TellingLemmas.{forced_says}
 use Rattle.coco_letters.proofs.WorldLemmas.{commit_goes}
+use Rattle.coco_letters.proofs.OnlyLemmas.{sends_nothing}
 use Rattle.coco_letters.proofs.chief.chief_forced.Goals as goal
 
 pub send_actions-requires-clause-messages : goal.send_actions-requires-clause-messages
@@ -41,5 +41,5 @@ returns-clause-says g c =
     (record { chief_is = ap (λ (turn : Turn). turn.1) c.in_ok-actions.ensures.ok; sent_is = sent ∙ ap (λ (actions : List Action). before ++ posts_of 8 actions) said }))
     c.send_actions.ensures.sent
 
-pub returns-in_err-actions-clause-fresh : goal.returns-in_err-actions-clause-fresh
-returns-in_err-actions-clause-fresh g c = fresh_none (g.N.Net.sent c.args.net.now) (g.N.Net.fresh c.args.net.now)
+pub returns-in_err-actions-clause-sends : goal.returns-in_err-actions-clause-sends
+returns-in_err-actions-clause-sends g c = sends_nothing c.args.net.now

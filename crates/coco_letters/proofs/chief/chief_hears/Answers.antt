@@ -5,10 +5,11 @@ use Rattle.coco_net.specs.declared.letter.Posted.{Posted}
 use Rattle.coco_chief.specs.Shown.{chief_of}
 use Rattle.coco_chief.specs.Table.{handled, Turn}
 use Rattle.coco_letters.specs.Saying.{posts_of, AreToSay}
-use Rattle.coco_letters.proofs.HearingLemmas.{chief_drops, chief_takes, fresh_none, heard_from, posted_is}
+use Rattle.coco_letters.proofs.HearingLemmas.{chief_drops, chief_takes, heard_from, posted_is}
 use Rattle.coco_letters.proofs.SayingLemmas.{chief_says, nodes_stay}
 use Rattle.coco_letters.proofs.TellingLemmas.{adds_same, hears_says}
 use Rattle.coco_letters.proofs.WorldLemmas.{chief_goes, nothing_goes}
+use Rattle.coco_letters.proofs.OnlyLemmas.{sends_nothing}
 use Rattle.coco_letters.proofs.chief.chief_hears.Goals as goal
 
 pub send_actions-requires-clause-messages : goal.send_actions-requires-clause-messages
@@ -69,14 +70,14 @@ returns-in-None-clause-heard g c =
 pub returns-in-None-clause-world : goal.returns-in-None-clause-world
 returns-in-None-clause-world g c = λ cores. nothing_goes (record { cores = cores; chief = chief_of c.args.chief.now; sent = g.N.Net.sent c.args.net.now })
 
-pub returns-in-None-clause-fresh : goal.returns-in-None-clause-fresh
-returns-in-None-clause-fresh g c = fresh_none (g.N.Net.sent c.args.net.now) (g.N.Net.fresh c.args.net.now)
+pub returns-in-None-clause-sends : goal.returns-in-None-clause-sends
+returns-in-None-clause-sends g c = sends_nothing c.args.net.now
 
 pub returns-in-None-clause-says : goal.returns-in-None-clause-says
 returns-in-None-clause-says g c = adds_same (g.N.Net.sent c.args.net.now)
 
-pub returns-in_err-message-clause-fresh : goal.returns-in_err-message-clause-fresh
-returns-in_err-message-clause-fresh g c = fresh_none (g.N.Net.sent c.args.net.now) (g.N.Net.fresh c.args.net.now)
+pub returns-in_err-message-clause-sends : goal.returns-in_err-message-clause-sends
+returns-in_err-message-clause-sends g c = sends_nothing c.args.net.now
 
-pub returns-in_err-actions-in-Some-clause-fresh : goal.returns-in_err-actions-in-Some-clause-fresh
-returns-in_err-actions-in-Some-clause-fresh g c = fresh_none (g.N.Net.sent c.args.net.now) (g.N.Net.fresh c.args.net.now)
+pub returns-in_err-actions-in-Some-clause-sends : goal.returns-in_err-actions-in-Some-clause-sends
+returns-in_err-actions-in-Some-clause-sends g c = sends_nothing c.args.net.now

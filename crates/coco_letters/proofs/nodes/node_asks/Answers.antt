@@ -4,9 +4,10 @@ use Rattle.std.proofs.lemmas.Option.{slice_get-get_or}
 use Rattle.std.proofs.lemmas.Result.{on_ok_weaker}
 use Rattle.coco_node.specs.Node.{Node}
 use Rattle.coco_letters.specs.Saying.{AreToSay}
-use Rattle.coco_letters.proofs.HearingLemmas.{asks_by, fresh_none}
+use Rattle.coco_letters.proofs.HearingLemmas.{asks_by}
 use Rattle.coco_letters.proofs.SayingLemmas.{asks_says}
 use Rattle.coco_letters.proofs.WorldLemmas.{ask_goes}
+use Rattle.coco_letters.proofs.OnlyLemmas.{sends_nothing}
 use Rattle.coco_letters.proofs.nodes.node_asks.Goals as goal
 
 pub send_actions-requires-clause-messages : goal.send_actions-requires-clause-messages
@@ -28,5 +29,5 @@ returns-clause-world g c =
     (asks_by c.args.node c.args.cores.now core c.deref.result.now c.index-cores-node.is (c.deref.ensures.value ∙ c.in_ok-actions.ensures) (g.N.Net.sent c.args.net.now) (g.N.Net.sent c.send_actions.new.net) c.requires.node sent))
     c.send_actions.ensures.sent
 
-pub returns-in_err-actions-clause-fresh : goal.returns-in_err-actions-clause-fresh
-returns-in_err-actions-clause-fresh g c = fresh_none (g.N.Net.sent c.args.net.now) (g.N.Net.fresh c.args.net.now)
+pub returns-in_err-actions-clause-sends : goal.returns-in_err-actions-clause-sends
+returns-in_err-actions-clause-sends g c = sends_nothing c.args.net.now

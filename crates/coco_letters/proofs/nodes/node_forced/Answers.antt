@@ -5,9 +5,10 @@ use Rattle.std.proofs.lemmas.Result.{on_ok_weaker}
 use Rattle.coco_node.specs.Node.{Node}
 use Rattle.coco_node.specs.Table.{forced, Turn}
 use Rattle.coco_letters.specs.Saying.{AreToSay}
-use Rattle.coco_letters.proofs.HearingLemmas.{fresh_none, turns_by}
+use Rattle.coco_letters.proofs.HearingLemmas.{turns_by}
 use Rattle.coco_letters.proofs.SayingLemmas.{vote_says}
 use Rattle.coco_letters.proofs.WorldLemmas.{force_goes}
+use Rattle.coco_letters.proofs.OnlyLemmas.{sends_nothing}
 use Rattle.coco_letters.proofs.nodes.node_forced.Goals as goal
 
 pub forced-requires-clause-forcing : goal.forced-requires-clause-forcing
@@ -33,5 +34,5 @@ returns-clause-world g c =
     (turns_by c.args.node (forced c.args.epoch) c.args.cores.now c.index-cores-node.result c.forced.new.self c.in_ok-actions.actions.items c.deref.result.now c.index-cores-node.is c.in_ok-actions.ensures.ok c.deref.ensures.value (g.N.Net.sent c.args.net.now) (g.N.Net.sent c.send_actions.new.net) c.requires.node sent))
     c.send_actions.ensures.sent
 
-pub returns-in_err-actions-clause-fresh : goal.returns-in_err-actions-clause-fresh
-returns-in_err-actions-clause-fresh g c = fresh_none (g.N.Net.sent c.args.net.now) (g.N.Net.fresh c.args.net.now)
+pub returns-in_err-actions-clause-sends : goal.returns-in_err-actions-clause-sends
+returns-in_err-actions-clause-sends g c = sends_nothing c.args.net.now

@@ -1,7 +1,8 @@
 use Rattle.std.proofs.Common.{refl, sym, ◌∙◌}
 use Rattle.std.proofs.lemmas.Result.{IfOk-weaker}
-use Rattle.coco_letters.proofs.HearingLemmas.{fresh_none, heard_awaited, hears_drops, hears_takes, posted_is}
+use Rattle.coco_letters.proofs.HearingLemmas.{heard_awaited, hears_drops, hears_takes, posted_is}
 use Rattle.coco_letters.proofs.WorldLemmas.{node_goes, nothing_goes}
+use Rattle.coco_letters.proofs.OnlyLemmas.{sends_nothing}
 use Rattle.coco_letters.proofs.nodes.node_hears.Goals as goal
 
 pub takes-requires-clause-message : goal.takes-requires-clause-message
@@ -30,8 +31,8 @@ returns-in-None-clause-hears g c =
 pub returns-in-None-clause-world : goal.returns-in-None-clause-world
 returns-in-None-clause-world g c = λ chief. nothing_goes (record { cores = c.args.cores.now; chief = chief; sent = g.N.Net.sent c.args.net.now })
 
-pub returns-in-None-clause-fresh : goal.returns-in-None-clause-fresh
-returns-in-None-clause-fresh g c = fresh_none (g.N.Net.sent c.args.net.now) (g.N.Net.fresh c.args.net.now)
+pub returns-in-None-clause-sends : goal.returns-in-None-clause-sends
+returns-in-None-clause-sends g c = sends_nothing c.args.net.now
 
-pub returns-in_err-message-clause-fresh : goal.returns-in_err-message-clause-fresh
-returns-in_err-message-clause-fresh g c = fresh_none (g.N.Net.sent c.args.net.now) (g.N.Net.fresh c.args.net.now)
+pub returns-in_err-message-clause-sends : goal.returns-in_err-message-clause-sends
+returns-in_err-message-clause-sends g c = sends_nothing c.args.net.now

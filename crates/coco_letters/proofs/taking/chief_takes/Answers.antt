@@ -31,14 +31,14 @@ loop-letter-preserved g c =
     let letter : Letter = c.in-Some.letter in
     let scene : List Node → Chief → List Posted → Scene = λ cores chief sent. record { cores = cores; chief = chief; sent = sent } in
     let first : g.N.Net.waiting c.loop-letter.net 8 ≡ letter ∷ g.N.Net.waiting c.chief_hears.new.net 8 =
-    subst (λ (ls : List Letter). g.N.Net.waiting c.loop-letter.net 8 ≡ letter ∷ ls) (sym (c.chief_hears.ensures.waiting 8)) c.in-Some.ensures.first in
+    subst (λ (ls : List Letter). g.N.Net.waiting c.loop-letter.net 8 ≡ letter ∷ ls) (sym (c.chief_hears.ensures.sends.waiting 8)) c.in-Some.ensures.first in
     let hears : ChiefHears letter (chief_of c.loop-letter.chief) (g.N.Net.sent c.loop-letter.net) (chief_of c.chief_hears.new.chief) (g.N.Net.sent c.chief_hears.new.net) =
     subst (λ (ps : List Posted). ChiefHears letter (chief_of c.loop-letter.chief) ps (chief_of c.chief_hears.new.chief) (g.N.Net.sent c.chief_hears.new.net)) c.next.ensures.sent did.heard in
     let rest : AreSent (g.N.Net.sent c.loop-letter.net) (g.N.Net.waiting c.next.new.self) =
     taken_sent (g.N.Net.sent c.loop-letter.net) (g.N.Net.waiting c.loop-letter.net) (g.N.Net.waiting c.next.new.self) 8 c.next.result before.sent c.next.ensures.first c.next.ensures.others in
     let said : AreFresh (g.N.Net.sent c.loop-letter.net) (g.N.Net.fresh c.loop-letter.net) (g.N.Net.sent c.chief_hears.new.net) (g.N.Net.fresh c.chief_hears.new.net) =
     subst (λ (ps : List Posted). AreFresh (g.N.Net.sent c.loop-letter.net) ps (g.N.Net.sent c.chief_hears.new.net) (g.N.Net.fresh c.chief_hears.new.net)) c.next.ensures.fresh
-    (subst (λ (ps : List Posted). AreFresh ps (g.N.Net.fresh c.next.new.self) (g.N.Net.sent c.chief_hears.new.net) (g.N.Net.fresh c.chief_hears.new.net)) c.next.ensures.sent c.chief_hears.ensures.fresh) in
+    (subst (λ (ps : List Posted). AreFresh ps (g.N.Net.fresh c.next.new.self) (g.N.Net.sent c.chief_hears.new.net) (g.N.Net.fresh c.chief_hears.new.net)) c.next.ensures.sent c.chief_hears.ensures.sends.fresh) in
     let taken : Counts (g.N.Net.given c.loop-letter.net) (g.N.Net.faults c.loop-letter.net) (g.N.Net.last_seed c.loop-letter.net) (g.N.Net.given c.next.new.self) (g.N.Net.faults c.next.new.self) (g.N.Net.last_seed c.next.new.self) =
     record { given_stays = c.next.ensures.given; faults_stay = c.next.ensures.faults; seed_stays = c.next.ensures.seed } in
     record {
@@ -47,14 +47,14 @@ loop-letter-preserved g c =
           (subst (λ (ls : List Letter). ChiefTakes ls (chief_of c.loop-letter.chief) (g.N.Net.sent c.loop-letter.net) end last) (sym first) (chief_of after.chief, g.N.Net.sent after.net, hears, more));
       world = λ cores. goes_on_then (scene cores (chief_of start.chief.now) (g.N.Net.sent start.net.now)) (scene cores (chief_of now.chief) (g.N.Net.sent now.net)) (scene cores (chief_of after.chief) (g.N.Net.sent after.net)) (before.world cores)
           (subst (λ (ps : List Posted). GoesOn (scene cores (chief_of c.loop-letter.chief) ps) (scene cores (chief_of c.chief_hears.new.chief) (g.N.Net.sent c.chief_hears.new.net))) c.next.ensures.sent (did.world cores));
-      sent = sent_more (g.N.Net.sent now.net) (g.N.Net.sent after.net) said.posts (g.N.Net.waiting c.next.new.self) (g.N.Net.waiting after.net) said.sent_is c.chief_hears.ensures.waiting rest;
-      others = λ p other. c.chief_hears.ensures.waiting p ∙ c.next.ensures.others p other ∙ before.others p other;
+      sent = sent_more (g.N.Net.sent now.net) (g.N.Net.sent after.net) said.posts (g.N.Net.waiting c.next.new.self) (g.N.Net.waiting after.net) said.sent_is c.chief_hears.ensures.sends.waiting rest;
+      others = λ p other. c.chief_hears.ensures.sends.waiting p ∙ c.next.ensures.others p other ∙ before.others p other;
       fresh = fresh_then (g.N.Net.sent start.net.now) (g.N.Net.fresh start.net.now) (g.N.Net.sent now.net) (g.N.Net.fresh now.net) (g.N.Net.sent after.net) (g.N.Net.fresh after.net) before.fresh said;
       counts = counts_then (g.N.Net.given start.net.now) (g.N.Net.faults start.net.now) (g.N.Net.last_seed start.net.now) (g.N.Net.given c.next.new.self) (g.N.Net.faults c.next.new.self) (g.N.Net.last_seed c.next.new.self)
           (g.N.Net.given after.net) (g.N.Net.faults after.net) (g.N.Net.last_seed after.net)
           (counts_then (g.N.Net.given start.net.now) (g.N.Net.faults start.net.now) (g.N.Net.last_seed start.net.now) (g.N.Net.given now.net) (g.N.Net.faults now.net) (g.N.Net.last_seed now.net)
           (g.N.Net.given c.next.new.self) (g.N.Net.faults c.next.new.self) (g.N.Net.last_seed c.next.new.self) before.counts taken)
-          c.chief_hears.ensures.counts;
+          c.chief_hears.ensures.sends.counts;
     }
 
 pub returns-clause-sent : goal.returns-clause-sent
@@ -85,4 +85,4 @@ pub returns-in_err-chief_hears-clause-fresh : goal.returns-in_err-chief_hears-cl
 returns-in_err-chief_hears-clause-fresh g c =
     fresh_then (g.N.Net.sent c.args.net.now) (g.N.Net.fresh c.args.net.now) (g.N.Net.sent c.loop-letter.net) (g.N.Net.fresh c.loop-letter.net) (g.N.Net.sent c.chief_hears.new.net) (g.N.Net.fresh c.chief_hears.new.net) c.loop-letter.invariant.fresh
     (subst (λ (ps : List Posted). AreFresh (g.N.Net.sent c.loop-letter.net) ps (g.N.Net.sent c.chief_hears.new.net) (g.N.Net.fresh c.chief_hears.new.net)) c.next.ensures.fresh
-    (subst (λ (ps : List Posted). AreFresh ps (g.N.Net.fresh c.next.new.self) (g.N.Net.sent c.chief_hears.new.net) (g.N.Net.fresh c.chief_hears.new.net)) c.next.ensures.sent c.chief_hears.ensures.fresh))
+    (subst (λ (ps : List Posted). AreFresh ps (g.N.Net.fresh c.next.new.self) (g.N.Net.sent c.chief_hears.new.net) (g.N.Net.fresh c.chief_hears.new.net)) c.next.ensures.sent c.chief_hears.ensures.sends.fresh))

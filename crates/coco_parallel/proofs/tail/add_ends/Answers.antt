@@ -1,4 +1,4 @@
-use Rattle.std.proofs.Common.{◌+◌, ◌++◌, ◌∷◌, [], List, take, slice_index_or, sym, ap, ◌∙◌, arith}
+use Rattle.std.proofs.Common.{◌++◌, ◌∷◌, [], List, take, slice_index_or, sym, ap, ◌∙◌, arith}
 use Rattle.std.proofs.lemmas.List.{get_or_default}
 use Rattle.coco_occ.specs.declared.outcome.Ended.{Ended}
 use Rattle.coco_occ.specs.declared.outcome.Tried.{Tried}

@@ -1,4 +1,4 @@
-use Rattle.std.proofs.Common.{false, sym, ap, ◌∙◌, subst, arith}
+use Rattle.std.proofs.Common.{sym, ap, ◌∙◌, subst, arith}
 use Rattle.coco_epoch.specs.Running.{AreAtTheirPlaces, requests_of}
 use Rattle.coco_parallel.proofs.TailLemmas.{added, placed_more, skipped}
 use Rattle.coco_parallel.proofs.tail.tail_of.Goals as goal

@@ -1,19 +1,16 @@
 use Rattle.std.proofs.Common.{◌≡◌, ℕ, Err, ap, subst, sym, ◌∙◌}
-use Rattle.std.proofs.lemmas.Result.{err_from_is_err_and}
 use Rattle.coco_read.specs.EntryRules.{IsFirstIn, IsReadLog}
-use Rattle.coco_read.specs.declared.fault.OpenFault.TheVariants.{NotAStore}
 use Rattle.coco_store.specs.Rules.{Setting}
 use Rattle.coco_recover.specs.Bases.{IsBased, base_rules}
 use Rattle.coco_recover.specs.Layouts.{setting_of}
 use Rattle.coco_recover.specs.Without.{IsHistoryRefusal}
-use Rattle.coco_recover.proofs.Held.{file_is, file_left, holds_parts, refused_base}
+use Rattle.coco_recover.proofs.Held.{file_is, file_left, handed_on, holds_parts, refused_base}
 use Rattle.coco_recover.proofs.files.read_base.Goals as goal
 
 pub returns-in_err-_log-clause-refused : goal.returns-in_err-_log-clause-refused
 returns-in_err-_log-clause-refused g c file at files is told held =
     let last = c.args.last.now in
-    let p = err_from_is_err_and c.from_residual-in_err-_log.result c.from_residual-in_err-_log.ensures.1 in
-    let same : c.in_err-_log.field-0.0 ≡ NotAStore file at = cc (p.1, p.2, is) in
+    let same = handed_on c.from_residual-in_err-_log.result _ _ c.from_residual-in_err-_log.ensures.1 is in
     let here : file ≡ c.in-Some.file = c.in_err-_log.ensures.here file at (ap Err same) in
     let under : c.in_ok-reading.reading.under.setting ≡ setting_of last = ap (λ r. r.under.setting) c.in_ok-reading.ensures in
     let first = subst (λ (s : Setting). IsFirstIn (base_rules s) 3 (files c.in-Some.file) at) under (c.in_err-_log.ensures.refused file at files (ap Err same) told) in

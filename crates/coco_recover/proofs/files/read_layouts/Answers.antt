@@ -1,15 +1,12 @@
 use Rattle.std.proofs.Common.{◌≡◌, ℕ, Err, ap, subst, sym}
-use Rattle.std.proofs.lemmas.Result.{err_from_is_err_and}
-use Rattle.coco_read.specs.declared.fault.OpenFault.TheVariants.{NotAStore}
 use Rattle.coco_recover.specs.Layouts.{layout_rules}
 use Rattle.coco_recover.specs.Without.{IsHistoryRefusal}
-use Rattle.coco_recover.proofs.Held.{file_is, holds_last, is_opened, refused_layouts}
+use Rattle.coco_recover.proofs.Held.{file_is, handed_on, holds_last, is_opened, refused_layouts}
 use Rattle.coco_recover.proofs.files.read_layouts.Goals as goal
 
 pub returns-in_err-log-clause-refused : goal.returns-in_err-log-clause-refused
 returns-in_err-log-clause-refused g c file at files is told =
-    let p = err_from_is_err_and c.from_residual.result c.from_residual.ensures.1 in
-    let same : c.in_err-log.field-0.0 ≡ NotAStore file at = cc (p.1, p.2, is) in
+    let same = handed_on c.from_residual.result _ _ c.from_residual.ensures.1 is in
     let here : file ≡ 0 = c.in_err-log.ensures.here file at (ap Err same) in
     subst (λ (f : ℕ). IsHistoryRefusal files f at) (sym here) (refused_layouts files at (c.in_err-log.ensures.refused file at files (ap Err same) told))
 

@@ -1,14 +1,13 @@
 use Rattle.std.proofs.Common.{◌≡◌, ℕ, List, [], ◌∷◌, ◌++◌, map, Err, arith, refl, sym, ap, subst, ◌∙◌}
 use Rattle.std.proofs.lemmas.List.{map-append}
-use Rattle.std.proofs.lemmas.Result.{err_from_is_err_and}
 use Rattle.coco_entry.specs.declared.prepared.Prepared.{Prepared}
-use Rattle.coco_read.specs.declared.fault.OpenFault.TheVariants.{NotAStore}
 use Rattle.coco_rules.specs.Readying.{AreAmong}
 use Rattle.coco_store.specs.Rules.{commit_epochs, prepared_epochs}
 use Rattle.coco_recover.specs.Commits.{basis_of_committed}
 use Rattle.coco_recover.specs.Layouts.{setting_of}
 use Rattle.coco_recover.specs.Nodes.{HoldsNodes, Loads, nodes_of}
 use Rattle.coco_recover.specs.declared.nodes.Loaded.{Loaded}
+use Rattle.coco_recover.proofs.Held.{handed_on}
 use Rattle.coco_recover.proofs.Loading.{greatest_early, node_added}
 use Rattle.coco_recover.proofs.files.read_next_node.Goals as goal
 
@@ -17,8 +16,7 @@ returns-in_err-read-clause-refused g c file at files is told =
     let s = setting_of c.args.last.now in
     let committed = c.args.committed.now in
     let numbers = sym (c.as_slice-epochs.ensures.value ∙ c.requires.node.behind.remembered.epochs) in
-    let p = err_from_is_err_and c.from_residual.result c.from_residual.ensures.1 in
-    let same : c.in_err-read.field-0.0 ≡ NotAStore file at = cc (p.1, p.2, is) in
+    let same = handed_on c.from_residual.result _ _ c.from_residual.ensures.1 is in
     (c.in_err-read.ensures.here file at (ap Err same), c.in_err-read.ensures.refused file at files (ap Err same) told s committed.commits.items refl refl numbers)
 
 pub overflow_add-greatest : goal.overflow_add-greatest
@@ -46,7 +44,7 @@ returns-clause-ok g c =
       entries,
       record {
         loaded = subst (λ (ns : List (List Prepared)). HoldsNodes (basis_of_committed s committed) commits ns new) (sym more)
-            (node_added c.tables_follow_the_files.ensures.nodes (basis_of_committed s committed) commits (nodes_of old) entries c.args.node read.greatest old new
+            (node_added (basis_of_committed s committed) commits (nodes_of old) entries c.args.node read.greatest old new
             c.requires.node.next c.requires.loaded loads is.greatest c.max-next.ensures);
         each = is.each;
         more = more;

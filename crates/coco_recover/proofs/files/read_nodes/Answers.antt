@@ -1,11 +1,9 @@
 use Rattle.std.proofs.Common.{◌≡◌, ℕ, Err, ap, arith, subst, sym, ◌∙◌}
-use Rattle.std.proofs.lemmas.Result.{err_from_is_err_and}
 use Rattle.coco_log.proofs.OnlyRead.{read_then}
-use Rattle.coco_read.specs.declared.fault.OpenFault.TheVariants.{NotAStore}
 use Rattle.coco_store.specs.Refusals.{IsFirstRefusal}
 use Rattle.coco_recover.specs.Nodes.{nodes_of}
 use Rattle.coco_recover.specs.Steps.{AreHeld}
-use Rattle.coco_recover.proofs.Held.{refused_node}
+use Rattle.coco_recover.proofs.Held.{handed_on, refused_node}
 use Rattle.coco_recover.proofs.Loading.{node_prepared}
 use Rattle.coco_recover.proofs.Reading.{node_held, node_read}
 use Rattle.coco_recover.proofs.files.read_nodes.Goals as goal
@@ -21,14 +19,14 @@ loop-node-preserved g c =
     let next = c.in_ok-more.ensures in
     let more = next.ok in
     record {
-      read = node_read last committed old c.in_ok-more.more more.0 logs c.add_log.new.logs.items c.in_ok-more.log n was.read more.1 more.4 next.log c.in_ok-add_log.ensures;
+      read = node_read last committed old c.in_ok-more.more more.0 logs c.add.new.items.items c.in_ok-more.log n was.read more.1 more.4 next.log c.in_ok-add.ensures;
       only = read_then g.H.Host g.met.H.Host.only_now _ _ _ was.only next.read;
       counts = next.counts ∙ was.counts;
       held = λ files told.
           let found = more.2 files (was.only.same ∙ told) in
-          node_held last committed files (g.H.Host.may_leave c.loop-node.host) (g.H.Host.may_leave c.read_next_node.new.host) (nodes_of old) (nodes_of c.in_ok-more.more) more.0 logs c.add_log.new.logs.items
-          c.in_ok-more.log n (was.held files told) next.read.crash was.read.nodes was.read.as_many found.0 found.1 more.1.more c.in_ok-add_log.ensures;
-      prepared = node_prepared (nodes_of old) (nodes_of c.in_ok-more.more) more.0 c.loop-node.prepared.items c.add_epoch.new.prepared.items c.in_ok-more.greatest was.prepared more.1.more more.3 c.in_ok-add_epoch.ensures;
+          node_held last committed files (g.H.Host.may_leave c.loop-node.host) (g.H.Host.may_leave c.read_next_node.new.host) (nodes_of old) (nodes_of c.in_ok-more.more) more.0 logs c.add.new.items.items
+          c.in_ok-more.log n (was.held files told) next.read.crash was.read.nodes was.read.as_many found.0 found.1 more.1.more c.in_ok-add.ensures;
+      prepared = node_prepared (nodes_of old) (nodes_of c.in_ok-more.more) more.0 c.loop-node.prepared.items c.add-in-loop-node.new.items.items c.in_ok-more.greatest was.prepared more.1.more more.3 c.in_ok-add-2.ensures;
     }
 
 pub returns-in_err-more-clause-refused : goal.returns-in_err-more-clause-refused
@@ -37,8 +35,7 @@ returns-in_err-more-clause-refused g c file at files is told held parts commits 
     let committed = c.args.committed.now in
     let was = c.loop-node.invariant in
     let n = c.loop-node.node in
-    let p = err_from_is_err_and c.from_residual.result c.from_residual.ensures.1 in
-    let same : c.in_err-more.field-0.0 ≡ NotAStore file at = cc (p.1, p.2, is) in
+    let same = handed_on c.from_residual.result _ _ c.from_residual.ensures.1 is in
     let refused = c.in_err-more.ensures.refused file at files (ap Err same) (was.only.same ∙ told) in
     let first = rw refused.0 at refused.1 in
     subst (λ (f : ℕ). IsFirstRefusal files f at) (sym refused.0)

@@ -1,15 +1,13 @@
 use Rattle.std.proofs.Common.{◌≡◌, ℕ, List, [], get_or, Err, ap, sym, subst, ◌∙◌}
 use Rattle.std.specs.Prelude.{slice_index}
-use Rattle.std.proofs.lemmas.Result.{err_from_is_err_and}
 use Rattle.coco_entry.specs.declared.prepared.Prepared.{Prepared}
 use Rattle.coco_read.specs.EntryRules.{IsFile, IsFirstIn}
-use Rattle.coco_read.specs.declared.fault.OpenFault.TheVariants.{NotAStore}
 use Rattle.coco_rules.specs.Readying.{AreAmong}
 use Rattle.coco_store.specs.Contents.{HoldsNode}
 use Rattle.coco_store.specs.Entries.{prepared_kind}
 use Rattle.coco_store.specs.Rules.{EachBehind, IsNextPrepared, Setting, prepared_epochs}
 use Rattle.coco_recover.specs.Nodes.{IsNodeRead, NodeBasis, node_basis, node_rules}
-use Rattle.coco_recover.proofs.Held.{file_is, is_opened}
+use Rattle.coco_recover.proofs.Held.{file_is, handed_on, is_opened}
 use Rattle.coco_recover.proofs.NodeFiles.{among_so, node_file, node_held, node_refused}
 use Rattle.coco_recover.proofs.files.read_prepared_file.Goals as goal
 
@@ -19,16 +17,14 @@ pub returns-in_err-log-clause-here : goal.returns-in_err-log-clause-here
 returns-in_err-log-clause-here g c file at is =
     let number = get_or c.as_slice.result.now c.from.result 0 in
     let stands : number ≡ slice_index c.args.layout.now.node_files c.args.node = cc (c.as_slice.ensures, c.from.ensures) in
-    let p = err_from_is_err_and c.from_residual.result c.from_residual.ensures.1 in
-    let same : c.in_err-log.field-0.0 ≡ NotAStore file at = cc (p.1, p.2, is) in
+    let same = handed_on c.from_residual.result _ _ c.from_residual.ensures.1 is in
     c.in_err-log.ensures.here file at (ap Err same) ∙ stands
 
 pub returns-in_err-log-clause-refused : goal.returns-in_err-log-clause-refused
 returns-in_err-log-clause-refused g c file at files is told s commits layout tree numbers =
     let b = node_basis c.args.layout.now c.args.procs.now c.args.epochs.now c.args.node c.args.tables.shards.items c.args.tables.copies.items in
     let number = get_or c.as_slice.result.now c.from.result 0 in
-    let p = err_from_is_err_and c.from_residual.result c.from_residual.ensures.1 in
-    let same : c.in_err-log.field-0.0 ≡ NotAStore file at = cc (p.1, p.2, is) in
+    let same = handed_on c.from_residual.result _ _ c.from_residual.ensures.1 is in
     let begun : c.new-reading.result.under ≡ b = ap (λ r. r.under) c.new-reading.ensures in
     let first : IsFirstIn (node_rules b) prepared_kind (files number) at =
     subst (λ (b : NodeBasis). IsFirstIn (node_rules b) prepared_kind (files number) at) begun (c.in_err-log.ensures.refused file at files (ap Err same) told) in
@@ -40,8 +36,7 @@ returns-in_err-log-clause-kept g c file at files s commits entries told layout t
     let b = node_basis c.args.layout.now c.args.procs.now c.args.epochs.now c.args.node c.args.tables.shards.items c.args.tables.copies.items in
     let number = get_or c.as_slice.result.now c.from.result 0 in
     let stands : number ≡ slice_index c.args.layout.now.node_files c.args.node = cc (c.as_slice.ensures, c.from.ensures) in
-    let p = err_from_is_err_and c.from_residual.result c.from_residual.ensures.1 in
-    let same : c.in_err-log.field-0.0 ≡ NotAStore file at = cc (p.1, p.2, is) in
+    let same = handed_on c.from_residual.result _ _ c.from_residual.ensures.1 is in
     let good : IsFile (node_rules b) prepared_kind entries (files number) =
     subst (λ (f : ℕ). IsFile (node_rules b) prepared_kind entries (files f)) (sym stands) (node_file b s commits layout tree numbers entries (files (slice_index c.args.layout.now.node_files c.args.node)) held) in
     let begun : c.new-reading.result.under ≡ b = ap (λ r. r.under) c.new-reading.ensures in

@@ -1,7 +1,8 @@
-use Rattle.std.proofs.Common.{List, [], ◌∷◌, ◌++◌, map, ap, ◌∙◌}
+use Rattle.std.proofs.Common.{List, [], ◌∷◌, ◌++◌, map, sym, ap, subst, ◌∙◌}
 use Rattle.std.proofs.lemmas.List.{map-append}
 use Rattle.coco_entry.specs.declared.prepared.Prepared.{Prepared}
-use Rattle.coco_recover.specs.Nodes.{nodes_of}
+use Rattle.coco_recover.specs.Nodes.{HoldsNodes, nodes_of}
+use Rattle.coco_recover.specs.declared.nodes.Loaded.{Loaded}
 use Rattle.coco_recover.proofs.Loading.{node_begins}
 use Rattle.coco_recover.proofs.without.passed.Goals as goal
 
@@ -13,5 +14,7 @@ returns-clause-nodes c =
 
 pub returns-clause-loaded : goal.returns-clause-loaded
 returns-clause-loaded c b commits held =
-    let begun = node_begins c.tables_follow_the_files.ensures.nodes b commits (nodes_of c.args.loaded) c.args.loaded held in
-    rw (returns-clause-nodes c) (record { tables = begun.tables; next = begun.next })
+    let old = c.args.loaded in
+    let new : Loaded = record { tables = old.tables; next = old.next; nodes = c.add.new.self } in
+    let begun = node_begins b commits (nodes_of old) old held in
+    subst (λ (ns : List (List Prepared)). HoldsNodes b commits ns new) (sym (returns-clause-nodes c)) (record { tables = begun.tables; next = begun.next })

@@ -1,9 +1,8 @@
-use Rattle.std.proofs.Common.{◌≡◌, [], Err, ap}
-use Rattle.std.proofs.lemmas.Result.{err_from_is_err_and}
+use Rattle.std.proofs.Common.{[], Err, ap}
 use Rattle.coco_log.proofs.OnlyRead.{read_first}
-use Rattle.coco_read.specs.declared.fault.OpenFault.TheVariants.{NotAStore}
 use Rattle.coco_recover.specs.Commits.{basis_of_committed}
 use Rattle.coco_recover.specs.Layouts.{setting_of}
+use Rattle.coco_recover.proofs.Held.{handed_on}
 use Rattle.coco_recover.proofs.without.read_other.Goals as goal
 
 pub returns-then-node-left_out-clause-read : goal.returns-then-node-left_out-clause-read
@@ -24,8 +23,7 @@ returns-then-node-left_out-clause-ok g c =
 
 pub returns-in_err-loaded-clause-refused : goal.returns-in_err-loaded-clause-refused
 returns-in_err-loaded-clause-refused g c file at files is told =
-    let p = err_from_is_err_and c.from_residual.result c.from_residual.ensures.1 in
-    let same : c.in_err-loaded.field-0.0 ≡ NotAStore file at = cc (p.1, p.2, is) in
+    let same = handed_on c.from_residual.result _ _ c.from_residual.ensures.1 is in
     let refused = c.in_err-loaded.ensures.refused file at files (ap Err same) told in
     (c.if-node-left_out.false, refused.0, refused.1)
 

@@ -5,7 +5,7 @@ use Rattle.coco_cluster.specs.Around.{Around, around, spare}
 use Rattle.coco_cluster.proofs.AroundLemmas.{later_same, later_then, spare_then}
 use Rattle.coco_io.specs.Counts.{Rose}
 use Rattle.coco_lines.specs.ReaderState.{ReaderState}
-use Rattle.coco_lines.specs.Reads.{SourceMoment}
+use Rattle.coco_lines.specs.Reads.{SourceMoment, source_moment}
 use Rattle.coco_serve.specs.Faults.{Counts}
 use Rattle.coco_serve.specs.Serving.{Outside, Runs}
 use Rattle.coco_serve.proofs.EndLemmas.{batch_broke, broken_failed, broken_memory, broken_much, cause_of, finished_empty, finished_last, reason_of, running_more, running_new}
@@ -29,18 +29,18 @@ batches-init g c = record {
 
 pub returns-in-Err-NoMemory : goal.returns-in-Err-NoMemory
 returns-in-Err-NoMemory g c =
-    let m0 : SourceMoment = (record { given = g.S.Source.given c.args.input.now; left = g.S.Source.remaining c.args.input.now; at_end = g.S.Source.at_end c.args.input.now }) in
-    let m1 : SourceMoment = (record { given = g.S.Source.given c.batches.input; left = g.S.Source.remaining c.batches.input; at_end = g.S.Source.at_end c.batches.input }) in
-    let m2 : SourceMoment = (record { given = g.S.Source.given c.read_batch.new.source; left = g.S.Source.remaining c.read_batch.new.source; at_end = g.S.Source.at_end c.read_batch.new.source }) in
+    let m0 : SourceMoment = source_moment g.S.Source c.args.input.now in
+    let m1 : SourceMoment = source_moment g.S.Source c.batches.input in
+    let m2 : SourceMoment = source_moment g.S.Source c.read_batch.new.source in
     let w = broken_memory g.H.Host c.args.cluster.now.next_epoch _ c.args.bounds c.batches.reader c.read_batch.new.reader m0 m1 m2 c.args.cluster.now c.batches.cluster
     c.args.host.now c.batches.host c.batches.invariant.running g.met.H.Host.seen_now c.in-Err-NoMemory.field-0 c.in-Err-NoMemory.ensures.breaks in
     record { bytes = w.bytes; gives = w.gives; later = c.batches.invariant.later; cause = tt; serves = w.serves }
 
 pub returns-in-Err-Failed : goal.returns-in-Err-Failed
 returns-in-Err-Failed g c =
-    let m0 : SourceMoment = (record { given = g.S.Source.given c.args.input.now; left = g.S.Source.remaining c.args.input.now; at_end = g.S.Source.at_end c.args.input.now }) in
-    let m1 : SourceMoment = (record { given = g.S.Source.given c.batches.input; left = g.S.Source.remaining c.batches.input; at_end = g.S.Source.at_end c.batches.input }) in
-    let m2 : SourceMoment = (record { given = g.S.Source.given c.read_batch.new.source; left = g.S.Source.remaining c.read_batch.new.source; at_end = g.S.Source.at_end c.read_batch.new.source }) in
+    let m0 : SourceMoment = source_moment g.S.Source c.args.input.now in
+    let m1 : SourceMoment = source_moment g.S.Source c.batches.input in
+    let m2 : SourceMoment = source_moment g.S.Source c.read_batch.new.source in
     let w = broken_failed g.H.Host c.args.cluster.now.next_epoch _ c.args.bounds c.batches.reader c.read_batch.new.reader m0 m1 m2 c.args.cluster.now c.batches.cluster
     c.args.host.now c.batches.host c.batches.invariant.running g.met.H.Host.seen_now c.in-Err-Failed.field-0 c.in-Err-Failed.ensures.breaks c.in-Err-Failed.field-0-is in
     let rose = subst (λ k. Rose k (g.S.Source.faults c.read_batch.new.source)) c.batches.invariant.reads (rw c.in-Err-Failed.field-0-is at c.in-Err-Failed.ensures.counts) in
@@ -48,18 +48,18 @@ returns-in-Err-Failed g c =
 
 pub returns-in-Err-TooMuch : goal.returns-in-Err-TooMuch
 returns-in-Err-TooMuch g c =
-    let m0 : SourceMoment = (record { given = g.S.Source.given c.args.input.now; left = g.S.Source.remaining c.args.input.now; at_end = g.S.Source.at_end c.args.input.now }) in
-    let m1 : SourceMoment = (record { given = g.S.Source.given c.batches.input; left = g.S.Source.remaining c.batches.input; at_end = g.S.Source.at_end c.batches.input }) in
-    let m2 : SourceMoment = (record { given = g.S.Source.given c.read_batch.new.source; left = g.S.Source.remaining c.read_batch.new.source; at_end = g.S.Source.at_end c.read_batch.new.source }) in
+    let m0 : SourceMoment = source_moment g.S.Source c.args.input.now in
+    let m1 : SourceMoment = source_moment g.S.Source c.batches.input in
+    let m2 : SourceMoment = source_moment g.S.Source c.read_batch.new.source in
     let w = broken_much g.H.Host c.args.cluster.now.next_epoch _ c.args.bounds c.batches.reader c.read_batch.new.reader m0 m1 m2 c.args.cluster.now c.batches.cluster
     c.args.host.now c.batches.host c.batches.invariant.running g.met.H.Host.seen_now c.in-Err-TooMuch.field-0 c.in-Err-TooMuch.ensures.breaks c.in-Err-TooMuch.field-0-is in
     record { bytes = w.bytes; gives = w.gives; later = c.batches.invariant.later; cause = inr (sym w.count ∙ c.in-Err-TooMuch.ensures.too_much (ap Err c.in-Err-TooMuch.field-0-is)); serves = w.serves }
 
 pub returns-then-count-eq0 : goal.returns-then-count-eq0
 returns-then-count-eq0 g c =
-    let m0 : SourceMoment = (record { given = g.S.Source.given c.args.input.now; left = g.S.Source.remaining c.args.input.now; at_end = g.S.Source.at_end c.args.input.now }) in
-    let m1 : SourceMoment = (record { given = g.S.Source.given c.batches.input; left = g.S.Source.remaining c.batches.input; at_end = g.S.Source.at_end c.batches.input }) in
-    let m2 : SourceMoment = (record { given = g.S.Source.given c.read_batch.new.source; left = g.S.Source.remaining c.read_batch.new.source; at_end = g.S.Source.at_end c.read_batch.new.source }) in
+    let m0 : SourceMoment = source_moment g.S.Source c.args.input.now in
+    let m1 : SourceMoment = source_moment g.S.Source c.batches.input in
+    let m2 : SourceMoment = source_moment g.S.Source c.read_batch.new.source in
     let r = c.in-Ok.ensures.batch in
     let w = finished_empty g.H.Host c.args.cluster.now.next_epoch _ c.args.bounds c.batches.reader c.read_batch.new.reader m0 m1 m2 c.args.cluster.now c.batches.cluster c.args.host.now c.batches.host c.batches.invariant.running g.met.H.Host.seen_now
     c.in-Ok.batch r (omega (arith, c.len-count.ensures, c.if-count-eq0.true)) c.requires.some in
@@ -68,9 +68,6 @@ returns-then-count-eq0 g c =
 
 pub turn_and_say-requires-clause-few : goal.turn_and_say-requires-clause-few
 turn_and_say-requires-clause-few g c =
-    let m0 : SourceMoment = (record { given = g.S.Source.given c.args.input.now; left = g.S.Source.remaining c.args.input.now; at_end = g.S.Source.at_end c.args.input.now }) in
-    let m1 : SourceMoment = (record { given = g.S.Source.given c.batches.input; left = g.S.Source.remaining c.batches.input; at_end = g.S.Source.at_end c.batches.input }) in
-    let m2 : SourceMoment = (record { given = g.S.Source.given c.read_batch.new.source; left = g.S.Source.remaining c.read_batch.new.source; at_end = g.S.Source.at_end c.read_batch.new.source }) in
     let r = c.in-Ok.ensures.batch in
     let few = few_new r.taking.classes in
     let fresh = ap (length {A = Request}) r.taking.fresh in
@@ -79,9 +76,9 @@ turn_and_say-requires-clause-few g c =
 
 pub returns-in-Err : goal.returns-in-Err
 returns-in-Err g c =
-    let m0 : SourceMoment = (record { given = g.S.Source.given c.args.input.now; left = g.S.Source.remaining c.args.input.now; at_end = g.S.Source.at_end c.args.input.now }) in
-    let m1 : SourceMoment = (record { given = g.S.Source.given c.batches.input; left = g.S.Source.remaining c.batches.input; at_end = g.S.Source.at_end c.batches.input }) in
-    let m2 : SourceMoment = (record { given = g.S.Source.given c.read_batch.new.source; left = g.S.Source.remaining c.read_batch.new.source; at_end = g.S.Source.at_end c.read_batch.new.source }) in
+    let m0 : SourceMoment = source_moment g.S.Source c.args.input.now in
+    let m1 : SourceMoment = source_moment g.S.Source c.batches.input in
+    let m2 : SourceMoment = source_moment g.S.Source c.read_batch.new.source in
     let a0 : Around = around g.N.Net g.P.Power c.args.net.now c.args.power.now in
     let a1 : Around = around g.N.Net g.P.Power c.batches.net c.batches.power in
     let a2 : Around = around g.N.Net g.P.Power c.turn_and_say.new.net c.turn_and_say.new.power in
@@ -93,8 +90,8 @@ returns-in-Err g c =
     let w = batch_broke g.H.Host c.args.cluster.now.next_epoch _ c.args.bounds c.batches.reader c.read_batch.new.reader m0 m1 m2 c.args.cluster.now c.batches.cluster c.args.host.now c.batches.host c.batches.invariant.running g.met.H.Host.seen_now
     c.in-Ok.batch r (spare a1 a2) (spare a0 a2) c.turn_and_say.result c.in-Err.fault c.turn_and_say.new.cluster c.turn_and_say.new.host adds c.in-Err.is c.turn_and_say.ensures.answers
     (reason_of c.in-Err.fault c.batches.cluster.next_epoch (length c.in-Ok.batch.fresh) a1 a2 n1 n2 c.in-Err.ensures.counts) (omega (arith, c.len-count.ensures, c.if-count-eq0.false)) in
-    let before : Outside = (record { source = record { given = g.S.Source.given c.args.input.now; left = g.S.Source.remaining c.args.input.now; at_end = g.S.Source.at_end c.args.input.now }; source_faults = g.S.Source.faults c.args.input.now; say_faults = g.H.Host.say_faults c.args.host.now; disk_faults = g.H.Host.disk_faults c.args.host.now; around = a0 }) in
-    let after : Outside = (record { source = record { given = g.S.Source.given c.read_batch.new.source; left = g.S.Source.remaining c.read_batch.new.source; at_end = g.S.Source.at_end c.read_batch.new.source }; source_faults = g.S.Source.faults c.read_batch.new.source; say_faults = g.H.Host.say_faults c.turn_and_say.new.host; disk_faults = g.H.Host.disk_faults c.turn_and_say.new.host; around = a2 }) in
+    let before : Outside = (record { source = source_moment g.S.Source c.args.input.now; source_faults = g.S.Source.faults c.args.input.now; say_faults = g.H.Host.say_faults c.args.host.now; disk_faults = g.H.Host.disk_faults c.args.host.now; around = a0 }) in
+    let after : Outside = (record { source = source_moment g.S.Source c.read_batch.new.source; source_faults = g.S.Source.faults c.read_batch.new.source; say_faults = g.H.Host.say_faults c.turn_and_say.new.host; disk_faults = g.H.Host.disk_faults c.turn_and_say.new.host; around = a2 }) in
     subst (λ e. Runs g.H.Host c.args.cluster.now c.args.bounds before after e c.args.host.now c.turn_and_say.new.host) (sym c.from.ensures) (record {
       bytes = w.bytes;
       gives = w.gives;
@@ -106,9 +103,9 @@ returns-in-Err g c =
 
 pub returns-then-count-bounds : goal.returns-then-count-bounds
 returns-then-count-bounds g c =
-    let m0 : SourceMoment = (record { given = g.S.Source.given c.args.input.now; left = g.S.Source.remaining c.args.input.now; at_end = g.S.Source.at_end c.args.input.now }) in
-    let m1 : SourceMoment = (record { given = g.S.Source.given c.batches.input; left = g.S.Source.remaining c.batches.input; at_end = g.S.Source.at_end c.batches.input }) in
-    let m2 : SourceMoment = (record { given = g.S.Source.given c.read_batch.new.source; left = g.S.Source.remaining c.read_batch.new.source; at_end = g.S.Source.at_end c.read_batch.new.source }) in
+    let m0 : SourceMoment = source_moment g.S.Source c.args.input.now in
+    let m1 : SourceMoment = source_moment g.S.Source c.batches.input in
+    let m2 : SourceMoment = source_moment g.S.Source c.read_batch.new.source in
     let r = c.in-Ok.ensures.batch in
     let a0 : Around = around g.N.Net g.P.Power c.args.net.now c.args.power.now in
     let a1 : Around = around g.N.Net g.P.Power c.batches.net c.batches.power in
@@ -122,9 +119,9 @@ returns-then-count-bounds g c =
 
 pub batches-preserved : goal.batches-preserved
 batches-preserved g c =
-    let m0 : SourceMoment = (record { given = g.S.Source.given c.args.input.now; left = g.S.Source.remaining c.args.input.now; at_end = g.S.Source.at_end c.args.input.now }) in
-    let m1 : SourceMoment = (record { given = g.S.Source.given c.batches.input; left = g.S.Source.remaining c.batches.input; at_end = g.S.Source.at_end c.batches.input }) in
-    let m2 : SourceMoment = (record { given = g.S.Source.given c.read_batch.new.source; left = g.S.Source.remaining c.read_batch.new.source; at_end = g.S.Source.at_end c.read_batch.new.source }) in
+    let m0 : SourceMoment = source_moment g.S.Source c.args.input.now in
+    let m1 : SourceMoment = source_moment g.S.Source c.batches.input in
+    let m2 : SourceMoment = source_moment g.S.Source c.read_batch.new.source in
     let r = c.in-Ok.ensures.batch in
     let a0 : Around = around g.N.Net g.P.Power c.args.net.now c.args.power.now in
     let a1 : Around = around g.N.Net g.P.Power c.batches.net c.batches.power in

@@ -1,7 +1,7 @@
 use Rattle.std.proofs.Common.{◌≡◌, ◌+◌, ◌-◌, ◌≤◌, true, length}
 use Rattle.coco_cluster.specs.Around.{IsLater, around, spare}
 use Rattle.coco_cluster.specs.Standing.{AllStand, IsSound}
-use Rattle.coco_lines.specs.Reads.{IsSpent}
+use Rattle.coco_lines.specs.Reads.{IsSpent, source_moment}
 use Rattle.coco_types.specs.Limits.{most_input_bytes, most_kept}
 use Rattle.coco_serve.proofs.EndLemmas.{IsRunning}
 use Rattle.coco_serve.proofs.all_batches.answer_lines.Given as goal
@@ -11,10 +11,9 @@ invariant-batches g l = record {
   running : IsRunning g.H.Host l.fn.cluster.next_epoch
       (spare (around g.N.Net g.P.Power l.fn.net l.fn.power)
       (around g.N.Net g.P.Power l.net l.power)) l.bounds l.reader
-      (record { given = g.S.Source.given l.fn.input; left = g.S.Source.remaining l.fn.input; at_end = g.S.Source.at_end l.fn.input })
-      (record { given = g.S.Source.given l.input; left = g.S.Source.remaining l.input; at_end = g.S.Source.at_end l.input }) l.fn.cluster l.cluster l.fn.host l.host;
+      (source_moment g.S.Source l.fn.input) (source_moment g.S.Source l.input) l.fn.cluster l.cluster l.fn.host l.host;
   within : l.reader.given ≤ most_input_bytes;
-  end : l.reader.ended ≡ true → IsSpent (record { given = g.S.Source.given l.input; left = g.S.Source.remaining l.input; at_end = g.S.Source.at_end l.input });
+  end : l.reader.ended ≡ true → IsSpent (source_moment g.S.Source l.input);
   later : IsLater (around g.N.Net g.P.Power l.fn.net l.fn.power)
       (around g.N.Net g.P.Power l.net l.power);
   sound : IsSound l.cluster (g.N.Net.sent l.net);

@@ -1,6 +1,5 @@
-use Rattle.std.proofs.Common.{refl}
-use Rattle.coco_letters.proofs.SendingLemmas.{sends_none}
+use Rattle.coco_vote.proofs.LetterLemmas.{letters_same}
 use Rattle.coco_settle.proofs.reminding.remind.Goals as goal
 
-pub returns-then-have_all_finished-clause-sent : goal.returns-then-have_all_finished-clause-sent
-returns-then-have_all_finished-clause-sent g c = sends_none (g.N.Net.sent c.args.net.now) (g.N.Net.sent c.args.net.now) refl
+pub returns-then-have_all_finished-clause-letters : goal.returns-then-have_all_finished-clause-letters
+returns-then-have_all_finished-clause-letters g c = letters_same c.args.net.now

@@ -23,13 +23,12 @@ use Rattle.coco_letters.proofs.TellingLemmas.{adds_same, adds_then, adds_settlin
 use Rattle.coco_settle.proofs.MemberLemmas.{rest_finish, rest_stopped}
 use Rattle.coco_settle.proofs.NodeLemmas.{can_voted, marks_stopped, yet_voted}
 use Rattle.coco_settle.proofs.RestLemmas.{marked_stand, shards_finish, voted_in_step}
-use Rattle.coco_letters.proofs.SendingLemmas.{sends_fresh, sends_then}
-use Rattle.coco_vote.proofs.GivingLemmas.{gives_counts, gives_then}
+use Rattle.coco_vote.proofs.LetterLemmas.{letters_sent, letters_then}
 use Rattle.coco_settle.proofs.settling.finish_committed.Goals as goal
 
 pub finish-requires-clause-told : goal.finish-requires-clause-told
 finish-requires-clause-told g c = λ n lt down.
-    fresh_more (g.N.Net.sent c.args.net.now) (g.N.Net.fresh c.args.net.now) (g.N.Net.sent c.stop_last.new.net) (g.N.Net.fresh c.stop_last.new.net) c.in_ok-stop_last.ensures.fresh (commit_of n c.args.epoch) (c.requires.told n lt down)
+    fresh_more (g.N.Net.sent c.args.net.now) (g.N.Net.fresh c.args.net.now) (g.N.Net.sent c.stop_last.new.net) (g.N.Net.fresh c.stop_last.new.net) c.in_ok-stop_last.ensures.sends.fresh (commit_of n c.args.epoch) (c.requires.told n lt down)
 
 -- each of so many nodes is marked
 marked_of : (marks now : List Bool) (count nodes : ℕ) → now ≡ marks → marks ≡ replicate count true → nodes ≤ count → (n : ℕ) → n < nodes → is_behind now n ≡ true
@@ -63,8 +62,8 @@ returns-clause-rest g c = λ m stand.
     (marked_stand (primaries_of k.tables.layout) m t.behind.items k.tables.shards.items [] marked stand) c.in_ok-stop_last.ensures.said in
     rest_finish (c.args.epoch + 1) e mid after (sent c.stop_last.new.net) (sent c.stop_last.new.net) (sent c.finish.new.net) (g.N.Net.given c.stop_last.new.net) (g.N.Net.given c.finish.new.net)
     c.as_mut_slice-4.result.now c.finish.new.cores c.as_mut_slice-4.ensures.value (with_items_is (with_items k.cores c.stop_last.new.cores) c.finish.new.cores (c.finish.auto.cores ∙ c.as_mut_slice-4.ensures.len)) c.finish.auto.cores
-    stops (sym c.requires.members.last) refl refl c.in_ok-_all.ensures.finish c.finish.ensures.whole c.finish.ensures.behind c.in_ok-_all.ensures.can c.in_ok-_all.ensures.in_step c.in_ok-_all.ensures.hears
-    (adds_same (sent c.stop_last.new.net)) c.in_ok-_all.ensures.said
+    stops (sym c.requires.members.last) refl refl c.in_ok-_all.ensures.done.finish c.finish.ensures.keep.whole c.finish.ensures.keep.behind c.in_ok-_all.ensures.done.can c.in_ok-_all.ensures.done.in_step c.in_ok-_all.ensures.done.hears
+    (adds_same (sent c.stop_last.new.net)) c.in_ok-_all.ensures.done.said
 
 pub returns-clause-shards : goal.returns-clause-shards
 returns-clause-shards g c = λ m stand.
@@ -74,7 +73,7 @@ returns-clause-shards g c = λ m stand.
     let counted : length c.as_mut_slice.result.now ≡ length k.tables.behind.items = ap (λ (bs : List Bool). length bs) c.as_mut_slice.ensures.value in
     let marked : (n : ℕ) → n < k.tables.layout.nodes → is_behind t.behind.items n ≡ true =
     marked_of c.mark_all.new.marks t.behind.items (length c.as_mut_slice.result.now) k.tables.layout.nodes marks_are c.mark_all.ensures (omega (arith, counted, c.requires.members.are.behind, c.requires.members.are.layout)) in
-    shards_finish c.args.epoch c.as_mut_slice-4.result.now c.finish.new.cores t c.finish.new.tables c.in_ok-_all.ensures.finish m c.finish.ensures.whole (marked_stand (primaries_of k.tables.layout) m t.behind.items k.tables.shards.items [] marked stand)
+    shards_finish c.args.epoch c.as_mut_slice-4.result.now c.finish.new.cores t c.finish.new.tables c.in_ok-_all.ensures.done.finish m c.finish.ensures.keep.whole (marked_stand (primaries_of k.tables.layout) m t.behind.items k.tables.shards.items [] marked stand)
 
 pub returns-clause-map : goal.returns-clause-map
 returns-clause-map g c = λ m stand.
@@ -83,7 +82,7 @@ returns-clause-map g c = λ m stand.
     let counted : length c.as_mut_slice.result.now ≡ length k.tables.behind.items = ap (λ (bs : List Bool). length bs) c.as_mut_slice.ensures.value in
     let marked : (n : ℕ) → n < k.tables.layout.nodes → is_behind (with_items k.tables.behind c.mark_all.new.marks).items n ≡ true =
     marked_of c.mark_all.new.marks (with_items k.tables.behind c.mark_all.new.marks).items (length c.as_mut_slice.result.now) k.tables.layout.nodes marks_are c.mark_all.ensures (omega (arith, counted, c.requires.members.are.behind, c.requires.members.are.layout)) in
-    c.finish.ensures.map m (marked_stand k.tables.layout m (with_items k.tables.behind c.mark_all.new.marks).items k.tables.shards.items k.tables.copies.items marked stand)
+    c.finish.ensures.keep.map m (marked_stand k.tables.layout m (with_items k.tables.behind c.mark_all.new.marks).items k.tables.shards.items k.tables.copies.items marked stand)
 
 pub returns-clause-stops : goal.returns-clause-stops
 returns-clause-stops g c = λ n voter at.
@@ -114,39 +113,27 @@ returns-clause-world g c =
     (between_then SameEntries SameEntries SameEntries same_then old now now first between last
     (subst (λ (cores : List Node). GoesBetween old now SameEntries (scene cores chief (sent c.args.net.now)) between) c.as_mut_slice-2.ensures.value (c.in_ok-stop_last.ensures.world chief))
     (between_on SameEntries SameEntries now now between last (λ w v _ same. same) (λ n lt. omega arith)
-    (subst (λ (cores : List Node). GoesOn (scene cores chief (sent c.stop_last.new.net)) last) (c.as_mut_slice-4.ensures.value ∙ back) c.in_ok-_all.ensures.world)))
+    (subst (λ (cores : List Node). GoesOn (scene cores chief (sent c.stop_last.new.net)) last) (c.as_mut_slice-4.ensures.value ∙ back) c.in_ok-_all.ensures.done.world)))
 
 pub returns-clause-says : goal.returns-clause-says
 returns-clause-says g c =
     adds_then (g.N.Net.sent c.args.net.now) (g.N.Net.sent c.stop_last.new.net) (g.N.Net.sent c.finish.new.net) c.in_ok-stop_last.ensures.said
-    (adds_settling c.args.epoch (g.N.Net.sent c.stop_last.new.net) (g.N.Net.sent c.finish.new.net) c.in_ok-_all.ensures.said)
+    (adds_settling c.args.epoch (g.N.Net.sent c.stop_last.new.net) (g.N.Net.sent c.finish.new.net) c.in_ok-_all.ensures.done.said)
 
-pub returns-in_err-stop_last-clause-sent : goal.returns-in_err-stop_last-clause-sent
-returns-in_err-stop_last-clause-sent g c =
-    sends_fresh (g.N.Net.sent c.args.net.now) (g.N.Net.fresh c.args.net.now) (g.N.Net.sent c.stop_last.new.net) (g.N.Net.fresh c.stop_last.new.net) c.stop_last.ensures.fresh
+pub returns-in_err-stop_last-clause-letters : goal.returns-in_err-stop_last-clause-letters
+returns-in_err-stop_last-clause-letters g c =
+    letters_sent c.stop_last.ensures.sends.fresh c.stop_last.ensures.sends.counts
 
-pub returns-in_err-stop_last-clause-net : goal.returns-in_err-stop_last-clause-net
-returns-in_err-stop_last-clause-net g c =
-    gives_counts (g.N.Net.given c.args.net.now) (g.N.Net.faults c.args.net.now) (g.N.Net.last_seed c.args.net.now) (g.N.Net.given c.stop_last.new.net) (g.N.Net.faults c.stop_last.new.net) (g.N.Net.last_seed c.stop_last.new.net) c.stop_last.ensures.counts
+pub returns-in_err-_all-clause-letters : goal.returns-in_err-_all-clause-letters
+returns-in_err-_all-clause-letters g c =
+    letters_then (letters_sent c.stop_last.ensures.sends.fresh c.stop_last.ensures.sends.counts) c.finish.ensures.letters
 
-pub returns-in_err-_all-clause-sent : goal.returns-in_err-_all-clause-sent
-returns-in_err-_all-clause-sent g c =
-    sends_then (g.N.Net.sent c.args.net.now) (g.N.Net.sent c.stop_last.new.net) (g.N.Net.sent c.finish.new.net) (sends_fresh (g.N.Net.sent c.args.net.now) (g.N.Net.fresh c.args.net.now) (g.N.Net.sent c.stop_last.new.net) (g.N.Net.fresh c.stop_last.new.net) c.stop_last.ensures.fresh) (c.finish.ensures.sends)
-
-pub returns-in_err-_all-clause-net : goal.returns-in_err-_all-clause-net
-returns-in_err-_all-clause-net g c =
-    gives_then (g.N.Net.given c.args.net.now) (g.N.Net.faults c.args.net.now) (g.N.Net.last_seed c.args.net.now) (g.N.Net.given c.stop_last.new.net) (g.N.Net.faults c.stop_last.new.net) (g.N.Net.last_seed c.stop_last.new.net) (g.N.Net.given c.finish.new.net) (g.N.Net.faults c.finish.new.net) (g.N.Net.last_seed c.finish.new.net) (gives_counts (g.N.Net.given c.args.net.now) (g.N.Net.faults c.args.net.now) (g.N.Net.last_seed c.args.net.now) (g.N.Net.given c.stop_last.new.net) (g.N.Net.faults c.stop_last.new.net) (g.N.Net.last_seed c.stop_last.new.net) c.stop_last.ensures.counts) (c.finish.ensures.net)
-
-pub returns-clause-sent : goal.returns-clause-sent
-returns-clause-sent g c =
-    sends_then (g.N.Net.sent c.args.net.now) (g.N.Net.sent c.stop_last.new.net) (g.N.Net.sent c.finish.new.net) (sends_fresh (g.N.Net.sent c.args.net.now) (g.N.Net.fresh c.args.net.now) (g.N.Net.sent c.stop_last.new.net) (g.N.Net.fresh c.stop_last.new.net) c.stop_last.ensures.fresh) (c.finish.ensures.sends)
-
-pub returns-clause-net : goal.returns-clause-net
-returns-clause-net g c =
-    gives_then (g.N.Net.given c.args.net.now) (g.N.Net.faults c.args.net.now) (g.N.Net.last_seed c.args.net.now) (g.N.Net.given c.stop_last.new.net) (g.N.Net.faults c.stop_last.new.net) (g.N.Net.last_seed c.stop_last.new.net) (g.N.Net.given c.finish.new.net) (g.N.Net.faults c.finish.new.net) (g.N.Net.last_seed c.finish.new.net) (gives_counts (g.N.Net.given c.args.net.now) (g.N.Net.faults c.args.net.now) (g.N.Net.last_seed c.args.net.now) (g.N.Net.given c.stop_last.new.net) (g.N.Net.faults c.stop_last.new.net) (g.N.Net.last_seed c.stop_last.new.net) c.stop_last.ensures.counts) (c.finish.ensures.net)
+pub returns-clause-letters : goal.returns-clause-letters
+returns-clause-letters g c =
+    letters_then (letters_sent c.stop_last.ensures.sends.fresh c.stop_last.ensures.sends.counts) c.finish.ensures.letters
 
 pub returns-clause-layout : goal.returns-clause-layout
-returns-clause-layout g c = c.in_ok-_all.ensures.finish.layout
+returns-clause-layout g c = c.in_ok-_all.ensures.done.finish.layout
 
 pub returns-clause-whole : goal.returns-clause-whole
 returns-clause-whole g c =

@@ -18,8 +18,7 @@ use Rattle.coco_members.proofs.LetterLemmas.{ships_below_chief}
 use Rattle.coco_store.specs.Laws.{with_commit}
 use Rattle.coco_settle.proofs.MemberLemmas.{commits_then}
 use Rattle.coco_settle.proofs.NodeLemmas.{ready_stopped}
-use Rattle.coco_letters.proofs.SendingLemmas.{sends_fresh, sends_then}
-use Rattle.coco_vote.proofs.GivingLemmas.{gives_counts, gives_then}
+use Rattle.coco_vote.proofs.LetterLemmas.{letters_sent, letters_then}
 use Rattle.coco_settle.proofs.settling.settle.Goals as goal
 
 pub finish_committed-requires-clause-members : goal.finish_committed-requires-clause-members
@@ -61,7 +60,7 @@ finish_committed-requires-clause-members g c =
 pub finish_committed-requires-clause-told : goal.finish_committed-requires-clause-told
 finish_committed-requires-clause-told g c =
     c.unfinished_nodes_are_told.ensures.committed c.args.epoch (chief_of c.args.members.now.chief) (chief_of c.commit.new.chief) (g.N.Net.sent c.args.net.now) (g.N.Net.fresh c.args.net.now) (g.N.Net.sent c.commit.new.net) (g.N.Net.fresh c.commit.new.net)
-    c.in_ok-commit.ensures.turns c.in_ok-commit.ensures.fresh
+    c.in_ok-commit.ensures.turns c.in_ok-commit.ensures.sends.fresh
 
 pub returns-clause-rest : goal.returns-clause-rest
 returns-clause-rest g c = c.in_ok-finish_committed.ensures.rest c.requires.voted.0 c.requires.voted.1.tables
@@ -115,13 +114,9 @@ returns-clause-says g c =
     (forced_says chief (chief_of c.commit.new.chief) (sent c.args.net.now) (sent c.commit.new.net) few c.args.epoch fits c.in_ok-commit.ensures.turns)))
     c.in_ok-finish_committed.ensures.says
 
-pub returns-in_err-commit-clause-sent : goal.returns-in_err-commit-clause-sent
-returns-in_err-commit-clause-sent g c =
-    sends_fresh (g.N.Net.sent c.args.net.now) (g.N.Net.fresh c.args.net.now) (g.N.Net.sent c.commit.new.net) (g.N.Net.fresh c.commit.new.net) c.commit.ensures.fresh
-
-pub returns-in_err-commit-clause-net : goal.returns-in_err-commit-clause-net
-returns-in_err-commit-clause-net g c =
-    gives_counts (g.N.Net.given c.args.net.now) (g.N.Net.faults c.args.net.now) (g.N.Net.last_seed c.args.net.now) (g.N.Net.given c.commit.new.net) (g.N.Net.faults c.commit.new.net) (g.N.Net.last_seed c.commit.new.net) c.commit.ensures.counts
+pub returns-in_err-commit-clause-letters : goal.returns-in_err-commit-clause-letters
+returns-in_err-commit-clause-letters g c =
+    letters_sent c.commit.ensures.sends.fresh c.commit.ensures.sends.counts
 
 -- what the commit left is there, though a later step failed
 pub returns-in_err-finish_committed-clause-files : goal.returns-in_err-finish_committed-clause-files
@@ -134,18 +129,10 @@ returns-in_err-finish_committed-clause-files g c before rests of may =
       left = gains.left;
     }
 
-pub returns-in_err-finish_committed-clause-sent : goal.returns-in_err-finish_committed-clause-sent
-returns-in_err-finish_committed-clause-sent g c =
-    sends_then (g.N.Net.sent c.args.net.now) (g.N.Net.sent c.commit.new.net) (g.N.Net.sent c.finish_committed.new.net) (sends_fresh (g.N.Net.sent c.args.net.now) (g.N.Net.fresh c.args.net.now) (g.N.Net.sent c.commit.new.net) (g.N.Net.fresh c.commit.new.net) c.commit.ensures.fresh) (c.finish_committed.ensures.sent)
+pub returns-in_err-finish_committed-clause-letters : goal.returns-in_err-finish_committed-clause-letters
+returns-in_err-finish_committed-clause-letters g c =
+    letters_then (letters_sent c.commit.ensures.sends.fresh c.commit.ensures.sends.counts) c.finish_committed.ensures.letters
 
-pub returns-in_err-finish_committed-clause-net : goal.returns-in_err-finish_committed-clause-net
-returns-in_err-finish_committed-clause-net g c =
-    gives_then (g.N.Net.given c.args.net.now) (g.N.Net.faults c.args.net.now) (g.N.Net.last_seed c.args.net.now) (g.N.Net.given c.commit.new.net) (g.N.Net.faults c.commit.new.net) (g.N.Net.last_seed c.commit.new.net) (g.N.Net.given c.finish_committed.new.net) (g.N.Net.faults c.finish_committed.new.net) (g.N.Net.last_seed c.finish_committed.new.net) (gives_counts (g.N.Net.given c.args.net.now) (g.N.Net.faults c.args.net.now) (g.N.Net.last_seed c.args.net.now) (g.N.Net.given c.commit.new.net) (g.N.Net.faults c.commit.new.net) (g.N.Net.last_seed c.commit.new.net) c.commit.ensures.counts) (c.finish_committed.ensures.net)
-
-pub returns-clause-sent : goal.returns-clause-sent
-returns-clause-sent g c =
-    sends_then (g.N.Net.sent c.args.net.now) (g.N.Net.sent c.commit.new.net) (g.N.Net.sent c.finish_committed.new.net) (sends_fresh (g.N.Net.sent c.args.net.now) (g.N.Net.fresh c.args.net.now) (g.N.Net.sent c.commit.new.net) (g.N.Net.fresh c.commit.new.net) c.commit.ensures.fresh) (c.finish_committed.ensures.sent)
-
-pub returns-clause-net : goal.returns-clause-net
-returns-clause-net g c =
-    gives_then (g.N.Net.given c.args.net.now) (g.N.Net.faults c.args.net.now) (g.N.Net.last_seed c.args.net.now) (g.N.Net.given c.commit.new.net) (g.N.Net.faults c.commit.new.net) (g.N.Net.last_seed c.commit.new.net) (g.N.Net.given c.finish_committed.new.net) (g.N.Net.faults c.finish_committed.new.net) (g.N.Net.last_seed c.finish_committed.new.net) (gives_counts (g.N.Net.given c.args.net.now) (g.N.Net.faults c.args.net.now) (g.N.Net.last_seed c.args.net.now) (g.N.Net.given c.commit.new.net) (g.N.Net.faults c.commit.new.net) (g.N.Net.last_seed c.commit.new.net) c.commit.ensures.counts) (c.finish_committed.ensures.net)
+pub returns-clause-letters : goal.returns-clause-letters
+returns-clause-letters g c =
+    letters_then (letters_sent c.commit.ensures.sends.fresh c.commit.ensures.sends.counts) c.finish_committed.ensures.letters

@@ -1,12 +1,12 @@
 use Rattle.std.proofs.Common.{◌≡◌, ◌||◌, Bool, true, false, Option, Some, OnOk, IsSome, refl, ap, sym, ◌∙◌, inl, inr, subst, vec_capacity, arith}
 use Rattle.std.specs.FinMap.{insert}
 use Rattle.coco_types.specs.declared.value.Value.{Value}
-use Rattle.coco_rows.specs.Versions.{at_rest, is_touched}
+use Rattle.coco_rows.specs.Versions.{at_rest, is_touched, row_kind}
 use Rattle.coco_rows.specs.declared.Row.{Row}
+use Rattle.coco_rows.proofs.Listing.{changed_whole}
 use Rattle.coco_shard.specs.RowState.{resting}
 use Rattle.coco_shard.specs.Kept.{IsSound, SetsRow, noted, state_of, view_of}
 use Rattle.coco_shard.proofs.Entries.{put_back_view, added_on_ok, said_on_err}
-use Rattle.coco_shard.proofs.Whole.{put_back_whole, whole_kept}
 use Rattle.coco_shard.proofs.table.load_row.Goals as goal
 
 noted_touch : (b : Bool) (row : Row) → is_touched row ≡ false → is_touched (noted b row) ≡ b || false
@@ -28,10 +28,9 @@ pub returns-in-None-clause-whole : goal.returns-in-None-clause-whole
 returns-in-None-clause-whole c =
     let set = subst (SetsRow c.args.rows.now.entries c.load_at.new.rows.entries c.args.key) (c.at_rest-row.ensures ∙ ap at_rest c.of.ensures) c.in-None.ensures.set in
     let after : Row = noted (is_touched set.before) (at_rest (Some c.args.value)) in
-    whole_kept _ c.load_at.new.rows.entries _ c.args.touched.now.items _ _
-    (put_back_whole c.args.rows.now.entries c.args.touched.now.items (vec_capacity c.args.touched.now) (vec_capacity c.args.touched.now) c.args.key set.before after false
-    c.requires set.was (noted_sound (is_touched set.before) c.args.value) (noted_touch (is_touched set.before) (at_rest (Some c.args.value)) refl) (λ h. cc) (omega arith))
-    set.put refl (omega arith)
+    changed_whole row_kind c.args.rows.now.entries c.load_at.new.rows.entries c.args.touched.now.items c.args.touched.now.items (vec_capacity c.args.touched.now) (vec_capacity c.args.touched.now) c.args.key set.before after false
+    c.requires set.was (noted_sound (is_touched set.before) c.args.value) (noted_touch (is_touched set.before) (at_rest (Some c.args.value)) refl) (λ h. cc) (omega arith)
+    set.put refl
 
 pub returns-in-None-clause-state : goal.returns-in-None-clause-state
 returns-in-None-clause-state c =

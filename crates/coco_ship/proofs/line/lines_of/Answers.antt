@@ -4,32 +4,18 @@ use Rattle.coco_ship.specs.Lines.{AllBegin}
 use Rattle.coco_ship.proofs.NoteLemmas.{begun_counted, begun_lines, begun_waiting}
 use Rattle.coco_ship.proofs.line.lines_of.Goals as goal
 
-pub returns-clause-count : goal.returns-clause-count
-returns-clause-count c = c.in_ok-lines.ensures.count ∙ ap length c.as_slice.ensures.value ∙ c.in_ok-notes.ensures.count
-
-pub returns-clause-lines : goal.returns-clause-lines
-returns-clause-lines c =
+pub returns : goal.returns
+returns c =
+    let ring = c.args.ring in
+    let pieces = c.args.pieces.now in
     let notes = c.in_ok-notes.notes.items in
     let lines = c.in_ok-lines.lines.items in
-    let count : length notes ≡ c.args.ring.partitions * c.args.ring.copies = c.in_ok-notes.ensures.count in
-    let same : length lines ≡ c.args.ring.partitions * c.args.ring.copies = c.in_ok-lines.ensures.count ∙ ap length c.as_slice.ensures.value ∙ count in
+    let noted = c.in_ok-notes.ensures in
+    let same : length lines ≡ ring.partitions * ring.copies = c.in_ok-lines.ensures.count ∙ ap length c.as_slice.ensures.value ∙ noted.count in
     let begun : AllBegin notes lines = subst (λ (ns : List Noted). AllBegin ns lines) c.as_slice.ensures.value c.in_ok-lines.ensures.begun in
-    begun_lines c.args.ring c.args.pieces.now notes lines c.args.copies.now count same begun c.in_ok-notes.ensures.noted
-
-pub returns-clause-waiting : goal.returns-clause-waiting
-returns-clause-waiting c =
-    let notes = c.in_ok-notes.notes.items in
-    let lines = c.in_ok-lines.lines.items in
-    let count : length notes ≡ c.args.ring.partitions * c.args.ring.copies = c.in_ok-notes.ensures.count in
-    let same : length lines ≡ c.args.ring.partitions * c.args.ring.copies = c.in_ok-lines.ensures.count ∙ ap length c.as_slice.ensures.value ∙ count in
-    let begun : AllBegin notes lines = subst (λ (ns : List Noted). AllBegin ns lines) c.as_slice.ensures.value c.in_ok-lines.ensures.begun in
-    begun_waiting c.args.ring notes lines count same begun
-
-pub returns-clause-counted : goal.returns-clause-counted
-returns-clause-counted c =
-    let notes = c.in_ok-notes.notes.items in
-    let lines = c.in_ok-lines.lines.items in
-    let count : length notes ≡ c.args.ring.partitions * c.args.ring.copies = c.in_ok-notes.ensures.count in
-    let same : length lines ≡ c.args.ring.partitions * c.args.ring.copies = c.in_ok-lines.ensures.count ∙ ap length c.as_slice.ensures.value ∙ count in
-    let begun : AllBegin notes lines = subst (λ (ns : List Noted). AllBegin ns lines) c.as_slice.ensures.value c.in_ok-lines.ensures.begun in
-    begun_counted c.args.ring c.args.pieces.now notes lines c.args.copies.now count same begun c.in_ok-notes.ensures.noted
+    record {
+      count = same;
+      fit = begun_lines ring pieces notes lines c.args.copies.now noted.count same begun noted.noted;
+      counted = begun_counted ring pieces notes lines c.args.copies.now noted.count same begun noted.noted;
+      waiting = begun_waiting ring notes lines noted.count same begun;
+    }

@@ -1,4 +1,4 @@
-use Rattle.std.proofs.Common.{◌≡◌, ◌≢◌, ◌∙◌, ◌+◌, ◌*◌, ◌≤◌, [], ℕ, arith, length, refl, subst}
+use Rattle.std.proofs.Common.{◌≡◌, ◌≢◌, ◌∙◌, ◌+◌, ◌≤◌, [], ℕ, arith, refl, subst}
 use Rattle.coco_ship.specs.Taking.{waiting_below, Brings, Hears, OfBoth, OfTables}
 use Rattle.coco_ship.proofs.DeliverLemmas.{brings_below, brings_more, hears_more}
 use Rattle.coco_ship.proofs.TakeLemmas.{brings_none, hears_nothing}
@@ -8,7 +8,7 @@ pub loop-node-init : goal.loop-node-init
 loop-node-init g c = record {
   ok = hears_nothing c.args.ring c.args.epoch c.args.lines.now c.args.copies.now;
   tables = brings_none c.args.ring c.args.epoch [] c.args.copies.now;
-  begun = c.requires.begun;
+  fit = c.requires.fit;
   waits = λ p h. refl;
   given = refl;
   sent = refl;
@@ -26,12 +26,10 @@ loop-node-preserved g c =
     let w = g.N.Net.waiting c.args.net.now in
     let before = c.loop-node.invariant in
     let is : c.as_slice.result.now ≡ w n = c.as_slice.ensures.value ∙ c.in_ok-letters.ensures.letters ∙ before.waits n (omega arith) in
-    let lines : length c.loop-node.lines ≡ ring.partitions * ring.copies = omega (arith, c.loop-node.auto.lines, c.requires.lines) in
-    let copies : length c.loop-node.copies ≡ ring.partitions * ring.copies = omega (arith, c.loop-node.auto.copies, c.requires.copies) in
     record {
-      ok = hears_more ring c.args.epoch w n c.as_slice.result.now c.args.lines.now c.args.copies.now c.loop-node.lines c.loop-node.copies c.take_letters.new.lines c.take_letters.new.copies is lines copies before.ok c.in_ok-take_letters.ensures.ok;
-      tables = brings_more ring c.args.epoch w n c.as_slice.result.now c.args.copies.now c.loop-node.copies c.take_letters.new.copies is copies before.tables c.take_letters.ensures.tables;
-      begun = c.take_letters.ensures.begun;
+      ok = hears_more ring c.args.epoch w n c.as_slice.result.now c.args.lines.now c.args.copies.now c.loop-node.lines c.loop-node.copies c.take_letters.new.lines c.take_letters.new.copies is before.fit.line_count before.fit.table_count before.ok c.in_ok-take_letters.ensures.ok;
+      tables = brings_more ring c.args.epoch w n c.as_slice.result.now c.args.copies.now c.loop-node.copies c.take_letters.new.copies is before.fit.table_count before.tables c.take_letters.ensures.tables;
+      fit = c.take_letters.ensures.fit;
       waits = λ p h. c.take_all.ensures.others p (apart p n h) ∙ before.waits p (omega (arith, h));
       given = c.take_all.ensures.given ∙ before.given;
       sent = c.take_all.ensures.sent ∙ before.sent;
@@ -50,9 +48,8 @@ returns-in_err-take_letters-clause-tables g c =
     let w = g.N.Net.waiting c.args.net.now in
     let before = c.loop-node.invariant in
     let is : c.as_slice.result.now ≡ w n = c.as_slice.ensures.value ∙ c.in_ok-letters.ensures.letters ∙ before.waits n (omega arith) in
-    let copies : length c.loop-node.copies ≡ ring.partitions * ring.copies = omega (arith, c.loop-node.auto.copies, c.requires.copies) in
     brings_below ring c.args.epoch w (n + 1) ring.nodes c.args.copies.now c.take_letters.new.copies (omega arith)
-    (brings_more ring c.args.epoch w n c.as_slice.result.now c.args.copies.now c.loop-node.copies c.take_letters.new.copies is copies before.tables c.take_letters.ensures.tables)
+    (brings_more ring c.args.epoch w n c.as_slice.result.now c.args.copies.now c.loop-node.copies c.take_letters.new.copies is before.fit.table_count before.tables c.take_letters.ensures.tables)
 
 pub returns-clause-ok : goal.returns-clause-ok
 returns-clause-ok g c =

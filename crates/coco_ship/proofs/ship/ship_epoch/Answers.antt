@@ -1,37 +1,46 @@
-use Rattle.std.proofs.Common.{◌≡◌, ◌*◌, List, [], arith, length, subst, sym}
+use Rattle.std.proofs.Common.{List, [], refl, subst, sym}
 use Rattle.std.proofs.lemmas.Result.{on_ok_weaker}
 use Rattle.coco_ship.specs.declared.line.Line.{Line}
-use Rattle.coco_ship.specs.Going.{IsGoing}
+use Rattle.coco_ship.specs.Lines.{AreFirst}
 use Rattle.coco_ship.specs.Shipping.{news}
-use Rattle.coco_ship.proofs.RoundLemmas.{gain_only, going_first, passes_none, tables_begun}
+use Rattle.coco_ship.proofs.RoundLemmas.{gain_only, going_first, news_own, none_given, none_phase}
 use Rattle.coco_ship.proofs.TakeLemmas.{brings_none}
-use Rattle.coco_ship.specs.There.{AreExact}
 use Rattle.coco_ship.proofs.ThereLemmas.{exact_first, right_none_all}
 use Rattle.coco_ship.proofs.ship.ship_epoch.Goals as goal
 
-pub exchanges-requires-clause-going : goal.exchanges-requires-clause-going
-exchanges-requires-clause-going g c =
-    let lines = c.in_ok-lines.ensures.lines in
-    subst (λ (ls : List Line). IsGoing c.args.ring c.args.epoch c.args.pieces.now (g.N.Net.sent c.args.net.now) ls c.args.copies.now) (sym c.deref_mut.ensures.value)
-    (going_first c.args.ring c.args.epoch c.args.pieces.now (g.N.Net.sent c.args.net.now) c.in_ok-lines.lines.items c.args.copies.now c.requires.tables c.requires.fresh lines)
+pub exchanges-requires : goal.exchanges-requires
+exchanges-requires g c =
+    let first : AreFirst c.args.ring c.args.pieces.now c.deref_mut.result.now c.args.copies.now = subst (λ (ls : List Line). AreFirst c.args.ring c.args.pieces.now ls c.args.copies.now) (sym c.deref_mut.ensures.value) c.in_ok-lines.ensures in
+    record {
+      fit = record { is_ring = c.requires.ring; line_count = first.count; table_count = c.requires.tables.count; begun = c.requires.tables.begun };
+      pieces = c.requires.pieces;
+      going = going_first c.args.ring c.args.epoch c.args.pieces.now (g.N.Net.sent c.args.net.now) c.deref_mut.result.now c.args.copies.now c.requires.tables c.requires.fresh first.fit;
+      waiting = first.waiting;
+    }
+
+pub returns-clause-whole : goal.returns-clause-whole
+returns-clause-whole g c = on_ok_weaker c.exchanges.result (λ ended. ended.whole) c.exchanges.ensures.ended
+
+pub returns-clause-answered : goal.returns-clause-answered
+returns-clause-answered g c = on_ok_weaker c.exchanges.result (λ ended. ended.answered) c.exchanges.ensures.ended
 
 pub returns-clause-gains : goal.returns-clause-gains
-returns-clause-gains g c = gain_only c.args.ring c.args.epoch (news (g.N.Net.given c.args.net.now) (g.N.Net.given c.exchanges.new.net)) c.args.copies.now c.exchanges.new.copies c.exchanges.ensures.passes.gains
+returns-clause-gains g c = gain_only c.args.ring c.args.epoch (news (g.N.Net.given c.args.net.now) (g.N.Net.given c.exchanges.new.net)) c.args.copies.now c.exchanges.new.copies c.exchanges.ensures.ships.passes.gains
 
 pub returns-clause-given : goal.returns-clause-given
-returns-clause-given g c = c.exchanges.ensures.passes.gives
+returns-clause-given g c = c.exchanges.ensures.ships.passes.gives
 
 pub returns-clause-sent : goal.returns-clause-sent
-returns-clause-sent g c = c.exchanges.ensures.passes.sends
+returns-clause-sent g c = c.exchanges.ensures.ships.passes.sends
 
 pub returns-clause-phase : goal.returns-clause-phase
-returns-clause-phase g c = c.exchanges.ensures.passes.phase
+returns-clause-phase g c = c.exchanges.ensures.ships.passes.phase
 
 pub returns-clause-were_sent : goal.returns-clause-were_sent
-returns-clause-were_sent g c = c.exchanges.ensures.passes.were_sent
+returns-clause-were_sent g c = c.exchanges.ensures.ships.passes.were_sent
 
 pub returns-in_err-lines-clause-were_sent : goal.returns-in_err-lines-clause-were_sent
-returns-in_err-lines-clause-were_sent g c = let none = passes_none c.args.ring c.args.epoch (g.N.Net.sent c.args.net.now) (g.N.Net.given c.args.net.now) c.args.copies.now c.requires.tables.begun in none.were_sent
+returns-in_err-lines-clause-were_sent g c = none_given (g.N.Net.sent c.args.net.now) (g.N.Net.given c.args.net.now) (g.N.Net.given c.args.net.now) refl
 
 pub returns-in_err-lines-clause-gains : goal.returns-in_err-lines-clause-gains
 returns-in_err-lines-clause-gains g c =
@@ -39,42 +48,36 @@ returns-in_err-lines-clause-gains g c =
     gain_only c.args.ring c.args.epoch posts c.args.copies.now c.args.copies.now (brings_none c.args.ring c.args.epoch posts c.args.copies.now)
 
 pub returns-in_err-lines-clause-given : goal.returns-in_err-lines-clause-given
-returns-in_err-lines-clause-given g c = let none = passes_none c.args.ring c.args.epoch (g.N.Net.sent c.args.net.now) (g.N.Net.given c.args.net.now) c.args.copies.now c.requires.tables.begun in none.gives
+returns-in_err-lines-clause-given g c = news_own (g.N.Net.given c.args.net.now)
 
 pub returns-in_err-lines-clause-sent : goal.returns-in_err-lines-clause-sent
-returns-in_err-lines-clause-sent g c = let none = passes_none c.args.ring c.args.epoch (g.N.Net.sent c.args.net.now) (g.N.Net.given c.args.net.now) c.args.copies.now c.requires.tables.begun in none.sends
+returns-in_err-lines-clause-sent g c = news_own (g.N.Net.sent c.args.net.now)
 
 pub returns-in_err-lines-clause-phase : goal.returns-in_err-lines-clause-phase
-returns-in_err-lines-clause-phase g c = let none = passes_none c.args.ring c.args.epoch (g.N.Net.sent c.args.net.now) (g.N.Net.given c.args.net.now) c.args.copies.now c.requires.tables.begun in none.phase
+returns-in_err-lines-clause-phase g c = none_phase c.args.epoch (g.N.Net.sent c.args.net.now)
 
 pub returns-clause-tables : goal.returns-clause-tables
-returns-clause-tables g c =
-    let count : length c.exchanges.new.copies ≡ c.args.ring.partitions * c.args.ring.copies = omega (arith, c.requires.tables.count, c.exchanges.auto.copies) in
-    tables_begun c.args.ring c.args.epoch c.args.pieces.now c.exchanges.new.copies count c.exchanges.ensures.passes.begun c.exchanges.ensures.written
+returns-clause-tables g c = let fit = c.exchanges.ensures.ships.passes.fit in record { count = fit.table_count; begun = fit.begun; written = c.exchanges.ensures.ships.written }
 
 pub returns-in_err-lines-clause-tables : goal.returns-in_err-lines-clause-tables
 returns-in_err-lines-clause-tables g c = c.requires.tables
 
 pub returns-clause-there : goal.returns-clause-there
 returns-clause-there g c =
-    let lines = c.in_ok-lines.ensures in
-    let first : AreExact c.args.ring c.args.epoch c.args.pieces.now c.args.copies.now [] c.deref_mut.result.now =
-    subst (AreExact c.args.ring c.args.epoch c.args.pieces.now c.args.copies.now []) (sym c.deref_mut.ensures.value) (exact_first c.args.ring c.args.epoch c.args.pieces.now c.in_ok-lines.lines.items c.args.copies.now lines.lines lines.counted) in
-    on_ok_weaker c.exchanges.result (λ come. come c.args.copies.now [] first) c.exchanges.ensures.there
+    let first : AreFirst c.args.ring c.args.pieces.now c.deref_mut.result.now c.args.copies.now = subst (λ (ls : List Line). AreFirst c.args.ring c.args.pieces.now ls c.args.copies.now) (sym c.deref_mut.ensures.value) c.in_ok-lines.ensures in
+    on_ok_weaker c.exchanges.result (λ ended. ended.there c.args.copies.now [] (exact_first c.args.epoch first)) c.exchanges.ensures.ended
 
 pub returns-clause-right : goal.returns-clause-right
 returns-clause-right g c =
-    let lines = c.in_ok-lines.ensures in
-    let first : AreExact c.args.ring c.args.epoch c.args.pieces.now c.args.copies.now [] c.deref_mut.result.now =
-    subst (AreExact c.args.ring c.args.epoch c.args.pieces.now c.args.copies.now []) (sym c.deref_mut.ensures.value) (exact_first c.args.ring c.args.epoch c.args.pieces.now c.in_ok-lines.lines.items c.args.copies.now lines.lines lines.counted) in
-    c.exchanges.ensures.right c.args.copies.now [] c.requires.tables.count first
+    let first : AreFirst c.args.ring c.args.pieces.now c.deref_mut.result.now c.args.copies.now = subst (λ (ls : List Line). AreFirst c.args.ring c.args.pieces.now ls c.args.copies.now) (sym c.deref_mut.ensures.value) c.in_ok-lines.ensures in
+    c.exchanges.ensures.ships.right c.args.copies.now [] c.requires.tables.count (exact_first c.args.epoch first)
 
 pub returns-in_err-lines-clause-right : goal.returns-in_err-lines-clause-right
 returns-in_err-lines-clause-right g c =
     right_none_all c.args.ring c.args.epoch c.args.pieces.now c.args.copies.now (news (g.N.Net.given c.args.net.now) (g.N.Net.given c.args.net.now)) (g.N.Net.sent c.args.net.now)
 
 pub returns-clause-faults : goal.returns-clause-faults
-returns-clause-faults g c = c.exchanges.ensures.later.faults_rise
+returns-clause-faults g c = c.exchanges.ensures.ships.passes.faults_rise
 
 pub returns-clause-seed : goal.returns-clause-seed
-returns-clause-seed g c = c.exchanges.ensures.later.seed_stays
+returns-clause-seed g c = c.exchanges.ensures.ships.passes.seed_stays

@@ -1,4 +1,4 @@
-use Rattle.std.proofs.Common.{◌≡◌, ◌+◌, ◌*◌, ◌<◌, [], arith, length, rules, subst, take}
+use Rattle.std.proofs.Common.{◌≡◌, ◌+◌, ◌<◌, [], arith, length, rules, subst, take}
 use Rattle.std.proofs.lemmas.List.{take_all}
 use Rattle.coco_ship.specs.Taking.{at_node, Hears, OfBoth}
 use Rattle.coco_ship.proofs.TakeLemmas.{brings_first, brings_next, brings_none, hears_next, hears_nothing}
@@ -8,7 +8,7 @@ pub loop-letter-init : goal.loop-letter-init
 loop-letter-init c = record {
   ok = hears_nothing c.args.ring c.args.epoch c.args.lines.now c.args.copies.now;
   tables = brings_none c.args.ring c.args.epoch [] c.args.copies.now;
-  begun = c.requires.begun;
+  fit = c.requires.fit;
 }
 
 pub loop-letter-preserved : goal.loop-letter-preserved
@@ -17,12 +17,11 @@ loop-letter-preserved c =
     let letters = c.args.letters.now in
     let i = c.loop-letter.letter-index in
     let within : i < length letters = search rules in
-    let lines : length c.loop-letter.lines ≡ ring.partitions * ring.copies = omega (arith, c.loop-letter.auto.lines, c.requires.lines) in
-    let copies : length c.loop-letter.copies ≡ ring.partitions * ring.copies = omega (arith, c.loop-letter.auto.copies, c.requires.copies) in
+    let before = c.loop-letter.invariant in
     record {
-      ok = hears_next ring c.args.epoch c.args.node letters i c.letter-item.result c.args.lines.now c.args.copies.now c.loop-letter.lines c.loop-letter.copies c.take_letter.new.lines c.take_letter.new.copies within c.letter-item.is lines copies c.loop-letter.invariant.ok c.in_ok-take_letter.ensures.ok;
-      tables = brings_next ring c.args.epoch c.args.node letters i c.letter-item.result c.args.copies.now c.loop-letter.copies c.take_letter.new.copies within c.letter-item.is copies c.loop-letter.invariant.tables c.take_letter.ensures.tables;
-      begun = c.take_letter.ensures.begun;
+      ok = hears_next ring c.args.epoch c.args.node letters i c.letter-item.result c.args.lines.now c.args.copies.now c.loop-letter.lines c.loop-letter.copies c.take_letter.new.lines c.take_letter.new.copies within c.letter-item.is before.fit.line_count before.fit.table_count before.ok c.in_ok-take_letter.ensures.ok;
+      tables = brings_next ring c.args.epoch c.args.node letters i c.letter-item.result c.args.copies.now c.loop-letter.copies c.take_letter.new.copies within c.letter-item.is before.fit.table_count before.tables c.take_letter.ensures.tables;
+      fit = c.take_letter.ensures.fit;
     }
 
 pub returns-in_err-take_letter-clause-tables : goal.returns-in_err-take_letter-clause-tables
@@ -31,9 +30,9 @@ returns-in_err-take_letter-clause-tables c =
     let letters = c.args.letters.now in
     let i = c.loop-letter.letter-index in
     let within : i < length letters = search rules in
-    let copies : length c.loop-letter.copies ≡ ring.partitions * ring.copies = omega (arith, c.loop-letter.auto.copies, c.requires.copies) in
+    let before = c.loop-letter.invariant in
     brings_first ring c.args.epoch c.args.node letters (i + 1) c.args.copies.now c.take_letter.new.copies
-    (brings_next ring c.args.epoch c.args.node letters i c.letter-item.result c.args.copies.now c.loop-letter.copies c.take_letter.new.copies within c.letter-item.is copies c.loop-letter.invariant.tables c.take_letter.ensures.tables)
+    (brings_next ring c.args.epoch c.args.node letters i c.letter-item.result c.args.copies.now c.loop-letter.copies c.take_letter.new.copies within c.letter-item.is before.fit.table_count before.tables c.take_letter.ensures.tables)
 
 pub returns-clause-ok : goal.returns-clause-ok
 returns-clause-ok c =

@@ -47,7 +47,7 @@ pub returns-then-is_all-clause-comes : goal.returns-then-is_all-clause-comes
 returns-then-is_all-clause-comes g c =
     let a : Around = around g.N.Net g.P.Power c.args.net.now c.args.power.now in
     let b : Around = around g.N.Net g.P.Power c.prepare.new.net c.prepare.new.power in
-    let given = given_is (g.N.Net.given c.args.net.now) (g.N.Net.faults c.args.net.now) (g.N.Net.last_seed c.args.net.now) (g.N.Net.given c.prepare.new.net) (g.N.Net.faults c.prepare.new.net) (g.N.Net.last_seed c.prepare.new.net) c.prepare.ensures.rest.net in
+    let given = given_is (g.N.Net.given c.args.net.now) (g.N.Net.faults c.args.net.now) (g.N.Net.last_seed c.args.net.now) (g.N.Net.given c.prepare.new.net) (g.N.Net.faults c.prepare.new.net) (g.N.Net.last_seed c.prepare.new.net) c.prepare.ensures.rest.letters.gives in
     let few : length c.prepare.new.cores ≤ 8 = omega (arith, c.requires.few, c.prepare.auto.cores) in
     let nodes : (chief_of c.prepare.new.chief).nodes ≡ length c.prepare.new.cores = omega (arith, c.prepare.ensures.nodes, c.requires.nodes, c.prepare.auto.cores) in
     let all : c.in_ok-votes.votes ≡ All = c.is_all.ensures.all c.if-is_all.true in
@@ -72,14 +72,14 @@ pub give_up-requires-clause-current : goal.give_up-requires-clause-current
 give_up-requires-clause-current g c =
     let a : Around = around g.N.Net g.P.Power c.args.net.now c.args.power.now in
     let b : Around = around g.N.Net g.P.Power c.prepare.new.net c.prepare.new.power in
-    let given = given_is (g.N.Net.given c.args.net.now) (g.N.Net.faults c.args.net.now) (g.N.Net.last_seed c.args.net.now) (g.N.Net.given c.prepare.new.net) (g.N.Net.faults c.prepare.new.net) (g.N.Net.last_seed c.prepare.new.net) c.prepare.ensures.rest.net in
+    let given = given_is (g.N.Net.given c.args.net.now) (g.N.Net.faults c.args.net.now) (g.N.Net.last_seed c.args.net.now) (g.N.Net.given c.prepare.new.net) (g.N.Net.faults c.prepare.new.net) (g.N.Net.last_seed c.prepare.new.net) c.prepare.ensures.rest.letters.gives in
     (open_still c.in_ok-votes.votes c.args.epoch c.prepare.new.cores (chief_of c.prepare.new.chief) (since a.given b.given) a.faults b.faults a.early b.early (c.is_all.ensures.others c.if-is_all.false) (c.in_ok-votes.ensures.answer (since a.given b.given) given)).current
 
 pub give_up-requires-clause-undecided : goal.give_up-requires-clause-undecided
 give_up-requires-clause-undecided g c =
     let a : Around = around g.N.Net g.P.Power c.args.net.now c.args.power.now in
     let b : Around = around g.N.Net g.P.Power c.prepare.new.net c.prepare.new.power in
-    let given = given_is (g.N.Net.given c.args.net.now) (g.N.Net.faults c.args.net.now) (g.N.Net.last_seed c.args.net.now) (g.N.Net.given c.prepare.new.net) (g.N.Net.faults c.prepare.new.net) (g.N.Net.last_seed c.prepare.new.net) c.prepare.ensures.rest.net in
+    let given = given_is (g.N.Net.given c.args.net.now) (g.N.Net.faults c.args.net.now) (g.N.Net.last_seed c.args.net.now) (g.N.Net.given c.prepare.new.net) (g.N.Net.faults c.prepare.new.net) (g.N.Net.last_seed c.prepare.new.net) c.prepare.ensures.rest.letters.gives in
     (open_still c.in_ok-votes.votes c.args.epoch c.prepare.new.cores (chief_of c.prepare.new.chief) (since a.given b.given) a.faults b.faults a.early b.early (c.is_all.ensures.others c.if-is_all.false) (c.in_ok-votes.ensures.answer (since a.given b.given) given)).undecided
 
 pub returns-in_err-give_up-clause-nodes : goal.returns-in_err-give_up-clause-nodes
@@ -100,11 +100,11 @@ returns-clause-comes g c =
     let a : Around = around g.N.Net g.P.Power c.args.net.now c.args.power.now in
     let m : Around = around g.N.Net g.P.Power c.prepare.new.net c.prepare.new.power in
     let b : Around = around g.N.Net g.P.Power c.give_up.new.net c.prepare.new.power in
-    let given = given_is (g.N.Net.given c.args.net.now) (g.N.Net.faults c.args.net.now) (g.N.Net.last_seed c.args.net.now) (g.N.Net.given c.prepare.new.net) (g.N.Net.faults c.prepare.new.net) (g.N.Net.last_seed c.prepare.new.net) c.prepare.ensures.rest.net in
+    let given = given_is (g.N.Net.given c.args.net.now) (g.N.Net.faults c.args.net.now) (g.N.Net.last_seed c.args.net.now) (g.N.Net.given c.prepare.new.net) (g.N.Net.faults c.prepare.new.net) (g.N.Net.last_seed c.prepare.new.net) c.prepare.ensures.rest.letters.gives in
     let says = c.in_ok-votes.ensures.says in
     let fits : c.args.epoch < 2 ^ 64 = omega (arith, c.ranges.epoch.fits) in
-    let first : IsLater a m = record { sent = (says.posts, says.sent_is); given = (c.prepare.ensures.rest.net.more, c.prepare.ensures.rest.net.gives); faults = c.prepare.ensures.rest.net.faults_rise; early = c.prepare.ensures.rest.later.early_rises; seed = c.prepare.ensures.rest.net.seed_stays } in
-    let next : IsLater m b = record { sent = (c.in_ok-give_up.ensures.said.posts, c.in_ok-give_up.ensures.said.sent_is); given = (c.give_up.ensures.net.more, c.give_up.ensures.net.gives); faults = c.give_up.ensures.net.faults_rise; early = omega arith; seed = c.give_up.ensures.net.seed_stays } in
+    let first : IsLater a m = record { sent = (says.posts, says.sent_is); given = (c.prepare.ensures.rest.letters.gives.more, c.prepare.ensures.rest.letters.gives.gives); faults = c.prepare.ensures.rest.letters.gives.faults_rise; early = c.prepare.ensures.rest.later.early_rises; seed = c.prepare.ensures.rest.letters.gives.seed_stays } in
+    let next : IsLater m b = record { sent = (c.in_ok-give_up.ensures.said.posts, c.in_ok-give_up.ensures.said.sent_is); given = (c.give_up.ensures.letters.gives.more, c.give_up.ensures.letters.gives.gives); faults = c.give_up.ensures.letters.gives.faults_rise; early = omega arith; seed = c.give_up.ensures.letters.gives.seed_stays } in
     record {
       phase = c.in_ok-give_up.ensures.rest;
       current = c.in_ok-give_up.ensures.current;
@@ -158,9 +158,9 @@ returns-then-is_all-clause-rest g c = rest_then (rest_unmarked c.args.voters.now
 pub returns-in_err-give_up-clause-rest : goal.returns-in_err-give_up-clause-rest
 returns-in_err-give_up-clause-rest g c =
     rest_then (rest_then (rest_unmarked c.args.voters.now c.unmark.new.voters c.args.host.now c.args.net.now c.args.power.now c.unmark.ensures) c.prepare.ensures.rest)
-    (rest_net c.prepare.new.voters c.prepare.new.host c.prepare.new.net c.give_up.new.net c.prepare.new.power c.give_up.ensures.sent c.give_up.ensures.net)
+    (rest_net c.prepare.new.voters c.prepare.new.host c.prepare.new.net c.give_up.new.net c.prepare.new.power c.give_up.ensures.letters)
 
 pub returns-clause-rest : goal.returns-clause-rest
 returns-clause-rest g c =
     rest_then (rest_then (rest_unmarked c.args.voters.now c.unmark.new.voters c.args.host.now c.args.net.now c.args.power.now c.unmark.ensures) c.prepare.ensures.rest)
-    (rest_net c.prepare.new.voters c.prepare.new.host c.prepare.new.net c.give_up.new.net c.prepare.new.power c.give_up.ensures.sent c.give_up.ensures.net)
+    (rest_net c.prepare.new.voters c.prepare.new.host c.prepare.new.net c.give_up.new.net c.prepare.new.power c.give_up.ensures.letters)

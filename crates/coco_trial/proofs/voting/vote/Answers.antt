@@ -1,7 +1,7 @@
-use Rattle.std.proofs.Common.{◌≡◌, ◌<◌, ◌≤◌, ◌^◌, List, ◌++◌, length, arith, ap, subst, sym, refl, ◌∙◌}
+use Rattle.std.proofs.Common.{◌<◌, ◌≤◌, ◌^◌, List, ◌++◌, length, arith, ap, subst, sym, refl, ◌∙◌}
 use Rattle.std.proofs.Math.ListN.{take, drop}
 use Rattle.coco_chief.specs.Shown.{chief_of}
-use Rattle.coco_finish.proofs.TableLemmas.{back}
+use Rattle.std.proofs.lemmas.List.{with_items_is}
 use Rattle.coco_letters.specs.Around.{Around, around}
 use Rattle.coco_letters.specs.declared.voter.Voter.{Voter}
 use Rattle.coco_node.specs.Node.{Node}
@@ -54,58 +54,46 @@ decide-requires-clause-apart g c = subst AreApart (sym c.as_mut_slice-2.ensures.
 pub returns-in_err-all-clause-keeps : goal.returns-in_err-all-clause-keeps
 returns-in_err-all-clause-keeps g c =
     let k = c.args.members.now in
-    let cores : List Node = c.decide.new.cores in
     let voters : List Voter = c.decide.new.voters in
-    let cores_are : take k.cores.len (cores ++ drop (length cores) k.cores.items) ≡ cores = back cores k.cores.items k.cores.len (sym c.as_mut_slice.ensures.len ∙ ap length c.as_mut_slice.ensures.value) ((let many : length c.decide.new.cores ≡ length c.as_mut_slice.result.now = omega (arith, c.decide.auto.cores) in many) ∙ ap length c.as_mut_slice.ensures.value) in
-    let voters_are : take k.voters.len (voters ++ drop (length voters) k.voters.items) ≡ voters = back voters k.voters.items k.voters.len (sym c.as_mut_slice-2.ensures.len ∙ ap length c.as_mut_slice-2.ensures.value) ((let many : length c.decide.new.voters ≡ length c.as_mut_slice-2.result.now = omega (arith, c.decide.auto.voters) in many) ∙ ap length c.as_mut_slice-2.ensures.value) in
+    let cores_are = with_items_is c.args.members.now.cores c.decide.new.cores (c.decide.auto.cores ∙ c.as_mut_slice.ensures.len) in
+    let voters_are = with_items_is c.args.members.now.voters c.decide.new.voters (c.decide.auto.voters ∙ c.as_mut_slice-2.ensures.len) in
     record {
       log = refl;
       tables = refl;
-      count = ap length cores_are ∙ (let many : length c.decide.new.cores ≡ length c.as_mut_slice.result.now = omega (arith, c.decide.auto.cores) in many) ∙ ap length c.as_mut_slice.ensures.value;
+      count = ap length cores_are ∙ c.decide.auto.cores ∙ ap length c.as_mut_slice.ensures.value;
       places = subst (KeepPlaces k.voters.items) (sym voters_are) (subst (λ (x : List Voter). KeepPlaces x voters) c.as_mut_slice-2.ensures.value c.decide.ensures.rest.places);
     }
 
 pub returns-clause-keeps : goal.returns-clause-keeps
 returns-clause-keeps g c =
     let k = c.args.members.now in
-    let cores : List Node = c.decide.new.cores in
     let voters : List Voter = c.decide.new.voters in
-    let cores_are : take k.cores.len (cores ++ drop (length cores) k.cores.items) ≡ cores = back cores k.cores.items k.cores.len (sym c.as_mut_slice.ensures.len ∙ ap length c.as_mut_slice.ensures.value) ((let many : length c.decide.new.cores ≡ length c.as_mut_slice.result.now = omega (arith, c.decide.auto.cores) in many) ∙ ap length c.as_mut_slice.ensures.value) in
-    let voters_are : take k.voters.len (voters ++ drop (length voters) k.voters.items) ≡ voters = back voters k.voters.items k.voters.len (sym c.as_mut_slice-2.ensures.len ∙ ap length c.as_mut_slice-2.ensures.value) ((let many : length c.decide.new.voters ≡ length c.as_mut_slice-2.result.now = omega (arith, c.decide.auto.voters) in many) ∙ ap length c.as_mut_slice-2.ensures.value) in
+    let cores_are = with_items_is c.args.members.now.cores c.decide.new.cores (c.decide.auto.cores ∙ c.as_mut_slice.ensures.len) in
+    let voters_are = with_items_is c.args.members.now.voters c.decide.new.voters (c.decide.auto.voters ∙ c.as_mut_slice-2.ensures.len) in
     record {
       log = refl;
       tables = refl;
-      count = ap length cores_are ∙ (let many : length c.decide.new.cores ≡ length c.as_mut_slice.result.now = omega (arith, c.decide.auto.cores) in many) ∙ ap length c.as_mut_slice.ensures.value;
+      count = ap length cores_are ∙ c.decide.auto.cores ∙ ap length c.as_mut_slice.ensures.value;
       places = subst (KeepPlaces k.voters.items) (sym voters_are) (subst (λ (x : List Voter). KeepPlaces x voters) c.as_mut_slice-2.ensures.value c.decide.ensures.rest.places);
     }
 
 pub returns-clause-comes : goal.returns-clause-comes
 returns-clause-comes g c =
-    let k = c.args.members.now in
-    let cores : List Node = c.decide.new.cores in
-    let voters : List Voter = c.decide.new.voters in
-    let cores_are : take k.cores.len (cores ++ drop (length cores) k.cores.items) ≡ cores = back cores k.cores.items k.cores.len (sym c.as_mut_slice.ensures.len ∙ ap length c.as_mut_slice.ensures.value) ((let many : length c.decide.new.cores ≡ length c.as_mut_slice.result.now = omega (arith, c.decide.auto.cores) in many) ∙ ap length c.as_mut_slice.ensures.value) in
-    let voters_are : take k.voters.len (voters ++ drop (length voters) k.voters.items) ≡ voters = back voters k.voters.items k.voters.len (sym c.as_mut_slice-2.ensures.len ∙ ap length c.as_mut_slice-2.ensures.value) ((let many : length c.decide.new.voters ≡ length c.as_mut_slice-2.result.now = omega (arith, c.decide.auto.voters) in many) ∙ ap length c.as_mut_slice-2.ensures.value) in
+    let cores_are = with_items_is c.args.members.now.cores c.decide.new.cores (c.decide.auto.cores ∙ c.as_mut_slice.ensures.len) in
     let a : Around = around g.N.Net g.P.Power c.args.net.now c.args.power.now in
     let b : Around = around g.N.Net g.P.Power c.decide.new.net c.decide.new.power in
     subst (λ (x : List Node). ComesOf c.in_ok-all.all c.args.epoch x (chief_of c.decide.new.chief) a b) (sym cores_are) c.in_ok-all.ensures.comes
 
 pub returns-clause-ready : goal.returns-clause-ready
 returns-clause-ready g c =
-    let k = c.args.members.now in
-    let cores : List Node = c.decide.new.cores in
-    let voters : List Voter = c.decide.new.voters in
-    let cores_are : take k.cores.len (cores ++ drop (length cores) k.cores.items) ≡ cores = back cores k.cores.items k.cores.len (sym c.as_mut_slice.ensures.len ∙ ap length c.as_mut_slice.ensures.value) ((let many : length c.decide.new.cores ≡ length c.as_mut_slice.result.now = omega (arith, c.decide.auto.cores) in many) ∙ ap length c.as_mut_slice.ensures.value) in
-    let voters_are : take k.voters.len (voters ++ drop (length voters) k.voters.items) ≡ voters = back voters k.voters.items k.voters.len (sym c.as_mut_slice-2.ensures.len ∙ ap length c.as_mut_slice-2.ensures.value) ((let many : length c.decide.new.voters ≡ length c.as_mut_slice-2.result.now = omega (arith, c.decide.auto.voters) in many) ∙ ap length c.as_mut_slice-2.ensures.value) in
+    let voters_are = with_items_is c.args.members.now.voters c.decide.new.voters (c.decide.auto.voters ∙ c.as_mut_slice-2.ensures.len) in
     subst (λ (x : List Voter). AreReady x (g.H.Host.reads c.decide.new.host) (g.H.Host.may_leave c.decide.new.host)) (sym voters_are) c.in_ok-all.ensures.ready
 
 pub returns-clause-world : goal.returns-clause-world
 returns-clause-world g c =
     let k = c.args.members.now in
     let cores : List Node = c.decide.new.cores in
-    let voters : List Voter = c.decide.new.voters in
-    let cores_are : take k.cores.len (cores ++ drop (length cores) k.cores.items) ≡ cores = back cores k.cores.items k.cores.len (sym c.as_mut_slice.ensures.len ∙ ap length c.as_mut_slice.ensures.value) ((let many : length c.decide.new.cores ≡ length c.as_mut_slice.result.now = omega (arith, c.decide.auto.cores) in many) ∙ ap length c.as_mut_slice.ensures.value) in
-    let voters_are : take k.voters.len (voters ++ drop (length voters) k.voters.items) ≡ voters = back voters k.voters.items k.voters.len (sym c.as_mut_slice-2.ensures.len ∙ ap length c.as_mut_slice-2.ensures.value) ((let many : length c.decide.new.voters ≡ length c.as_mut_slice-2.result.now = omega (arith, c.decide.auto.voters) in many) ∙ ap length c.as_mut_slice-2.ensures.value) in
+    let cores_are = with_items_is c.args.members.now.cores c.decide.new.cores (c.decide.auto.cores ∙ c.as_mut_slice.ensures.len) in
     subst (λ (x : List Node). GoesOnVoted c.args.epoch (g.P.Power.stopped c.args.power.now) (g.P.Power.stopped c.decide.new.power) (record { cores = k.cores.items; chief = chief_of k.chief; sent = g.N.Net.sent c.args.net.now }) (record { cores = x; chief = chief_of c.decide.new.chief; sent = g.N.Net.sent c.decide.new.net })) (sym cores_are)
     (subst (λ (x : List Node). GoesOnVoted c.args.epoch (g.P.Power.stopped c.args.power.now) (g.P.Power.stopped c.decide.new.power) (record { cores = x; chief = chief_of k.chief; sent = g.N.Net.sent c.args.net.now }) (record { cores = cores; chief = chief_of c.decide.new.chief; sent = g.N.Net.sent c.decide.new.net })) c.as_mut_slice.ensures.value c.in_ok-all.ensures.world)
 
@@ -113,9 +101,6 @@ pub returns-in_err-all-clause-files : goal.returns-in_err-all-clause-files
 returns-in_err-all-clause-files g c d hold held may nodes logs rests =
     let k = c.args.members.now in
     let cores : List Node = c.decide.new.cores in
-    let voters : List Voter = c.decide.new.voters in
-    let cores_are : take k.cores.len (cores ++ drop (length cores) k.cores.items) ≡ cores = back cores k.cores.items k.cores.len (sym c.as_mut_slice.ensures.len ∙ ap length c.as_mut_slice.ensures.value) ((let many : length c.decide.new.cores ≡ length c.as_mut_slice.result.now = omega (arith, c.decide.auto.cores) in many) ∙ ap length c.as_mut_slice.ensures.value) in
-    let voters_are : take k.voters.len (voters ++ drop (length voters) k.voters.items) ≡ voters = back voters k.voters.items k.voters.len (sym c.as_mut_slice-2.ensures.len ∙ ap length c.as_mut_slice-2.ensures.value) ((let many : length c.decide.new.voters ≡ length c.as_mut_slice-2.result.now = omega (arith, c.decide.auto.voters) in many) ∙ ap length c.as_mut_slice-2.ensures.value) in
     let kept = c.decide.ensures.files d hold (subst (AreHeld hold) (sym c.as_mut_slice-2.ensures.value) held) may (nodes ∙ sym (ap length c.as_mut_slice.ensures.value)) (subst (HaveLogs d) (sym c.as_mut_slice-2.ensures.value) logs) rests in
     let p = err_from_is_err_and c.from_residual.result c.from_residual.ensures.1 in
     record {
@@ -125,11 +110,7 @@ returns-in_err-all-clause-files g c d hold held may nodes logs rests =
 
 pub returns-clause-files : goal.returns-clause-files
 returns-clause-files g c d hold held may nodes logs rests =
-    let k = c.args.members.now in
-    let cores : List Node = c.decide.new.cores in
-    let voters : List Voter = c.decide.new.voters in
-    let cores_are : take k.cores.len (cores ++ drop (length cores) k.cores.items) ≡ cores = back cores k.cores.items k.cores.len (sym c.as_mut_slice.ensures.len ∙ ap length c.as_mut_slice.ensures.value) ((let many : length c.decide.new.cores ≡ length c.as_mut_slice.result.now = omega (arith, c.decide.auto.cores) in many) ∙ ap length c.as_mut_slice.ensures.value) in
-    let voters_are : take k.voters.len (voters ++ drop (length voters) k.voters.items) ≡ voters = back voters k.voters.items k.voters.len (sym c.as_mut_slice-2.ensures.len ∙ ap length c.as_mut_slice-2.ensures.value) ((let many : length c.decide.new.voters ≡ length c.as_mut_slice-2.result.now = omega (arith, c.decide.auto.voters) in many) ∙ ap length c.as_mut_slice-2.ensures.value) in
+    let cores_are = with_items_is c.args.members.now.cores c.decide.new.cores (c.decide.auto.cores ∙ c.as_mut_slice.ensures.len) in
     let b : Ballot = record { epoch = c.args.epoch; pieces = c.args.pieces.now; held = hold } in
     let kept = c.in_ok-all.ensures.files d hold (subst (AreHeld hold) (sym c.as_mut_slice-2.ensures.value) held) may (nodes ∙ sym (ap length c.as_mut_slice.ensures.value)) (subst (HaveLogs d) (sym c.as_mut_slice-2.ensures.value) logs) rests in
     record {
@@ -141,36 +122,29 @@ pub returns-clause-decided : goal.returns-clause-decided
 returns-clause-decided g c =
     let k = c.args.members.now in
     let cores : List Node = c.decide.new.cores in
-    let voters : List Voter = c.decide.new.voters in
-    let cores_are : take k.cores.len (cores ++ drop (length cores) k.cores.items) ≡ cores = back cores k.cores.items k.cores.len (sym c.as_mut_slice.ensures.len ∙ ap length c.as_mut_slice.ensures.value) ((let many : length c.decide.new.cores ≡ length c.as_mut_slice.result.now = omega (arith, c.decide.auto.cores) in many) ∙ ap length c.as_mut_slice.ensures.value) in
-    let voters_are : take k.voters.len (voters ++ drop (length voters) k.voters.items) ≡ voters = back voters k.voters.items k.voters.len (sym c.as_mut_slice-2.ensures.len ∙ ap length c.as_mut_slice-2.ensures.value) ((let many : length c.decide.new.voters ≡ length c.as_mut_slice-2.result.now = omega (arith, c.decide.auto.voters) in many) ∙ ap length c.as_mut_slice-2.ensures.value) in
+    let cores_are = with_items_is c.args.members.now.cores c.decide.new.cores (c.decide.auto.cores ∙ c.as_mut_slice.ensures.len) in
+    let voters_are = with_items_is c.args.members.now.voters c.decide.new.voters (c.decide.auto.voters ∙ c.as_mut_slice-2.ensures.len) in
     let a : Around = around g.N.Net g.P.Power c.args.net.now c.args.power.now in
     let b : Around = around g.N.Net g.P.Power c.decide.new.net c.decide.new.power in
     let can : AllCanFinish (chief_of k.chief).last (take k.cores.len (cores ++ drop (length cores) k.cores.items)) = subst (AllCanFinish (chief_of k.chief).last) (sym cores_are) (c.in_ok-all.ensures.can (chief_of k.chief).last c.requires.may.rest.committed (subst (AllCanFinish (chief_of k.chief).last) (sym c.as_mut_slice.ensures.value) c.requires.may.rest.can)) in
     decided_by c.in_ok-all.all c.args.epoch (g.N.Net.sent c.args.net.now) (g.N.Net.sent c.decide.new.net) k a b (let fits : c.args.epoch < 2 ^ 64 = omega (arith, c.ranges.epoch.fits) in fits) c.requires.may
-    (returns-clause-keeps g c) c.decide.ensures.nodes (ap length voters_are ∙ (let many : length c.decide.new.voters ≡ length c.as_mut_slice-2.result.now = omega (arith, c.decide.auto.voters) in many) ∙ ap length c.as_mut_slice-2.ensures.value) c.in_ok-all.ensures.last can c.in_ok-all.ensures.says
+    (returns-clause-keeps g c) c.decide.ensures.nodes (ap length voters_are ∙ c.decide.auto.voters ∙ ap length c.as_mut_slice-2.ensures.value) c.in_ok-all.ensures.last can c.in_ok-all.ensures.says
     (subst (λ (x : List Node). ComesOf c.in_ok-all.all c.args.epoch x (chief_of c.decide.new.chief) a b) (sym cores_are) c.in_ok-all.ensures.comes)
 
 pub returns-clause-whole : goal.returns-clause-whole
 returns-clause-whole g c =
     let k = c.args.members.now in
-    let cores : List Node = c.decide.new.cores in
     let voters : List Voter = c.decide.new.voters in
-    let cores_are : take k.cores.len (cores ++ drop (length cores) k.cores.items) ≡ cores = back cores k.cores.items k.cores.len (sym c.as_mut_slice.ensures.len ∙ ap length c.as_mut_slice.ensures.value) ((let many : length c.decide.new.cores ≡ length c.as_mut_slice.result.now = omega (arith, c.decide.auto.cores) in many) ∙ ap length c.as_mut_slice.ensures.value) in
-    let voters_are : take k.voters.len (voters ++ drop (length voters) k.voters.items) ≡ voters = back voters k.voters.items k.voters.len (sym c.as_mut_slice-2.ensures.len ∙ ap length c.as_mut_slice-2.ensures.value) ((let many : length c.decide.new.voters ≡ length c.as_mut_slice-2.result.now = omega (arith, c.decide.auto.voters) in many) ∙ ap length c.as_mut_slice-2.ensures.value) in
+    let voters_are = with_items_is c.args.members.now.voters c.decide.new.voters (c.decide.auto.voters ∙ c.as_mut_slice-2.ensures.len) in
     subst (StayWhole (g.P.Power.stops_seen c.args.power.now) (g.P.Power.stops_seen c.decide.new.power) k.voters.items) (sym voters_are)
     (subst (λ (x : List Voter). StayWhole (g.P.Power.stops_seen c.args.power.now) (g.P.Power.stops_seen c.decide.new.power) x voters) c.as_mut_slice-2.ensures.value c.in_ok-all.ensures.whole)
 
 pub returns-in_err-all-clause-rest : goal.returns-in_err-all-clause-rest
 returns-in_err-all-clause-rest g c =
-    let k = c.args.members.now in
-    let voters : List Voter = c.decide.new.voters in
-    let voters_are : take k.voters.len (voters ++ drop (length voters) k.voters.items) ≡ voters = back voters k.voters.items k.voters.len (sym c.as_mut_slice-2.ensures.len ∙ ap length c.as_mut_slice-2.ensures.value) ((let many : length c.decide.new.voters ≡ length c.as_mut_slice-2.result.now = omega (arith, c.decide.auto.voters) in many) ∙ ap length c.as_mut_slice-2.ensures.value) in
+    let voters_are = with_items_is c.args.members.now.voters c.decide.new.voters (c.decide.auto.voters ∙ c.as_mut_slice-2.ensures.len) in
     rest_of c.as_mut_slice-2.ensures.value voters_are c.decide.ensures.rest
 
 pub returns-clause-rest : goal.returns-clause-rest
 returns-clause-rest g c =
-    let k = c.args.members.now in
-    let voters : List Voter = c.decide.new.voters in
-    let voters_are : take k.voters.len (voters ++ drop (length voters) k.voters.items) ≡ voters = back voters k.voters.items k.voters.len (sym c.as_mut_slice-2.ensures.len ∙ ap length c.as_mut_slice-2.ensures.value) ((let many : length c.decide.new.voters ≡ length c.as_mut_slice-2.result.now = omega (arith, c.decide.auto.voters) in many) ∙ ap length c.as_mut_slice-2.ensures.value) in
+    let voters_are = with_items_is c.args.members.now.voters c.decide.new.voters (c.decide.auto.voters ∙ c.as_mut_slice-2.ensures.len) in
     rest_of c.as_mut_slice-2.ensures.value voters_are c.decide.ensures.rest

@@ -13,9 +13,9 @@ use Rattle.coco_letters.proofs.WorldLemmas.{goes_on_then}
 use Rattle.coco_vote.specs.Counting.{HasCounted, IsAye}
 use Rattle.coco_vote.specs.Taking.{vote_of}
 use Rattle.coco_vote.proofs.CountingLemmas.{noes_still, round_counted, takes_counted}
-use Rattle.coco_vote.proofs.GivingLemmas.{fresh_given, given_since, given_waits, gives_counts, gives_round, gives_then, sent_still, waits_given}
+use Rattle.coco_vote.proofs.GivingLemmas.{fresh_given, given_since, given_waits, sent_still, waits_given}
 use Rattle.coco_vote.proofs.TakingLemmas.{fresh_still}
-use Rattle.coco_letters.proofs.SendingLemmas.{sends_fresh, sends_none, sends_then}
+use Rattle.coco_vote.proofs.LetterLemmas.{letters_round, letters_sent, letters_then}
 use Rattle.coco_vote.proofs.exchange.collect.Goals as goal
 
 pub chief_takes-requires-2-clause-sent : goal.chief_takes-requires-2-clause-sent
@@ -23,23 +23,17 @@ chief_takes-requires-2-clause-sent g c =
     subst (λ (ps : List Posted). AreSent ps (g.N.Net.waiting c.round.new.self)) (sym c.round.ensures.sent)
     (c.waiting_letters_were_sent.ensures.round (g.N.Net.sent c.chief_takes.new.net) (g.N.Net.fresh c.chief_takes.new.net) (g.N.Net.faults c.chief_takes.new.net) (g.N.Net.faults c.round.new.self) (g.N.Net.waiting c.round.new.self) (g.N.Net.given c.chief_takes.new.net) (g.N.Net.given c.round.new.self) c.in_ok-round.ensures.ok)
 
-pub returns-in_err-chief_takes-clause-net : goal.returns-in_err-chief_takes-clause-net
-returns-in_err-chief_takes-clause-net g c =
-    gives_counts (g.N.Net.given c.args.net.now) (g.N.Net.faults c.args.net.now) (g.N.Net.last_seed c.args.net.now) (g.N.Net.given c.chief_takes.new.net) (g.N.Net.faults c.chief_takes.new.net) (g.N.Net.last_seed c.chief_takes.new.net) c.chief_takes.ensures.counts
+pub returns-in_err-chief_takes-clause-letters : goal.returns-in_err-chief_takes-clause-letters
+returns-in_err-chief_takes-clause-letters g c =
+    letters_sent c.chief_takes.ensures.fresh c.chief_takes.ensures.counts
 
-pub returns-in_err-round-clause-net : goal.returns-in_err-round-clause-net
-returns-in_err-round-clause-net g c =
-    gives_then (g.N.Net.given c.args.net.now) (g.N.Net.faults c.args.net.now) (g.N.Net.last_seed c.args.net.now) (g.N.Net.given c.chief_takes.new.net) (g.N.Net.faults c.chief_takes.new.net) (g.N.Net.last_seed c.chief_takes.new.net) (g.N.Net.given c.round.new.self) (g.N.Net.faults c.round.new.self) (g.N.Net.last_seed c.round.new.self)
-    (gives_counts (g.N.Net.given c.args.net.now) (g.N.Net.faults c.args.net.now) (g.N.Net.last_seed c.args.net.now) (g.N.Net.given c.chief_takes.new.net) (g.N.Net.faults c.chief_takes.new.net) (g.N.Net.last_seed c.chief_takes.new.net) c.chief_takes.ensures.counts)
-    (gives_round c.round.result (g.N.Net.sent c.chief_takes.new.net) (g.N.Net.fresh c.chief_takes.new.net) (g.N.Net.waiting c.round.new.self) (g.N.Net.given c.chief_takes.new.net) (g.N.Net.faults c.chief_takes.new.net) (g.N.Net.last_seed c.chief_takes.new.net) (g.N.Net.given c.round.new.self) (g.N.Net.faults c.round.new.self) (g.N.Net.last_seed c.round.new.self) (g.N.Net.fresh c.round.new.self) c.round.ensures.ok c.round.ensures.faults c.round.ensures.err c.round.ensures.seed)
+pub returns-in_err-round-clause-letters : goal.returns-in_err-round-clause-letters
+returns-in_err-round-clause-letters g c =
+    letters_then (letters_sent c.chief_takes.ensures.fresh c.chief_takes.ensures.counts) (letters_round c.round.result c.round.ensures.sent c.round.ensures.ok c.round.ensures.faults c.round.ensures.err c.round.ensures.seed)
 
-pub returns-in_err-chief_takes-2-clause-net : goal.returns-in_err-chief_takes-2-clause-net
-returns-in_err-chief_takes-2-clause-net g c =
-    gives_then (g.N.Net.given c.args.net.now) (g.N.Net.faults c.args.net.now) (g.N.Net.last_seed c.args.net.now) (g.N.Net.given c.round.new.self) (g.N.Net.faults c.round.new.self) (g.N.Net.last_seed c.round.new.self) (g.N.Net.given c.chief_takes-2.new.net) (g.N.Net.faults c.chief_takes-2.new.net) (g.N.Net.last_seed c.chief_takes-2.new.net)
-    (gives_then (g.N.Net.given c.args.net.now) (g.N.Net.faults c.args.net.now) (g.N.Net.last_seed c.args.net.now) (g.N.Net.given c.chief_takes.new.net) (g.N.Net.faults c.chief_takes.new.net) (g.N.Net.last_seed c.chief_takes.new.net) (g.N.Net.given c.round.new.self) (g.N.Net.faults c.round.new.self) (g.N.Net.last_seed c.round.new.self)
-    (gives_counts (g.N.Net.given c.args.net.now) (g.N.Net.faults c.args.net.now) (g.N.Net.last_seed c.args.net.now) (g.N.Net.given c.chief_takes.new.net) (g.N.Net.faults c.chief_takes.new.net) (g.N.Net.last_seed c.chief_takes.new.net) c.chief_takes.ensures.counts)
-    (gives_round c.round.result (g.N.Net.sent c.chief_takes.new.net) (g.N.Net.fresh c.chief_takes.new.net) (g.N.Net.waiting c.round.new.self) (g.N.Net.given c.chief_takes.new.net) (g.N.Net.faults c.chief_takes.new.net) (g.N.Net.last_seed c.chief_takes.new.net) (g.N.Net.given c.round.new.self) (g.N.Net.faults c.round.new.self) (g.N.Net.last_seed c.round.new.self) (g.N.Net.fresh c.round.new.self) c.round.ensures.ok c.round.ensures.faults c.round.ensures.err c.round.ensures.seed))
-    (gives_counts (g.N.Net.given c.round.new.self) (g.N.Net.faults c.round.new.self) (g.N.Net.last_seed c.round.new.self) (g.N.Net.given c.chief_takes-2.new.net) (g.N.Net.faults c.chief_takes-2.new.net) (g.N.Net.last_seed c.chief_takes-2.new.net) c.chief_takes-2.ensures.counts)
+pub returns-in_err-chief_takes-2-clause-letters : goal.returns-in_err-chief_takes-2-clause-letters
+returns-in_err-chief_takes-2-clause-letters g c =
+    letters_then (letters_then (letters_sent c.chief_takes.ensures.fresh c.chief_takes.ensures.counts) (letters_round c.round.result c.round.ensures.sent c.round.ensures.ok c.round.ensures.faults c.round.ensures.err c.round.ensures.seed)) (letters_sent c.chief_takes-2.ensures.fresh c.chief_takes-2.ensures.counts)
 
 pub returns-clause-counted : goal.returns-clause-counted
 returns-clause-counted g c e given more some fits counted noes is =
@@ -84,13 +78,9 @@ returns-clause-world g c cores =
     (c.in_ok-chief_takes.ensures.world cores)
     (subst (λ (ps : List Posted). GoesOn (record { cores = cores; chief = chief_of c.chief_takes.new.chief; sent = ps }) (record { cores = cores; chief = chief_of c.chief_takes-2.new.chief; sent = g.N.Net.sent c.chief_takes-2.new.net })) c.round.ensures.sent (c.in_ok-chief_takes-2.ensures.world cores))
 
-pub returns-clause-net : goal.returns-clause-net
-returns-clause-net g c =
-    gives_then (g.N.Net.given c.args.net.now) (g.N.Net.faults c.args.net.now) (g.N.Net.last_seed c.args.net.now) (g.N.Net.given c.round.new.self) (g.N.Net.faults c.round.new.self) (g.N.Net.last_seed c.round.new.self) (g.N.Net.given c.chief_takes-2.new.net) (g.N.Net.faults c.chief_takes-2.new.net) (g.N.Net.last_seed c.chief_takes-2.new.net)
-    (gives_then (g.N.Net.given c.args.net.now) (g.N.Net.faults c.args.net.now) (g.N.Net.last_seed c.args.net.now) (g.N.Net.given c.chief_takes.new.net) (g.N.Net.faults c.chief_takes.new.net) (g.N.Net.last_seed c.chief_takes.new.net) (g.N.Net.given c.round.new.self) (g.N.Net.faults c.round.new.self) (g.N.Net.last_seed c.round.new.self)
-    (gives_counts (g.N.Net.given c.args.net.now) (g.N.Net.faults c.args.net.now) (g.N.Net.last_seed c.args.net.now) (g.N.Net.given c.chief_takes.new.net) (g.N.Net.faults c.chief_takes.new.net) (g.N.Net.last_seed c.chief_takes.new.net) c.chief_takes.ensures.counts)
-    (gives_round c.round.result (g.N.Net.sent c.chief_takes.new.net) (g.N.Net.fresh c.chief_takes.new.net) (g.N.Net.waiting c.round.new.self) (g.N.Net.given c.chief_takes.new.net) (g.N.Net.faults c.chief_takes.new.net) (g.N.Net.last_seed c.chief_takes.new.net) (g.N.Net.given c.round.new.self) (g.N.Net.faults c.round.new.self) (g.N.Net.last_seed c.round.new.self) (g.N.Net.fresh c.round.new.self) c.round.ensures.ok c.round.ensures.faults c.round.ensures.err c.round.ensures.seed))
-    (gives_counts (g.N.Net.given c.round.new.self) (g.N.Net.faults c.round.new.self) (g.N.Net.last_seed c.round.new.self) (g.N.Net.given c.chief_takes-2.new.net) (g.N.Net.faults c.chief_takes-2.new.net) (g.N.Net.last_seed c.chief_takes-2.new.net) c.chief_takes-2.ensures.counts)
+pub returns-clause-letters : goal.returns-clause-letters
+returns-clause-letters g c =
+    letters_then (letters_then (letters_sent c.chief_takes.ensures.fresh c.chief_takes.ensures.counts) (letters_round c.round.result c.round.ensures.sent c.round.ensures.ok c.round.ensures.faults c.round.ensures.err c.round.ensures.seed)) (letters_sent c.chief_takes-2.ensures.fresh c.chief_takes-2.ensures.counts)
 
 pub returns-clause-were_sent : goal.returns-clause-were_sent
 returns-clause-were_sent g c more p is among =
@@ -105,19 +95,3 @@ returns-clause-rests g c = λ still.
     let two = c.in_ok-chief_takes-2.ensures.votes in
     let first : (chief_of c.chief_takes.new.chief).phase ≡ (chief_of c.args.chief.now).phase = one.rests still in
     (two.rests (ap (λ (p : Phase). is_voting p) first ∙ still) ∙ first, two.current ∙ one.current)
-
-pub returns-in_err-chief_takes-clause-sent : goal.returns-in_err-chief_takes-clause-sent
-returns-in_err-chief_takes-clause-sent g c =
-    sends_fresh (g.N.Net.sent c.args.net.now) (g.N.Net.fresh c.args.net.now) (g.N.Net.sent c.chief_takes.new.net) (g.N.Net.fresh c.chief_takes.new.net) c.chief_takes.ensures.fresh
-
-pub returns-in_err-round-clause-sent : goal.returns-in_err-round-clause-sent
-returns-in_err-round-clause-sent g c =
-    sends_then (g.N.Net.sent c.args.net.now) (g.N.Net.sent c.chief_takes.new.net) (g.N.Net.sent c.round.new.self) (sends_fresh (g.N.Net.sent c.args.net.now) (g.N.Net.fresh c.args.net.now) (g.N.Net.sent c.chief_takes.new.net) (g.N.Net.fresh c.chief_takes.new.net) c.chief_takes.ensures.fresh) (sends_none (g.N.Net.sent c.chief_takes.new.net) (g.N.Net.sent c.round.new.self) c.round.ensures.sent)
-
-pub returns-in_err-chief_takes-2-clause-sent : goal.returns-in_err-chief_takes-2-clause-sent
-returns-in_err-chief_takes-2-clause-sent g c =
-    sends_then (g.N.Net.sent c.args.net.now) (g.N.Net.sent c.round.new.self) (g.N.Net.sent c.chief_takes-2.new.net) (sends_then (g.N.Net.sent c.args.net.now) (g.N.Net.sent c.chief_takes.new.net) (g.N.Net.sent c.round.new.self) (sends_fresh (g.N.Net.sent c.args.net.now) (g.N.Net.fresh c.args.net.now) (g.N.Net.sent c.chief_takes.new.net) (g.N.Net.fresh c.chief_takes.new.net) c.chief_takes.ensures.fresh) (sends_none (g.N.Net.sent c.chief_takes.new.net) (g.N.Net.sent c.round.new.self) c.round.ensures.sent)) (sends_fresh (g.N.Net.sent c.round.new.self) (g.N.Net.fresh c.round.new.self) (g.N.Net.sent c.chief_takes-2.new.net) (g.N.Net.fresh c.chief_takes-2.new.net) c.chief_takes-2.ensures.fresh)
-
-pub returns-clause-sent : goal.returns-clause-sent
-returns-clause-sent g c =
-    sends_then (g.N.Net.sent c.args.net.now) (g.N.Net.sent c.round.new.self) (g.N.Net.sent c.chief_takes-2.new.net) (sends_then (g.N.Net.sent c.args.net.now) (g.N.Net.sent c.chief_takes.new.net) (g.N.Net.sent c.round.new.self) (sends_fresh (g.N.Net.sent c.args.net.now) (g.N.Net.fresh c.args.net.now) (g.N.Net.sent c.chief_takes.new.net) (g.N.Net.fresh c.chief_takes.new.net) c.chief_takes.ensures.fresh) (sends_none (g.N.Net.sent c.chief_takes.new.net) (g.N.Net.sent c.round.new.self) c.round.ensures.sent)) (sends_fresh (g.N.Net.sent c.round.new.self) (g.N.Net.fresh c.round.new.self) (g.N.Net.sent c.chief_takes-2.new.net) (g.N.Net.fresh c.chief_takes-2.new.net) c.chief_takes-2.ensures.fresh)

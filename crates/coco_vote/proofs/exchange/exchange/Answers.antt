@@ -88,10 +88,10 @@ returns-clause-counted g c =
     unless_any c.in_ok-stops.stops ((given more : List Posted) → HasCounted c.args.epoch (IsAye c.args.epoch given) (chief_of c.args.chief.now) → (g.N.Net.given c.collect.new.net) ≡ (g.N.Net.given c.args.net.now) ++ more → HasCounted c.args.epoch (IsAye c.args.epoch (given ++ more)) (chief_of c.collect.new.chief)) (λ given more counted is.
     let gives = c.in_ok-round.ensures.ok in
     let le : 8 ≤ 8 = omega arith in
-    exchange_counted c.args.epoch given gives.0 c.collect.ensures.net.more more (g.N.Net.waiting c.nodes_take.new.net 8) (chief_of c.collect.new.chief) (since_both (g.N.Net.given c.args.net.now) (g.N.Net.given c.nodes_take.new.net) (g.N.Net.given c.collect.new.net) gives.0 c.collect.ensures.net.more more (c.nodes_take.ensures.counts.given_stays ∙ gives.1) c.collect.ensures.net.gives is)
+    exchange_counted c.args.epoch given gives.0 c.collect.ensures.letters.gives.more more (g.N.Net.waiting c.nodes_take.new.net 8) (chief_of c.collect.new.chief) (since_both (g.N.Net.given c.args.net.now) (g.N.Net.given c.nodes_take.new.net) (g.N.Net.given c.collect.new.net) gives.0 c.collect.ensures.letters.gives.more more (c.nodes_take.ensures.counts.given_stays ∙ gives.1) c.collect.ensures.letters.gives.gives is)
     (λ n among. waits_given (g.N.Net.sent c.args.net.now) (g.N.Net.fresh c.args.net.now) (g.N.Net.faults c.args.net.now) (g.N.Net.faults c.round.new.self) (g.N.Net.waiting c.round.new.self) gives.0 gives.2 8 le (vote_of n c.args.epoch true).letter (subst (λ (ls : List Letter). Contains ls (vote_of n c.args.epoch true).letter) (c.nodes_take.ensures.waiting 8 c.requires.few) among))
     (λ n among. subst (λ (ls : List Letter). Contains ls (vote_of n c.args.epoch true).letter) (sym (c.nodes_take.ensures.waiting 8 c.requires.few)) (given_waits (g.N.Net.sent c.args.net.now) (g.N.Net.fresh c.args.net.now) (g.N.Net.faults c.args.net.now) (g.N.Net.faults c.round.new.self) (g.N.Net.waiting c.round.new.self) gives.0 gives.2 8 le (vote_of n c.args.epoch true).letter among))
-    (c.in_ok-collect.ensures.counted c.args.epoch given c.collect.ensures.net.more c.requires.some (let fits : c.args.epoch < 2 ^ 64 = omega (arith, c.ranges.epoch.fits) in fits) counted (c.in_ok-stops.ensures.told (subst (λ (ps : List Posted). AreTold c.args.epoch c.args.cores.now ps (g.P.Power.asked c.args.power.now)) (sym c.round.ensures.sent) c.requires.told)).noes c.collect.ensures.net.gives))
+    (c.in_ok-collect.ensures.counted c.args.epoch given c.collect.ensures.letters.gives.more c.requires.some (let fits : c.args.epoch < 2 ^ 64 = omega (arith, c.ranges.epoch.fits) in fits) counted (c.in_ok-stops.ensures.told (subst (λ (ps : List Posted). AreTold c.args.epoch c.args.cores.now ps (g.P.Power.asked c.args.power.now)) (sym c.round.ensures.sent) c.requires.told)).noes c.collect.ensures.letters.gives.gives))
 
 pub returns-clause-lost : goal.returns-clause-lost
 returns-clause-lost g c =
@@ -101,15 +101,15 @@ pub returns-clause-votes : goal.returns-clause-votes
 returns-clause-votes g c =
     λ never more is same n less among.
     let gives = c.in_ok-round.ensures.ok in
-    let risen = c.collect.ensures.net.faults_rise in
+    let risen = c.collect.ensures.letters.gives.faults_rise in
     let stays : (g.N.Net.faults c.round.new.self) ≡ (g.N.Net.faults c.args.net.now) = omega (arith, (gives_round c.round.result (g.N.Net.sent c.args.net.now) (g.N.Net.fresh c.args.net.now) (g.N.Net.waiting c.round.new.self) (g.N.Net.given c.args.net.now) (g.N.Net.faults c.args.net.now) (g.N.Net.last_seed c.args.net.now) (g.N.Net.given c.round.new.self) (g.N.Net.faults c.round.new.self) (g.N.Net.last_seed c.round.new.self) (g.N.Net.fresh c.round.new.self) c.round.ensures.ok c.round.ensures.faults c.round.ensures.err c.round.ensures.seed).faults_rise, risen, c.nodes_take.ensures.counts.faults_stay, same) in
     let still : (g.N.Net.faults c.collect.new.net) ≡ (g.N.Net.faults c.nodes_take.new.net) = omega (arith, same, stays, c.nodes_take.ensures.counts.faults_stay) in
     let le : n ≤ 8 = omega (arith, less, c.requires.few) in
     let given : Contains gives.0 (prepare_of n c.args.epoch) = fresh_given (g.N.Net.sent c.args.net.now) (g.N.Net.fresh c.args.net.now) (g.N.Net.faults c.args.net.now) (g.N.Net.faults c.round.new.self) (g.N.Net.waiting c.round.new.self) gives.0 (prepare_of n c.args.epoch) gives.2 stays among in
     let voted : Contains (g.N.Net.fresh c.nodes_take.new.net) (vote_of n c.args.epoch true) = c.in_ok-stops.ensures.votes never n less (prepare_of n c.args.epoch).letter
     (given_waits (g.N.Net.sent c.args.net.now) (g.N.Net.fresh c.args.net.now) (g.N.Net.faults c.args.net.now) (g.N.Net.faults c.round.new.self) (g.N.Net.waiting c.round.new.self) gives.0 gives.2 n le (prepare_of n c.args.epoch).letter given) (asked_from n c.args.epoch (let fits : c.args.epoch < 2 ^ 64 = omega (arith, c.ranges.epoch.fits) in fits)) in
-    subst (λ (ps : List Posted). Contains ps (vote_of n c.args.epoch true)) (sym (since_both (g.N.Net.given c.args.net.now) (g.N.Net.given c.nodes_take.new.net) (g.N.Net.given c.collect.new.net) gives.0 c.collect.ensures.net.more more (c.nodes_take.ensures.counts.given_stays ∙ gives.1) c.collect.ensures.net.gives is))
-    (Contains-append_right gives.0 c.collect.ensures.net.more (vote_of n c.args.epoch true) (c.in_ok-collect.ensures.gives c.collect.ensures.net.more (vote_of n c.args.epoch true) c.collect.ensures.net.gives still voted))
+    subst (λ (ps : List Posted). Contains ps (vote_of n c.args.epoch true)) (sym (since_both (g.N.Net.given c.args.net.now) (g.N.Net.given c.nodes_take.new.net) (g.N.Net.given c.collect.new.net) gives.0 c.collect.ensures.letters.gives.more more (c.nodes_take.ensures.counts.given_stays ∙ gives.1) c.collect.ensures.letters.gives.gives is))
+    (Contains-append_right gives.0 c.collect.ensures.letters.gives.more (vote_of n c.args.epoch true) (c.in_ok-collect.ensures.gives c.collect.ensures.letters.gives.more (vote_of n c.args.epoch true) c.collect.ensures.letters.gives.gives still voted))
 
 pub returns-clause-says : goal.returns-clause-says
 returns-clause-says g c =
@@ -137,9 +137,9 @@ returns-then-is_early-clause-were_sent g c more p is among =
 pub returns-clause-were_sent : goal.returns-clause-were_sent
 returns-clause-were_sent g c more p is among =
     let gives = c.in_ok-round.ensures.ok in
-    elim (Contains-append_cases gives.0 c.collect.ensures.net.more p (subst (λ (ps : List Posted). Contains ps p) (since_both (g.N.Net.given c.args.net.now) (g.N.Net.given c.nodes_take.new.net) (g.N.Net.given c.collect.new.net) gives.0 c.collect.ensures.net.more more (c.nodes_take.ensures.counts.given_stays ∙ gives.1) c.collect.ensures.net.gives is) among)) [
+    elim (Contains-append_cases gives.0 c.collect.ensures.letters.gives.more p (subst (λ (ps : List Posted). Contains ps p) (since_both (g.N.Net.given c.args.net.now) (g.N.Net.given c.nodes_take.new.net) (g.N.Net.given c.collect.new.net) gives.0 c.collect.ensures.letters.gives.more more (c.nodes_take.ensures.counts.given_stays ∙ gives.1) c.collect.ensures.letters.gives.gives is) among)) [
       | inl first ↦ adds_left (g.N.Net.sent c.nodes_take.new.net) (g.N.Net.sent c.collect.new.net) p c.in_ok-collect.ensures.says (sent_still (g.N.Net.sent c.args.net.now) (g.N.Net.sent c.round.new.self) (g.N.Net.fresh c.round.new.self) (g.N.Net.sent c.nodes_take.new.net) (g.N.Net.fresh c.nodes_take.new.net) p c.round.ensures.sent c.in_ok-stops.ensures.fresh (All-contains (Contains (g.N.Net.sent c.args.net.now)) gives.0 p gives.2.were_sent first))
-      | inr second ↦ c.in_ok-collect.ensures.were_sent c.collect.ensures.net.more p c.collect.ensures.net.gives second
+      | inr second ↦ c.in_ok-collect.ensures.were_sent c.collect.ensures.letters.gives.more p c.collect.ensures.letters.gives.gives second
     ]
 
 pub returns-in_err-round-clause-rest : goal.returns-in_err-round-clause-rest
@@ -156,8 +156,8 @@ returns-then-is_early-clause-rest g c =
 
 pub returns-in_err-collect-clause-rest : goal.returns-in_err-collect-clause-rest
 returns-in_err-collect-clause-rest g c =
-    rest_then (rest_then (rest_round c.args.voters.now c.args.host.now c.args.net.now c.round.new.self c.args.power.now c.round.result c.round.ensures.sent c.round.ensures.ok c.round.ensures.faults c.round.ensures.err c.round.ensures.seed) c.nodes_take.ensures.rest) (rest_net c.nodes_take.new.voters c.nodes_take.new.host c.nodes_take.new.net c.collect.new.net c.nodes_take.new.power c.collect.ensures.sent c.collect.ensures.net)
+    rest_then (rest_then (rest_round c.args.voters.now c.args.host.now c.args.net.now c.round.new.self c.args.power.now c.round.result c.round.ensures.sent c.round.ensures.ok c.round.ensures.faults c.round.ensures.err c.round.ensures.seed) c.nodes_take.ensures.rest) (rest_net c.nodes_take.new.voters c.nodes_take.new.host c.nodes_take.new.net c.collect.new.net c.nodes_take.new.power c.collect.ensures.letters)
 
 pub returns-clause-rest : goal.returns-clause-rest
 returns-clause-rest g c =
-    rest_then (rest_then (rest_round c.args.voters.now c.args.host.now c.args.net.now c.round.new.self c.args.power.now c.round.result c.round.ensures.sent c.round.ensures.ok c.round.ensures.faults c.round.ensures.err c.round.ensures.seed) c.nodes_take.ensures.rest) (rest_net c.nodes_take.new.voters c.nodes_take.new.host c.nodes_take.new.net c.collect.new.net c.nodes_take.new.power c.collect.ensures.sent c.collect.ensures.net)
+    rest_then (rest_then (rest_round c.args.voters.now c.args.host.now c.args.net.now c.round.new.self c.args.power.now c.round.result c.round.ensures.sent c.round.ensures.ok c.round.ensures.faults c.round.ensures.err c.round.ensures.seed) c.nodes_take.ensures.rest) (rest_net c.nodes_take.new.voters c.nodes_take.new.host c.nodes_take.new.net c.collect.new.net c.nodes_take.new.power c.collect.ensures.letters)

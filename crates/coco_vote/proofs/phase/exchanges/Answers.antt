@@ -97,8 +97,8 @@ asking-preserved g c =
     let before = c.asking.invariant in
     let going : has_lost c.in_ok-stops.stops ≡ false = sym c.is_early.ensures ∙ c.if-is_early.false in
     let voting : AreVoting c.args.epoch c.exchange.new.cores = unless_kept c.in_ok-stops.stops (AreVoting c.args.epoch c.exchange.new.cores) going c.in_ok-stops.ensures.voting in
-    let was : HasCounted c.args.epoch (IsAye c.args.epoch before.rest.net.more) (chief_of c.asking.chief) = before.counting before.rest.net.more before.rest.net.gives in
-    let now : HasCounted c.args.epoch (IsAye c.args.epoch (before.rest.net.more ++ c.exchange.ensures.rest.net.more)) (chief_of c.exchange.new.chief) = unless_kept c.in_ok-stops.stops ((given more : List Posted) → HasCounted c.args.epoch (IsAye c.args.epoch given) (chief_of c.asking.chief) → (g.N.Net.given c.exchange.new.net) ≡ (g.N.Net.given c.asking.net) ++ more → HasCounted c.args.epoch (IsAye c.args.epoch (given ++ more)) (chief_of c.exchange.new.chief)) going c.in_ok-stops.ensures.counted before.rest.net.more c.exchange.ensures.rest.net.more was c.exchange.ensures.rest.net.gives in
+    let was : HasCounted c.args.epoch (IsAye c.args.epoch before.rest.letters.gives.more) (chief_of c.asking.chief) = before.counting before.rest.letters.gives.more before.rest.letters.gives.gives in
+    let now : HasCounted c.args.epoch (IsAye c.args.epoch (before.rest.letters.gives.more ++ c.exchange.ensures.rest.letters.gives.more)) (chief_of c.exchange.new.chief) = unless_kept c.in_ok-stops.stops ((given more : List Posted) → HasCounted c.args.epoch (IsAye c.args.epoch given) (chief_of c.asking.chief) → (g.N.Net.given c.exchange.new.net) ≡ (g.N.Net.given c.asking.net) ++ more → HasCounted c.args.epoch (IsAye c.args.epoch (given ++ more)) (chief_of c.exchange.new.chief)) going c.in_ok-stops.ensures.counted before.rest.letters.gives.more c.exchange.ensures.rest.letters.gives.more was c.exchange.ensures.rest.letters.gives.gives in
     let nodes : (chief_of c.exchange.new.chief).nodes ≡ length c.args.cores.now = omega (arith, c.exchange.ensures.nodes, before.nodes, c.requires.nodes) in
     let many : length c.asking.cores ≡ length c.args.cores.now = omega (arith, c.asking.auto.cores) in
     let miss : IsMissing c.args.nodes (chief_of c.exchange.new.chief) = c.in-None.ensures.1 in
@@ -109,14 +109,14 @@ asking-preserved g c =
       cores = cores_then c.args.epoch c.args.cores.now c.asking.cores c.exchange.new.cores before.cores c.in_ok-stops.ensures.cores;
       told = told_still c.args.epoch c.exchange.new.cores (g.N.Net.sent c.exchange.new.net) (g.N.Net.sent c.ask_again.new.net) (g.P.Power.asked c.exchange.new.power) c.in_ok-ask_again-in-None.ensures.says c.in_ok-stops.ensures.told;
       marked = c.in_ok-stops.ensures.marked;
-      counting = λ given is. subst (λ (ps : List Posted). HasCounted c.args.epoch (IsAye c.args.epoch ps) (chief_of c.exchange.new.chief)) (sym (since_both (g.N.Net.given c.args.net.now) (g.N.Net.given c.asking.net) (g.N.Net.given c.exchange.new.net) before.rest.net.more c.exchange.ensures.rest.net.more given before.rest.net.gives c.exchange.ensures.rest.net.gives (sym c.ask_again.ensures.counts.given_stays ∙ is))) now;
+      counting = λ given is. subst (λ (ps : List Posted). HasCounted c.args.epoch (IsAye c.args.epoch ps) (chief_of c.exchange.new.chief)) (sym (since_both (g.N.Net.given c.args.net.now) (g.N.Net.given c.asking.net) (g.N.Net.given c.exchange.new.net) before.rest.letters.gives.more c.exchange.ensures.rest.letters.gives.more given before.rest.letters.gives.gives c.exchange.ensures.rest.letters.gives.gives (sym c.ask_again.ensures.counts.given_stays ∙ is))) now;
       fresh = λ n small lacking. c.in_ok-ask_again-in-None.ensures.asked n (omega (arith, small, c.requires.count)) lacking;
       asked = λ n small. adds_left (g.N.Net.sent c.exchange.new.net) (g.N.Net.sent c.ask_again.new.net) (prepare_of n c.args.epoch) c.in_ok-ask_again-in-None.ensures.says (adds_left (g.N.Net.sent c.asking.net) (g.N.Net.sent c.exchange.new.net) (prepare_of n c.args.epoch) c.in_ok-stops.ensures.says (before.asked n small));
-      were_sent = λ given p is among. adds_left (g.N.Net.sent c.exchange.new.net) (g.N.Net.sent c.ask_again.new.net) p c.in_ok-ask_again-in-None.ensures.says (elim (Contains-append_cases before.rest.net.more c.exchange.ensures.rest.net.more p (subst (λ (ps : List Posted). Contains ps p) (since_both (g.N.Net.given c.args.net.now) (g.N.Net.given c.asking.net) (g.N.Net.given c.exchange.new.net) before.rest.net.more c.exchange.ensures.rest.net.more given before.rest.net.gives c.exchange.ensures.rest.net.gives (sym c.ask_again.ensures.counts.given_stays ∙ is)) among)) [
-        | inl first ↦ adds_left (g.N.Net.sent c.asking.net) (g.N.Net.sent c.exchange.new.net) p c.in_ok-stops.ensures.says (before.were_sent before.rest.net.more p before.rest.net.gives first)
-        | inr second ↦ c.in_ok-stops.ensures.were_sent c.exchange.ensures.rest.net.more p c.exchange.ensures.rest.net.gives second
+      were_sent = λ given p is among. adds_left (g.N.Net.sent c.exchange.new.net) (g.N.Net.sent c.ask_again.new.net) p c.in_ok-ask_again-in-None.ensures.says (elim (Contains-append_cases before.rest.letters.gives.more c.exchange.ensures.rest.letters.gives.more p (subst (λ (ps : List Posted). Contains ps p) (since_both (g.N.Net.given c.args.net.now) (g.N.Net.given c.asking.net) (g.N.Net.given c.exchange.new.net) before.rest.letters.gives.more c.exchange.ensures.rest.letters.gives.more given before.rest.letters.gives.gives c.exchange.ensures.rest.letters.gives.gives (sym c.ask_again.ensures.counts.given_stays ∙ is)) among)) [
+        | inl first ↦ adds_left (g.N.Net.sent c.asking.net) (g.N.Net.sent c.exchange.new.net) p c.in_ok-stops.ensures.says (before.were_sent before.rest.letters.gives.more p before.rest.letters.gives.gives first)
+        | inr second ↦ c.in_ok-stops.ensures.were_sent c.exchange.ensures.rest.letters.gives.more p c.exchange.ensures.rest.letters.gives.gives second
       ]);
-      lost = subst (λ (x : ℕ). (g.N.Net.faults c.args.net.now) + (c.asking.counted + c.exchanges-counted.result) ≤ x) (sym c.ask_again.ensures.counts.faults_stay) (subst (λ (x : ℕ). (g.N.Net.faults c.args.net.now) + (c.asking.counted + x) ≤ (g.N.Net.faults c.exchange.new.net)) (sym c.exchanges-counted.ensures) (lost_more c.in_ok-stops.stops (g.N.Net.faults c.args.net.now) c.asking.counted (g.N.Net.faults c.asking.net) (g.N.Net.faults c.exchange.new.net) before.lost c.exchange.ensures.rest.net.faults_rise (λ never same. not_more c.args.epoch before.rest.net.more c.exchange.ensures.rest.net.more (chief_of c.asking.chief) (chief_of c.exchange.new.chief) was now miss.node less miss.missing (c.in_ok-stops.ensures.votes never c.exchange.ensures.rest.net.more c.exchange.ensures.rest.net.gives same miss.node (omega (arith, first, many)) (before.fresh miss.node first (was_missing c.args.epoch before.rest.net.more c.exchange.ensures.rest.net.more (chief_of c.asking.chief) (chief_of c.exchange.new.chief) was now miss.node less miss.missing))))));
+      lost = subst (λ (x : ℕ). (g.N.Net.faults c.args.net.now) + (c.asking.counted + c.exchanges-counted.result) ≤ x) (sym c.ask_again.ensures.counts.faults_stay) (subst (λ (x : ℕ). (g.N.Net.faults c.args.net.now) + (c.asking.counted + x) ≤ (g.N.Net.faults c.exchange.new.net)) (sym c.exchanges-counted.ensures) (lost_more c.in_ok-stops.stops (g.N.Net.faults c.args.net.now) c.asking.counted (g.N.Net.faults c.asking.net) (g.N.Net.faults c.exchange.new.net) before.lost c.exchange.ensures.rest.letters.gives.faults_rise (λ never same. not_more c.args.epoch before.rest.letters.gives.more c.exchange.ensures.rest.letters.gives.more (chief_of c.asking.chief) (chief_of c.exchange.new.chief) was now miss.node less miss.missing (c.in_ok-stops.ensures.votes never c.exchange.ensures.rest.letters.gives.more c.exchange.ensures.rest.letters.gives.gives same miss.node (omega (arith, first, many)) (before.fresh miss.node first (was_missing c.args.epoch before.rest.letters.gives.more c.exchange.ensures.rest.letters.gives.more (chief_of c.asking.chief) (chief_of c.exchange.new.chief) was now miss.node less miss.missing))))));
       counted = few_more c.in_ok-stops.stops c.asking.counted c.exchanges-counted.result (c.asking.counted + c.exchanges-counted.result) before.counted c.exchanges-counted.ensures refl c.in-None.ensures.0;
       nodes = c.exchange.ensures.nodes ∙ before.nodes;
       last = c.in_ok-stops.ensures.last ∙ before.last;
@@ -165,7 +165,7 @@ pub returns-then-is_early-clause-answer : goal.returns-then-is_early-clause-answ
 returns-then-is_early-clause-answer g c =
     let before = c.asking.invariant in
     let lost : has_lost c.in_ok-stops.stops ≡ true = sym c.is_early.ensures ∙ c.if-is_early.true in
-    let was : HasCounted c.args.epoch (IsAye c.args.epoch before.rest.net.more) (chief_of c.asking.chief) = before.counting before.rest.net.more before.rest.net.gives in
+    let was : HasCounted c.args.epoch (IsAye c.args.epoch before.rest.letters.gives.more) (chief_of c.asking.chief) = before.counting before.rest.letters.gives.more before.rest.letters.gives.gives in
     λ given is. (
       subst (λ (x : ℕ). x < g.P.Power.early_stops c.exchange.new.power) before.early (early_more c.in_ok-stops.stops (g.P.Power.stops_seen c.asking.power) (g.P.Power.early_stops c.asking.power) (g.P.Power.stops_seen c.exchange.new.power) (g.P.Power.early_stops c.exchange.new.power) lost c.in_ok-stops.ensures.stops),
       ap (λ (x : Chief). x.current) (c.in_ok-stops.ensures.lost lost) ∙ was.current,
@@ -180,9 +180,9 @@ returns-then-is_early-clause-nodes g c =
 pub returns-then-is_early-clause-were_sent : goal.returns-then-is_early-clause-were_sent
 returns-then-is_early-clause-were_sent g c given p is among =
     let before = c.asking.invariant in
-    elim (Contains-append_cases before.rest.net.more c.exchange.ensures.rest.net.more p (subst (λ (ps : List Posted). Contains ps p) (since_both (g.N.Net.given c.args.net.now) (g.N.Net.given c.asking.net) (g.N.Net.given c.exchange.new.net) before.rest.net.more c.exchange.ensures.rest.net.more given before.rest.net.gives c.exchange.ensures.rest.net.gives is) among)) [
-      | inl first ↦ adds_left (g.N.Net.sent c.asking.net) (g.N.Net.sent c.exchange.new.net) p c.in_ok-stops.ensures.says (before.were_sent before.rest.net.more p before.rest.net.gives first)
-      | inr second ↦ c.in_ok-stops.ensures.were_sent c.exchange.ensures.rest.net.more p c.exchange.ensures.rest.net.gives second
+    elim (Contains-append_cases before.rest.letters.gives.more c.exchange.ensures.rest.letters.gives.more p (subst (λ (ps : List Posted). Contains ps p) (since_both (g.N.Net.given c.args.net.now) (g.N.Net.given c.asking.net) (g.N.Net.given c.exchange.new.net) before.rest.letters.gives.more c.exchange.ensures.rest.letters.gives.more given before.rest.letters.gives.gives c.exchange.ensures.rest.letters.gives.gives is) among)) [
+      | inl first ↦ adds_left (g.N.Net.sent c.asking.net) (g.N.Net.sent c.exchange.new.net) p c.in_ok-stops.ensures.says (before.were_sent before.rest.letters.gives.more p before.rest.letters.gives.gives first)
+      | inr second ↦ c.in_ok-stops.ensures.were_sent c.exchange.ensures.rest.letters.gives.more p c.exchange.ensures.rest.letters.gives.gives second
     ]
 
 pub returns-then-is_early-clause-says : goal.returns-then-is_early-clause-says
@@ -213,19 +213,19 @@ returns-in-Some-clause-answer g c =
     let before = c.asking.invariant in
     let going : has_lost c.in_ok-stops.stops ≡ false = sym c.is_early.ensures ∙ c.if-is_early.false in
     let voting : AreVoting c.args.epoch c.exchange.new.cores = unless_kept c.in_ok-stops.stops (AreVoting c.args.epoch c.exchange.new.cores) going c.in_ok-stops.ensures.voting in
-    let was : HasCounted c.args.epoch (IsAye c.args.epoch before.rest.net.more) (chief_of c.asking.chief) = before.counting before.rest.net.more before.rest.net.gives in
-    let now : HasCounted c.args.epoch (IsAye c.args.epoch (before.rest.net.more ++ c.exchange.ensures.rest.net.more)) (chief_of c.exchange.new.chief) = unless_kept c.in_ok-stops.stops ((given more : List Posted) → HasCounted c.args.epoch (IsAye c.args.epoch given) (chief_of c.asking.chief) → (g.N.Net.given c.exchange.new.net) ≡ (g.N.Net.given c.asking.net) ++ more → HasCounted c.args.epoch (IsAye c.args.epoch (given ++ more)) (chief_of c.exchange.new.chief)) going c.in_ok-stops.ensures.counted before.rest.net.more c.exchange.ensures.rest.net.more was c.exchange.ensures.rest.net.gives in
+    let was : HasCounted c.args.epoch (IsAye c.args.epoch before.rest.letters.gives.more) (chief_of c.asking.chief) = before.counting before.rest.letters.gives.more before.rest.letters.gives.gives in
+    let now : HasCounted c.args.epoch (IsAye c.args.epoch (before.rest.letters.gives.more ++ c.exchange.ensures.rest.letters.gives.more)) (chief_of c.exchange.new.chief) = unless_kept c.in_ok-stops.stops ((given more : List Posted) → HasCounted c.args.epoch (IsAye c.args.epoch given) (chief_of c.asking.chief) → (g.N.Net.given c.exchange.new.net) ≡ (g.N.Net.given c.asking.net) ++ more → HasCounted c.args.epoch (IsAye c.args.epoch (given ++ more)) (chief_of c.exchange.new.chief)) going c.in_ok-stops.ensures.counted before.rest.letters.gives.more c.exchange.ensures.rest.letters.gives.more was c.exchange.ensures.rest.letters.gives.gives in
     let nodes : (chief_of c.exchange.new.chief).nodes ≡ length c.args.cores.now = omega (arith, c.exchange.ensures.nodes, before.nodes, c.requires.nodes) in
     let many : length c.asking.cores ≡ length c.args.cores.now = omega (arith, c.asking.auto.cores) in
     λ given is.
-    let both : given ≡ before.rest.net.more ++ c.exchange.ensures.rest.net.more = (since_both (g.N.Net.given c.args.net.now) (g.N.Net.given c.asking.net) (g.N.Net.given c.exchange.new.net) before.rest.net.more c.exchange.ensures.rest.net.more given before.rest.net.gives c.exchange.ensures.rest.net.gives is) in
+    let both : given ≡ before.rest.letters.gives.more ++ c.exchange.ensures.rest.letters.gives.more = (since_both (g.N.Net.given c.args.net.now) (g.N.Net.given c.asking.net) (g.N.Net.given c.exchange.new.net) before.rest.letters.gives.more c.exchange.ensures.rest.letters.gives.more given before.rest.letters.gives.gives c.exchange.ensures.rest.letters.gives.gives is) in
     comes_by c.in-Some.votes c.args.epoch c.args.nodes (c.asking.counted + c.exchanges-counted.result) c.exchange.new.cores (g.N.Net.sent c.exchange.new.net) given (g.P.Power.asked c.exchange.new.power) (chief_of c.exchange.new.chief) (g.N.Net.faults c.args.net.now) (g.N.Net.faults c.exchange.new.net) (g.P.Power.early_stops c.args.power.now) (g.P.Power.early_stops c.exchange.new.power) c.in-Some.ensures (nodes ∙ sym c.requires.count)
     (subst (λ (ps : List Posted). HasCounted c.args.epoch (IsAye c.args.epoch ps) (chief_of c.exchange.new.chief)) (sym both) now) voting c.in_ok-stops.ensures.told
-    (λ n among. elim (Contains-append_cases before.rest.net.more c.exchange.ensures.rest.net.more (vote_of n c.args.epoch true) (subst (λ (ps : List Posted). Contains ps (vote_of n c.args.epoch true)) both among)) [
-      | inl first ↦ adds_left (g.N.Net.sent c.asking.net) (g.N.Net.sent c.exchange.new.net) (vote_of n c.args.epoch true) c.in_ok-stops.ensures.says (before.were_sent before.rest.net.more (vote_of n c.args.epoch true) before.rest.net.gives first)
-      | inr second ↦ c.in_ok-stops.ensures.were_sent c.exchange.ensures.rest.net.more (vote_of n c.args.epoch true) c.exchange.ensures.rest.net.gives second
+    (λ n among. elim (Contains-append_cases before.rest.letters.gives.more c.exchange.ensures.rest.letters.gives.more (vote_of n c.args.epoch true) (subst (λ (ps : List Posted). Contains ps (vote_of n c.args.epoch true)) both among)) [
+      | inl first ↦ adds_left (g.N.Net.sent c.asking.net) (g.N.Net.sent c.exchange.new.net) (vote_of n c.args.epoch true) c.in_ok-stops.ensures.says (before.were_sent before.rest.letters.gives.more (vote_of n c.args.epoch true) before.rest.letters.gives.gives first)
+      | inr second ↦ c.in_ok-stops.ensures.were_sent c.exchange.ensures.rest.letters.gives.more (vote_of n c.args.epoch true) c.exchange.ensures.rest.letters.gives.gives second
     ])
-    (λ node within missing. let first : node < length c.args.cores.now = omega (arith, within, c.requires.count) in let less : node < (chief_of c.exchange.new.chief).nodes = omega (arith, first, nodes) in subst (λ (x : ℕ). (g.N.Net.faults c.args.net.now) + (c.asking.counted + x) ≤ (g.N.Net.faults c.exchange.new.net)) (sym c.exchanges-counted.ensures) (lost_more c.in_ok-stops.stops (g.N.Net.faults c.args.net.now) c.asking.counted (g.N.Net.faults c.asking.net) (g.N.Net.faults c.exchange.new.net) before.lost c.exchange.ensures.rest.net.faults_rise (λ never same. not_more c.args.epoch before.rest.net.more c.exchange.ensures.rest.net.more (chief_of c.asking.chief) (chief_of c.exchange.new.chief) was now node less missing (c.in_ok-stops.ensures.votes never c.exchange.ensures.rest.net.more c.exchange.ensures.rest.net.gives same node (omega (arith, first, many)) (before.fresh node first (was_missing c.args.epoch before.rest.net.more c.exchange.ensures.rest.net.more (chief_of c.asking.chief) (chief_of c.exchange.new.chief) was now node less missing))))))
+    (λ node within missing. let first : node < length c.args.cores.now = omega (arith, within, c.requires.count) in let less : node < (chief_of c.exchange.new.chief).nodes = omega (arith, first, nodes) in subst (λ (x : ℕ). (g.N.Net.faults c.args.net.now) + (c.asking.counted + x) ≤ (g.N.Net.faults c.exchange.new.net)) (sym c.exchanges-counted.ensures) (lost_more c.in_ok-stops.stops (g.N.Net.faults c.args.net.now) c.asking.counted (g.N.Net.faults c.asking.net) (g.N.Net.faults c.exchange.new.net) before.lost c.exchange.ensures.rest.letters.gives.faults_rise (λ never same. not_more c.args.epoch before.rest.letters.gives.more c.exchange.ensures.rest.letters.gives.more (chief_of c.asking.chief) (chief_of c.exchange.new.chief) was now node less missing (c.in_ok-stops.ensures.votes never c.exchange.ensures.rest.letters.gives.more c.exchange.ensures.rest.letters.gives.gives same node (omega (arith, first, many)) (before.fresh node first (was_missing c.args.epoch before.rest.letters.gives.more c.exchange.ensures.rest.letters.gives.more (chief_of c.asking.chief) (chief_of c.exchange.new.chief) was now node less missing))))))
     (early_same c.in_ok-stops.stops (g.P.Power.stops_seen c.asking.power) (g.P.Power.early_stops c.asking.power) (g.P.Power.stops_seen c.exchange.new.power) (g.P.Power.early_stops c.exchange.new.power) going c.in_ok-stops.ensures.stops ∙ before.early)
 
 pub returns-in-Some-clause-nodes : goal.returns-in-Some-clause-nodes
@@ -236,9 +236,9 @@ returns-in-Some-clause-nodes g c =
 pub returns-in-Some-clause-were_sent : goal.returns-in-Some-clause-were_sent
 returns-in-Some-clause-were_sent g c given p is among =
     let before = c.asking.invariant in
-    elim (Contains-append_cases before.rest.net.more c.exchange.ensures.rest.net.more p (subst (λ (ps : List Posted). Contains ps p) (since_both (g.N.Net.given c.args.net.now) (g.N.Net.given c.asking.net) (g.N.Net.given c.exchange.new.net) before.rest.net.more c.exchange.ensures.rest.net.more given before.rest.net.gives c.exchange.ensures.rest.net.gives is) among)) [
-      | inl first ↦ adds_left (g.N.Net.sent c.asking.net) (g.N.Net.sent c.exchange.new.net) p c.in_ok-stops.ensures.says (before.were_sent before.rest.net.more p before.rest.net.gives first)
-      | inr second ↦ c.in_ok-stops.ensures.were_sent c.exchange.ensures.rest.net.more p c.exchange.ensures.rest.net.gives second
+    elim (Contains-append_cases before.rest.letters.gives.more c.exchange.ensures.rest.letters.gives.more p (subst (λ (ps : List Posted). Contains ps p) (since_both (g.N.Net.given c.args.net.now) (g.N.Net.given c.asking.net) (g.N.Net.given c.exchange.new.net) before.rest.letters.gives.more c.exchange.ensures.rest.letters.gives.more given before.rest.letters.gives.gives c.exchange.ensures.rest.letters.gives.gives is) among)) [
+      | inl first ↦ adds_left (g.N.Net.sent c.asking.net) (g.N.Net.sent c.exchange.new.net) p c.in_ok-stops.ensures.says (before.were_sent before.rest.letters.gives.more p before.rest.letters.gives.gives first)
+      | inr second ↦ c.in_ok-stops.ensures.were_sent c.exchange.ensures.rest.letters.gives.more p c.exchange.ensures.rest.letters.gives.gives second
     ]
 
 pub returns-in-Some-clause-says : goal.returns-in-Some-clause-says

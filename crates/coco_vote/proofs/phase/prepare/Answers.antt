@@ -38,7 +38,7 @@ exchanges-requires-clause-counted g c =
 
 pub exchanges-requires-clause-asked : goal.exchanges-requires-clause-asked
 exchanges-requires-clause-asked g c =
-    λ n less. fresh_has (g.N.Net.sent c.args.net.now) (g.N.Net.fresh c.args.net.now) (g.N.Net.sent c.chief_begins.new.net) (g.N.Net.fresh c.chief_begins.new.net) (posts_of 8 (to_each (chief_of c.args.chief.now).nodes (Prepare c.args.epoch))) (prepare_of n c.args.epoch) c.in_ok-chief_begins.ensures.fresh c.in_ok-chief_begins.ensures.turns.sent_is (asks_each (chief_of c.args.chief.now).nodes n c.args.epoch (omega (arith, less, c.requires.nodes)))
+    λ n less. fresh_has (g.N.Net.sent c.args.net.now) (g.N.Net.fresh c.args.net.now) (g.N.Net.sent c.chief_begins.new.net) (g.N.Net.fresh c.chief_begins.new.net) (posts_of 8 (to_each (chief_of c.args.chief.now).nodes (Prepare c.args.epoch))) (prepare_of n c.args.epoch) c.in_ok-chief_begins.ensures.sends.fresh c.in_ok-chief_begins.ensures.turns.sent_is (asks_each (chief_of c.args.chief.now).nodes n c.args.epoch (omega (arith, less, c.requires.nodes)))
 
 pub exchanges-requires-clause-sent : goal.exchanges-requires-clause-sent
 exchanges-requires-clause-sent g c =
@@ -68,7 +68,7 @@ returns-in_err-votes-clause-files g c k hold held may nodes logs rests =
 
 pub returns-clause-answer : goal.returns-clause-answer
 returns-clause-answer g c =
-    λ given is. subst (λ (x : ℕ). Comes c.in_ok-votes.votes c.args.epoch c.exchanges.new.cores (chief_of c.exchanges.new.chief) given x (g.N.Net.faults c.exchanges.new.net) (g.P.Power.early_stops c.args.power.now) (g.P.Power.early_stops c.exchanges.new.power)) c.chief_begins.ensures.counts.faults_stay (c.in_ok-votes.ensures.answer given (is ∙ ap (λ (ps : List Posted). ps ++ given) (sym c.chief_begins.ensures.counts.given_stays)))
+    λ given is. subst (λ (x : ℕ). Comes c.in_ok-votes.votes c.args.epoch c.exchanges.new.cores (chief_of c.exchanges.new.chief) given x (g.N.Net.faults c.exchanges.new.net) (g.P.Power.early_stops c.args.power.now) (g.P.Power.early_stops c.exchanges.new.power)) c.chief_begins.ensures.sends.counts.faults_stay (c.in_ok-votes.ensures.answer given (is ∙ ap (λ (ps : List Posted). ps ++ given) (sym c.chief_begins.ensures.sends.counts.given_stays)))
 
 pub returns-clause-asked : goal.returns-clause-asked
 returns-clause-asked g c =
@@ -79,7 +79,7 @@ returns-clause-asked g c =
 
 pub returns-clause-were_sent : goal.returns-clause-were_sent
 returns-clause-were_sent g c given p is among =
-    c.in_ok-votes.ensures.were_sent given p (is ∙ ap (λ (ps : List Posted). ps ++ given) (sym c.chief_begins.ensures.counts.given_stays)) among
+    c.in_ok-votes.ensures.were_sent given p (is ∙ ap (λ (ps : List Posted). ps ++ given) (sym c.chief_begins.ensures.sends.counts.given_stays)) among
 
 pub returns-clause-nodes : goal.returns-clause-nodes
 returns-clause-nodes g c =
@@ -102,12 +102,12 @@ returns-clause-world g c =
 
 pub returns-in_err-chief_begins-clause-rest : goal.returns-in_err-chief_begins-clause-rest
 returns-in_err-chief_begins-clause-rest g c =
-    rest_sends c.args.voters.now c.args.host.now c.args.net.now c.chief_begins.new.net c.args.power.now (sends_fresh (g.N.Net.sent c.args.net.now) (g.N.Net.fresh c.args.net.now) (g.N.Net.sent c.chief_begins.new.net) (g.N.Net.fresh c.chief_begins.new.net) c.chief_begins.ensures.fresh) c.chief_begins.ensures.counts
+    rest_sends c.args.voters.now c.args.host.now c.args.net.now c.chief_begins.new.net c.args.power.now (sends_fresh (g.N.Net.sent c.args.net.now) (g.N.Net.fresh c.args.net.now) (g.N.Net.sent c.chief_begins.new.net) (g.N.Net.fresh c.chief_begins.new.net) c.chief_begins.ensures.sends.fresh) c.chief_begins.ensures.sends.counts
 
 pub returns-in_err-votes-clause-rest : goal.returns-in_err-votes-clause-rest
 returns-in_err-votes-clause-rest g c =
-    rest_then (rest_sends c.args.voters.now c.args.host.now c.args.net.now c.chief_begins.new.net c.args.power.now (sends_fresh (g.N.Net.sent c.args.net.now) (g.N.Net.fresh c.args.net.now) (g.N.Net.sent c.chief_begins.new.net) (g.N.Net.fresh c.chief_begins.new.net) c.chief_begins.ensures.fresh) c.chief_begins.ensures.counts) c.exchanges.ensures.rest
+    rest_then (rest_sends c.args.voters.now c.args.host.now c.args.net.now c.chief_begins.new.net c.args.power.now (sends_fresh (g.N.Net.sent c.args.net.now) (g.N.Net.fresh c.args.net.now) (g.N.Net.sent c.chief_begins.new.net) (g.N.Net.fresh c.chief_begins.new.net) c.chief_begins.ensures.sends.fresh) c.chief_begins.ensures.sends.counts) c.exchanges.ensures.rest
 
 pub returns-clause-rest : goal.returns-clause-rest
 returns-clause-rest g c =
-    rest_then (rest_sends c.args.voters.now c.args.host.now c.args.net.now c.chief_begins.new.net c.args.power.now (sends_fresh (g.N.Net.sent c.args.net.now) (g.N.Net.fresh c.args.net.now) (g.N.Net.sent c.chief_begins.new.net) (g.N.Net.fresh c.chief_begins.new.net) c.chief_begins.ensures.fresh) c.chief_begins.ensures.counts) c.exchanges.ensures.rest
+    rest_then (rest_sends c.args.voters.now c.args.host.now c.args.net.now c.chief_begins.new.net c.args.power.now (sends_fresh (g.N.Net.sent c.args.net.now) (g.N.Net.fresh c.args.net.now) (g.N.Net.sent c.chief_begins.new.net) (g.N.Net.fresh c.chief_begins.new.net) c.chief_begins.ensures.sends.fresh) c.chief_begins.ensures.sends.counts) c.exchanges.ensures.rest

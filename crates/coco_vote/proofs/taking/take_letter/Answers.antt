@@ -13,10 +13,11 @@ use Rattle.coco_vote.specs.Voting.{PreparesOnly}
 use Rattle.coco_vote.proofs.NearLemmas.{nears_same}
 use Rattle.coco_vote.proofs.PreparingLemmas.{none_ok, rests_same, votes_same}
 use Rattle.coco_vote.proofs.SayingLemmas.{ends_say, heard_say, steps_say}
-use Rattle.coco_vote.proofs.StepLemmas.{only_same, fresh_then}
+use Rattle.coco_vote.proofs.StepLemmas.{only_same}
 use Rattle.coco_vote.proofs.TakingLemmas.{between_heard, cores_stepped, cores_voting, durable_ended, elsewhere, near_ended, near_stepped, fresh_has, fresh_still, heard_durable, never_voted, told_ended, told_stepped, unless_any, voting_behind, voting_ended, voting_unless, vote_in, knows_ended, knows_same}
 use Rattle.coco_vote.proofs.WholeLemmas.{whole_step}
 use Rattle.coco_vote.proofs.KeepingLemmas.{writes_none}
+use Rattle.coco_letters.proofs.OnlyLemmas.{only_then}
 use Rattle.coco_vote.proofs.taking.take_letter.Goals as goal
 
 pub returns-in-Nothing-clause-files : goal.returns-in-Nothing-clause-files
@@ -42,8 +43,8 @@ returns-in_ok-step-in-Voted-clause-told g c =
 pub returns-in_ok-step-in-Voted-clause-votes : goal.returns-in_ok-step-in-Voted-clause-votes
 returns-in_ok-step-in-Voted-clause-votes g c = λ _ _.
     let h = subst (λ (h : Heard). HeardSo h c.args.node c.args.epoch c.args.letter.now c.args.cores.now (g.N.Net.sent c.args.net.now) c.hear_vote.new.cores (g.N.Net.sent c.hear_vote.new.net)) c.in-Voted.is c.in_ok-hear_vote.ensures.heard in
-    fresh_still (g.N.Net.sent c.hear_vote.new.net) (g.N.Net.fresh c.hear_vote.new.net) (g.N.Net.sent c.vote_again.new.net) (g.N.Net.fresh c.vote_again.new.net) (vote_of c.args.node c.args.epoch true) c.in_ok-step-in-Voted.ensures.fresh
-    (fresh_has (g.N.Net.sent c.args.net.now) (g.N.Net.fresh c.args.net.now) (g.N.Net.sent c.hear_vote.new.net) (g.N.Net.fresh c.hear_vote.new.net) (vote_of c.args.node c.args.epoch true ∷ []) (vote_of c.args.node c.args.epoch true) c.in_ok-hear_vote.ensures.fresh h.2 (vote_in c.args.node c.args.epoch))
+    fresh_still (g.N.Net.sent c.hear_vote.new.net) (g.N.Net.fresh c.hear_vote.new.net) (g.N.Net.sent c.vote_again.new.net) (g.N.Net.fresh c.vote_again.new.net) (vote_of c.args.node c.args.epoch true) c.in_ok-step-in-Voted.ensures.sends.fresh
+    (fresh_has (g.N.Net.sent c.args.net.now) (g.N.Net.fresh c.args.net.now) (g.N.Net.sent c.hear_vote.new.net) (g.N.Net.fresh c.hear_vote.new.net) (vote_of c.args.node c.args.epoch true ∷ []) (vote_of c.args.node c.args.epoch true) c.in_ok-hear_vote.ensures.sends.fresh h.2 (vote_in c.args.node c.args.epoch))
 
 pub returns-in_ok-step-in-Voted-clause-files : goal.returns-in_ok-step-in-Voted-clause-files
 returns-in_ok-step-in-Voted-clause-files g c k hold same may node log rests =
@@ -83,7 +84,7 @@ returns-in_ok-step-in-Forces-clause-told g c =
 pub returns-in_ok-step-in-Forces-clause-votes : goal.returns-in_ok-step-in-Forces-clause-votes
 returns-in_ok-step-in-Forces-clause-votes g c = λ _ never.
     fresh_has (g.N.Net.sent c.hear_vote.new.net) (g.N.Net.fresh c.hear_vote.new.net) (g.N.Net.sent c.force_and_vote.new.net) (g.N.Net.fresh c.force_and_vote.new.net) (letters_in c.in_ok-step-in-Forces.step c.args.node c.args.epoch) (vote_of c.args.node c.args.epoch true)
-    c.in_ok-step-in-Forces.ensures.fresh c.in_ok-step-in-Forces.ensures.steps.sent_is (never_voted c.in_ok-step-in-Forces.step c.args.node c.args.epoch (sym c.stops-in-Forces.ensures ∙ never))
+    c.in_ok-step-in-Forces.ensures.sends.fresh c.in_ok-step-in-Forces.ensures.steps.sent_is (never_voted c.in_ok-step-in-Forces.step c.args.node c.args.epoch (sym c.stops-in-Forces.ensures ∙ never))
 
 pub returns-in_ok-step-in-Forces-clause-files : goal.returns-in_ok-step-in-Forces-clause-files
 returns-in_ok-step-in-Forces-clause-files g c k hold same may node log rests =
@@ -169,13 +170,11 @@ returns-in_ok-step-in-Forces-clause-says g c =
     (heard_say c.in_ok-hear_vote.field-0 c.args.node c.args.epoch c.args.letter.now c.args.cores.now (g.N.Net.sent c.args.net.now) c.hear_vote.new.cores (g.N.Net.sent c.hear_vote.new.net) few c.in_ok-hear_vote.ensures.heard)
     (steps_say c.in_ok-step-in-Forces.step c.args.node c.args.epoch c.hear_vote.new.cores (g.N.Net.sent c.hear_vote.new.net) c.force_and_vote.new.cores (g.N.Net.sent c.force_and_vote.new.net) few c.in_ok-step-in-Forces.ensures.steps)
 
-pub returns-in_err-step-in-Voted-clause-fresh : goal.returns-in_err-step-in-Voted-clause-fresh
-returns-in_err-step-in-Voted-clause-fresh g c =
-    fresh_then (g.N.Net.sent c.args.net.now) (g.N.Net.fresh c.args.net.now) (g.N.Net.sent c.hear_vote.new.net) (g.N.Net.fresh c.hear_vote.new.net) (g.N.Net.sent c.vote_again.new.net) (g.N.Net.fresh c.vote_again.new.net) (c.hear_vote.ensures.fresh) (c.vote_again.ensures.fresh)
+pub returns-in_err-step-in-Voted-clause-sends : goal.returns-in_err-step-in-Voted-clause-sends
+returns-in_err-step-in-Voted-clause-sends g c = only_then c.hear_vote.ensures.sends c.vote_again.ensures.sends
 
-pub returns-in_err-step-in-Forces-clause-fresh : goal.returns-in_err-step-in-Forces-clause-fresh
-returns-in_err-step-in-Forces-clause-fresh g c =
-    fresh_then (g.N.Net.sent c.args.net.now) (g.N.Net.fresh c.args.net.now) (g.N.Net.sent c.hear_vote.new.net) (g.N.Net.fresh c.hear_vote.new.net) (g.N.Net.sent c.force_and_vote.new.net) (g.N.Net.fresh c.force_and_vote.new.net) (c.hear_vote.ensures.fresh) (c.force_and_vote.ensures.fresh)
+pub returns-in_err-step-in-Forces-clause-sends : goal.returns-in_err-step-in-Forces-clause-sends
+returns-in_err-step-in-Forces-clause-sends g c = only_then c.hear_vote.ensures.sends c.force_and_vote.ensures.sends
 
 pub returns-in_ok-step-in-Voted-clause-whole : goal.returns-in_ok-step-in-Voted-clause-whole
 returns-in_ok-step-in-Voted-clause-whole g c = whole_step c.in_ok-step-in-Voted.step (g.P.Power.stops_seen c.args.power.now) (g.P.Power.early_stops c.args.power.now) (g.P.Power.stops_seen c.vote_again.new.power) (g.P.Power.early_stops c.vote_again.new.power) c.args.voter.now c.vote_again.new.voter c.in_ok-step-in-Voted.ensures.stops c.in_ok-step-in-Voted.ensures.marks

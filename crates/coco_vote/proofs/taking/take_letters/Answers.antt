@@ -90,12 +90,12 @@ loop-net-preserved g c =
       nears = stops_at c.and-stops.result c.loop-net.stops taken (λ stops. Nears stops (ahead_of c.args.epoch c.args.cores.now c.args.node c.args.voter.now) (ahead_of c.args.epoch c.take_letter.new.cores c.args.node c.take_letter.new.voter)) both
           (nears_both c.loop-net.stops taken (ahead_of c.args.epoch c.args.cores.now c.args.node c.args.voter.now) (ahead_of c.args.epoch c.loop-net.cores c.args.node c.loop-net.voter) (ahead_of c.args.epoch c.take_letter.new.cores c.args.node c.take_letter.new.voter) before.nears c.in_ok-taken-in-Some.ensures.nears);
       elsewhere = λ m other. c.in_ok-taken-in-Some.ensures.elsewhere m other ∙ before.elsewhere m other;
-      votes = λ never. votes_more c.args.node c.args.epoch c.loop-net.stops taken ((g.N.Net.waiting c.args.net.now) c.args.node) ((g.N.Net.waiting c.loop-net.net) c.args.node) ((g.N.Net.waiting c.take_letter.new.net) c.args.node) c.in-Some.letter (g.N.Net.fresh c.loop-net.net) (g.N.Net.fresh c.take_letter.new.net) (c.in-Some.ensures.first ∙ ap (λ (ls : List Letter). c.in-Some.letter ∷ ls) (sym (c.take_letter.ensures.waiting c.args.node))) before.votes c.in_ok-taken-in-Some.ensures.votes
-          (λ among. fresh_still (g.N.Net.sent c.next.new.self) (g.N.Net.fresh c.next.new.self) (g.N.Net.sent c.take_letter.new.net) (g.N.Net.fresh c.take_letter.new.net) (vote_of c.args.node c.args.epoch true) c.in_ok-taken-in-Some.ensures.fresh (subst (λ (ps : List Posted). Contains ps (vote_of c.args.node c.args.epoch true)) (sym c.next.ensures.fresh) among))
+      votes = λ never. votes_more c.args.node c.args.epoch c.loop-net.stops taken ((g.N.Net.waiting c.args.net.now) c.args.node) ((g.N.Net.waiting c.loop-net.net) c.args.node) ((g.N.Net.waiting c.take_letter.new.net) c.args.node) c.in-Some.letter (g.N.Net.fresh c.loop-net.net) (g.N.Net.fresh c.take_letter.new.net) (c.in-Some.ensures.first ∙ ap (λ (ls : List Letter). c.in-Some.letter ∷ ls) (sym (c.take_letter.ensures.sends.waiting c.args.node))) before.votes c.in_ok-taken-in-Some.ensures.votes
+          (λ among. fresh_still (g.N.Net.sent c.next.new.self) (g.N.Net.fresh c.next.new.self) (g.N.Net.sent c.take_letter.new.net) (g.N.Net.fresh c.take_letter.new.net) (vote_of c.args.node c.args.epoch true) c.in_ok-taken-in-Some.ensures.sends.fresh (subst (λ (ps : List Posted). Contains ps (vote_of c.args.node c.args.epoch true)) (sym c.next.ensures.fresh) among))
           (sym both ∙ never);
       says = adds_then (g.N.Net.sent c.args.net.now) (g.N.Net.sent c.loop-net.net) (g.N.Net.sent c.take_letter.new.net) before.says
           (subst (λ (ps : List Posted). Adds (IsOfVote c.args.epoch) ps (g.N.Net.sent c.take_letter.new.net)) c.next.ensures.sent c.in_ok-taken-in-Some.ensures.says);
-      sent = sent_more (g.N.Net.sent c.next.new.self) (g.N.Net.fresh c.next.new.self) (g.N.Net.sent c.take_letter.new.net) (g.N.Net.fresh c.take_letter.new.net) (g.N.Net.waiting c.next.new.self) (g.N.Net.waiting c.take_letter.new.net) c.in_ok-taken-in-Some.ensures.fresh c.take_letter.ensures.waiting (subst (λ (ps : List Posted). AreSent ps (g.N.Net.waiting c.next.new.self)) (sym c.next.ensures.sent) (c.waiting_letters_were_sent.ensures.taken (g.N.Net.sent c.loop-net.net) (g.N.Net.waiting c.loop-net.net) (g.N.Net.waiting c.next.new.self) c.args.node c.next.result before.sent c.next.ensures.first c.next.ensures.others));
+      sent = sent_more (g.N.Net.sent c.next.new.self) (g.N.Net.fresh c.next.new.self) (g.N.Net.sent c.take_letter.new.net) (g.N.Net.fresh c.take_letter.new.net) (g.N.Net.waiting c.next.new.self) (g.N.Net.waiting c.take_letter.new.net) c.in_ok-taken-in-Some.ensures.sends.fresh c.take_letter.ensures.sends.waiting (subst (λ (ps : List Posted). AreSent ps (g.N.Net.waiting c.next.new.self)) (sym c.next.ensures.sent) (c.waiting_letters_were_sent.ensures.taken (g.N.Net.sent c.loop-net.net) (g.N.Net.waiting c.loop-net.net) (g.N.Net.waiting c.next.new.self) c.args.node c.next.result before.sent c.next.ensures.first c.next.ensures.others));
       files = λ k hold same may node log rests.
           let b : Ballot = record { epoch = c.args.epoch; pieces = c.args.pieces.now; held = hold } in
           let one = before.files k hold same may node log rests in
@@ -109,9 +109,9 @@ loop-net-preserved g c =
       later = later_then g.P.Power c.args.power.now c.loop-net.power c.take_letter.new.power before.later c.take_letter.ensures.later;
       stops = stops_at c.and-stops.result c.loop-net.stops taken (λ stops. CountsStops stops (g.P.Power.stops_seen c.args.power.now) (g.P.Power.early_stops c.args.power.now) (g.P.Power.stops_seen c.take_letter.new.power) (g.P.Power.early_stops c.take_letter.new.power)) both
           (counts_both c.loop-net.stops taken (g.P.Power.stops_seen c.args.power.now) (g.P.Power.early_stops c.args.power.now) (g.P.Power.stops_seen c.loop-net.power) (g.P.Power.early_stops c.loop-net.power) (g.P.Power.stops_seen c.take_letter.new.power) (g.P.Power.early_stops c.take_letter.new.power) before.stops c.in_ok-taken-in-Some.ensures.stops);
-      fresh = fresh_then (g.N.Net.sent c.args.net.now) (g.N.Net.fresh c.args.net.now) (g.N.Net.sent c.next.new.self) (g.N.Net.fresh c.next.new.self) (g.N.Net.sent c.take_letter.new.net) (g.N.Net.fresh c.take_letter.new.net) (record { posts = before.fresh.posts; sent_is = c.next.ensures.sent ∙ before.fresh.sent_is; fresh_is = c.next.ensures.fresh ∙ before.fresh.fresh_is }) c.in_ok-taken-in-Some.ensures.fresh;
-      waiting = λ p other. c.take_letter.ensures.waiting p ∙ c.next.ensures.others p other ∙ before.waiting p other;
-      counts = counts_then (g.N.Net.given c.args.net.now) (g.N.Net.faults c.args.net.now) (g.N.Net.last_seed c.args.net.now) (g.N.Net.given c.next.new.self) (g.N.Net.faults c.next.new.self) (g.N.Net.last_seed c.next.new.self) (g.N.Net.given c.take_letter.new.net) (g.N.Net.faults c.take_letter.new.net) (g.N.Net.last_seed c.take_letter.new.net) (record { given_stays = c.next.ensures.given ∙ before.counts.given_stays; faults_stay = c.next.ensures.faults ∙ before.counts.faults_stay; seed_stays = c.next.ensures.seed ∙ before.counts.seed_stays }) c.take_letter.ensures.counts;
+      fresh = fresh_then (g.N.Net.sent c.args.net.now) (g.N.Net.fresh c.args.net.now) (g.N.Net.sent c.next.new.self) (g.N.Net.fresh c.next.new.self) (g.N.Net.sent c.take_letter.new.net) (g.N.Net.fresh c.take_letter.new.net) (record { posts = before.fresh.posts; sent_is = c.next.ensures.sent ∙ before.fresh.sent_is; fresh_is = c.next.ensures.fresh ∙ before.fresh.fresh_is }) c.in_ok-taken-in-Some.ensures.sends.fresh;
+      waiting = λ p other. c.take_letter.ensures.sends.waiting p ∙ c.next.ensures.others p other ∙ before.waiting p other;
+      counts = counts_then (g.N.Net.given c.args.net.now) (g.N.Net.faults c.args.net.now) (g.N.Net.last_seed c.args.net.now) (g.N.Net.given c.next.new.self) (g.N.Net.faults c.next.new.self) (g.N.Net.last_seed c.next.new.self) (g.N.Net.given c.take_letter.new.net) (g.N.Net.faults c.take_letter.new.net) (g.N.Net.last_seed c.take_letter.new.net) (record { given_stays = c.next.ensures.given ∙ before.counts.given_stays; faults_stay = c.next.ensures.faults ∙ before.counts.faults_stay; seed_stays = c.next.ensures.seed ∙ before.counts.seed_stays }) c.take_letter.ensures.sends.counts;
     }
 
 pub returns-in_err-taken-in-Some-clause-held : goal.returns-in_err-taken-in-Some-clause-held
@@ -138,12 +138,12 @@ returns-in_err-taken-in-Some-clause-later g c =
 pub returns-in_err-taken-in-Some-clause-waiting : goal.returns-in_err-taken-in-Some-clause-waiting
 returns-in_err-taken-in-Some-clause-waiting g c =
     let before = c.loop-net.invariant in
-    λ p other. c.take_letter.ensures.waiting p ∙ c.next.ensures.others p other ∙ before.waiting p other
+    λ p other. c.take_letter.ensures.sends.waiting p ∙ c.next.ensures.others p other ∙ before.waiting p other
 
 pub returns-in_err-taken-in-Some-clause-counts : goal.returns-in_err-taken-in-Some-clause-counts
 returns-in_err-taken-in-Some-clause-counts g c =
     let before = c.loop-net.invariant in
-    counts_then (g.N.Net.given c.args.net.now) (g.N.Net.faults c.args.net.now) (g.N.Net.last_seed c.args.net.now) (g.N.Net.given c.next.new.self) (g.N.Net.faults c.next.new.self) (g.N.Net.last_seed c.next.new.self) (g.N.Net.given c.take_letter.new.net) (g.N.Net.faults c.take_letter.new.net) (g.N.Net.last_seed c.take_letter.new.net) (record { given_stays = c.next.ensures.given ∙ before.counts.given_stays; faults_stay = c.next.ensures.faults ∙ before.counts.faults_stay; seed_stays = c.next.ensures.seed ∙ before.counts.seed_stays }) c.take_letter.ensures.counts
+    counts_then (g.N.Net.given c.args.net.now) (g.N.Net.faults c.args.net.now) (g.N.Net.last_seed c.args.net.now) (g.N.Net.given c.next.new.self) (g.N.Net.faults c.next.new.self) (g.N.Net.last_seed c.next.new.self) (g.N.Net.given c.take_letter.new.net) (g.N.Net.faults c.take_letter.new.net) (g.N.Net.last_seed c.take_letter.new.net) (record { given_stays = c.next.ensures.given ∙ before.counts.given_stays; faults_stay = c.next.ensures.faults ∙ before.counts.faults_stay; seed_stays = c.next.ensures.seed ∙ before.counts.seed_stays }) c.take_letter.ensures.sends.counts
 
 pub returns-in-None-clause-votes : goal.returns-in-None-clause-votes
 returns-in-None-clause-votes g c =
@@ -173,7 +173,7 @@ returns-clause-votes g c = λ never. absurd (never_lost c.loop-net.stops never (
 pub returns-in_err-taken-in-Some-clause-fresh : goal.returns-in_err-taken-in-Some-clause-fresh
 returns-in_err-taken-in-Some-clause-fresh g c =
     let before = c.loop-net.invariant in
-    fresh_then (g.N.Net.sent c.args.net.now) (g.N.Net.fresh c.args.net.now) (g.N.Net.sent c.next.new.self) (g.N.Net.fresh c.next.new.self) (g.N.Net.sent c.take_letter.new.net) (g.N.Net.fresh c.take_letter.new.net) (record { posts = before.fresh.posts; sent_is = c.next.ensures.sent ∙ before.fresh.sent_is; fresh_is = c.next.ensures.fresh ∙ before.fresh.fresh_is }) c.take_letter.ensures.fresh
+    fresh_then (g.N.Net.sent c.args.net.now) (g.N.Net.fresh c.args.net.now) (g.N.Net.sent c.next.new.self) (g.N.Net.fresh c.next.new.self) (g.N.Net.sent c.take_letter.new.net) (g.N.Net.fresh c.take_letter.new.net) (record { posts = before.fresh.posts; sent_is = c.next.ensures.sent ∙ before.fresh.sent_is; fresh_is = c.next.ensures.fresh ∙ before.fresh.fresh_is }) c.take_letter.ensures.sends.fresh
 
 pub returns-in_err-taken-in-Some-clause-rest : goal.returns-in_err-taken-in-Some-clause-rest
 returns-in_err-taken-in-Some-clause-rest g c = writes_then c.loop-net.invariant.rest c.take_letter.ensures.rest

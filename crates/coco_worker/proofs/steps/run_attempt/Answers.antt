@@ -1,4 +1,4 @@
-use Rattle.std.proofs.Common.{◌∷◌, [], List, sym, ap, ◌∙◌, subst}
+use Rattle.std.proofs.Common.{◌∷◌, [], List, Some, sym, ap, ◌∙◌, subst}
 use Rattle.coco_desks.proofs.GainLemmas.{still_of}
 use Rattle.coco_occ.specs.Steps.{at_shard}
 use Rattle.coco_occ.specs.Trying.{Trying}
@@ -27,14 +27,15 @@ loop-preserved g c =
           (took_script c.loop.attempt c.go_on.new.self c.ask_shard.new.attempt step c.go_on.ensures.others asked.3);
     }
 
-pub returns-then-not-go_on-clause-left : goal.returns-then-not-go_on-clause-left
-returns-then-not-go_on-clause-left g c = moved_left c.args.attempt.now c.loop.attempt c.go_on.new.self c.loop.invariant.left c.go_on.ensures.others
-
-pub returns-then-not-go_on-clause-whole : goal.returns-then-not-go_on-clause-whole
-returns-then-not-go_on-clause-whole g c outcome writes ended =
-    ended_script c.args.attempt.now c.go_on.new.self c.go_on.new.self.script outcome writes
-    (moved_left c.args.attempt.now c.loop.attempt c.go_on.new.self c.loop.invariant.left c.go_on.ensures.others) c.go_on.ensures.sound ended
-
-pub returns-then-not-go_on-clause-made : goal.returns-then-not-go_on-clause-made
-returns-then-not-go_on-clause-made g c =
-    subst (λ (xs : List Step). Make c.args.passes.now c.loop.passes (λ shard. at_shard shard xs)) (sym (same_script c.loop.attempt c.go_on.new.self c.go_on.ensures.others)) c.loop.invariant.made
+pub returns-then-not-go_on-clause-ran : goal.returns-then-not-go_on-clause-ran
+returns-then-not-go_on-clause-ran g c =
+    let script : List Step = c.go_on.new.self.script in
+    let left = moved_left c.args.attempt.now c.loop.attempt c.go_on.new.self c.loop.invariant.left c.go_on.ensures.others in
+    record {
+      script = script;
+      standing = c.go_on.new.self.standing;
+      left = ap Some left;
+      ended = c.go_on.ensures.ended c.if-not-go_on.true;
+      whole = λ outcome writes ended. ended_script c.args.attempt.now c.go_on.new.self script outcome writes left c.go_on.ensures.sound ended;
+      made = subst (λ (xs : List Step). Make c.args.passes.now c.loop.passes (λ shard. at_shard shard xs)) (sym (same_script c.loop.attempt c.go_on.new.self c.go_on.ensures.others)) c.loop.invariant.made;
+    }

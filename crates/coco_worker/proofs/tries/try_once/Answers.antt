@@ -1,25 +1,35 @@
-use Rattle.std.proofs.Common.{List, ◌++◌, length, refl, sym, ap, ◌∙◌, subst}
-use Rattle.std.proofs.lemmas.List.{with_items_is}
-use Rattle.std.proofs.lemmas.Option.{same_Some}
-use Rattle.coco_gate.specs.declared.passes.Passage.{Passage}
-use Rattle.coco_occ.specs.Steps.{at_shard}
-use Rattle.coco_occ.specs.declared.outcome.Tried.{Tried}
-use Rattle.coco_worker.specs.Gains.{Make, ShardPass}
-use Rattle.coco_worker.specs.Trying.{points_behind}
-use Rattle.coco_worker.proofs.TryLemmas.{gated_more, tries_once}
+use Rattle.std.proofs.Common.{length, refl, ap, ◌∙◌}
+use Rattle.std.proofs.lemmas.Result.{IfOk-weaker}
+use Rattle.coco_occ.specs.Trying.{Trying, has_ended}
+use Rattle.coco_worker.specs.Trying.{AddsScript, IsGated, TriesOnce, at_start}
+use Rattle.coco_worker.proofs.TryLemmas.{gated_once, only_then, ran_so, same_worker, tries_once}
 use Rattle.coco_worker.proofs.tries.try_once.Goals as goal
+
+pub add_script-requires : goal.add_script-requires
+add_script-requires g c =
+    let a = c.args.slot.now in
+    let first = at_start c.args.procs.now c.args.request.now.call (record { worker = a.worker; number = c.len.result }) (length c.args.shards.now) in
+    let ran = c.in_ok-run_one.ensures.ran in
+    ap (λ (t : Trying). has_ended t.standing) (ran_so first c.in-Some.attempt c.run_one.new.room a.passes.items c.run_one.new.slot.passes.items ran c.in-Some.is) ∙ ran.ended
+
+pub returns-clause-others : goal.returns-clause-others
+returns-clause-others g c = only_then c.args.slot.now c.run_one.new.slot c.add_script.new.slot c.run_one.ensures.others c.add_script.ensures.others
+
+pub returns-clause-gated : goal.returns-clause-gated
+returns-clause-gated g c =
+    let a = c.args.slot.now in
+    let b = c.run_one.new.slot in
+    let d = c.add_script.new.slot in
+    let gate = g.G.Gate.named c.args.gate.now in
+    let same = same_worker a b c.run_one.ensures.others in
+    IfOk-weaker c.add_script.result (AddsScript gate c.args.place (record { worker = a.worker; number = c.len.result }) c.in-Some.attempt b d) (λ _. IsGated gate a → IsGated gate d)
+    (λ _ adds. gated_once adds a c.run_one.ensures.transcript c.in_ok-run_one.ensures.passed same (same_worker b d c.add_script.ensures.others ∙ same)) c.add_script.ensures.added
 
 pub returns-clause-tried : goal.returns-clause-tried
 returns-clause-tried g c =
-    let told = c.outcome-outcome.ensures in
-    let ran = c.in_ok-run_attempt.ensures in
-    let Made : List ShardPass → List ShardPass → Type 0 = λ before after. Make before after (λ shard. at_shard shard c.run_attempt.new.attempt.script) in
-    let back = with_items_is c.args.slot.now.passes c.run_attempt.new.passes (c.run_attempt.auto.passes ∙ c.as_mut_slice-passes.ensures.len) in
-    tries_once c.args.procs.now c.args.request.now c.args.place (length c.args.shards.now) c.args.slot.now _ c.in-Some.attempt c.run_attempt.new.attempt _ c.in_ok-script.script c.in_ok-entry.entry c.outcome-outcome.result told.0
-    (same_Some _ _ (sym c.in-Some.is ∙ c.in_ok-make_ready.ensures)) (ran.whole c.outcome-outcome.result told.0 told.1) told.1 (c.in_ok-script.ensures ∙ c.script.ensures) c.in_ok-entry.ensures refl c.len.ensures
-    c.in_ok-push.ensures.ok
-    (subst (Made c.args.slot.now.passes.items) (sym back) (subst (λ (ps : List ShardPass). Made ps c.run_attempt.new.passes) c.as_mut_slice-passes.ensures.value ran.made))
-
-pub returns-clause-gated : goal.returns-clause-gated
-returns-clause-gated g c = gated_more (g.G.Gate.named c.args.gate.now) c.args.slot.now.worker c.args.slot.now.transcript _ c.args.slot.now.passed _ c.in_ok-entry.entry c.outcome-outcome.result (ap (λ (t : Tried). t.outcome) c.in_ok-entry.ensures) c.in_ok-push.ensures.ok
-    (c.pass_behind.ensures ∙ ap (λ (ps : List Passage). ps ++ points_behind (g.G.Gate.named c.args.gate.now) c.args.slot.now.worker c.outcome-outcome.result) c.pass.ensures.more)
+    let a = c.args.slot.now in
+    let b = c.run_one.new.slot in
+    let d = c.add_script.new.slot in
+    let many = length c.args.shards.now in
+    IfOk-weaker c.add_script.result (AddsScript (g.G.Gate.named c.args.gate.now) c.args.place (record { worker = a.worker; number = c.len.result }) c.in-Some.attempt b d) (TriesOnce c.args.procs.now c.args.request.now c.args.place many a d c.run_one.new.room)
+    (λ _ adds. tries_once adds a c.run_one.ensures.transcript c.args.procs.now c.args.request.now many c.run_one.new.room c.in-Some.is c.len.ensures refl c.in_ok-run_one.ensures.ran c.add_script.ensures.passes) c.add_script.ensures.added

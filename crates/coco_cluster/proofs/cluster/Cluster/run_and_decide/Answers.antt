@@ -1,7 +1,6 @@
 use Rattle.std.proofs.Common.{◌≡◌, Bool, List, ℕ, Result, Ok, is_err, map, ap, refl, subst}
 use Rattle.std.proofs.lemmas.Result.{err_from_is_err_and, IfOk-from_err}
 use Rattle.coco_entry.specs.declared.layout.Layout.{Layout}
-use Rattle.coco_finish.specs.declared.tables.NodeTables.{NodeTables}
 use Rattle.coco_lost.specs.Requests.{AreRequestsOf}
 use Rattle.coco_letters.specs.Around.{Around, around}
 use Rattle.coco_parallel.specs.Traces.{traced}
@@ -12,7 +11,7 @@ use Rattle.coco_cluster.specs.Trying.{ComesOn}
 use Rattle.coco_cluster.specs.declared.cluster.Cluster.{Cluster}
 use Rattle.coco_cluster.specs.declared.fault.TurnFault.{TurnFault}
 use Rattle.coco_cluster.proofs.AroundLemmas.{later_same}
-use Rattle.coco_cluster.proofs.TriedLemmas.{been_run, begun_run, decided_files, entered, given_up_so, may_commit, may_go_on, quiet_mid, ring_run, shippable_run, stays_tried, tried_in_vain, voted_so, HaveBeenRun}
+use Rattle.coco_cluster.proofs.TriedLemmas.{been_run, begun_run, decided_files, entered, given_up_so, may_commit, may_go_on, quiet_mid, ring_run, shippable_run, stays_tried, tried_in_vain, voted_so}
 use Rattle.coco_cluster.proofs.TryLemmas.{may_try}
 use Rattle.coco_cluster.proofs.cluster.Cluster.run_and_decide.Goals as goal
 
@@ -21,13 +20,8 @@ run_epoch-requires-clause-may g c _ _ = may_try c.args.self.now (g.N.Net.sent c.
 
 pub decide-requires : goal.decide-requires
 decide-requires g c =
-    let k : Cluster = c.args.self.now in
-    let t : NodeTables = c.run_epoch.new.tables in
-    let sent = g.N.Net.sent c.args.net.now in
-    let carries = g.N.Net.carries c.args.net.now in
-    let run : HaveBeenRun k sent c.args.requests.items c.args.workers c.args.attempts carries t c.in_ok-dones.field-0.dones c.as_slice-2.result.now (traced c.in_ok-dones.field-0.trace) =
-    been_run k sent c.args.requests.items c.args.workers c.args.attempts c.config_of-config.result carries t c.in_ok-dones.field-0.dones c.in_ok-dones.field-0.pieces c.as_slice-2.result.now (traced c.in_ok-dones.field-0.trace) c.config_of-config.ensures c.as_slice-2.ensures c.requires.sound c.requires.up c.requires.may
-    c.in_ok-dones.ensures.ran c.run_epoch.ensures.keep c.in_ok-dones.ensures.shippable c.in_ok-dones.ensures.begun c.run_epoch.ensures.places in
+    let run = been_run c.args.self.now (g.N.Net.sent c.args.net.now) c.args.requests.items c.args.workers c.args.attempts c.config_of-config.result (g.N.Net.carries c.args.net.now) c.run_epoch.new.tables c.in_ok-dones.field-0.dones c.in_ok-dones.field-0.pieces c.as_slice-2.result.now (traced c.in_ok-dones.field-0.trace)
+    c.config_of-config.ensures c.as_slice-2.ensures c.requires.sound c.requires.up c.requires.may c.in_ok-dones.ensures.ran c.run_epoch.ensures.keep c.in_ok-dones.ensures.shippable c.in_ok-dones.ensures.begun c.run_epoch.ensures.places in
     record { quiet = quiet_mid run; ring = ring_run run; pieces = shippable_run run; begun = begun_run run; ready = c.requires.ready }
 
 -- ---- without memory for the run
@@ -63,12 +57,8 @@ returns-in_err-dones-clause-power g c = asked_same g.P.Power c.args.power.now
 pub returns-in_err-all-clause-files : goal.returns-in_err-all-clause-files
 returns-in_err-all-clause-files g c d rests stands room =
     let k : Cluster = c.args.self.now in
-    let t : NodeTables = c.run_epoch.new.tables in
-    let sent = g.N.Net.sent c.args.net.now in
-    let carries = g.N.Net.carries c.args.net.now in
-    let run : HaveBeenRun k sent c.args.requests.items c.args.workers c.args.attempts carries t c.in_ok-dones.field-0.dones c.as_slice-2.result.now (traced c.in_ok-dones.field-0.trace) =
-    been_run k sent c.args.requests.items c.args.workers c.args.attempts c.config_of-config.result carries t c.in_ok-dones.field-0.dones c.in_ok-dones.field-0.pieces c.as_slice-2.result.now (traced c.in_ok-dones.field-0.trace) c.config_of-config.ensures c.as_slice-2.ensures c.requires.sound c.requires.up c.requires.may
-    c.in_ok-dones.ensures.ran c.run_epoch.ensures.keep c.in_ok-dones.ensures.shippable c.in_ok-dones.ensures.begun c.run_epoch.ensures.places in
+    let run = been_run c.args.self.now (g.N.Net.sent c.args.net.now) c.args.requests.items c.args.workers c.args.attempts c.config_of-config.result (g.N.Net.carries c.args.net.now) c.run_epoch.new.tables c.in_ok-dones.field-0.dones c.in_ok-dones.field-0.pieces c.as_slice-2.result.now (traced c.in_ok-dones.field-0.trace)
+    c.config_of-config.ensures c.as_slice-2.ensures c.requires.sound c.requires.up c.requires.may c.in_ok-dones.ensures.ran c.run_epoch.ensures.keep c.in_ok-dones.ensures.shippable c.in_ok-dones.ensures.begun c.run_epoch.ensures.places in
     let new : Cluster = record k { kept = c.run_epoch.new.kept; members = c.decide.new.members; body = c.decide.new.body; room = c.run_epoch.new.room } in
     let p = err_from_is_err_and c.from_residual-in_err-all.result c.from_residual-in_err-all.ensures.1 in (
       (decided_files run g.H.Host c.decide.result c.args.host.now c.decide.new.host c.decide.ensures.files c.a_run_is_the_next_commit.ensures (record { may = c.a_run_may_be_prepared.ensures.may; ready = c.a_run_may_be_prepared.ensures.ready }) c.requires.some c.requires.below d rests stands room).0,
@@ -77,20 +67,15 @@ returns-in_err-all-clause-files g c d rests stands room =
 
 pub returns-in_err-all-clause-rest : goal.returns-in_err-all-clause-rest
 returns-in_err-all-clause-rest g c =
-    let rest = c.decide.ensures.rest in
-    record { procs = refl; trace = refl; others = rest.others; said = rest.said; stream = rest.stream; later = rest.later }
+    record { procs = refl; trace = refl; others = c.decide.ensures.rest.others; said = c.decide.ensures.rest.said; stream = c.decide.ensures.rest.stream; later = c.decide.ensures.rest.later }
 
 -- ---- all have voted
 
 pub returns-then-all-clause-tried : goal.returns-then-all-clause-tried
 returns-then-all-clause-tried g c =
     let k : Cluster = c.args.self.now in
-    let t : NodeTables = c.run_epoch.new.tables in
-    let sent = g.N.Net.sent c.args.net.now in
-    let carries = g.N.Net.carries c.args.net.now in
-    let run : HaveBeenRun k sent c.args.requests.items c.args.workers c.args.attempts carries t c.in_ok-dones.field-0.dones c.as_slice-2.result.now (traced c.in_ok-dones.field-0.trace) =
-    been_run k sent c.args.requests.items c.args.workers c.args.attempts c.config_of-config.result carries t c.in_ok-dones.field-0.dones c.in_ok-dones.field-0.pieces c.as_slice-2.result.now (traced c.in_ok-dones.field-0.trace) c.config_of-config.ensures c.as_slice-2.ensures c.requires.sound c.requires.up c.requires.may
-    c.in_ok-dones.ensures.ran c.run_epoch.ensures.keep c.in_ok-dones.ensures.shippable c.in_ok-dones.ensures.begun c.run_epoch.ensures.places in
+    let run = been_run c.args.self.now (g.N.Net.sent c.args.net.now) c.args.requests.items c.args.workers c.args.attempts c.config_of-config.result (g.N.Net.carries c.args.net.now) c.run_epoch.new.tables c.in_ok-dones.field-0.dones c.in_ok-dones.field-0.pieces c.as_slice-2.result.now (traced c.in_ok-dones.field-0.trace)
+    c.config_of-config.ensures c.as_slice-2.ensures c.requires.sound c.requires.up c.requires.may c.in_ok-dones.ensures.ran c.run_epoch.ensures.keep c.in_ok-dones.ensures.shippable c.in_ok-dones.ensures.begun c.run_epoch.ensures.places in
     let new : Cluster = record k { kept = c.run_epoch.new.kept; members = c.decide.new.members; body = c.decide.new.body; room = c.run_epoch.new.room } in
     let a : Around = around g.N.Net g.P.Power c.args.net.now c.args.power.now in
     let b : Around = around g.N.Net g.P.Power c.decide.new.net c.decide.new.power in
@@ -111,13 +96,8 @@ returns-then-all-clause-tried g c =
 
 pub returns-then-all-clause-files : goal.returns-then-all-clause-files
 returns-then-all-clause-files g c d rests stands room =
-    let k : Cluster = c.args.self.now in
-    let t : NodeTables = c.run_epoch.new.tables in
-    let sent = g.N.Net.sent c.args.net.now in
-    let carries = g.N.Net.carries c.args.net.now in
-    let run : HaveBeenRun k sent c.args.requests.items c.args.workers c.args.attempts carries t c.in_ok-dones.field-0.dones c.as_slice-2.result.now (traced c.in_ok-dones.field-0.trace) =
-    been_run k sent c.args.requests.items c.args.workers c.args.attempts c.config_of-config.result carries t c.in_ok-dones.field-0.dones c.in_ok-dones.field-0.pieces c.as_slice-2.result.now (traced c.in_ok-dones.field-0.trace) c.config_of-config.ensures c.as_slice-2.ensures c.requires.sound c.requires.up c.requires.may
-    c.in_ok-dones.ensures.ran c.run_epoch.ensures.keep c.in_ok-dones.ensures.shippable c.in_ok-dones.ensures.begun c.run_epoch.ensures.places in
+    let run = been_run c.args.self.now (g.N.Net.sent c.args.net.now) c.args.requests.items c.args.workers c.args.attempts c.config_of-config.result (g.N.Net.carries c.args.net.now) c.run_epoch.new.tables c.in_ok-dones.field-0.dones c.in_ok-dones.field-0.pieces c.as_slice-2.result.now (traced c.in_ok-dones.field-0.trace)
+    c.config_of-config.ensures c.as_slice-2.ensures c.requires.sound c.requires.up c.requires.may c.in_ok-dones.ensures.ran c.run_epoch.ensures.keep c.in_ok-dones.ensures.shippable c.in_ok-dones.ensures.begun c.run_epoch.ensures.places in
     let r : Result Bool TurnFault = Ok c.in_ok-all.all in
     let decided = decided_files run g.H.Host r c.args.host.now c.decide.new.host c.in_ok-all.ensures.files c.a_run_is_the_next_commit.ensures (record { may = c.a_run_may_be_prepared.ensures.may; ready = c.a_run_may_be_prepared.ensures.ready }) c.requires.some c.requires.below d rests stands room in (
       decided.0,
@@ -127,20 +107,15 @@ returns-then-all-clause-files g c d rests stands room =
 
 pub returns-then-all-clause-rest : goal.returns-then-all-clause-rest
 returns-then-all-clause-rest g c =
-    let rest = c.decide.ensures.rest in
-    record { procs = refl; trace = refl; others = rest.others; said = rest.said; stream = rest.stream; later = rest.later }
+    record { procs = refl; trace = refl; others = c.decide.ensures.rest.others; said = c.decide.ensures.rest.said; stream = c.decide.ensures.rest.stream; later = c.decide.ensures.rest.later }
 
 -- ---- it is given up
 
 pub returns-in_err-requests-clause-files : goal.returns-in_err-requests-clause-files
 returns-in_err-requests-clause-files g c d rests stands room =
     let k : Cluster = c.args.self.now in
-    let t : NodeTables = c.run_epoch.new.tables in
-    let sent = g.N.Net.sent c.args.net.now in
-    let carries = g.N.Net.carries c.args.net.now in
-    let run : HaveBeenRun k sent c.args.requests.items c.args.workers c.args.attempts carries t c.in_ok-dones.field-0.dones c.as_slice-2.result.now (traced c.in_ok-dones.field-0.trace) =
-    been_run k sent c.args.requests.items c.args.workers c.args.attempts c.config_of-config.result carries t c.in_ok-dones.field-0.dones c.in_ok-dones.field-0.pieces c.as_slice-2.result.now (traced c.in_ok-dones.field-0.trace) c.config_of-config.ensures c.as_slice-2.ensures c.requires.sound c.requires.up c.requires.may
-    c.in_ok-dones.ensures.ran c.run_epoch.ensures.keep c.in_ok-dones.ensures.shippable c.in_ok-dones.ensures.begun c.run_epoch.ensures.places in
+    let run = been_run c.args.self.now (g.N.Net.sent c.args.net.now) c.args.requests.items c.args.workers c.args.attempts c.config_of-config.result (g.N.Net.carries c.args.net.now) c.run_epoch.new.tables c.in_ok-dones.field-0.dones c.in_ok-dones.field-0.pieces c.as_slice-2.result.now (traced c.in_ok-dones.field-0.trace)
+    c.config_of-config.ensures c.as_slice-2.ensures c.requires.sound c.requires.up c.requires.may c.in_ok-dones.ensures.ran c.run_epoch.ensures.keep c.in_ok-dones.ensures.shippable c.in_ok-dones.ensures.begun c.run_epoch.ensures.places in
     let new : Cluster = record k { kept = c.run_epoch.new.kept; members = c.decide.new.members; body = c.decide.new.body; room = c.run_epoch.new.room } in
     let p = err_from_is_err_and c.from_residual-in_err-requests.result c.from_residual-in_err-requests.ensures.1 in (
       (decided_files run g.H.Host c.decide.result c.args.host.now c.decide.new.host c.decide.ensures.files c.a_run_is_the_next_commit.ensures (record { may = c.a_run_may_be_prepared.ensures.may; ready = c.a_run_may_be_prepared.ensures.ready }) c.requires.some c.requires.below d rests stands room).0,
@@ -149,18 +124,13 @@ returns-in_err-requests-clause-files g c d rests stands room =
 
 pub returns-in_err-requests-clause-rest : goal.returns-in_err-requests-clause-rest
 returns-in_err-requests-clause-rest g c =
-    let rest = c.decide.ensures.rest in
-    record { procs = refl; trace = refl; others = rest.others; said = rest.said; stream = rest.stream; later = rest.later }
+    record { procs = refl; trace = refl; others = c.decide.ensures.rest.others; said = c.decide.ensures.rest.said; stream = c.decide.ensures.rest.stream; later = c.decide.ensures.rest.later }
 
 pub returns-clause-tried : goal.returns-clause-tried
 returns-clause-tried g c =
     let k : Cluster = c.args.self.now in
-    let t : NodeTables = c.run_epoch.new.tables in
-    let sent = g.N.Net.sent c.args.net.now in
-    let carries = g.N.Net.carries c.args.net.now in
-    let run : HaveBeenRun k sent c.args.requests.items c.args.workers c.args.attempts carries t c.in_ok-dones.field-0.dones c.as_slice-2.result.now (traced c.in_ok-dones.field-0.trace) =
-    been_run k sent c.args.requests.items c.args.workers c.args.attempts c.config_of-config.result carries t c.in_ok-dones.field-0.dones c.in_ok-dones.field-0.pieces c.as_slice-2.result.now (traced c.in_ok-dones.field-0.trace) c.config_of-config.ensures c.as_slice-2.ensures c.requires.sound c.requires.up c.requires.may
-    c.in_ok-dones.ensures.ran c.run_epoch.ensures.keep c.in_ok-dones.ensures.shippable c.in_ok-dones.ensures.begun c.run_epoch.ensures.places in
+    let run = been_run c.args.self.now (g.N.Net.sent c.args.net.now) c.args.requests.items c.args.workers c.args.attempts c.config_of-config.result (g.N.Net.carries c.args.net.now) c.run_epoch.new.tables c.in_ok-dones.field-0.dones c.in_ok-dones.field-0.pieces c.as_slice-2.result.now (traced c.in_ok-dones.field-0.trace)
+    c.config_of-config.ensures c.as_slice-2.ensures c.requires.sound c.requires.up c.requires.may c.in_ok-dones.ensures.ran c.run_epoch.ensures.keep c.in_ok-dones.ensures.shippable c.in_ok-dones.ensures.begun c.run_epoch.ensures.places in
     let new : Cluster = record k { kept = c.run_epoch.new.kept; members = c.decide.new.members; body = c.decide.new.body; room = c.run_epoch.new.room } in
     let r : Result Bool TurnFault = Ok c.in_ok-all.all in
     let decided = c.in_ok-all.ensures.decided in
@@ -180,13 +150,8 @@ returns-clause-tried g c =
 
 pub returns-clause-files : goal.returns-clause-files
 returns-clause-files g c d rests stands room =
-    let k : Cluster = c.args.self.now in
-    let t : NodeTables = c.run_epoch.new.tables in
-    let sent = g.N.Net.sent c.args.net.now in
-    let carries = g.N.Net.carries c.args.net.now in
-    let run : HaveBeenRun k sent c.args.requests.items c.args.workers c.args.attempts carries t c.in_ok-dones.field-0.dones c.as_slice-2.result.now (traced c.in_ok-dones.field-0.trace) =
-    been_run k sent c.args.requests.items c.args.workers c.args.attempts c.config_of-config.result carries t c.in_ok-dones.field-0.dones c.in_ok-dones.field-0.pieces c.as_slice-2.result.now (traced c.in_ok-dones.field-0.trace) c.config_of-config.ensures c.as_slice-2.ensures c.requires.sound c.requires.up c.requires.may
-    c.in_ok-dones.ensures.ran c.run_epoch.ensures.keep c.in_ok-dones.ensures.shippable c.in_ok-dones.ensures.begun c.run_epoch.ensures.places in
+    let run = been_run c.args.self.now (g.N.Net.sent c.args.net.now) c.args.requests.items c.args.workers c.args.attempts c.config_of-config.result (g.N.Net.carries c.args.net.now) c.run_epoch.new.tables c.in_ok-dones.field-0.dones c.in_ok-dones.field-0.pieces c.as_slice-2.result.now (traced c.in_ok-dones.field-0.trace)
+    c.config_of-config.ensures c.as_slice-2.ensures c.requires.sound c.requires.up c.requires.may c.in_ok-dones.ensures.ran c.run_epoch.ensures.keep c.in_ok-dones.ensures.shippable c.in_ok-dones.ensures.begun c.run_epoch.ensures.places in
     let r : Result Bool TurnFault = Ok c.in_ok-all.all in
     let decided = decided_files run g.H.Host r c.args.host.now c.decide.new.host c.in_ok-all.ensures.files c.a_run_is_the_next_commit.ensures (record { may = c.a_run_may_be_prepared.ensures.may; ready = c.a_run_may_be_prepared.ensures.ready }) c.requires.some c.requires.below d rests stands room in (
       decided.0,
@@ -196,5 +161,4 @@ returns-clause-files g c d rests stands room =
 
 pub returns-clause-rest : goal.returns-clause-rest
 returns-clause-rest g c =
-    let rest = c.decide.ensures.rest in
-    record { procs = refl; trace = refl; others = rest.others; said = rest.said; stream = rest.stream; later = rest.later }
+    record { procs = refl; trace = refl; others = c.decide.ensures.rest.others; said = c.decide.ensures.rest.said; stream = c.decide.ensures.rest.stream; later = c.decide.ensures.rest.later }

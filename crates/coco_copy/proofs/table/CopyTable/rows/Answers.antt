@@ -2,7 +2,7 @@ use Rattle.std.proofs.Common.{◌∙◌, ap}
 use Rattle.std.specs.FinMap.{entries}
 use Rattle.coco_copy.specs.CopyState.{CopyState}
 use Rattle.coco_copy.specs.Kept.{stable_of}
-use Rattle.coco_copy.proofs.Parts.{part_entries}
+use Rattle.coco_rows.proofs.Parts.{part_entries}
 use Rattle.coco_copy.proofs.table.CopyTable.rows.Goals as goal
 
 pub returns : goal.returns

@@ -3,7 +3,7 @@ use Rattle.std.specs.Option.{option_and_then}
 use Rattle.std.specs.FinMap.{get}
 use Rattle.coco_copy.specs.CopyState.{CopyState}
 use Rattle.coco_copy.specs.Kept.{stable_of}
-use Rattle.coco_copy.proofs.Parts.{get_part}
+use Rattle.coco_rows.proofs.Parts.{get_part}
 use Rattle.coco_copy.proofs.table.CopyTable.stable.Goals as goal
 
 pub returns-in-Some : goal.returns-in-Some

@@ -3,7 +3,7 @@ use Rattle.std.specs.Prelude.{IfErr}
 use Rattle.std.proofs.lemmas.Result.{err_from_is_err_and}
 use Rattle.coco_lines.specs.Gathering.{Halts}
 use Rattle.coco_lines.specs.ReaderState.{ReaderState}
-use Rattle.coco_lines.specs.Reads.{Reads, SourceMoment, Stops}
+use Rattle.coco_lines.specs.Reads.{Reads, SourceMoment, Stops, source_moment}
 use Rattle.coco_lines.specs.declared.reader.Line.{Line}
 use Rattle.coco_lines.proofs.ReadsLemmas.{Reads-feed, Reads-last, Reads-fault, Stops-halts, counts-feed, counts-last, some_bytes}
 use Rattle.coco_lines.proofs.reader.Reader.next.Goals as goal
@@ -11,15 +11,15 @@ use Rattle.coco_lines.proofs.reader.Reader.next.Goals.{else-not-fed-via-then-not
 
 pub returns-in_err-body-clause-reads : goal.returns-in_err-body-clause-reads
 returns-in_err-body-clause-reads g c =
-    let told : SourceMoment = record { given = g.S.Source.given c.args.source.now; left = g.S.Source.remaining c.args.source.now; at_end = g.S.Source.at_end c.args.source.now } in
-    let left : SourceMoment = record { given = g.S.Source.given c.gather.new.source; left = g.S.Source.remaining c.gather.new.source; at_end = g.S.Source.at_end c.gather.new.source } in
+    let told : SourceMoment = source_moment g.S.Source c.args.source.now in
+    let left : SourceMoment = source_moment g.S.Source c.gather.new.source in
     let p = err_from_is_err_and c.from_residual.result c.from_residual.ensures.1 in
     subst (λ r. Reads c.args.self.now c.gather.new.self told left r) (sym p.1) (Reads-fault c.args.self.now c.gather.new.self told left c.in_err-body.ensures.err.0 p.0 c.in_err-body.ensures.err.1)
 
 pub returns-in_err-body-clause-stops : goal.returns-in_err-body-clause-stops
 returns-in_err-body-clause-stops g c =
-    let told : SourceMoment = record { given = g.S.Source.given c.args.source.now; left = g.S.Source.remaining c.args.source.now; at_end = g.S.Source.at_end c.args.source.now } in
-    let left : SourceMoment = record { given = g.S.Source.given c.gather.new.source; left = g.S.Source.remaining c.gather.new.source; at_end = g.S.Source.at_end c.gather.new.source } in
+    let told : SourceMoment = source_moment g.S.Source c.args.source.now in
+    let left : SourceMoment = source_moment g.S.Source c.gather.new.source in
     let p = err_from_is_err_and c.from_residual.result c.from_residual.ensures.1 in
     subst (λ r. IfErr r (λ e. Stops e c.args.self.now c.gather.new.self)) (sym p.1)
     (Stops-halts c.args.self.now c.gather.new.self told left c.in_err-body.ensures.err.0 p.0 c.in_err-body.ensures.err.1
@@ -27,8 +27,8 @@ returns-in_err-body-clause-stops g c =
 
 pub invariant_of-self : goal.invariant_of-self
 invariant_of-self g c =
-    let told : SourceMoment = record { given = g.S.Source.given c.args.source.now; left = g.S.Source.remaining c.args.source.now; at_end = g.S.Source.at_end c.args.source.now } in
-    let left : SourceMoment = record { given = g.S.Source.given c.gather.new.source; left = g.S.Source.remaining c.gather.new.source; at_end = g.S.Source.at_end c.gather.new.source } in
+    let told : SourceMoment = source_moment g.S.Source c.args.source.now in
+    let left : SourceMoment = source_moment g.S.Source c.gather.new.source in
     let old = c.args.self.now in
     let new = c.gather.new.self in
     let was = c.gather.ensures.is_state.0 in
@@ -48,8 +48,8 @@ invariant_of-self g c =
 
 pub returns-clause-reads : goal.returns-clause-reads
 returns-clause-reads g c =
-    let told : SourceMoment = record { given = g.S.Source.given c.args.source.now; left = g.S.Source.remaining c.args.source.now; at_end = g.S.Source.at_end c.args.source.now } in
-    let left : SourceMoment = record { given = g.S.Source.given c.gather.new.source; left = g.S.Source.remaining c.gather.new.source; at_end = g.S.Source.at_end c.gather.new.source } in
+    let told : SourceMoment = source_moment g.S.Source c.args.source.now in
+    let left : SourceMoment = source_moment g.S.Source c.gather.new.source in
     let old = c.args.self.now in
     let new = c.gather.new.self in
     let body = c.in_ok-body.body in

@@ -7,12 +7,12 @@ pub returns : goal.returns
 returns c =
     let r = c.self.inside in
     let basing = c.self.invariant c.if-self.false in
-    rw (← c.self.view_is, c.if-self.false)
+    rw (← c.self.view_is, c.if-self.false, c.into_based.ensures)
     (record {
       based = record {
         behind = record {
           each = basing.each;
-          rules = c.into_history-rules.ensures (setting_of r.last.now) (entries_of r.gathered.entries.items) basing.behind;
+          rules = c.into_history.ensures (setting_of r.last.now) (entries_of r.gathered.entries.items) basing.behind;
           kept = basing.gathered.replies;
         };
         maps = basing.gathered.maps;

@@ -1,4 +1,5 @@
 use Rattle.std.proofs.Common.{refl}
+use Rattle.coco_load.proofs.Adding.{committed_dones_follow}
 use Rattle.coco_store.specs.Rules.{floor_in}
 use Rattle.coco_recover.specs.Bases.{entries_of}
 use Rattle.coco_recover.specs.Commits.{commit_rules}
@@ -40,7 +41,7 @@ keep_dones-requires c =
     let history = c.self.invariant c.if-self.false in
     let judged = c.in_ok-at.ensures (setting_of r.last.now) base r.committed.commits.items refl history.rules in
     let good = rw c.in_default.is at judged in
-    (c.kept_dones_follow_the_files.ensures.committed (setting_of r.last.now) r.committed.kept (floor_in base) base r.committed.commits.items c.in-Ok.commit
+    (committed_dones_follow (setting_of r.last.now) r.committed.kept (floor_in base) base r.committed.commits.items c.in-Ok.commit
     history.remembered.base history.remembered.each good.0 history.remembered.kept).0
 
 pub invariant_of-self-2 : goal.invariant_of-self-2
@@ -50,7 +51,7 @@ invariant_of-self-2 c =
     let history = c.self.invariant c.if-self.false in
     let judged = c.in_ok-at.ensures (setting_of r.last.now) base r.committed.commits.items refl history.rules in
     let good = rw c.in_default.is at judged in
-    let follows = c.kept_dones_follow_the_files.ensures.committed (setting_of r.last.now) r.committed.kept (floor_in base) base r.committed.commits.items c.in-Ok.commit
+    let follows = committed_dones_follow (setting_of r.last.now) r.committed.kept (floor_in base) base r.committed.commits.items c.in-Ok.commit
     history.remembered.base history.remembered.each good.0 history.remembered.kept in
     λ _. history_grows (setting_of r.last.now) r.rules c.next.new.self r.committed _ c.in-Ok.commit history c.in-Ok.ensures.found.0 good refl c.keep_dones.ensures.keep
     (cc (c.add.ensures, c.from_ref.ensures.value)) c.in_ok-push.ensures.items c.in_ok-keep_dones.ensures.kept follows.1 c.next_epoch-self-inside.ensures

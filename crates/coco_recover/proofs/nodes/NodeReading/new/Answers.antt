@@ -17,7 +17,7 @@ invariant_of-result c =
         behind = c.new.ensures.behind s refl;
         is_node = c.new.ensures.node;
         tables = c.requires.tables;
-        loads = loads_none c.tables_follow_the_files.ensures.nodes s c.args.epochs.now c.args.node tables.shards.items tables.copies.items;
+        loads = loads_none s c.args.epochs.now c.args.node tables.shards.items tables.copies.items;
         greatest = refl;
       }),
     )

@@ -30,7 +30,7 @@ invariant_of-self-2 c =
     let taken = c.self.invariant.1 c.if-self.false in
     let judged = rw taken.is_node at (c.in-Ok-next.ensures.judges s r.epochs.now r.taken.items refl refl taken.behind) in (
       c.self.invariant.0,
-      λ _. taken_goes_on c.tables_follow_the_files.ensures.nodes b r.taken.items c.add.new.self.items c.in-Ok.prepared r.rules c.next.new.self r.tables c.load.new.tables r.greatest c.max-self-inside.result taken
+      λ _. taken_goes_on b r.taken.items c.add.new.self.items c.in-Ok.prepared r.rules c.next.new.self r.tables c.load.new.tables r.greatest c.max-self-inside.result taken
           (cc (c.add.ensures, c.from_ref.ensures.value)) c.in-Ok-next.ensures.node judged.0 judged.1 c.in_ok-load.ensures.tables
           (λ base read held. c.in_ok-load.ensures.ok s base r.epochs.now read refl judged.2 held) c.max-self-inside.ensures,
     )
