@@ -24,7 +24,6 @@ use Rattle.coco_ending.specs.declared.ending.Ending.{Ending}
 use Rattle.coco_ending.specs.declared.ending.Ending.TheVariants as ending
 use Rattle.coco_entry.specs.declared.layout.Layout.{Layout}
 use Rattle.coco_host.specs.Files.{Files}
-use Rattle.coco_host.specs.Moments.{Observation}
 use Rattle.coco_host.specs.declared.host.Host.{Ghosts as HostGhosts}
 use Rattle.coco_init.specs.Counts.{CountsDisk, CountsReads}
 use Rattle.coco_init.specs.Initiating.{Initiates}
@@ -49,19 +48,18 @@ use Rattle.coco_commands.specs.Migrating.{ending_of_adding}
 use Rattle.coco_commands.specs.Querying.{IsNotAsked, MayBeAsked, ending_of_asking, past_at, streams_of}
 use Rattle.coco_commands.specs.Rebuilding.{ending_of_rebuilding}
 use Rattle.coco_commands.specs.Opening.{FailsToOpen}
-use Rattle.coco_commands.specs.Running.{Opens, ending_of_run}
+use Rattle.coco_commands.specs.Running.{Opens}
+use Rattle.coco_commands.specs.Stopping.{ending_of}
 use Rattle.coco_lines.proofs.ClassLemmas.{classes_length}
-use Rattle.coco_commands.specs.Served as served
 use Rattle.coco_commands.proofs.ServingLemmas.{added_by, all_later, all_spare, few_have_numbers, few_new, joined-more, none_spare, spare_then}
 use Rattle.coco_store.specs.Contents.{Contents, Holds, history_of}
 use Rattle.coco_store.specs.Refusals.{IsFirstRefusal, RefusedIsNone}
 use Rattle.coco_store.specs.Texts.{IsAcceptedText}
 use Rattle.coco_commands.specs.Telling.{IsVerdict, SaysText}
-use Rattle.coco_commands.specs.Trying.{OpensToTry, ending_of_trying}
+use Rattle.coco_commands.specs.Trying.{OpensToTry}
 use Rattle.coco_commands.specs.Workloads as workloads
-use Rattle.coco_commands.specs.Workloads.{BatchFault}
-use Rattle.coco_commands.specs.Faulted as batch
-use Rattle.coco_commands.specs.Serving.{Around, Counts, epochs_of, HasCause, manner_of, Outside, RunBounds, Served, Serves}
+use Rattle.coco_commands.specs.Faulted as stop
+use Rattle.coco_commands.specs.Serving.{Around, Counts, epochs_of, HasCause, manner_of, Outside, RunBounds, Serves, Stop}
 use Rattle.coco_words.specs.declared.Command.TheVariants.{Compact, Dump, Init, Migrate, Query, Rebuild, Run, Try, Verify}
 use Rattle.coco.specs.Commands.{counts_of, disturbed, ending_in, bounds_of}
 use Rattle.coco.specs.Success.{AllAreAnswered, AllAreTold, CompactSucceeds, DumpSucceeds, FewLinesHaveNumbers, FewRequestsHaveNumbers, HaveNumbers, HaveNumbersFor, InitSucceeds, DoneOrNoMemory, MigrateSucceeds, NoneRose, QuerySucceeds, ReadsEmpty, ReadsWithout, RebuildSucceeds, RunSucceeds, TrySucceeds, VerifySucceeds}
@@ -148,23 +146,23 @@ verdict_is_serial c text own serial verdict = absurd verdict
 -- ---- each command
 
 module _ {H : Type 0} (frame : HostGhosts H) where
-  served_or_memory : (c : Contents) (next : ℕ) (bounds : RunBounds) (bytes : List ℕ) (how : Ending) (before after : Outside) (old opened new : H) (s : Served)
-      → how ≡ ending_of_run s → NoneRose before after → length bytes < most_input_bytes → HaveNumbers c next bounds bytes → HasCause next bytes before after s
+  served_or_memory : (c : Contents) (next : ℕ) (bounds : RunBounds) (bytes : List ℕ) (how : Ending) (before after : Outside) (old opened new : H) (s : Result (Unit {0}) Stop)
+      → how ≡ ending_of s → NoneRose before after → length bytes < most_input_bytes → HaveNumbers c next bounds bytes → HasCause next bytes before after s
       → Serves frame c next 0 bounds bytes s opened new
-      → DoneOrNoMemory how (HasCause next bytes before after served.Finished × Serves frame c next 0 bounds bytes served.Finished opened new)
-  served_or_memory c next bounds bytes how before after old opened new served.Finished ends faultless few numbers cause serves = inl (ends, (cause, serves))
-  served_or_memory c next bounds bytes how before after old opened new served.ReadFault ends faultless few numbers cause serves =
+      → DoneOrNoMemory how (HasCause next bytes before after (Ok tt) × Serves frame c next 0 bounds bytes (Ok tt) opened new)
+  served_or_memory c next bounds bytes how before after old opened new (Ok done) ends faultless few numbers cause serves = inl (ends, (cause, serves))
+  served_or_memory c next bounds bytes how before after old opened new (Err stop.Read) ends faultless few numbers cause serves =
       absurd (⊎_elim faultless.source (λ full. omega (arith, few, full)) cause)
-  served_or_memory c next bounds bytes how before after old opened new served.SayFault ends faultless few numbers cause serves = absurd (faultless.stream cause)
-  served_or_memory c next bounds bytes how before after old opened new served.DiskFault ends faultless few numbers cause serves = absurd (faultless.disk cause)
-  served_or_memory c next bounds bytes how before after old opened new (served.NotAStore file at) ends faultless few numbers cause serves = absurd serves.ends
-  served_or_memory c next bounds bytes how before after old opened new served.Unreachable ends faultless few numbers cause serves =
+  served_or_memory c next bounds bytes how before after old opened new (Err stop.Say) ends faultless few numbers cause serves = absurd (faultless.stream cause)
+  served_or_memory c next bounds bytes how before after old opened new (Err stop.Disk) ends faultless few numbers cause serves = absurd (faultless.disk cause)
+  served_or_memory c next bounds bytes how before after old opened new (Err (stop.NotAStore file at)) ends faultless few numbers cause serves = absurd serves.ends
+  served_or_memory c next bounds bytes how before after old opened new (Err stop.Unreachable) ends faultless few numbers cause serves =
       let given_up = all_spare 4 cause.0 after.around cause.2 in
       let none = none_spare before.around after.around faultless.net faultless.power in
       let adds = spare_then before.around cause.0 after.around cause.1 (all_later 4 cause.0 after.around cause.2) in
       absurd (omega (arith, given_up, none, adds))
-  served_or_memory c next bounds bytes how before after old opened new served.EpochsUsedUp ends faultless few numbers cause serves = absurd (numbers serves.progress serves.ends.2)
-  served_or_memory c next bounds bytes how before after old opened new served.NoMemory ends faultless few numbers cause serves = inr ends
+  served_or_memory c next bounds bytes how before after old opened new (Err stop.EpochsUsedUp) ends faultless few numbers cause serves = absurd (numbers serves.progress serves.ends.2)
+  served_or_memory c next bounds bytes how before after old opened new (Err stop.NoMemory) ends faultless few numbers cause serves = inr ends
 
   pub run_succeeds : RefusedIsNone → RunSucceeds frame
   run_succeeds refused run how before after old new c bytes faultless store gives may =
@@ -184,21 +182,22 @@ module _ {H : Type 0} (frame : HostGhosts H) where
           (λ done. inl (done.0, record { opened = opens.opened; opening = opens.opening; next = opens.next; is_next = next; spent = done.1.0; serves = done.1.1 })) inr
           (served_or_memory c opens.next (bounds_of run) bytes how (disturbed run.disturb before) after old opens.opened new opens.served opens.ends (none_disturbed run.disturb before after faultless.none_rose) may.few (may.numbers opens.next next) cause serves)
 
-  tried_or_memory : (c : Contents) (next : ℕ) (bounds : RunBounds) (requests : List Request) (how : Ending) (was now : Around) (before after : Counts) (opened new : H) (result : Result (Unit {0}) BatchFault)
-      → how ≡ ending_of_trying result → ¬ (Rose before.say after.say) → ¬ (Rose before.disk after.disk) → ¬ (Rose was.faults now.faults) → ¬ (Rose was.early now.early) → HaveNumbersFor c next bounds requests
+  tried_or_memory : (c : Contents) (next : ℕ) (bounds : RunBounds) (requests : List Request) (how : Ending) (was now : Around) (before after : Counts) (opened new : H) (result : Result (Unit {0}) Stop)
+      → how ≡ ending_of result → ¬ (Rose before.say after.say) → ¬ (Rose before.disk after.disk) → ¬ (Rose was.faults now.faults) → ¬ (Rose was.early now.early) → HaveNumbersFor c next bounds requests
       → workloads.HasCause next (length requests) was now before after result → workloads.Tries frame c next 0 bounds requests result opened new
       → DoneOrNoMemory how (workloads.Tries frame c next 0 bounds requests (Ok tt) opened new)
   tried_or_memory c next bounds requests how was now before after opened new (Ok done) ends stream disk net power numbers cause tries = inl (ends, tries)
-  tried_or_memory c next bounds requests how was now before after opened new (Err batch.Say) ends stream disk net power numbers cause tries = absurd (stream cause)
-  tried_or_memory c next bounds requests how was now before after opened new (Err batch.Disk) ends stream disk net power numbers cause tries = absurd (disk cause)
-  tried_or_memory c next bounds requests how was now before after opened new (Err (batch.NotAStore file at)) ends stream disk net power numbers cause tries = absurd tries.ends
-  tried_or_memory c next bounds requests how was now before after opened new (Err batch.Unreachable) ends stream disk net power numbers cause tries =
+  tried_or_memory c next bounds requests how was now before after opened new (Err stop.Read) ends stream disk net power numbers cause tries = absurd cause
+  tried_or_memory c next bounds requests how was now before after opened new (Err stop.Say) ends stream disk net power numbers cause tries = absurd (stream cause)
+  tried_or_memory c next bounds requests how was now before after opened new (Err stop.Disk) ends stream disk net power numbers cause tries = absurd (disk cause)
+  tried_or_memory c next bounds requests how was now before after opened new (Err (stop.NotAStore file at)) ends stream disk net power numbers cause tries = absurd tries.ends
+  tried_or_memory c next bounds requests how was now before after opened new (Err stop.Unreachable) ends stream disk net power numbers cause tries =
       let given_up = all_spare 4 cause.0 now cause.2 in
       let none = none_spare was now net power in
       let adds = spare_then was cause.0 now cause.1 (all_later 4 cause.0 now cause.2) in
       absurd (omega (arith, given_up, none, adds))
-  tried_or_memory c next bounds requests how was now before after opened new (Err batch.EpochsUsedUp) ends stream disk net power numbers cause tries = absurd (numbers tries.progress tries.ends.2)
-  tried_or_memory c next bounds requests how was now before after opened new (Err batch.NoMemory) ends stream disk net power numbers cause tries = inr ends
+  tried_or_memory c next bounds requests how was now before after opened new (Err stop.EpochsUsedUp) ends stream disk net power numbers cause tries = absurd (numbers tries.progress tries.ends.2)
+  tried_or_memory c next bounds requests how was now before after opened new (Err stop.NoMemory) ends stream disk net power numbers cause tries = inr ends
 
   pub try_succeeds : RefusedIsNone → TrySucceeds frame
   try_succeeds refused calls seed run how before after old new c faultless store numbers =

@@ -9,7 +9,6 @@ use Rattle.coco_ast.specs.History.{epoch_dones}
 use Rattle.coco_ast.specs.Tree.{Procedures}
 use Rattle.coco_audit.specs.Texts.{serial_text}
 use Rattle.coco_host.specs.Files.{Files}
-use Rattle.coco_host.specs.Moments.{Observation}
 use Rattle.coco_host.specs.declared.host.Host.{Ghosts as HostGhosts}
 use Rattle.coco_io.specs.Counts.{Rose}
 use Rattle.coco_ckpt.specs.Compacting.{HasCompacted}
@@ -22,7 +21,6 @@ use Rattle.coco_load.specs.Epochs.{IsNextOf}
 use Rattle.coco_log.specs.LogState.{IsOnlyRead}
 use Rattle.coco_make.specs.NewStore.{new_layout}
 use Rattle.coco_commands.specs.Keeping.{contents_keeping}
-use Rattle.coco_commands.specs.Served as served
 use Rattle.coco_rebuild.specs.Rebuilding.{HasRebuilt, IsHeldAlone}
 use Rattle.coco_recover.specs.Without.{IsGoodBut}
 use Rattle.coco_store.specs.Contents.{Contents, IsGoodStore, history_of}
@@ -30,7 +28,7 @@ use Rattle.coco_store.specs.Texts.{IsAcceptedText}
 use Rattle.coco_commands.specs.Querying.{MayBeAsked, past_at}
 use Rattle.coco_commands.specs.Telling.{dump_in}
 use Rattle.coco_commands.specs.Workloads as workloads
-use Rattle.coco_commands.specs.Serving.{AreUsedUp, manner_of, Outside, Progress, RunBounds, Serves}
+use Rattle.coco_commands.specs.Serving.{AreUsedUp, manner_of, Outside, ServedSoFar, RunBounds, Serves}
 use Rattle.coco_words.specs.Commands.{IsCommand}
 use Rattle.coco_words.specs.declared.Command.{Command}
 use Rattle.coco_words.specs.declared.Command.TheVariants.{Init, Run, Dump, Verify, Migrate, Compact, Rebuild, Query, Try}
@@ -69,7 +67,7 @@ pub record ReadsEmpty (reads : Option Files) : Type 0 where
 
 -- behind whichever first batches of these bytes a next one has a new request, there is a number for its epoch, where none is skipped
 abbrev pub HaveNumbers : Contents → ℕ → RunBounds → List ℕ → Type 0
-HaveNumbers c next bounds bytes = (p : Progress (manner_of c.setting bounds) (history_of c) next 0 bounds.size bytes)
+HaveNumbers c next bounds bytes = (p : ServedSoFar (manner_of c.setting bounds) (history_of c) next 0 bounds.size bytes)
     → ¬ (AreUsedUp (manner_of c.setting bounds) (history_of c) next 0 bounds.size bytes p)
 
 -- so it is where each line could have a number of its own
@@ -78,7 +76,7 @@ FewLinesHaveNumbers = (c : Contents) (next : ℕ) (bounds : RunBounds) (bytes : 
 
 -- so it is where requests are worked off
 abbrev pub HaveNumbersFor : Contents → ℕ → RunBounds → List Request → Type 0
-HaveNumbersFor c next bounds requests = (p : workloads.Progress (manner_of c.setting bounds) (history_of c) next 0 bounds.size requests)
+HaveNumbersFor c next bounds requests = (p : workloads.TriedSoFar (manner_of c.setting bounds) (history_of c) next 0 bounds.size requests)
     → ¬ (workloads.AreUsedUp (manner_of c.setting bounds) (history_of c) next 0 bounds.size requests p)
 
 -- so it is where each request could have a number of its own
@@ -111,7 +109,7 @@ module _ {H : Type 0} (frame : HostGhosts H) where
     pub next : ℕ
     pub is_next : IsNextOf c next
     pub spent : IsSpent after.source
-    pub serves : Serves frame c next 0 bounds bytes served.Finished opened new
+    pub serves : Serves frame c next 0 bounds bytes (Ok tt) opened new
 
   -- all requests are committed and told of; no number was skipped
   pub record AllAreTold (c : Contents) (bounds : RunBounds) (requests : List Request) (old new : H) : Type 0 where

@@ -54,11 +54,6 @@ stands_on log file (Some fs) after left leaves other become follows stands =
     subst (λ (o : Option Files). Stands log o leaves) (sym become.1)
     (record { bodies = stands.bodies; rest = rests_on log stands.bodies file fs become.0 left leaves other become.2 follows stands.rest })
 
--- a log that was opened, by a call that only read
-pub opened_stands : (log : LogState) (before after : Option Files) (leaves : Files → Type 0) → after ≡ before → ((files : Files) → before ≡ Some files → IsOpened log files leaves) → Stands log after leaves
-opened_stands log None after leaves same opened = subst (λ (o : Option Files). Stands log o leaves) (sym same) tt
-opened_stands log (Some fs) after leaves same opened = subst (λ (o : Option Files). Stands log o leaves) (sym same) (opened fs refl)
-
 -- a log that was made
 pub made_stands : (log : LogState) (file kind : ℕ) (before after : Option Files) (leaves : Files → Type 0) → Become (SameBut file) before after
     → ((files : Files) → before ≡ Some files → IsMade log file kind files after leaves) → Stands log after leaves

@@ -1,8 +1,8 @@
 -- Maps from keys to values, what is put over them, and the part of one that a partition has.
-use Rattle.std.specs.Prelude.{◌≡◌, ℕ, ◌%◌, nat_eq, List, [], ◌∷◌, Option, None, Some}
+use Rattle.std.specs.Prelude.{◌≡◌, ℕ, nat_eq, List, [], ◌∷◌, Option, None, Some}
 use Rattle.std.specs.List.{AllByRecursion}
 use Rattle.std.specs.FinMap.{FinMap, get, insert, remove, retain_keys}
-use Rattle.coco_types.specs.RowKey.{RowKey, key_cmp}
+use Rattle.coco_types.specs.RowKey.{RowKey, key_cmp, partition_of}
 use Rattle.coco_types.specs.declared.call.Write.{Write}
 use Rattle.coco_types.specs.declared.value.Value.{Value}
 
@@ -25,7 +25,7 @@ put_over m (w ∷ ws) = put_over (write_at m w.key w.value) ws
 
 -- the rows of the partition p of so many: those whose row number is p modulo their count
 abbrev pub on_partition : ℕ → ℕ → Rows → Rows
-on_partition count p m = retain_keys m (λ k. nat_eq (k.row % count) p)
+on_partition count p m = retain_keys m (λ k. nat_eq (partition_of count k) p)
 
 -- two maps have the same at each of these keys
 abbrev pub AgreeOn : List RowKey → Rows → Rows → Type 0

@@ -1,11 +1,11 @@
 -- The lines of a dump that are still to come.
-use Rattle.std.specs.Prelude.{◌≡◌, ◌⊎◌, ℕ, ◌%◌, ◌<◌, ◌≤◌, Bool, true, false, List, [], ◌∷◌, ◌++◌, flat_map, length, map, Option, None, Some, IsSome, slice_get}
+use Rattle.std.specs.Prelude.{◌≡◌, ◌⊎◌, ℕ, ◌<◌, ◌≤◌, Bool, true, false, List, [], ◌∷◌, ◌++◌, flat_map, length, map, Option, None, Some, IsSome, slice_get}
 use Rattle.std.specs.BTreeMap.{is_at}
 use Rattle.std.specs.FinMap.{empty}
 use Rattle.std.specs.List.{list_any}
 use Rattle.std.specs.List.Sorted.{IsStrictlySortedBy}
 use Rattle.std.specs.Option.{unwrap_or}
-use Rattle.coco_types.specs.RowKey.{RowKey, key_cmp}
+use Rattle.coco_types.specs.RowKey.{RowKey, key_cmp, partition_of}
 use Rattle.coco_types.specs.declared.call.Done.{Done}
 use Rattle.coco_types.specs.declared.value.Value.{Value}
 use Rattle.coco_ast.specs.Keyed.{Rows, value_at}
@@ -20,7 +20,7 @@ shard_in shards p = unwrap_or (slice_get shards p) empty
 
 -- the stable value of a key in the shard of its partition
 abbrev pub stable_in : List ShardState → RowKey → Option Value
-stable_in shards k = stable_at (shard_in shards (k.row % length shards)) k
+stable_in shards k = stable_at (shard_in shards (partition_of (length shards) k)) k
 
 -- the shards have just the values of a map
 abbrev pub HaveValues : Rows → List ShardState → Type 0

@@ -116,7 +116,7 @@ fn stable_in(shards: &[Shard], key: Key) -> Option<Value>
     if shards.is_empty() {
         return None;
     }
-    shards[(key.row % shards.len() as u64) as usize].stable(key)
+    shards[key.partition(shards.len())].stable(key)
 }
 
 // The keys of the shards' rows, rising.

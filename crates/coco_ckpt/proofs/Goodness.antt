@@ -11,7 +11,7 @@ use Rattle.coco_ast.specs.History.{AreAbove, Base, History, IsOrdered, IsSerial,
 use Rattle.coco_ast.specs.Keyed.{Rows, put_over}
 use Rattle.coco_ast.specs.Tree.{Procedures}
 use Rattle.coco_ast.proofs.Lists.{all_left}
-use Rattle.coco_commits.specs.Tables.{WritesDeclaredTables}
+use Rattle.coco_append.specs.Tables.{WritesDeclaredTables}
 use Rattle.coco_entry.specs.declared.base.BaseHead.{BaseHead}
 use Rattle.coco_entry.specs.declared.layout.Layout.{Layout}
 use Rattle.coco_entry.specs.declared.layout.LayoutEntry.{LayoutEntry}

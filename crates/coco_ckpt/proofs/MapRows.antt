@@ -19,7 +19,7 @@ use Rattle.coco_ast.specs.Meaning.{run}
 use Rattle.coco_ast.specs.Tree.{Procedures}
 use Rattle.coco_ast.proofs.Lists.{all_append, all_both, all_map}
 use Rattle.coco_ast.proofs.RunsPutWrites.{run_puts_writes}
-use Rattle.coco_commits.specs.Tables.{WritesDeclaredTables}
+use Rattle.coco_append.specs.Tables.{WritesDeclaredTables}
 use Rattle.coco_store.specs.Entries.{BaseEntry}
 use Rattle.coco_store.specs.Rules.{EachBehind, HasTable, IsNextBase, IsNextValue, Setting, base_values, values_of}
 use Rattle.coco_recover.proofs.Keeping.{each_all}

@@ -2,7 +2,7 @@
 
 ghost use Rattle.coco_ckpt.specs.Laws.{CompactedIsGood};
 
-use coco_commits::runs_stay_in_tables;
+use coco_append::runs_stay_in_tables;
 
 /// A good store's kept Dones, floor and rows keep the rules of a base under its greatest epoch; with a layout of new
 /// files they are contents to switch to, whose history is the compacted one.

@@ -16,7 +16,7 @@ use Rattle.coco_ast.specs.History.{Epoch, done_of, floor, floor_of, followed_by,
 use Rattle.coco_ast.specs.Keyed.{Rows}
 use Rattle.coco_chief.specs.Chief.{has}
 use Rattle.coco_chief.specs.Shown.{chief_of}
-use Rattle.coco_commits.specs.EpochEntries.{HeldBy}
+use Rattle.coco_append.specs.EpochEntries.{HeldBy}
 use Rattle.coco_entry.proofs.FitLemmas.{fit_all}
 use Rattle.coco_entry.specs.Commits.{AreOf}
 use Rattle.coco_entry.specs.declared.commit.Commit.{Commit}
@@ -24,10 +24,9 @@ use Rattle.coco_entry.specs.declared.layout.Layout.{Layout}
 use Rattle.coco_finish.specs.Finishing.{is_behind, HaveMap}
 use Rattle.coco_finish.specs.declared.tables.NodeTables.{NodeTables}
 use Rattle.coco_host.specs.Files.{Files}
-use Rattle.coco_kept.specs.Holding.{NeverFall}
+use Rattle.coco_kept.specs.Holding.{MayFollow, NeverFall}
 use Rattle.coco_kept.specs.Keeping.{HoldsKept, Keeping}
 use Rattle.coco_letters.specs.declared.voter.Voter.{Voter}
-use Rattle.coco_load.specs.Keeping.{MayFollow}
 use Rattle.coco_load.specs.RowMaps.{joined}
 use Rattle.coco_log.specs.LogState.{LogState}
 use Rattle.coco_lost.specs.Reading.{AreInFiles, CanBeRead}

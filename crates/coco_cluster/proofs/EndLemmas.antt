@@ -1,5 +1,5 @@
 -- The end of an epoch: tables that were reverted, and a commit entry.
-use Rattle.std.proofs.Common.{◌≡◌, ⊎_elim, ℕ, Bool, true, false, List, [], length, map, Option, Some, Result, Ok, Err, refl, sym, ap, ◌∙◌, subst, arith}
+use Rattle.std.proofs.Common.{◌≡◌, ⊎_elim, ℕ, Bool, true, false, List, [], length, map, Some, Result, Ok, Err, refl, sym, ap, ◌∙◌, subst, arith}
 use Rattle.std.specs.Global.{Vec}
 use Rattle.std.specs.Prelude.{OnOk}
 use Rattle.std.proofs.lemmas.List.{length-map}
@@ -9,16 +9,12 @@ use Rattle.coco_ast.specs.Keyed.{Rows}
 use Rattle.coco_copy.specs.CopyState.{CopyState}
 use Rattle.coco_entry.specs.declared.commit.Commit.{Commit}
 use Rattle.coco_entry.specs.declared.layout.Layout.{Layout}
-use Rattle.coco_epoch.specs.Shards.{SettleOn}
+use Rattle.coco_tail.specs.Shards.{SettleOn}
 use Rattle.coco_finish.specs.Finishing.{is_behind, AreWhole}
-use Rattle.coco_host.specs.Files.{Files}
-use Rattle.coco_host.specs.Moments.{Observation}
 use Rattle.coco_host.specs.declared.host.Host.{Ghosts as HostGhosts}
 use Rattle.coco_letters.specs.declared.voter.Voter.{Voter}
-use Rattle.coco_log.specs.Faults.{CountsFault}
 use Rattle.coco_log.specs.declared.fault.LogFault.{LogFault}
 use Rattle.coco_log.specs.declared.fault.LogFault.TheVariants as log
-use Rattle.coco_read.specs.Faults.{Counts}
 use Rattle.coco_read.specs.declared.fault.OpenFault.{OpenFault}
 use Rattle.coco_read.specs.declared.fault.OpenFault.TheVariants as open_fault
 use Rattle.coco_members.specs.AtRest.{primaries_of, AreAtRest, AreMembers, NoneBehind, ShardsHaveMap}
@@ -33,9 +29,9 @@ use Rattle.coco_store.specs.Contents.{Contents}
 use Rattle.coco_store.specs.Laws.{with_commit}
 use Rattle.coco_vote.specs.Taking.{KeepPlaces}
 use Rattle.coco_cluster.specs.Ending.{Commits}
-use Rattle.coco_cluster.specs.Faults.{CountsAttempt, CountsPart, turn_fault_of, turn_fault_of_open}
-use Rattle.coco_cluster.specs.declared.fault.TurnFault.{TurnFault}
-use Rattle.coco_cluster.specs.declared.fault.TurnFault.TheVariants as fault
+use Rattle.coco_cluster.specs.Faults.{stop_of_opening}
+use Rattle.coco_cluster.specs.declared.stop.Stop.{Stop}
+use Rattle.coco_cluster.specs.declared.stop.Stop.TheVariants as stop
 use Rattle.coco_cluster.specs.Trying.{AreQuiet, KeepShards}
 use Rattle.coco_cluster.specs.Writing.{WritesLogs}
 use Rattle.coco_cluster.proofs.RestLemmas.{quiet_rests}
@@ -44,22 +40,11 @@ use Rattle.coco_cluster.proofs.TryLemmas.{quiet_run}
 
 -- ---- faults
 
-pub counts_log : (f : LogFault) (old new : ℕ) → CountsFault {T = Unit {0}} (Err f) old new → CountsPart {T = Unit {0}} (Err (turn_fault_of f)) old new
-counts_log log.Disk old new counts = counts
-counts_log log.NoMemory old new counts = counts
-counts_log (log.NotALog at) old new counts = absurd counts
-counts_log log.TooLong old new counts = absurd counts
-
-pub counts_open : (f : OpenFault) (old new : ℕ) → Counts {T = Unit {0}} (Err f) old new → CountsAttempt {T = Unit {0}} (Err (turn_fault_of_open f)) old new
-counts_open open_fault.Disk old new counts = counts
-counts_open (open_fault.NotAStore file at) old new counts = counts
-counts_open open_fault.NoMemory old new counts = counts
-
 -- a turn refuses the file that reading did
-pub refused_so : (f : OpenFault) (file at : ℕ) → turn_fault_of_open f ≡ fault.NotAStore file at → f ≡ open_fault.NotAStore file at
-refused_so open_fault.Disk file at is = (let never_so : fault.Disk ≡ fault.NotAStore file at = is in absurd (cc))
-refused_so (open_fault.NotAStore named place) file at is = (let same : fault.NotAStore named place ≡ fault.NotAStore file at = is in cc)
-refused_so open_fault.NoMemory file at is = (let never_so : fault.NoMemory ≡ fault.NotAStore file at = is in absurd (cc))
+pub refused_so : (f : OpenFault) (file at : ℕ) → stop_of_opening f ≡ stop.NotAStore file at → f ≡ open_fault.NotAStore file at
+refused_so open_fault.Disk file at is = (let never_so : stop.Disk ≡ stop.NotAStore file at = is in absurd (cc))
+refused_so (open_fault.NotAStore named place) file at is = (let same : stop.NotAStore named place ≡ stop.NotAStore file at = is in cc)
+refused_so open_fault.NoMemory file at is = (let never_so : stop.NoMemory ≡ stop.NotAStore file at = is in absurd (cc))
 
 -- ---- tables that were reverted
 
@@ -112,7 +97,7 @@ marked_places stopped stopped_new voters voters_new many marks n now there =
       was.0,
       was.1,
       ⊎_elim
-          (λ stop. (let is : now ≡ record was.0 { is_lost = true } = same_some now (record was.0 { is_lost = true }) (sym there ∙ stop.1) in
+          (λ stops. (let is : now ≡ record was.0 { is_lost = true } = same_some now (record was.0 { is_lost = true }) (sym there ∙ stops.1) in
           record { held = ap (λ (v : Voter). v.held) is; file = ap (λ (v : Voter). v.log.file) is; kind = ap (λ (v : Voter). v.log.kind) is }))
           (λ goes_on. (let is : now ≡ was.0 = same_some now was.0 (sym there ∙ goes_on.1) in
           record { held = ap (λ (v : Voter). v.held) is; file = ap (λ (v : Voter). v.log.file) is; kind = ap (λ (v : Voter). v.log.kind) is })) (marks n was.0 was.1),
@@ -128,7 +113,7 @@ many_voters old new are are_now layout = are_now.voters ∙ sym are_now.layout �
 -- ---- the store
 
 module _ {H : Type 0} (frame : HostGhosts H) where
-  pub commits_failed : (r : Result (Unit {0}) LogFault) (turned : Result (Unit {0}) TurnFault) (f : TurnFault) (c : Contents) (commit : Commit) (old new : H) → turned ≡ Err f
+  pub commits_failed : (r : Result (Unit {0}) LogFault) (turned : Result (Unit {0}) Stop) (f : Stop) (c : Contents) (commit : Commit) (old new : H) → turned ≡ Err f
       → Gains frame r c (with_commit commit c) old new → WritesLogs c.setting (frame.reads old) (frame.reads new) (frame.may_leave old) (frame.may_leave new) → Commits frame turned c commit old new
   commits_failed r turned f c commit old new failed gains writes = record {
     ok = subst (λ (q : Result _ _). OnOk q (RestsOn (with_commit commit c) (frame.reads new) (frame.may_leave new))) (sym failed) tt;
@@ -137,7 +122,7 @@ module _ {H : Type 0} (frame : HostGhosts H) where
     others = writes;
   }
 
-  pub commits_done : (r : Result (Unit {0}) LogFault) (turned : Result (Unit {0}) TurnFault) (c : Contents) (commit : Commit) (old new : H) → r ≡ Ok tt → turned ≡ Ok tt
+  pub commits_done : (r : Result (Unit {0}) LogFault) (turned : Result (Unit {0}) Stop) (c : Contents) (commit : Commit) (old new : H) → r ≡ Ok tt → turned ≡ Ok tt
       → Gains frame r c (with_commit commit c) old new → WritesLogs c.setting (frame.reads old) (frame.reads new) (frame.may_leave old) (frame.may_leave new) → Commits frame turned c commit old new
   commits_done r turned c commit old new done ok gains writes = record {
     ok = subst (λ (q : Result _ _). OnOk q (RestsOn (with_commit commit c) (frame.reads new) (frame.may_leave new))) (sym ok) (subst (λ (q : Result _ _). OnOk q (RestsOn (with_commit commit c) (frame.reads new) (frame.may_leave new))) done gains.ok);

@@ -37,8 +37,8 @@ use Rattle.coco_cluster.specs.Standing.{StandsAt}
 use Rattle.coco_cluster.specs.Stepping.{HasCommittedBy, HaveCommitted, OnEnd}
 use Rattle.coco_cluster.specs.Trying.{commit_of}
 use Rattle.coco_cluster.specs.declared.cluster.Cluster.{Cluster}
-use Rattle.coco_cluster.specs.declared.fault.TurnFault.{TurnFault}
-use Rattle.coco_cluster.specs.declared.fault.TurnFault.TheVariants as fault
+use Rattle.coco_cluster.specs.declared.stop.Stop.{Stop}
+use Rattle.coco_cluster.specs.declared.stop.Stop.TheVariants as stop
 use Rattle.coco_cluster.proofs.StepLemmas.{above_committed, above_later, above_same, above_voted, count_of, same_scene}
 
 -- ---- an epoch more, in a world and in a file
@@ -242,20 +242,22 @@ committed_on c d dones i j k n e a r t u v s s_mid s_tried s_new same first next
     (on_commit d dones j k e (scene_of t s_tried) (scene_of u s_new) nodes (subst (λ x. GoesBetween j k (Commits x) (scene_of t s_tried) (scene_of u s_new)) same goes)))
 
 -- no file is refused on which the host rested
-pub unrefused : (S T : Type 0) (Fact : Type 0) (r : Result T TurnFault) (f : TurnFault) (old new : ℕ) → r ≡ Err f → CountsAttempt {T = S} (Err f) old new → ((file at : ℕ) → r ≢ Err (fault.NotAStore file at)) → OnEnd r Fact
-unrefused S T Fact r f old new is counts never = subst (λ (x : Result T TurnFault). OnEnd x Fact) (sym is) (by f is counts)
+pub unrefused : (S T : Type 0) (Fact : Type 0) (r : Result T Stop) (f : Stop) (old new : ℕ) → r ≡ Err f → CountsAttempt {T = S} (Err f) old new → ((file at : ℕ) → r ≢ Err (stop.NotAStore file at)) → OnEnd r Fact
+unrefused S T Fact r f old new is counts never = subst (λ (x : Result T Stop). OnEnd x Fact) (sym is) (by f is counts)
   where
-    by : (f : TurnFault) → r ≡ Err f → CountsAttempt {T = S} (Err f) old new → OnEnd {T = T} (Err f) Fact
-    by fault.Disk is counts = tt
-    by (fault.NotAStore file at) is counts = absurd (never file at is)
-    by fault.NoMemory is counts = tt
-    by fault.Unreachable is counts = absurd counts
-    by fault.EpochsUsedUp is counts = absurd counts
+    by : (f : Stop) → r ≡ Err f → CountsAttempt {T = S} (Err f) old new → OnEnd {T = T} (Err f) Fact
+    by stop.Read is counts = absurd counts
+    by stop.Say is counts = absurd counts
+    by stop.Disk is counts = tt
+    by (stop.NotAStore file at) is counts = absurd (never file at is)
+    by stop.NoMemory is counts = tt
+    by stop.Unreachable is counts = absurd counts
+    by stop.EpochsUsedUp is counts = absurd counts
 
 -- ---- attempts in a turn
 
 -- what an attempt has done by its answer
-abbrev pub HasSteppedOn : Contents → Contents → Result (Option (Vec Request)) TurnFault → (ℕ → ℕ) → (ℕ → ℕ) → ℕ → ℕ → Scene → Scene → Type 0
+abbrev pub HasSteppedOn : Contents → Contents → Result (Option (Vec Request)) Stop → (ℕ → ℕ) → (ℕ → ℕ) → ℕ → ℕ → Scene → Scene → Type 0
 HasSteppedOn c d r i j n m a b = (commits : List ℕ) × HaveCommitted r m commits × StepsOn c d i j n m commits a b
 
 pub none_committed_on : (c d : Contents) (x : Option (Vec Request)) (again : Vec Request) (i j : ℕ → ℕ) (n m : ℕ) (a b : Scene) → x ≡ Some again → HasSteppedOn c d (Ok x) i j n m a b → StepsOn c d i j n m [] a b

@@ -14,9 +14,8 @@ use Rattle.coco_ast.specs.History.{done_of, floor_of, ids_of, is_held, kept_of, 
 use Rattle.coco_ast.proofs.GrowthLemmas.{no_ids}
 use Rattle.coco_ast.proofs.KeptLemmas.{floor_behind, kept_behind}
 use Rattle.coco_ast.proofs.Lists.{all_append, all_from_map, all_map, all_swap, all_weaker, distinct_append}
-use Rattle.coco_kept.specs.Holding.{NeverFall}
+use Rattle.coco_kept.specs.Holding.{MayFollow, NeverFall}
 use Rattle.coco_kept.specs.Keeping.{HasDistinctIds, HoldsKept, Keeping}
-use Rattle.coco_load.specs.Keeping.{MayFollow}
 use Rattle.coco_cluster.specs.Standing.{KeepsBelow}
 
 -- ---- what holds of Dones holds of some of them

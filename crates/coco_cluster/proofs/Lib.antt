@@ -8,6 +8,7 @@ pub mod DecidedLemmas
 pub mod EndLemmas
 pub mod EntryLemmas
 pub mod KeepLemmas
+pub mod OpenLemmas
 pub mod ReadLemmas
 pub mod RemindLemmas
 pub mod RestLemmas

@@ -6,7 +6,7 @@ use Rattle.std.specs.List.{slice_get}
 use Rattle.std.proofs.lemmas.Option.{slice_get_within}
 use Rattle.coco_append.specs.Gaining.{IsChiefLog, Stands}
 use Rattle.coco_chief.specs.Shown.{chief_of}
-use Rattle.coco_commits.specs.EpochEntries.{HeldBy}
+use Rattle.coco_append.specs.EpochEntries.{HeldBy}
 use Rattle.coco_entry.specs.declared.layout.Layout.{Layout}
 use Rattle.coco_finish.specs.Finishing.{HaveMap}
 use Rattle.coco_host.specs.Files.{Files}

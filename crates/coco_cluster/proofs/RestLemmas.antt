@@ -1,15 +1,14 @@
 -- Nodes and coordinator between epochs, from call to call.
-use Rattle.std.proofs.Common.{◌≡◌, ℕ, ◌≤◌, true, false, List, refl, sym, ◌∙◌, arith}
+use Rattle.std.proofs.Common.{◌≡◌, ℕ, ◌≤◌, true, false, List, sym, ◌∙◌, arith}
 use Rattle.coco_chief.specs.Chief.{Chief}
 use Rattle.coco_finish.specs.Finishing.{is_behind}
-use Rattle.coco_chief.specs.Shown.{chief_of}
 use Rattle.coco_members.specs.AtRest.{AreAtRest, LettersBelow, NoneBehind, ShardsHaveMap}
 use Rattle.coco_members.specs.declared.members.Members.{Members}
 use Rattle.coco_net.specs.declared.letter.Posted.{Posted}
 use Rattle.coco_node.specs.Node.{Node}
 use Rattle.coco_trial.specs.Voting.{CoresRest}
 use Rattle.coco_vote.specs.Beginning.{AreNew}
-use Rattle.coco_vote.proofs.VoterLemmas.{places_same, places_then}
+use Rattle.coco_vote.proofs.VoterLemmas.{places_then}
 use Rattle.coco_ast.specs.Keyed.{Rows}
 use Rattle.coco_cluster.specs.Trying.{AreQuiet, StayInPlace}
 
@@ -32,13 +31,6 @@ cores_later next later chief cores le rest =
     let begun = rest.begun in
     let committed = rest.committed in
     record { phase = rest.phase; begun = omega (arith, begun, le); committed = omega (arith, committed, le); new = new_later next later cores le rest.new; can = rest.can }
-
-pub quiet_later : (next later : ℕ) (sent : List Posted) (k : Members) → next ≤ later → AreQuiet next sent k → AreQuiet later sent k
-quiet_later next later sent k le quiet = record {
-  are = quiet.are;
-  rest = cores_later next later (chief_of k.chief) k.cores.items le quiet.rest;
-  letters = letters_later next later sent le quiet.letters;
-}
 
 -- between two epochs nodes and coordinator are quiet
 pub rest_is_quiet : (next : ℕ) (sent : List Posted) (k : Members) → AreAtRest next sent k → AreQuiet next sent k
@@ -70,9 +62,6 @@ quiet_rests next sent k m quiet none map = record {
     not_both n is = let both : true ≡ false = sym is ∙ none n in absurd (cc)
 
 -- ---- where entries lie
-
-pub stay_same : (k : Members) → StayInPlace k k
-stay_same k = record { log = refl; tables = record { layout = refl; behind = refl }; places = places_same k.voters.items; committed = refl }
 
 pub stay_then : (a b c : Members) → StayInPlace a b → StayInPlace b c → StayInPlace a c
 stay_then a b c one two = record {

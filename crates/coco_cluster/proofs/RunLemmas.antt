@@ -7,23 +7,23 @@ use Rattle.coco_ast.proofs.Lists.{all_map}
 use Rattle.coco_ast.specs.Fitting.{Fits}
 use Rattle.coco_ast.specs.History.{AreAbove, History, IsOrdered, IsSerial, done_of, followed_by, rows_after}
 use Rattle.coco_ast.specs.Keyed.{Rows}
-use Rattle.coco_commits.specs.EpochEntries.{AreRun, HasRunReady, HeldBy, IsNextIn, MayPrepareRun, MayRun, pieces_in}
+use Rattle.coco_append.specs.EpochEntries.{AreRun, HasRunReady, HeldBy, IsNextIn, MayPrepareRun, MayRun, pieces_in}
 use Rattle.coco_early.specs.Runs.{HasRun}
 use Rattle.coco_entry.specs.Commits.{IsCommit}
 use Rattle.coco_entry.specs.declared.commit.Commit.{Commit}
 use Rattle.coco_entry.specs.declared.layout.Layout.{Layout}
 use Rattle.coco_entry.specs.declared.prepared.Prepared.{Prepared}
 use Rattle.coco_entry.specs.declared.prepared.Row.{Row}
-use Rattle.coco_epoch.specs.SerialEpoch.{IsSerialEpoch}
+use Rattle.coco_tail.specs.SerialEpoch.{IsSerialEpoch}
 use Rattle.coco_finish.specs.declared.tables.NodeTables.{NodeTables}
 use Rattle.coco_parallel.specs.Epochs.{beginning_with}
-use Rattle.coco_epoch.specs.Pieces.{pieces_of}
+use Rattle.coco_tail.specs.Pieces.{pieces_of}
 use Rattle.coco_host.specs.Files.{Files}
 use Rattle.coco_letters.specs.declared.voter.Voter.{Voter}
 use Rattle.coco_members.specs.Opened.{HoldTheirs}
 use Rattle.coco_parallel.specs.Ending.{Start}
 use Rattle.coco_parallel.specs.Traces.{IsTraceOf, Traced}
-use Rattle.coco_prepared.specs.LastWrites.{AreLastWrites}
+use Rattle.coco_append.specs.LastWrites.{AreLastWrites}
 use Rattle.coco_shard.specs.RowState.{ShardState}
 use Rattle.coco_store.specs.Contents.{Contents, IsGoodStore, epoch_of, history_of, map_in}
 use Rattle.coco_store.specs.Laws.{HasReady, MayCommit}

@@ -19,8 +19,8 @@ use Rattle.coco_world.specs.Steps.{IsAbove}
 use Rattle.coco_world.specs.World.{World}
 use Rattle.coco_cluster.specs.Faults.{CountsAttempt, CountsPart}
 use Rattle.coco_cluster.specs.Stepping.{HasBegun, HasCommittedBy, HaveCommitted, OnEnd, StepsTo, most_begun}
-use Rattle.coco_cluster.specs.declared.fault.TurnFault.{TurnFault}
-use Rattle.coco_cluster.specs.declared.fault.TurnFault.TheVariants as fault
+use Rattle.coco_cluster.specs.declared.stop.Stop.{Stop}
+use Rattle.coco_cluster.specs.declared.stop.Stop.TheVariants as stop
 
 -- ---- which epochs are below a number
 
@@ -145,24 +145,28 @@ begun_then a b c first next = then most_begun a b c first next
 -- ---- by the answer
 
 -- parts of an attempt end by themselves only where they succeed
-pub part_ends : (S T : Type 0) (Fact : Type 0) (r : Result T TurnFault) (f : TurnFault) (old new : ℕ) → r ≡ Err f → CountsPart {T = S} (Err f) old new → OnEnd r Fact
-part_ends S T Fact r f old new is counts = subst (λ (x : Result T TurnFault). OnEnd x Fact) (sym is) (by f counts)
+pub part_ends : (S T : Type 0) (Fact : Type 0) (r : Result T Stop) (f : Stop) (old new : ℕ) → r ≡ Err f → CountsPart {T = S} (Err f) old new → OnEnd r Fact
+part_ends S T Fact r f old new is counts = subst (λ (x : Result T Stop). OnEnd x Fact) (sym is) (by f counts)
   where
-    by : (f : TurnFault) → CountsPart {T = S} (Err f) old new → OnEnd {T = T} (Err f) Fact
-    by fault.Disk counts = tt
-    by (fault.NotAStore file at) counts = absurd counts
-    by fault.NoMemory counts = tt
-    by fault.Unreachable counts = absurd counts
-    by fault.EpochsUsedUp counts = absurd counts
+    by : (f : Stop) → CountsPart {T = S} (Err f) old new → OnEnd {T = T} (Err f) Fact
+    by stop.Read counts = absurd counts
+    by stop.Say counts = absurd counts
+    by stop.Disk counts = tt
+    by (stop.NotAStore file at) counts = absurd counts
+    by stop.NoMemory counts = tt
+    by stop.Unreachable counts = absurd counts
+    by stop.EpochsUsedUp counts = absurd counts
 
 -- what holds by itself holds at each end
-pub on_end : {T : Type 0} (Fact : Type 0) (r : Result T TurnFault) → Fact → OnEnd r Fact
+pub on_end : {T : Type 0} (Fact : Type 0) (r : Result T Stop) → Fact → OnEnd r Fact
 on_end Fact (Ok x) fact = fact
-on_end Fact (Err fault.Disk) fact = tt
-on_end Fact (Err (fault.NotAStore file at)) fact = fact
-on_end Fact (Err fault.NoMemory) fact = tt
-on_end Fact (Err fault.Unreachable) fact = fact
-on_end Fact (Err fault.EpochsUsedUp) fact = fact
+on_end Fact (Err stop.Read) fact = fact
+on_end Fact (Err stop.Say) fact = fact
+on_end Fact (Err stop.Disk) fact = tt
+on_end Fact (Err (stop.NotAStore file at)) fact = fact
+on_end Fact (Err stop.NoMemory) fact = tt
+on_end Fact (Err stop.Unreachable) fact = fact
+on_end Fact (Err stop.EpochsUsedUp) fact = fact
 
 -- ---- an attempt
 
@@ -196,7 +200,7 @@ committed_steps i j k n e a r t u v s s_mid s_tried s_new same first next nodes 
 -- ---- attempts in a turn
 
 -- what an attempt has done by its answer
-abbrev pub HasStepped : Result (Option (Vec Request)) TurnFault → (ℕ → ℕ) → (ℕ → ℕ) → ℕ → ℕ → Scene → Scene → Type 0
+abbrev pub HasStepped : Result (Option (Vec Request)) Stop → (ℕ → ℕ) → (ℕ → ℕ) → ℕ → ℕ → Scene → Scene → Type 0
 HasStepped r i j n m a b = (commits : List ℕ) × HaveCommitted r m commits × StepsTo i j n m commits a b
 
 pub none_committed : (x : Option (Vec Request)) (again : Vec Request) {i j : ℕ → ℕ} {n : ℕ} (m : ℕ) (a b : Scene) → x ≡ Some again → HasStepped (Ok x) i j n m a b → StepsTo i j n m [] a b
@@ -211,16 +215,18 @@ turn_committed x (r ∷ rs) i j k n m o a b c some is first next =
     let so : HasStepped (Ok None) j k m o b c = subst (λ (y : Option (Vec Request)). HasStepped (Ok y) j k m o b c) is next in
     (so.0, so.1, steps_after i j k n m o so.0 a b c first so.2)
 
-pub attempt_failed : (r : Result (Unit {0}) TurnFault) (f : TurnFault) (requests : List Request) (i j k : ℕ → ℕ) (n m o : ℕ) (a b c : Scene) (old new : ℕ) → r ≡ Err f → StepsTo i j n m [] a b
+pub attempt_failed : (r : Result (Unit {0}) Stop) (f : Stop) (requests : List Request) (i j k : ℕ → ℕ) (n m o : ℕ) (a b c : Scene) (old new : ℕ) → r ≡ Err f → StepsTo i j n m [] a b
     → CountsAttempt {T = Option (Vec Request)} (Err f) old new → OnEnd {T = Option (Vec Request)} (Err f) (HasStepped (Err f) j k m o b c)
     → OnEnd r ((commits : List ℕ) × HasCommittedBy r requests o commits × StepsTo i k n o commits a c)
 attempt_failed r f requests i j k n m o a b c old new is first counts next =
-    subst (λ (x : Result (Unit {0}) TurnFault). OnEnd x ((commits : List ℕ) × HasCommittedBy x requests o commits × StepsTo i k n o commits a c)) (sym is) (by f counts next)
+    subst (λ (x : Result (Unit {0}) Stop). OnEnd x ((commits : List ℕ) × HasCommittedBy x requests o commits × StepsTo i k n o commits a c)) (sym is) (by f counts next)
   where
-    by : (f : TurnFault) → CountsAttempt {T = Option (Vec Request)} (Err f) old new → OnEnd {T = Option (Vec Request)} (Err f) (HasStepped (Err f) j k m o b c)
+    by : (f : Stop) → CountsAttempt {T = Option (Vec Request)} (Err f) old new → OnEnd {T = Option (Vec Request)} (Err f) (HasStepped (Err f) j k m o b c)
         → OnEnd {T = Unit {0}} (Err f) ((commits : List ℕ) × HasCommittedBy (Err f) requests o commits × StepsTo i k n o commits a c)
-    by fault.Disk counts next = tt
-    by (fault.NotAStore file at) counts next = (next.0, next.1, steps_after i j k n m o next.0 a b c first next.2)
-    by fault.NoMemory counts next = tt
-    by fault.Unreachable counts next = absurd counts
-    by fault.EpochsUsedUp counts next = absurd counts
+    by stop.Read counts next = absurd counts
+    by stop.Say counts next = absurd counts
+    by stop.Disk counts next = tt
+    by (stop.NotAStore file at) counts next = (next.0, next.1, steps_after i j k n m o next.0 a b c first next.2)
+    by stop.NoMemory counts next = tt
+    by stop.Unreachable counts next = absurd counts
+    by stop.EpochsUsedUp counts next = absurd counts

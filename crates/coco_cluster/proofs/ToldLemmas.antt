@@ -24,8 +24,8 @@ use Rattle.coco_cluster.specs.Trying.{commit_of, Keeps, MayCommitOn}
 use Rattle.coco_cluster.specs.Turning.{AddsOnlyPrepared, Grown, IsStoreOf, ShowsHistory, ShowsStore}
 use Rattle.coco_cluster.specs.Writing.{WritesLogs}
 use Rattle.coco_cluster.specs.declared.cluster.Cluster.{Cluster}
-use Rattle.coco_cluster.specs.declared.fault.TurnFault.{TurnFault}
-use Rattle.coco_cluster.specs.declared.fault.TurnFault.TheVariants as fault
+use Rattle.coco_cluster.specs.declared.stop.Stop.{Stop}
+use Rattle.coco_cluster.specs.declared.stop.Stop.TheVariants as stop
 use Rattle.coco_cluster.proofs.AttemptLemmas.{history_grows}
 use Rattle.coco_cluster.proofs.BehindLemmas.{behind_commit}
 use Rattle.coco_cluster.proofs.SeeingLemmas.{keeps_as, keeps_read, keeps_then, rests_read, same_history}
@@ -33,37 +33,39 @@ use Rattle.coco_cluster.proofs.WriteLemmas.{writes_none, writes_then}
 
 -- ---- faults
 
-part_wider : (f : TurnFault) (disk disk_new : ℕ) → CountsPart {T = Unit {0}} (Err f) disk disk_new → CountsAttempt {T = Unit {0}} (Err f) disk disk_new
-part_wider fault.Disk disk disk_new counts = counts
-part_wider (fault.NotAStore file at) disk disk_new counts = absurd counts
-part_wider fault.NoMemory disk disk_new counts = counts
-part_wider fault.Unreachable disk disk_new counts = counts
-part_wider fault.EpochsUsedUp disk disk_new counts = counts
+part_wider : (f : Stop) (disk disk_new : ℕ) → CountsPart {T = Unit {0}} (Err f) disk disk_new → CountsAttempt {T = Unit {0}} (Err f) disk disk_new
+part_wider stop.Read disk disk_new counts = counts
+part_wider stop.Say disk disk_new counts = counts
+part_wider stop.Disk disk disk_new counts = counts
+part_wider (stop.NotAStore file at) disk disk_new counts = absurd counts
+part_wider stop.NoMemory disk disk_new counts = counts
+part_wider stop.Unreachable disk disk_new counts = counts
+part_wider stop.EpochsUsedUp disk disk_new counts = counts
 
 -- behind calls that succeeded
-pub counts_later : {T : Type 0} (result : Result T TurnFault) (f : TurnFault) (first disk disk_new : ℕ) → result ≡ Err f → disk ≡ first → CountsAttempt {T = Unit {0}} (Err f) disk disk_new → CountsAttempt result first disk_new
-counts_later {T} result f first disk disk_new failed same counts = subst (λ (r : Result T TurnFault). CountsAttempt r first disk_new) (sym failed) (subst (λ n. CountsAttempt {T = Unit {0}} (Err f) n disk_new) same counts)
+pub counts_later : {T : Type 0} (result : Result T Stop) (f : Stop) (first disk disk_new : ℕ) → result ≡ Err f → disk ≡ first → CountsAttempt {T = Unit {0}} (Err f) disk disk_new → CountsAttempt result first disk_new
+counts_later {T} result f first disk disk_new failed same counts = subst (λ (r : Result T Stop). CountsAttempt r first disk_new) (sym failed) (subst (λ n. CountsAttempt {T = Unit {0}} (Err f) n disk_new) same counts)
 
-pub counts_wider : {T : Type 0} (result : Result T TurnFault) (f : TurnFault) (first disk disk_new : ℕ) → result ≡ Err f → disk ≡ first → CountsPart {T = Unit {0}} (Err f) disk disk_new → CountsAttempt result first disk_new
+pub counts_wider : {T : Type 0} (result : Result T Stop) (f : Stop) (first disk disk_new : ℕ) → result ≡ Err f → disk ≡ first → CountsPart {T = Unit {0}} (Err f) disk disk_new → CountsAttempt result first disk_new
 counts_wider result f first disk disk_new failed same counts = counts_later result f first disk disk_new failed same (part_wider f disk disk_new counts)
 
 -- of one that failed no answer is told
-pub failed_none : {X : Type 0} (result : Result (Option (Vec Request)) TurnFault) (f : TurnFault) → result ≡ Err f → (x : Option (Vec Request)) → result ≡ Ok x → X
+pub failed_none : {X : Type 0} (result : Result (Option (Vec Request)) Stop) (f : Stop) → result ≡ Err f → (x : Option (Vec Request)) → result ≡ Ok x → X
 failed_none result f failed x is = (let never_so : Err f ≡ Ok x = sym failed ∙ is in absurd (cc))
 
 module _ {H : Type 0} (frame : HostGhosts H) where
   abbrev KeepsIt : Contents → ℕ → H → H → Type 0
   KeepsIt c end old new = Keeps frame c end old new
 
-  abbrev KeepsAttempt : Result (Option (Vec Request)) TurnFault → Contents → Cluster → Cluster → H → H → Type 0
+  abbrev KeepsAttempt : Result (Option (Vec Request)) Stop → Contents → Cluster → Cluster → H → H → Type 0
   KeepsAttempt result c old new first last = KeepsOn frame result c old new first last
 
   -- an attempt that failed before the commit entry
-  pub keeps_failed : (result : Result (Option (Vec Request)) TurnFault) (f : TurnFault) (c : Contents) (old new : Cluster) (first last : H) → result ≡ Err f → KeepsIt c (old.next_epoch + 1) first last → KeepsAttempt result c old new first last
+  pub keeps_failed : (result : Result (Option (Vec Request)) Stop) (f : Stop) (c : Contents) (old new : Cluster) (first last : H) → result ≡ Err f → KeepsIt c (old.next_epoch + 1) first last → KeepsAttempt result c old new first last
   keeps_failed result f c old new first last failed keeps = record { keeps = keeps; again = λ x is. failed_none result f failed x is }
 
   -- one that was given up
-  pub keeps_given : (result : Result (Option (Vec Request)) TurnFault) (rs : Vec Request) (c : Contents) (old new : Cluster) (first last : H) → result ≡ Ok (Some rs) → KeepsIt c (old.next_epoch + 1) first last → StandsOn c new (frame.reads last) (frame.may_leave last)
+  pub keeps_given : (result : Result (Option (Vec Request)) Stop) (rs : Vec Request) (c : Contents) (old new : Cluster) (first last : H) → result ≡ Ok (Some rs) → KeepsIt c (old.next_epoch + 1) first last → StandsOn c new (frame.reads last) (frame.may_leave last)
       → KeepsAttempt result c old new first last
   keeps_given result rs c old new first last given keeps stands = record {
     keeps = keeps;
@@ -124,7 +126,7 @@ module _ {H : Type 0} (frame : HostGhosts H) where
           (subst (λ s. WritesLogs s (frame.reads mid) (frame.reads late) (frame.may_leave mid) (frame.may_leave late)) may.only.setting commits.others)
 
       -- where the entry may not be there
-      pub commit_failed : (result : Result (Option (Vec Request)) TurnFault) (f : TurnFault) (old new : Cluster) → result ≡ Err f → old.next_epoch ≡ epoch
+      pub commit_failed : (result : Result (Option (Vec Request)) Stop) (f : Stop) (old new : Cluster) → result ≡ Err f → old.next_epoch ≡ epoch
           → CommitsOn frame result requests workers attempts c old new first late
       commit_failed result f old new failed next = record {
         d = after;
@@ -138,7 +140,7 @@ module _ {H : Type 0} (frame : HostGhosts H) where
 
       -- where it is there, and then nodes were read anew
       module _ (rests : RestsOn after (frame.reads late) (frame.may_leave late)) (quiet : frame.said late ≡ frame.said mid) (last : H) (read : IsOnlyRead frame late last) where
-        pub committed_then : (result : Result (Option (Vec Request)) TurnFault) (old new : Cluster) → old.next_epoch ≡ epoch
+        pub committed_then : (result : Result (Option (Vec Request)) Stop) (old new : Cluster) → old.next_epoch ≡ epoch
             → ((x : Option (Vec Request)) → result ≡ Ok x → (x ≡ None) × StandsAt after new × (option_map traced new.trace ≡ Some trace) × (new.next_epoch ≡ epoch + 1))
             → CommitsOn frame result requests workers attempts c old new first last
         committed_then result old new next ok = record {

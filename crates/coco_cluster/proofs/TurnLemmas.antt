@@ -10,10 +10,9 @@ use Rattle.coco_ast.specs.Growth.{GrowsBy}
 use Rattle.coco_ast.specs.Fitting.{Fits}
 use Rattle.coco_ast.specs.History.{AreAbove, History, all_dones, done_of, followed_by, kept_of}
 use Rattle.coco_ast.specs.Keyed.{Rows}
-use Rattle.coco_commits.specs.EpochEntries.{HasRoomFor}
+use Rattle.coco_append.specs.EpochEntries.{HasRoomFor}
 use Rattle.coco_entry.specs.declared.layout.Layout.{Layout}
 use Rattle.coco_host.specs.Files.{Files}
-use Rattle.coco_host.specs.Moments.{Observation}
 use Rattle.coco_host.specs.declared.host.Host.{Ghosts as HostGhosts}
 use Rattle.coco_letters.specs.Around.{Around, IsLater, IsTaken, SkipsFew, spare}
 use Rattle.coco_letters.specs.GivingUp.{AreGivenUp}
@@ -29,8 +28,8 @@ use Rattle.coco_cluster.specs.Trying.{GivesUp, Keeps}
 use Rattle.coco_cluster.specs.Turning.{AddsOnlyPrepared, EndsWithout, Grown, HasRoom, HasTurned, IsStoreOf, KeepsHistory, MayTurn, RestsWithout, ShowsHistory, ShowsStore, Turns, beginning_on, epochs_of}
 use Rattle.coco_cluster.specs.Writing.{WritesLogs}
 use Rattle.coco_cluster.specs.declared.cluster.Cluster.{Cluster}
-use Rattle.coco_cluster.specs.declared.fault.TurnFault.{TurnFault}
-use Rattle.coco_cluster.specs.declared.fault.TurnFault.TheVariants as fault
+use Rattle.coco_cluster.specs.declared.stop.Stop.{Stop}
+use Rattle.coco_cluster.specs.declared.stop.Stop.TheVariants as stop
 use Rattle.coco_cluster.proofs.AroundLemmas.{gives_later, gives_spare, one_more, spare_then}
 use Rattle.coco_cluster.proofs.BehindLemmas.{behind_later}
 use Rattle.coco_cluster.proofs.SeeingLemmas.{OnlyNow, adds_none, adds_then, as_before, keeps_as, keeps_later, keeps_same, keeps_then, same_history, same_map}
@@ -131,35 +130,36 @@ skips_few rs number later next a c some few up = (let one = one_epoch rs some in
 -- ---- faults
 
 -- an attempt that failed may have committed its epoch
-may_have : (f : TurnFault) (disk disk_new : ℕ) → CountsAttempt {T = Unit {0}} (Err f) disk disk_new → MayHaveCommitted {T = Unit {0}} (Err f)
-may_have fault.Disk disk disk_new counts = tt
-may_have (fault.NotAStore file at) disk disk_new counts = tt
-may_have fault.NoMemory disk disk_new counts = tt
-may_have fault.Unreachable disk disk_new counts = absurd counts
-may_have fault.EpochsUsedUp disk disk_new counts = absurd counts
+may_have : (f : Stop) (disk disk_new : ℕ) → CountsAttempt {T = Unit {0}} (Err f) disk disk_new → MayHaveCommitted {T = Unit {0}} (Err f)
+may_have stop.Read disk disk_new counts = absurd counts
+may_have stop.Say disk disk_new counts = absurd counts
+may_have stop.Disk disk disk_new counts = tt
+may_have (stop.NotAStore file at) disk disk_new counts = tt
+may_have stop.NoMemory disk disk_new counts = tt
+may_have stop.Unreachable disk disk_new counts = absurd counts
+may_have stop.EpochsUsedUp disk disk_new counts = absurd counts
 
-ends_nothing : (f : TurnFault) (disk disk_new : ℕ) (c : Contents) (end : ℕ) (reads : Option Files) (may_leave : Files → Type 0) → CountsAttempt {T = Unit {0}} (Err f) disk disk_new → EndsWithout c end reads may_leave (Err f)
-ends_nothing fault.Disk disk disk_new c end reads may_leave counts = tt
-ends_nothing (fault.NotAStore file at) disk disk_new c end reads may_leave counts = tt
-ends_nothing fault.NoMemory disk disk_new c end reads may_leave counts = tt
-ends_nothing fault.Unreachable disk disk_new c end reads may_leave counts = absurd counts
-ends_nothing fault.EpochsUsedUp disk disk_new c end reads may_leave counts = absurd counts
+ends_nothing : (f : Stop) (disk disk_new : ℕ) (c : Contents) (end : ℕ) (reads : Option Files) (may_leave : Files → Type 0) → CountsAttempt {T = Unit {0}} (Err f) disk disk_new → EndsWithout c end reads may_leave (Err f)
+ends_nothing stop.Read disk disk_new c end reads may_leave counts = absurd counts
+ends_nothing stop.Say disk disk_new c end reads may_leave counts = absurd counts
+ends_nothing stop.Disk disk disk_new c end reads may_leave counts = tt
+ends_nothing (stop.NotAStore file at) disk disk_new c end reads may_leave counts = tt
+ends_nothing stop.NoMemory disk disk_new c end reads may_leave counts = tt
+ends_nothing stop.Unreachable disk disk_new c end reads may_leave counts = absurd counts
+ends_nothing stop.EpochsUsedUp disk disk_new c end reads may_leave counts = absurd counts
 
-counts_one : (f : TurnFault) (next : ℕ) (a b : Around) (disk disk_new : ℕ) → CountsAttempt {T = Unit {0}} (Err f) disk disk_new → CountsTurn {T = Unit {0}} (Err f) next a b disk disk_new
-counts_one fault.Disk next a b disk disk_new counts = counts
-counts_one (fault.NotAStore file at) next a b disk disk_new counts = counts
-counts_one fault.NoMemory next a b disk disk_new counts = counts
-counts_one fault.Unreachable next a b disk disk_new counts = absurd counts
-counts_one fault.EpochsUsedUp next a b disk disk_new counts = absurd counts
+counts_one : (f : Stop) (next : ℕ) (a b : Around) (disk disk_new : ℕ) → CountsAttempt {T = Unit {0}} (Err f) disk disk_new → CountsTurn {T = Unit {0}} (Err f) next a b disk disk_new
+counts_one stop.Read next a b disk disk_new counts = absurd counts
+counts_one stop.Say next a b disk disk_new counts = absurd counts
+counts_one stop.Disk next a b disk disk_new counts = counts
+counts_one (stop.NotAStore file at) next a b disk disk_new counts = counts
+counts_one stop.NoMemory next a b disk disk_new counts = counts
+counts_one stop.Unreachable next a b disk disk_new counts = absurd counts
+counts_one stop.EpochsUsedUp next a b disk disk_new counts = absurd counts
 
-pub counts_failed : (turned : Result (Unit {0}) TurnFault) (f : TurnFault) (next : ℕ) (a b : Around) (first disk disk_new : ℕ) → turned ≡ Err f → disk ≡ first → CountsAttempt {T = Unit {0}} (Err f) disk disk_new → CountsTurn turned next a b first disk_new
-counts_failed turned f next a b first disk disk_new failed same counts = subst (λ (r : Result (Unit {0}) TurnFault). CountsTurn r next a b first disk_new) (sym failed)
+pub counts_failed : (turned : Result (Unit {0}) Stop) (f : Stop) (next : ℕ) (a b : Around) (first disk disk_new : ℕ) → turned ≡ Err f → disk ≡ first → CountsAttempt {T = Unit {0}} (Err f) disk disk_new → CountsTurn turned next a b first disk_new
+counts_failed turned f next a b first disk disk_new failed same counts = subst (λ (r : Result (Unit {0}) Stop). CountsTurn r next a b first disk_new) (sym failed)
     (counts_one f next a b first disk_new (subst (λ n. CountsAttempt {T = Unit {0}} (Err f) n disk_new) same counts))
-
-pub not_used_up : (turned : Result (Unit {0}) TurnFault) (f : TurnFault) (disk disk_new : ℕ) → turned ≡ Err f → CountsAttempt {T = Unit {0}} (Err f) disk disk_new → turned ≢ Err fault.EpochsUsedUp
-not_used_up turned f disk disk_new failed counts is =
-    let used : f ≡ fault.EpochsUsedUp = cc in
-    subst (λ (e : TurnFault). CountsAttempt {T = Unit {0}} (Err e) disk disk_new) used counts
 
 -- ---- a turn's requests on a cluster that goes on
 
@@ -230,7 +230,7 @@ module _ {H : Type 0} (frame : HostGhosts H) where
   store_as : (c d : Contents) (h : History) (end : ℕ) (files : Files) → d.setting ≡ c.setting → IsStoreOf d.setting h end files → IsStoreOf c.setting h end files
   store_as c d h end files same store = record { contents = store.contents; setting = store.setting ∙ same; good = store.good; history = store.history; below = store.below }
 
-  module _ (c : Contents) (k after : Cluster) (first mid last : H) (goes : GoesOn c k first mid) (requests : List Request) (workers attempts : ℕ) (result : Result (Option (Vec Request)) TurnFault) where
+  module _ (c : Contents) (k after : Cluster) (first mid last : H) (goes : GoesOn c k first mid) (requests : List Request) (workers attempts : ℕ) (result : Result (Option (Vec Request)) Stop) where
     abbrev d : Contents
     d = goes.on.d
 
@@ -258,7 +258,7 @@ module _ {H : Type 0} (frame : HostGhosts H) where
       taken : IsTaken old.next_epoch k.next_epoch spare
       taken = record { low = low; few = omega (arith, few) }
 
-      kept_history : (turned : Result (Unit {0}) TurnFault) → ((x : Unit {0}) → turned ≡ Ok x → ⊥) → EndsWithout c k.next_epoch (frame.reads last) (frame.may_leave last) turned → Keeps frame c (k.next_epoch + 1) first last
+      kept_history : (turned : Result (Unit {0}) Stop) → ((x : Unit {0}) → turned ≡ Ok x → ⊥) → EndsWithout c k.next_epoch (frame.reads last) (frame.may_leave last) turned → Keeps frame c (k.next_epoch + 1) first last
           → KeepsHistory frame turned requests old.next_epoch spare c first last
       kept_history turned failed ends keeps = record {
         number = k.next_epoch;
@@ -270,11 +270,11 @@ module _ {H : Type 0} (frame : HostGhosts H) where
         ends = ends;
       }
         where
-          never : (r : Result (Unit {0}) TurnFault) → ((x : Unit {0}) → r ≡ Ok x → ⊥) → OnOk r (requests ≡ [])
+          never : (r : Result (Unit {0}) Stop) → ((x : Unit {0}) → r ≡ Ok x → ⊥) → OnOk r (requests ≡ [])
           never (Ok x) fails = absurd (fails x refl)
           never (Err e) fails = tt
 
-      turns_so : (turned : Result (Unit {0}) TurnFault) → MayHaveCommitted turned → (commits : CommitsOn frame result requests workers attempts d k after mid last)
+      turns_so : (turned : Result (Unit {0}) Stop) → MayHaveCommitted turned → (commits : CommitsOn frame result requests workers attempts d k after mid last)
           → OnOk turned (RestsOn commits.d (frame.reads last) (frame.may_leave last) × StandsAt commits.d after × (option_map traced after.trace ≡ Some commits.trace) × (after.next_epoch ≡ k.next_epoch + 1))
           → Turns frame turned requests workers attempts spare c old after first last
       turns_so turned may commits ok = record {
@@ -307,17 +307,17 @@ module _ {H : Type 0} (frame : HostGhosts H) where
           (λ commits. let o = commits.ok None is in inr (turns_so (Ok tt) tt commits (o.1, o.2, o.3, o.4))) attempts_on
 
       -- since an attempt failed
-      pub ends_failed : (turned : Result (Unit {0}) TurnFault) (f : TurnFault) (disk disk_new : ℕ) → turned ≡ Err f → CountsAttempt {T = Unit {0}} (Err f) disk disk_new → AttemptsOn frame result requests workers attempts d k after mid last
+      pub ends_failed : (turned : Result (Unit {0}) Stop) (f : Stop) (disk disk_new : ℕ) → turned ≡ Err f → CountsAttempt {T = Unit {0}} (Err f) disk disk_new → AttemptsOn frame result requests workers attempts d k after mid last
           → KeepsHistory frame turned requests old.next_epoch spare c first last ⊎ Turns frame turned requests workers attempts spare c old after first last
       ends_failed turned f disk disk_new failed counts attempts_on =
-          subst (λ (r : Result (Unit {0}) TurnFault). KeepsHistory frame r requests old.next_epoch spare c first last ⊎ Turns frame r requests workers attempts spare c old after first last) (sym failed)
+          subst (λ (r : Result (Unit {0}) Stop). KeepsHistory frame r requests old.next_epoch spare c first last ⊎ Turns frame r requests workers attempts spare c old after first last) (sym failed)
           (⊎_elim
           (λ keeps. inl (kept_history (Err f) (λ x is. let never_so : Err f ≡ Ok x = is in absurd (cc)) (ends_nothing f disk disk_new c k.next_epoch (frame.reads last) (frame.may_leave last) counts) (keeps_more keeps)))
           (λ commits. inr (turns_so (Err f) (may_have f disk disk_new counts) commits tt)) attempts_on)
 
   -- since there was nothing to do, the nodes are unreachable, or no number is left
   pub ends_without : (c : Contents) (k old : Cluster) (first now : H) (spare : ℕ) (requests : List Request) → GoesOn c k first now → old.next_epoch ≤ k.next_epoch → 16 * k.next_epoch ≤ 16 * old.next_epoch + spare
-      → (turned : Result (Unit {0}) TurnFault) → OnOk turned (requests ≡ []) → (RestsWithout c k.next_epoch (frame.reads now) (frame.may_leave now) → EndsWithout c k.next_epoch (frame.reads now) (frame.may_leave now) turned)
+      → (turned : Result (Unit {0}) Stop) → OnOk turned (requests ≡ []) → (RestsWithout c k.next_epoch (frame.reads now) (frame.may_leave now) → EndsWithout c k.next_epoch (frame.reads now) (frame.may_leave now) turned)
       → KeepsHistory frame turned requests old.next_epoch spare c first now
   ends_without c k old first now spare requests goes low few turned nothing ends = record {
     number = k.next_epoch;

@@ -17,7 +17,7 @@ use Rattle.coco_cluster.specs.Trying.{GivesUp, Keeps}
 use Rattle.coco_cluster.specs.Turning.{AddsOnlyPrepared, Grown, HasTurned, IsStoreOf, ShowsStore}
 use Rattle.coco_cluster.specs.Writing.{WritesLogs}
 use Rattle.coco_cluster.specs.declared.cluster.Cluster.{Cluster}
-use Rattle.coco_cluster.specs.declared.fault.TurnFault.{TurnFault}
+use Rattle.coco_cluster.specs.declared.stop.Stop.{Stop}
 
 -- ---- on every host
 
@@ -64,13 +64,13 @@ pub record StandsOn (c : Contents) (k : Cluster) (reads : Option Files) (may_lea
 
 -- the epoch was given up, or failed before its commit entry: the history is the same
 pub record KeepsOn {H : Type 0} (frame : HostGhosts H)
-    (result : Result (Option (Vec Request)) TurnFault) (c : Contents) (old new : Cluster) (host host_new : H) : Type 0 where
+    (result : Result (Option (Vec Request)) Stop) (c : Contents) (old new : Cluster) (host host_new : H) : Type 0 where
   pub keeps : Keeps frame c (old.next_epoch + 1) host host_new
   pub again : (x : Option (Vec Request)) → result ≡ Ok x → ((rs : Vec Request) × (x ≡ Some rs)) × StandsOn c new (frame.reads host_new) (frame.may_leave host_new)
 
 -- it was committed, or a fault leaves that open
 pub record CommitsOn {H : Type 0} (frame : HostGhosts H)
-    (result : Result (Option (Vec Request)) TurnFault) (requests : List Request) (workers attempts : ℕ) (c : Contents) (old new : Cluster) (host host_new : H) : Type 0 where
+    (result : Result (Option (Vec Request)) Stop) (requests : List Request) (workers attempts : ℕ) (c : Contents) (old new : Cluster) (host host_new : H) : Type 0 where
   pub d : Contents
   pub trace : Traced
   pub grown : Grown requests workers attempts old.next_epoch trace c d
@@ -81,7 +81,7 @@ pub record CommitsOn {H : Type 0} (frame : HostGhosts H)
   pub others : WritesLogs c.setting (frame.reads host) (frame.reads host_new) (frame.may_leave host) (frame.may_leave host_new)
 
 abbrev pub AttemptsOn : {H : Type 0} → HostGhosts H
-    → Result (Option (Vec Request)) TurnFault → List Request → ℕ → ℕ → Contents → Cluster → Cluster → H → H → Type 0
+    → Result (Option (Vec Request)) Stop → List Request → ℕ → ℕ → Contents → Cluster → Cluster → H → H → Type 0
 AttemptsOn frame result requests workers attempts c old new host host_new =
     KeepsOn frame result c old new host host_new
     ⊎ CommitsOn frame result requests workers attempts c old new host host_new

@@ -1,9 +1,11 @@
--- How the reason is printed why a turn failed.
+-- How the reason is printed why a turn failed, or what is built on turns.
 use Rattle.std.specs.Prelude.{ℕ, List, ◌++◌, codes, decimal}
-use Rattle.coco_cluster.specs.declared.fault.TurnFault.{TurnFault}
-use Rattle.coco_cluster.specs.declared.fault.TurnFault.TheVariants.{Disk, NotAStore, Unreachable, EpochsUsedUp, NoMemory}
+use Rattle.coco_cluster.specs.declared.stop.Stop.{Stop}
+use Rattle.coco_cluster.specs.declared.stop.Stop.TheVariants.{Read, Say, Disk, NotAStore, Unreachable, EpochsUsedUp, NoMemory}
 
-abbrev pub fault_text : TurnFault → List ℕ
+abbrev pub fault_text : Stop → List ℕ
+fault_text Read = codes "input fault"
+fault_text Say = codes "output fault"
 fault_text Disk = codes "disk fault"
 fault_text (NotAStore file at) = codes "file " ++ (decimal file ++ (codes " is no part of a store at byte " ++ decimal at))
 fault_text Unreachable = codes "nodes unreachable"

@@ -10,8 +10,8 @@ use Rattle.coco_trial.specs.Running.{ring_of}
 use Rattle.coco_types.specs.declared.call.Request.{Request}
 use Rattle.coco_world.specs.Steps.{IsAbove}
 use Rattle.coco_world.specs.World.{World}
-use Rattle.coco_cluster.specs.declared.fault.TurnFault.{TurnFault}
-use Rattle.coco_cluster.specs.declared.fault.TurnFault.TheVariants as fault
+use Rattle.coco_cluster.specs.declared.stop.Stop.{Stop}
+use Rattle.coco_cluster.specs.declared.stop.Stop.TheVariants as stop
 use Rattle.coco_cluster.specs.declared.trying.Tried.{Tried}
 use Rattle.coco_cluster.specs.declared.trying.Tried.TheVariants.{Voted, GivenUp}
 
@@ -32,29 +32,33 @@ abbrev pub IsLast : ℕ → List ℕ → Type 0
 IsLast next commits = (e : ℕ) × (next ≡ e + 1) × (commits ≡ e ∷ [])
 
 -- what an attempt has committed, by its answer
-abbrev pub HaveCommitted : Result (Option (Vec Request)) TurnFault → ℕ → List ℕ → Type 0
+abbrev pub HaveCommitted : Result (Option (Vec Request)) Stop → ℕ → List ℕ → Type 0
 HaveCommitted (Ok None) next commits = IsLast next commits
 HaveCommitted (Ok (Some again)) next commits = commits ≡ []
 HaveCommitted (Err f) next commits = (commits ≡ []) ⊎ IsLast next commits
 
 -- and what a turn with these requests has: its one epoch, or nothing; where a file is refused behind that, either
-abbrev pub HasCommittedBy : Result (Unit {0}) TurnFault → List Request → ℕ → List ℕ → Type 0
+abbrev pub HasCommittedBy : Result (Unit {0}) Stop → List Request → ℕ → List ℕ → Type 0
 HasCommittedBy (Ok x) [] next commits = commits ≡ []
 HasCommittedBy (Ok x) (r ∷ rs) next commits = IsLast next commits
-HasCommittedBy (Err fault.Disk) requests next commits = ⊤
-HasCommittedBy (Err (fault.NotAStore file at)) requests next commits = (commits ≡ []) ⊎ IsLast next commits
-HasCommittedBy (Err fault.NoMemory) requests next commits = ⊤
-HasCommittedBy (Err fault.Unreachable) requests next commits = commits ≡ []
-HasCommittedBy (Err fault.EpochsUsedUp) requests next commits = commits ≡ []
+HasCommittedBy (Err stop.Read) requests next commits = ⊥
+HasCommittedBy (Err stop.Say) requests next commits = ⊥
+HasCommittedBy (Err stop.Disk) requests next commits = ⊤
+HasCommittedBy (Err (stop.NotAStore file at)) requests next commits = (commits ≡ []) ⊎ IsLast next commits
+HasCommittedBy (Err stop.NoMemory) requests next commits = ⊤
+HasCommittedBy (Err stop.Unreachable) requests next commits = commits ≡ []
+HasCommittedBy (Err stop.EpochsUsedUp) requests next commits = commits ≡ []
 
 -- where the call ended by itself: any answer but a fault of the disk and want of memory, which may come between two steps
-abbrev pub OnEnd : {T : Type 0} → Result T TurnFault → Type 0 → Type 0
+abbrev pub OnEnd : {T : Type 0} → Result T Stop → Type 0 → Type 0
 OnEnd (Ok x) Fact = Fact
-OnEnd (Err fault.Disk) Fact = ⊤
-OnEnd (Err (fault.NotAStore file at)) Fact = Fact
-OnEnd (Err fault.NoMemory) Fact = ⊤
-OnEnd (Err fault.Unreachable) Fact = Fact
-OnEnd (Err fault.EpochsUsedUp) Fact = Fact
+OnEnd (Err stop.Read) Fact = Fact
+OnEnd (Err stop.Say) Fact = Fact
+OnEnd (Err stop.Disk) Fact = ⊤
+OnEnd (Err (stop.NotAStore file at)) Fact = Fact
+OnEnd (Err stop.NoMemory) Fact = ⊤
+OnEnd (Err stop.Unreachable) Fact = Fact
+OnEnd (Err stop.EpochsUsedUp) Fact = Fact
 
 -- ---- what a power and a net were asked for
 

@@ -13,7 +13,7 @@ use Rattle.coco_ast.specs.Fitting.{Fits}
 use Rattle.coco_ast.specs.Growth.{GrowsBy}
 use Rattle.coco_ast.specs.History.{AreAbove, Epoch, History, all_dones, done_of, followed_by, kept_of}
 use Rattle.coco_ast.specs.Keyed.{Rows}
-use Rattle.coco_commits.specs.EpochEntries.{HasRoomFor}
+use Rattle.coco_append.specs.EpochEntries.{HasRoomFor}
 use Rattle.coco_entry.specs.declared.prepared.Prepared.{Prepared}
 use Rattle.coco_order.specs.Execution.{Beginning}
 use Rattle.coco_store.specs.Contents.{Contents, IsGoodStore, history_of, map_in}
@@ -24,8 +24,8 @@ use Rattle.coco_cluster.specs.Standing.{IsBehindAll, StandsAt}
 use Rattle.coco_cluster.specs.Writing.{WritesLogs}
 use Rattle.coco_parallel.specs.Traces.{IsTraceOf, Traced, traced}
 use Rattle.coco_cluster.specs.declared.cluster.Cluster.{Cluster}
-use Rattle.coco_cluster.specs.declared.fault.TurnFault.{TurnFault}
-use Rattle.coco_cluster.specs.declared.fault.TurnFault.TheVariants as fault
+use Rattle.coco_cluster.specs.declared.stop.Stop.{Stop}
+use Rattle.coco_cluster.specs.declared.stop.Stop.TheVariants as stop
 
 -- requests that a cluster may run: they fit, and each has an id of its own that is neither kept nor forgotten
 pub record MayTurn (k : Cluster) (requests : List Request) : Type 0 where
@@ -76,7 +76,7 @@ pub record ShowsStore (s : Setting) (before after : History) (end : ℕ) (bytes 
 -- the store has grown by an epoch, where the turn succeeded, and the cluster has the trace of it; few numbers before the epoch's were skipped. At each moment, and behind the turn whatever it
 -- answered, all that a crash may leave is a good store with the history of before or the grown one, in which no entry is of a later epoch; and behind it the other files are as they were
 pub record Turns {H : Type 0} (frame : HostGhosts H)
-    (result : Result (Unit {0}) TurnFault) (requests : List Request) (workers attempts spare : ℕ) (c : Contents) (before after : Cluster) (old new : H) : Type 0 where
+    (result : Result (Unit {0}) Stop) (requests : List Request) (workers attempts spare : ℕ) (c : Contents) (before after : Cluster) (old new : H) : Type 0 where
   pub may : MayHaveCommitted result
   pub d : Contents
   pub trace : Traced
@@ -113,13 +113,15 @@ abbrev pub RestsWithout : Contents → ℕ → Option Files → (Files → Type 
 RestsWithout c end reads may_leave = (d : Contents) × AddsOnlyPrepared c d × IsBehindAll d end × RestsOn d reads may_leave
 
 -- so it does where the turn gave up, or found no number
-abbrev pub EndsWithout : Contents → ℕ → Option Files → (Files → Type 0) → Result (Unit {0}) TurnFault → Type 0
+abbrev pub EndsWithout : Contents → ℕ → Option Files → (Files → Type 0) → Result (Unit {0}) Stop → Type 0
 EndsWithout c end reads may_leave (Ok x) = ⊤
-EndsWithout c end reads may_leave (Err fault.Disk) = ⊤
-EndsWithout c end reads may_leave (Err (fault.NotAStore file at)) = ⊤
-EndsWithout c end reads may_leave (Err fault.NoMemory) = ⊤
-EndsWithout c end reads may_leave (Err fault.Unreachable) = RestsWithout c end reads may_leave
-EndsWithout c end reads may_leave (Err fault.EpochsUsedUp) = RestsWithout c end reads may_leave
+EndsWithout c end reads may_leave (Err stop.Read) = ⊥
+EndsWithout c end reads may_leave (Err stop.Say) = ⊥
+EndsWithout c end reads may_leave (Err stop.Disk) = ⊤
+EndsWithout c end reads may_leave (Err (stop.NotAStore file at)) = ⊤
+EndsWithout c end reads may_leave (Err stop.NoMemory) = ⊤
+EndsWithout c end reads may_leave (Err stop.Unreachable) = RestsWithout c end reads may_leave
+EndsWithout c end reads may_leave (Err stop.EpochsUsedUp) = RestsWithout c end reads may_leave
 
 -- seen at a moment: a good store with this history, in which no entry is of this epoch or a later one, and no more said
 abbrev pub ShowsHistory : Setting → History → ℕ → Option (List ℕ) → Observation → Type 0
@@ -128,7 +130,7 @@ ShowsHistory s h end bytes seen = IsStoreOf s h end seen.image × (bytes ≡ Som
 -- the turn committed nothing: there was nothing to do, or it failed before that. At each moment, and behind it, all that a crash may leave is a good store with the history of before, in which
 -- no entry is of a later epoch than the one tried last, or of that one where it was given up; and behind it the other files are as they were
 pub record KeepsHistory {H : Type 0} (frame : HostGhosts H)
-    (result : Result (Unit {0}) TurnFault) (requests : List Request) (next spare : ℕ) (c : Contents) (old new : H) : Type 0 where
+    (result : Result (Unit {0}) Stop) (requests : List Request) (next spare : ℕ) (c : Contents) (old new : H) : Type 0 where
   pub number : ℕ
   pub taken : IsTaken next number spare
   pub ok : OnOk result (requests ≡ [])

@@ -11,10 +11,10 @@ ghost use Rattle.coco_cluster.specs.Faults.{CountsAttempt};
 ghost use Rattle.coco_cluster.specs.Standing.{AllStand, IsSound, StandsAt};
 ghost use Rattle.coco_cluster.specs.Stepping.{AsksBy, HaveCommitted, OnEnd, StepsTo};
 ghost use Rattle.coco_cluster.specs.Turning.{HasRoom, MayTurn};
-ghost use Rattle.coco_cluster.specs.declared.fault.TurnFault.TheVariants as fault;
+ghost use Rattle.coco_cluster.specs.declared.stop.Stop.TheVariants as stop;
 
 use crate::trying::Tried;
-use crate::{Cluster, TurnFault};
+use crate::{Cluster, Stop};
 use coco_gate::Gate;
 use coco_host::Host;
 use coco_net::Net;
@@ -47,7 +47,7 @@ impl Cluster {
         workers: u8,
         attempts: u8,
         gate: &G,
-    ) -> Result<Option<Vec<Request>>, TurnFault>
+    ) -> Result<Option<Vec<Request>>, Stop>
         requires sound { IsSound self.old (N.sent net.old) }
         requires below { self.old.next_epoch < EPOCHS_END }
         requires workers { 0 < workers }
@@ -74,12 +74,12 @@ impl Cluster {
         // The files.
         ensures files { (c : Contents) → RestsOn c (H.reads host.old) (H.may_leave host.old) → StandsAt c self.old → HasRoom c requests.items
             → AttemptsOn H.Host result requests.items workers attempts c self.old self.new host.old host.new }
-        ensures never { (file at : ℕ) (c : Contents) → RestsOn c (H.reads host.old) (H.may_leave host.old) → StandsAt c self.old → HasRoom c requests.items → result ≢ Err (fault.NotAStore file at) }
+        ensures never { (file at : ℕ) (c : Contents) → RestsOn c (H.reads host.old) (H.may_leave host.old) → StandsAt c self.old → HasRoom c requests.items → result ≢ Err (stop.NotAStore file at) }
         ensures stand { OnOk result (AllStand self.new (H.reads host.new) (H.may_leave host.new)) }
         ensures said { H.said host.new ≡ H.said host.old }
         ensures disk { CountsAttempt result (H.disk_faults host.old) (H.disk_faults host.new) }
         ensures stream { H.say_faults host.new ≡ H.say_faults host.old }
-        ensures refused { (file at : ℕ) → result ≡ Err (fault.NotAStore file at) → P.stops_seen power.old < P.stops_seen power.new }
+        ensures refused { (file at : ℕ) → result ≡ Err (stop.NotAStore file at) → P.stops_seen power.old < P.stops_seen power.new }
         ensures begins { P.begun power.new ≤ P.begun power.old + 1 }
         ensures seen { OnOk result (P.stops_seen power.old ≤ P.stops_seen power.new) }
         // The counts, whatever the answer.

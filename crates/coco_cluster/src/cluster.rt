@@ -12,9 +12,9 @@ ghost use Rattle.coco_cluster.specs.Faults.{CountsTurn};
 ghost use Rattle.coco_cluster.specs.Standing.{AllStand, IsSound, StandsAt};
 ghost use Rattle.coco_cluster.specs.Stepping.{HasAsked, HasCommittedBy, OnEnd, StepsTo};
 ghost use Rattle.coco_cluster.specs.Turning.{HasRoom, HasTurned, IsUntraced, KeepsHistory, MayTurn, Turns, epochs_of};
-ghost use Rattle.coco_cluster.specs.declared.fault.TurnFault.TheVariants as fault;
+ghost use Rattle.coco_cluster.specs.declared.stop.Stop.TheVariants as stop;
 
-use crate::TurnFault;
+use crate::Stop;
 use coco_ast::Checked;
 use coco_gate::Gate;
 use coco_host::Host;
@@ -89,7 +89,7 @@ impl Cluster {
         workers: u8,
         attempts: u8,
         gate: &G,
-    ) -> Result<(), TurnFault>
+    ) -> Result<(), Stop>
         requires sound { IsSound self.old (N.sent net.old) }
         requires workers { 0 < workers }
         requires attempts { 0 < attempts }
@@ -98,7 +98,7 @@ impl Cluster {
         ensures turns { (c : Contents) → RestsOn c (H.reads host.old) (H.may_leave host.old) → StandsAt c self.old → HasRoom c requests.items
             → KeepsHistory H.Host result requests.items self.old.next_epoch (spare (around N.Net P.Power net.old power.old) (around N.Net P.Power net.new power.new)) c host.old host.new
             ⊎ Turns H.Host result requests.items workers attempts (spare (around N.Net P.Power net.old power.old) (around N.Net P.Power net.new power.new)) c self.old self.new host.old host.new }
-        ensures never { (file at : ℕ) (c : Contents) → RestsOn c (H.reads host.old) (H.may_leave host.old) → StandsAt c self.old → HasRoom c requests.items → result ≢ Err (fault.NotAStore file at) }
+        ensures never { (file at : ℕ) (c : Contents) → RestsOn c (H.reads host.old) (H.may_leave host.old) → StandsAt c self.old → HasRoom c requests.items → result ≢ Err (stop.NotAStore file at) }
         ensures nothing { requests.items ≡ [] → IsOk result × (host.new ≡ host.old) × (net.new ≡ net.old) × IsUntraced self.old self.new × (power.new ≡ power.old) }
         ensures sound { OnOk result (IsSound self.new (N.sent net.new)) }
         ensures stand { OnOk result (AllStand self.new (H.reads host.new) (H.may_leave host.new)) }
@@ -116,16 +116,16 @@ impl Cluster {
             (around N.Net P.Power net.new power.new)) }
         ensures begins { P.begun power.new ≤ P.begun power.old + 4 }
         ensures given_up { OnOk result ((n : ℕ) × (n < 4) × (self.new.next_epoch ≤ self.old.next_epoch + n + 1) × AreGivenUp n (around N.Net P.Power net.old power.old) (around N.Net P.Power net.new power.new)) }
-        ensures refused { (file at : ℕ) → result ≡ Err (fault.NotAStore file at) → P.stops_seen power.old < P.stops_seen power.new }
-        ensures ended { result ≡ Err fault.EpochsUsedUp → (EPOCHS_END ≤ self.new.next_epoch) × ((n : ℕ) × (n < 4) × (self.new.next_epoch ≤ self.old.next_epoch + n) × AreGivenUp n (around N.Net P.Power net.old power.old) (around N.Net P.Power net.new power.new)) }
+        ensures refused { (file at : ℕ) → result ≡ Err (stop.NotAStore file at) → P.stops_seen power.old < P.stops_seen power.new }
+        ensures ended { result ≡ Err stop.EpochsUsedUp → (EPOCHS_END ≤ self.new.next_epoch) × ((n : ℕ) × (n < 4) × (self.new.next_epoch ≤ self.old.next_epoch + n) × AreGivenUp n (around N.Net P.Power net.old power.old) (around N.Net P.Power net.new power.new)) }
         ensures untraced { OnErr result (self.new.trace ≡ None) }
-        ensures used_up { 0 < length requests.items → EPOCHS_END ≤ self.old.next_epoch → result ≡ Err fault.EpochsUsedUp }
+        ensures used_up { 0 < length requests.items → EPOCHS_END ≤ self.old.next_epoch → result ≡ Err stop.EpochsUsedUp }
         ensures procs { self.new.procs ≡ self.old.procs }
         ensures said { H.said host.new ≡ H.said host.old }
         ensures counts { CountsTurn result self.old.next_epoch (around N.Net P.Power net.old power.old) (around N.Net P.Power net.new power.new) (H.disk_faults host.old) (H.disk_faults host.new) }
         ensures stream { H.say_faults host.new ≡ H.say_faults host.old }
         ensures later { IsLater (around N.Net P.Power net.old power.old) (around N.Net P.Power net.new power.new) }
-        ensures unused { result ≡ Err fault.EpochsUsedUp → EPOCHS_END ≤ self.old.next_epoch → host.new ≡ host.old }
+        ensures unused { result ≡ Err stop.EpochsUsedUp → EPOCHS_END ≤ self.old.next_epoch → host.new ≡ host.old }
         ensures kept { OnOk result (length self.new.kept.dones ≤ length self.old.kept.dones + length requests.items) }
     {
         self.room.keep(alloc, &mut self.trace);
@@ -135,7 +135,7 @@ impl Cluster {
         let mut requests = requests;
         for _attempt in 0..ATTEMPTS {
             if self.next_epoch >= EPOCHS_END {
-                return Err(TurnFault::EpochsUsedUp);
+                return Err(Stop::EpochsUsedUp);
             }
             match self.attempt(
                 rt, alloc, host, net, power, requests, workers, attempts, gate,
@@ -144,7 +144,7 @@ impl Cluster {
                 Some(again) => requests = again,
             }
         }
-        Err(TurnFault::Unreachable)
+        Err(Stop::Unreachable)
     }
 
     /// What the epoch of the last turn left: each shard's journal, each worker's transcript, and the requests that no

@@ -19,7 +19,7 @@ ghost use Rattle.coco_cluster.specs.Deciding.{HasDecided, StaysDeciding};
 ghost use Rattle.coco_cluster.specs.Faults.{CountsPart};
 ghost use Rattle.coco_cluster.specs.Trying.{next_if, AreQuiet, DecidesFiles, GiveIf, IsSilentSince, LoseIfTold, SameLogs};
 
-use crate::TurnFault;
+use crate::Stop;
 use coco_host::Host;
 use coco_lost::stop_early;
 use coco_members::Members;
@@ -109,7 +109,7 @@ pub(crate) fn decide<H: Host, N: Net, P: Power>(
     epoch: u64,
     pieces: &[Piece],
     body: &mut Vec<u8>,
-) -> Result<bool, TurnFault>
+) -> Result<bool, Stop>
     requires quiet { AreQuiet epoch (N.sent net.old) members.old }
     requires ring { IsRing (ring_of members.old.tables.layout) }
     requires pieces { AreShippable (ring_of members.old.tables.layout) pieces.now }
@@ -141,7 +141,7 @@ fn ship_and_vote<H: Host, N: Net, P: Power>(
     epoch: u64,
     pieces: &[Piece],
     body: &mut Vec<u8>,
-) -> Result<bool, TurnFault>
+) -> Result<bool, Stop>
     requires quiet { AreQuiet epoch (N.sent net.old) members.old }
     requires ring { IsRing (ring_of members.old.tables.layout) }
     requires pieces { AreShippable (ring_of members.old.tables.layout) pieces.now }

@@ -4,11 +4,10 @@ ghost use Rattle.coco_append.specs.Gaining.{RestsOn, Stands};
 ghost use Rattle.coco_ast.specs.Keyed.{Rows};
 ghost use Rattle.coco_entry.specs.Commits.{AreOf, IsCommit};
 ghost use Rattle.coco_finish.specs.Finishing.{HaveMap};
-ghost use Rattle.coco_kept.specs.Holding.{NeverFall};
+ghost use Rattle.coco_kept.specs.Holding.{MayFollow, NeverFall};
 ghost use Rattle.coco_kept.specs.Keeping.{HoldsKept};
 ghost use Rattle.coco_letters.specs.Around.{IsLater, around};
 ghost use Rattle.coco_letters.specs.Worlds.{GoesBetween, Commits as CommitsOne};
-ghost use Rattle.coco_load.specs.Keeping.{MayFollow};
 ghost use Rattle.coco_log.specs.LogState.{IsOnlyRead, LogState};
 ghost use Rattle.coco_members.specs.AtRest.{AreAtRest, AreMembers, NoneBehind, NoneLost, ShardsHaveMap, scene_of};
 ghost use Rattle.coco_members.specs.Voted.{HaveVoted};
@@ -24,11 +23,11 @@ ghost use Rattle.coco_cluster.specs.Ending.{Commits, HasEnded, IsForgotten};
 ghost use Rattle.coco_cluster.specs.Faults.{CountsAttempt, CountsPart};
 ghost use Rattle.coco_cluster.specs.Standing.{AllStand, BelongsTo, IsSound, MayStop, Rests, StandsAt};
 ghost use Rattle.coco_cluster.specs.Trying.{commit_of, AreQuiet, KeepShards, LoseIfTold};
-ghost use Rattle.coco_cluster.specs.declared.fault.TurnFault.TheVariants as fault;
+ghost use Rattle.coco_cluster.specs.declared.stop.Stop.TheVariants as stop;
 
-use crate::{Cluster, TurnFault};
+use crate::{Cluster, Stop};
 use coco_host::Host;
-use coco_load::add_dones;
+use coco_kept::add_dones;
 use coco_lost::read_lost;
 use coco_net::Net;
 use coco_parallel::trace::Trace;
@@ -63,7 +62,7 @@ impl Cluster {
         power: &mut P,
         dones: Dones,
         trace: Trace,
-    ) -> Result<(), TurnFault>
+    ) -> Result<(), Stop>
         requires below { self.old.next_epoch < EPOCHS_END }
         requires voted { (after : Rows) × HaveVoted self.old.next_epoch after (N.sent net.old) self.old.members }
         requires unspent { self.old.members.log.spent ≡ false }
@@ -112,11 +111,7 @@ impl Cluster {
     }
 
     /// The nodes that stopped have their tables read anew.
-    pub(crate) fn read_stopped<H: Host>(
-        &mut self,
-        alloc: Global,
-        host: &mut H,
-    ) -> Result<(), TurnFault>
+    pub(crate) fn read_stopped<H: Host>(&mut self, alloc: Global, host: &mut H) -> Result<(), Stop>
         requires are { AreMembers self.old.members }
         requires stops { MayStop self.old.members }
         ensures members { OnOk result (self.new ≡ record self.old { members = self.new.members }) }
@@ -132,7 +127,7 @@ impl Cluster {
         ensures rests { OnOk result ((sent : List Sent) → Rests self.old sent → IsSound self.new sent) }
         // The files.
         ensures files { OnOk result ((c : Contents) → RestsOn c (H.reads host.old) (H.may_leave host.old) → StandsAt c self.old → StandsAt c self.new) }
-        ensures never { (file at : ℕ) (c : Contents) → RestsOn c (H.reads host.old) (H.may_leave host.old) → StandsAt c self.old → result ≢ Err (fault.NotAStore file at) }
+        ensures never { (file at : ℕ) (c : Contents) → RestsOn c (H.reads host.old) (H.may_leave host.old) → StandsAt c self.old → result ≢ Err (stop.NotAStore file at) }
         ensures stand { OnOk result (AllStand self.old (H.reads host.old) (H.may_leave host.old) → AllStand self.new (H.reads host.new) (H.may_leave host.new)) }
         ensures read { IsOnlyRead H.Host host.old host.new }
         ensures disk { CountsAttempt result (H.disk_faults host.old) (H.disk_faults host.new) }

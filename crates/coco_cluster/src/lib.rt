@@ -5,12 +5,14 @@ mod attempt;
 mod cluster;
 mod deciding;
 mod ending;
-mod fault;
 mod laws;
+mod open;
 mod rows;
 mod running;
+mod stop;
 mod trying;
 
 pub use cluster::Cluster;
-pub use fault::TurnFault;
 pub use laws::turns_are_steps_of_the_agreement;
+pub use open::cluster_of;
+pub use stop::Stop;

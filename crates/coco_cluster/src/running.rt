@@ -12,8 +12,7 @@ use coco_ast::Checked;
 use coco_entry::Layout;
 use coco_finish::NodeTables;
 use coco_gate::Gate;
-use coco_kept::Kept;
-use coco_load::make_room;
+use coco_kept::{Kept, make_room};
 use coco_net::Net;
 use coco_trial::run;
 use coco_types::{NoMemory, Request};
@@ -48,7 +47,7 @@ pub(crate) fn ids_of(alloc: Global, requests: &[Request]) -> Result<Vec<u64>, No
 
 /// Runs the requests of an epoch on the tables of all nodes, of which none is behind, and makes room for their Dones among the
 /// kept ones. It begins with the room that the epoch before left.
-pub(crate) fn run_epoch<R: Threads + Wait + Clock + Sync, G: Gate + Sync, N: Net + Sync>(
+pub(crate) fn run_requests<R: Threads + Wait + Clock + Sync, G: Gate + Sync, N: Net + Sync>(
     rt: &R,
     alloc: Global,
     room: &mut EpochRoom,

@@ -11,9 +11,9 @@ ghost use Rattle.coco_cluster.specs.Trying.{TriesFiles};
 ghost use Rattle.coco_cluster.specs.Turning.{MayTurn};
 
 use crate::deciding::{decide, one_stops};
-use crate::running::{config_of, ids_of, run_epoch};
-use crate::{Cluster, TurnFault};
-use coco_commits::{a_run_is_the_next_commit, a_run_may_be_prepared};
+use crate::running::{config_of, ids_of, run_requests};
+use crate::{Cluster, Stop};
+use coco_append::{a_run_is_the_next_commit, a_run_may_be_prepared};
 use coco_gate::Gate;
 use coco_host::Host;
 use coco_lost::requests_back;
@@ -57,7 +57,7 @@ impl Cluster {
         workers: u8,
         attempts: u8,
         gate: &G,
-    ) -> Result<Tried, TurnFault>
+    ) -> Result<Tried, Stop>
         requires sound { IsSound self.old (N.sent net.old) }
         requires up { NoneBehind self.old.members.tables }
         requires below { self.old.next_epoch < EPOCHS_END }
@@ -103,7 +103,7 @@ impl Cluster {
         workers: u8,
         attempts: u8,
         gate: &G,
-    ) -> Result<Tried, TurnFault>
+    ) -> Result<Tried, Stop>
         requires sound { IsSound self.old (N.sent net.old) }
         requires up { NoneBehind self.old.members.tables }
         requires below { self.old.next_epoch < EPOCHS_END }
@@ -129,7 +129,7 @@ impl Cluster {
             dones,
             pieces,
             trace,
-        } = run_epoch(
+        } = run_requests(
             rt,
             alloc,
             &mut self.room,

@@ -64,7 +64,7 @@ fn put_on_three<R: Threads + Wait + Clock + Sync, N: Net + Sync>(
         &mut input,
         bounds,
         &OpenGate,
-    );
+    )?;
     Ok(cluster)
 }
 

@@ -7,7 +7,7 @@ ghost use Rattle.coco_cluster.specs.Turning.{MayTurn};
 
 use crate::made::{COMMITS, LAYOUTS, PREPARED, fill};
 use coco_batches::{Batch, read_batch};
-use coco_cluster::{Cluster, TurnFault};
+use coco_cluster::{Cluster, Stop};
 use coco_commands::open_cluster;
 use coco_gate::OpenGate;
 use coco_host::{FolderHost, Host, MemoryHost, Purpose};
@@ -198,7 +198,7 @@ fn ended_behind<R: Threads + Wait + Clock + Sync, N: Net + Sync>(
     net: &mut N,
     point: u8,
     file: &[u8],
-) -> Result<(Result<(), TurnFault>, Option<u64>), Fail>
+) -> Result<(Result<(), Stop>, Option<u64>), Fail>
     requires { N.sent net.old ≡ [] }
 {
     let alloc = machine.alloc();
@@ -216,8 +216,8 @@ fn ended_behind<R: Threads + Wait + Clock + Sync, N: Net + Sync>(
 // Of the worked store the coordinator's file has 75 bytes, and 141 with one epoch more.
 #[test]
 fn a_stopped_nodes_file_is_refused_at_its_place(rt: HostRuntime) -> Result<(), Fail> {
-    let refused = |at| Err(TurnFault::NotAStore { file: 2, at });
-    let cases: [(u8, &[u8], Result<(), TurnFault>, u64); 10] = [
+    let refused = |at| Err(Stop::NotAStore { file: 2, at });
+    let cases: [(u8, &[u8], Result<(), Stop>, u64); 10] = [
         // It isn't read anew where the node doesn't stop.
         (0, &PREPARED[..0], Ok(()), 141),
         (1, &PREPARED, Ok(()), 141),

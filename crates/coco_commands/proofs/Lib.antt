@@ -1,6 +1,5 @@
 pub mod AskingLemmas
 pub mod BaseLemmas
-pub mod Holding
 pub mod KeepLemmas
 pub mod RunLemmas
 pub mod SayingLemmas

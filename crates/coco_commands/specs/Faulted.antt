@@ -1,2 +1,2 @@
--- How a batch breaks off, by name.
-pub use Rattle.coco_serve.specs.declared.fault.BatchFault.TheVariants.{Disk, EpochsUsedUp, NoMemory, NotAStore, Say, Unreachable}
+-- What stops a run, by name.
+pub use Rattle.coco_cluster.specs.declared.stop.Stop.TheVariants.{Disk, EpochsUsedUp, NoMemory, NotAStore, Read, Say, Unreachable}

@@ -6,8 +6,8 @@ pub mod Opening
 pub mod Querying
 pub mod Rebuilding
 pub mod Running
-pub mod Served
 pub mod Serving
+pub mod Stopping
 pub mod Telling
 pub mod Trying
 pub mod Workloads

@@ -1,31 +1,18 @@
 -- What the command `run` does with the store in a host's files, and what is seen of it.
-use Rattle.std.specs.Prelude.{◌≡◌, ◌⊎◌, ℕ, List, Option, Some}
+use Rattle.std.specs.Prelude.{◌≡◌, ◌⊎◌, ℕ, List, Some, Result}
 use Rattle.coco_cluster.specs.Around.{IsLater}
 use Rattle.coco_host.specs.Files.{Files}
-use Rattle.coco_host.specs.Moments.{Observation}
 use Rattle.coco_host.specs.declared.host.Host.{Ghosts as HostGhosts}
 use Rattle.coco_ending.specs.declared.ending.Ending.{Ending}
-use Rattle.coco_ending.specs.declared.ending.Ending.TheVariants as ending
 use Rattle.coco_lines.specs.Reads.{Gives}
 use Rattle.coco_load.specs.Epochs.{IsNextOf}
 use Rattle.coco_log.specs.LogState.{IsOnlyRead}
 use Rattle.coco_serve.specs.Serving.{HasCause, Outside, Serves, spare_of}
-use Rattle.coco_serve.specs.declared.ending.Served.{Served}
-use Rattle.coco_serve.specs.declared.ending.Served.TheVariants as served
+use Rattle.coco_cluster.specs.declared.stop.Stop.{Stop}
 use Rattle.coco_serve.specs.declared.bounds.RunBounds.{RunBounds}
 use Rattle.coco_store.specs.Contents.{Contents, Holds, IsGoodStore}
 use Rattle.coco_commands.specs.Opening.{IsUnopened}
-
--- how a call ends whose lines were answered up to this ending
-abbrev pub ending_of_run : Served → Ending
-ending_of_run served.Finished = ending.Finished
-ending_of_run served.ReadFault = ending.ReadFault
-ending_of_run served.SayFault = ending.SayFault
-ending_of_run served.DiskFault = ending.DiskFault
-ending_of_run (served.NotAStore file at) = ending.NotAStore file at
-ending_of_run served.Unreachable = ending.Unreachable
-ending_of_run served.EpochsUsedUp = ending.EpochsUsedUp
-ending_of_run served.NoMemory = ending.NoMemory
+use Rattle.coco_commands.specs.Stopping.{ending_of}
 
 -- the store is opened, and then lines are answered on it. Until the opening has ended nothing is said, and all that a crash may leave it might have left
 -- at entry. Only files that are a store are opened, and such files are never refused (`a_refused_store_is_none`): so the opening ends with `NotAStore`
@@ -41,8 +28,8 @@ pub record Opens {H : Type 0} (frame : HostGhosts H)
   pub gives : Gives before.source after.source bytes
   pub next : ℕ
   pub is_next : (files : Files) (c : Contents) → frame.reads old ≡ Some files → Holds files c → IsNextOf c next
-  pub served : Served
-  pub ends : ending ≡ ending_of_run served
+  pub served : Result (Unit {0}) Stop
+  pub ends : ending ≡ ending_of served
   pub later : IsLater before.around after.around
   pub cause : HasCause next bytes before after served
   pub serves : (files : Files) (c : Contents) → frame.reads old ≡ Some files → IsGoodStore files c

@@ -1,31 +1,19 @@
 -- What the command `try` does with the store in a host's files, and what is seen of it.
-use Rattle.std.specs.Prelude.{◌≡◌, ◌⊎◌, ℕ, List, length, Option, Some, Result, Ok, Err}
+use Rattle.std.specs.Prelude.{◌≡◌, ◌⊎◌, ℕ, List, length, Some, Result}
 use Rattle.coco_types.specs.declared.call.Request.{Request}
 use Rattle.coco_cluster.specs.Around.{Around, IsLater, spare}
 use Rattle.coco_ending.specs.declared.ending.Ending.{Ending}
-use Rattle.coco_ending.specs.declared.ending.Ending.TheVariants as ending
 use Rattle.coco_host.specs.Files.{Files}
-use Rattle.coco_host.specs.Moments.{Observation}
 use Rattle.coco_host.specs.declared.host.Host.{Ghosts as HostGhosts}
 use Rattle.coco_load.specs.Epochs.{IsNextOf}
 use Rattle.coco_log.specs.LogState.{IsOnlyRead}
 use Rattle.coco_serve.specs.Faults.{Counts}
 use Rattle.coco_serve.specs.declared.bounds.RunBounds.{RunBounds}
-use Rattle.coco_serve.specs.declared.fault.BatchFault.{BatchFault}
-use Rattle.coco_serve.specs.declared.fault.BatchFault.TheVariants as fault
+use Rattle.coco_cluster.specs.declared.stop.Stop.{Stop}
 use Rattle.coco_store.specs.Contents.{Contents, Holds, IsGoodStore}
 use Rattle.coco_try.specs.Trying.{HasCause, Tries}
+use Rattle.coco_commands.specs.Stopping.{ending_of}
 use Rattle.coco_commands.specs.Telling.{IsUntold}
-
--- how a call ends whose workload came to this
-abbrev pub ending_of_trying : Result (Unit {0}) BatchFault → Ending
-ending_of_trying (Ok done) = ending.Finished
-ending_of_trying (Err fault.Say) = ending.SayFault
-ending_of_trying (Err fault.Disk) = ending.DiskFault
-ending_of_trying (Err (fault.NotAStore file at)) = ending.NotAStore file at
-ending_of_trying (Err fault.Unreachable) = ending.Unreachable
-ending_of_trying (Err fault.EpochsUsedUp) = ending.EpochsUsedUp
-ending_of_trying (Err fault.NoMemory) = ending.NoMemory
 
 module _ {H : Type 0} (frame : HostGhosts H) where
   -- the store isn't opened: nothing is said, no file changes, and net and power are as they were
@@ -43,8 +31,8 @@ module _ {H : Type 0} (frame : HostGhosts H) where
     pub holds : (files : Files) → frame.reads old ≡ Some files → (c : Contents) × Holds files c
     pub next : ℕ
     pub is_next : (files : Files) (c : Contents) → frame.reads old ≡ Some files → Holds files c → IsNextOf c next
-    pub result : Result (Unit {0}) BatchFault
-    pub ends : how ≡ ending_of_trying result
+    pub result : Result (Unit {0}) Stop
+    pub ends : how ≡ ending_of result
     pub later : IsLater was now
     pub cause : HasCause next (length requests) was now before after result
     pub tries : (files : Files) (c : Contents) → frame.reads old ≡ Some files → IsGoodStore files c

@@ -12,8 +12,7 @@ ghost use Rattle.coco_store.specs.Contents.{Contents, Holds, IsGoodStore};
 ghost use Rattle.coco_world.specs.World.{World};
 ghost use Rattle.coco_commands.specs.Opening.{FailsToOpen, ending_of_opening};
 
-use crate::open::cluster_of;
-use coco_cluster::Cluster;
+use coco_cluster::{Cluster, cluster_of};
 use coco_ending::Ending;
 use coco_host::Host;
 use coco_read::OpenFault;

@@ -3,17 +3,18 @@
 ghost use Rattle.std.specs.Prelude.{◌≡◌, ◌<◌, ◌≤◌, []};
 ghost use Rattle.coco_types.specs.Limits.{most_batch_lines};
 ghost use Rattle.coco_cluster.specs.Around.{around};
-ghost use Rattle.coco_commands.specs.Running.{RunsOn, ending_of_run};
+ghost use Rattle.coco_commands.specs.Running.{RunsOn};
 ghost use Rattle.coco_lines.specs.Reads.{source_moment};
 
 use crate::opening::open_cluster;
+use crate::stopping::ending_of;
 use coco_ending::Ending;
 use coco_gate::Gate;
 use coco_host::Host;
 use coco_io::Source;
 use coco_net::Net;
 use coco_power::Power;
-use coco_serve::{RunBounds, Served, answer_lines};
+use coco_serve::{RunBounds, answer_lines};
 use std::alloc::Global;
 use std::sync::Wait;
 use std::thread::Threads;
@@ -49,7 +50,7 @@ pub fn run<
         host.old host.new }
 {
     match open_cluster(alloc, host) {
-        Ok(mut cluster) => ending_of_run(answer_lines(
+        Ok(mut cluster) => ending_of(answer_lines(
             rt,
             alloc,
             host,
@@ -61,21 +62,5 @@ pub fn run<
             gate,
         )),
         Err(ending) => ending,
-    }
-}
-
-// How a call ends whose lines were answered up to this ending.
-fn ending_of_run(served: Served) -> Ending
-    ensures { result ≡ ending_of_run served }
-{
-    match served {
-        Served::Finished => Ending::Finished,
-        Served::ReadFault => Ending::ReadFault,
-        Served::SayFault => Ending::SayFault,
-        Served::DiskFault => Ending::DiskFault,
-        Served::NotAStore { file, at } => Ending::NotAStore { file, at },
-        Served::Unreachable => Ending::Unreachable,
-        Served::EpochsUsedUp => Ending::EpochsUsedUp,
-        Served::NoMemory => Ending::NoMemory,
     }
 }

@@ -4,15 +4,16 @@ ghost use Rattle.std.specs.Prelude.{◌≡◌, ◌<◌, ◌≤◌, ◌^◌, []};
 ghost use Rattle.coco_types.specs.Limits.{most_batch_lines};
 ghost use Rattle.coco_cluster.specs.Around.{around};
 ghost use Rattle.coco_gen.specs.Workload.{workload_of};
-ghost use Rattle.coco_commands.specs.Trying.{TriesOn, ending_of_trying};
+ghost use Rattle.coco_commands.specs.Trying.{TriesOn};
 
 use crate::opening::open_cluster;
+use crate::stopping::ending_of;
 use coco_ending::Ending;
 use coco_gate::Gate;
 use coco_host::Host;
 use coco_net::Net;
 use coco_power::Power;
-use coco_serve::{BatchFault, RunBounds};
+use coco_serve::RunBounds;
 use coco_try::{Workload, try_calls};
 use std::alloc::Global;
 use std::sync::Wait;
@@ -45,7 +46,7 @@ pub fn try_out<R: Threads + Wait + Clock + Sync, H: Host, N: Net + Sync, P: Powe
         host.old host.new }
 {
     match open_cluster(alloc, host) {
-        Ok(mut cluster) => ending_of_trying(try_calls(
+        Ok(mut cluster) => ending_of(try_calls(
             rt,
             alloc,
             host,
@@ -57,20 +58,5 @@ pub fn try_out<R: Threads + Wait + Clock + Sync, H: Host, N: Net + Sync, P: Powe
             gate,
         )),
         Err(ending) => ending,
-    }
-}
-
-// How a call ends whose workload came to this.
-fn ending_of_trying(tried: Result<(), BatchFault>) -> Ending
-    ensures { result ≡ ending_of_trying tried }
-{
-    match tried {
-        Ok(()) => Ending::Finished,
-        Err(BatchFault::Say) => Ending::SayFault,
-        Err(BatchFault::Disk) => Ending::DiskFault,
-        Err(BatchFault::NotAStore { file, at }) => Ending::NotAStore { file, at },
-        Err(BatchFault::Unreachable) => Ending::Unreachable,
-        Err(BatchFault::EpochsUsedUp) => Ending::EpochsUsedUp,
-        Err(BatchFault::NoMemory) => Ending::NoMemory,
     }
 }

@@ -1,11 +1,13 @@
 -- Locks that are closed one after another, each with its passes.
-use Rattle.std.proofs.Common.{◌≡◌, suc, ◌++◌, List, [], ◌∷◌, length, refl, sym, ap, ◌∙◌, subst, arith, append_assoc}
+use Rattle.std.proofs.Common.{◌≡◌, ℕ, suc, ◌+◌, ◌++◌, List, [], ◌∷◌, length, vec_len, vec_capacity, refl, sym, ap, ◌∙◌, subst, arith, append_assoc, length-append}
 use Rattle.std.specs.Global.{Vec}
 use Rattle.std.proofs.lemmas.List.{append-nil}
 use Rattle.coco_journaled.specs.Passes.{Passing}
 use Rattle.coco_journaled.specs.declared.entry.Entry.{Entry}
 use Rattle.coco_seen.specs.Notes.{Lock}
+use Rattle.coco_desks.specs.Desks.{HasRoom}
 use Rattle.coco_desks.specs.Locking.{AreBack, AreEnded, IsBack, IsEnded}
+use Rattle.coco_desks.specs.Rows.{GainsOne}
 
 module _ {M Q A : Type 0} where
   -- the passes of the first lock stand first
@@ -23,6 +25,18 @@ nothing [] none = refl
 nothing (x ∷ xs) none = absurd (omega (arith, none))
 
 module _ {X : Type 0} where
+  pub none_yet : (room : ℕ) (list : Vec X) → HasRoom room list → vec_len list ≡ 0
+  none_yet room list has = let n = ap length has.0 in let ok = list.ok in omega (arith, n, ok.0)
+
+  -- an item more is one more in the same room
+  pub one_longer : (x : X) (before after : Vec X) → GainsOne x before after → (vec_len after ≡ vec_len before + 1) × (vec_capacity after ≡ vec_capacity before)
+  one_longer x before after gains =
+      let n = ap length gains.items in
+      let more = length-append before.items (x ∷ []) in
+      let was = before.ok in
+      let is = after.ok in
+      (omega (arith, n, more, was.0, is.0), gains.room)
+
   pub one_fewer : (rest left : List X) (x : X) → rest ≡ x ∷ left → length rest ≡ suc (length left)
   one_fewer rest left x is = ap length is
 

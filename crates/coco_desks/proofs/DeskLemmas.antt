@@ -27,10 +27,8 @@ number_at first (suc count) zero lt = ap Some (let h : first ≡ first + 0 = ome
 number_at first (suc count) (suc n) lt = number_at (suc first) count n (omega arith) ∙ ap Some (let h : suc first + n ≡ first + suc n = omega arith in h)
 
 -- a row more that has no items and as much room
-pub row_more : {X : Type 0} (room : ℕ) (rows after : List (Vec X)) (row : Vec X) → All (λ (r : Vec X). (r.items ≡ []) × (vec_capacity r ≡ room)) rows → after ≡ rows ++ row ∷ []
-    → row.items ≡ [] → vec_capacity row ≡ room → All (λ (r : Vec X). (r.items ≡ []) × (vec_capacity r ≡ room)) after
-row_more {X} room rows after row all is empty kept =
-    let P : Vec X → Type 0 = λ r. (r.items ≡ []) × (vec_capacity r ≡ room) in subst (All P) (sym is) (All-push P rows row all (empty, kept))
+pub row_more : {X : Type 0} (room : ℕ) (rows after : List (Vec X)) (row : Vec X) → All (λ (r : Vec X). HasRoom room r) rows → after ≡ rows ++ row ∷ [] → HasRoom room row → All (λ (r : Vec X). HasRoom room r) after
+row_more {X} room rows after row all is has = let P : Vec X → Type 0 = λ r. HasRoom room r in subst (All P) (sym is) (All-push P rows row all has)
 
 take_front : {X : Type 0} (xs rest : List X) → take (length xs) (xs ++ rest) ≡ xs
 take_front [] rest = refl
@@ -118,7 +116,7 @@ module _ {M Q A : Type 0} where
 
   module _ (workers : ℕ) (machines : List M) (locks : Vec Lock) (trays : List (Vec (Passing M Q A))) (started : AreStarted workers machines locks.items trays) where
     -- the trays are turned into rows without passes
-    pub opened : (rows columns dealt turned : List (Vec (Passing M Q A))) (emptied back : Vec (Vec (Passing M Q A))) (last : Vec M) (journals : Vec (List (Entry Q A))) → length rows ≡ workers → All (λ (row : Vec (Passing M Q A)). (row.items ≡ []) × (vec_capacity row ≡ length machines)) rows
+    pub opened : (rows columns dealt turned : List (Vec (Passing M Q A))) (emptied back : Vec (Vec (Passing M Q A))) (last : Vec M) (journals : Vec (List (Entry Q A))) → length rows ≡ workers → AreEmpty (length machines) rows
         → dealt ≡ columns → length columns ≡ length rows → ((place : ℕ) (d : Vec (Passing M Q A)) → place < length rows → (slice_index_or columns place d).items ≡ (slice_index_or rows place d).items ++ column place trays)
         → emptied.items ≡ turned → length turned ≡ length trays → ((place : ℕ) (d : Vec (Passing M Q A)) → place < length trays → (slice_index_or turned place d).items ≡ [])
         → ((place : ℕ) (d : Vec (Passing M Q A)) → place < length trays → vec_capacity (slice_index_or turned place d) ≡ vec_capacity (slice_index_or trays place d))
@@ -147,7 +145,7 @@ module _ {M Q A : Type 0} where
     }
 
     -- there is room for a pass of each lock in each row
-    pub rows_room : (rows : List (Vec (Passing M Q A))) → All (λ (row : Vec (Passing M Q A)). (row.items ≡ []) × (vec_capacity row ≡ length machines)) rows → All (λ (row : Vec (Passing M Q A)). vec_len row + length trays ≤ vec_capacity row) rows
+    pub rows_room : (rows : List (Vec (Passing M Q A))) → AreEmpty (length machines) rows → All (λ (row : Vec (Passing M Q A)). vec_len row + length trays ≤ vec_capacity row) rows
     rows_room rows empty place d lt =
         let here = empty place d lt in
         let row : Vec (Passing M Q A) = slice_index_or rows place d in

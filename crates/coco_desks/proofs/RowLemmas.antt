@@ -80,9 +80,6 @@ some_at (x ∷ xs) (suc n) lt = some_at xs n (omega arith)
 index_or_below : (p q : ℕ) → p < q + 1 → (p ≡ q) ⊎ (p < q)
 index_or_below p q lt = grind arith
 
-index_or_not : (p q : ℕ) → (p ≡ q) ⊎ (p ≡ q → ⊥)
-index_or_not p q = grind arith
-
 module _ {T : Type 0} (first before : List (Vec T)) where
   pub turned_none : Turned 0 first first before before
   turned_none = record {

@@ -1,12 +1,12 @@
 //! Machines behind locks whose passes go to the workers and come back.
 
-ghost use Rattle.std.specs.Prelude.{◌≡◌, ℕ, ◌<◌, ◌≤◌, [], List, All, length, vec_len, vec_capacity, IfOk, IfErr};
-ghost use Rattle.std.specs.Global.{Vec as Row};
+ghost use Rattle.std.specs.Prelude.{◌≡◌, ◌<◌, All, vec_len, IfOk, IfErr};
 ghost use Rattle.coco_seen.specs.Notes.{Lock};
 ghost use Rattle.coco_desks.specs.Gains.{AreOf};
 ghost use Rattle.coco_desks.specs.Desks.{AreBackBy, AreEmpty, HasRoom, IsOpen};
 
 use crate::locks::{EndedLocks, Started, close_all, start_all};
+use crate::room::rows_for;
 use crate::rows::turn;
 use coco_journaled::{Journaled, Pass, Room};
 use coco_packs::Packs;
@@ -55,21 +55,14 @@ fn room_for<M: Packs + Drop>(
     workers: u32,
     count: usize,
 ) -> Result<(Vec<Vec<Pass<M>>>, Vec<Vec<Pass<M>>>, EndedLocks<M>), NoMemory>
-    ensures rows { IfOk result (λ r. (vec_len r.0 ≡ workers) × All (λ row. (row.items ≡ []) × (vec_capacity row ≡ count)) r.0.items) }
+    ensures count { IfOk result (λ r. vec_len r.0 ≡ workers) }
+    ensures rows { IfOk result (λ r. All (λ row. HasRoom count row) r.0.items) }
     ensures back { IfOk result (λ r. HasRoom workers r.1) }
     ensures machines { IfOk result (λ r. HasRoom count r.2.machines) }
     ensures journals { IfOk result (λ r. HasRoom count r.2.journals) }
 {
-    let mut rows = Vec::with_capacity(alloc, workers as usize)?;
-    for _ in 0..workers {
-        rows.push_reserved(Vec::with_capacity(alloc, count)?);
-    }
-    let back = Vec::with_capacity(alloc, workers as usize)?;
-    let ended = EndedLocks {
-        machines: Vec::with_capacity(alloc, count)?,
-        journals: Vec::with_capacity(alloc, count)?,
-        lists: Vec::with_capacity(alloc, count)?,
-    };
+    let ended = EndedLocks::with_room(alloc, count)?;
+    let (rows, back) = rows_for(alloc, workers, count)?;
     Ok((rows, back, ended))
 }
 

@@ -3,4 +3,5 @@
 
 pub mod desks;
 pub mod locks;
+mod room;
 pub mod rows;

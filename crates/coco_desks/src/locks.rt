@@ -2,8 +2,11 @@
 
 ghost use Rattle.std.specs.Prelude.{◌≡◌, ◌+◌, ◌<◌, ◌≤◌, ◌++◌, ◌∷◌, [], List, vec_len, vec_capacity, IfOk, IfErr};
 ghost use Rattle.std.specs.Vec.Iter.{into_iter_items};
+ghost use Rattle.coco_desks.specs.Desks.{HasRoom};
 ghost use Rattle.coco_desks.specs.Locking.{AreBack, AreEnded, AreStarted, IsStarted};
+ghost use Rattle.coco_desks.specs.Rows.{GainsOne};
 
+use crate::room::two_lists;
 use coco_journaled::{Closed, Journal, Journaled, Pass, Room};
 use coco_packs::Packs;
 use coco_types::NoMemory;
@@ -25,6 +28,25 @@ pub struct EndedLocks<M: Packs> {
     pub lists: Vec<Vec<Vec<u64>>>,
 }
 
+impl<M: Packs> EndedLocks<M> {
+    // Room for what so many locks leave.
+    pub(crate) fn with_room(alloc: Global, count: usize) -> Result<EndedLocks<M>, NoMemory>
+        ensures machines { IfOk result (λ ended. HasRoom count ended.machines) }
+        ensures journals { IfOk result (λ ended. HasRoom count ended.journals) }
+    {
+        let lists = Vec::with_capacity(alloc, count)?;
+        let Ok((machines, journals)) = two_lists(alloc, count) else {
+            lists.destroy_empty();
+            return Err(NoMemory);
+        };
+        Ok(EndedLocks {
+            machines,
+            journals,
+            lists,
+        })
+    }
+}
+
 /// Ends all locks, once the passes of each are back. There is room for what they leave, and no memory is taken.
 pub fn close_all<M: Packs + Drop>(
     locks: Vec<Journaled<M>>,
@@ -43,16 +65,26 @@ pub fn close_all<M: Packs + Drop>(
         let Some(tray) = trays.next() else {
             unreachable!()
         };
-        let Closed {
-            machine,
-            journal,
-            lists,
-        } = lock.close(tray);
-        ended.machines.push_reserved(machine);
-        ended.journals.push_reserved(journal);
-        // Only the next locks' room is lost where there is none.
-        let _ = ended.lists.push(lists);
+        keep_closed(lock.close(tray), ended);
     }
+}
+
+// Puts what a lock left behind what the others left.
+fn keep_closed<M: Packs + Drop>(closed: Closed<M>, ended: &mut EndedLocks<M>)
+    requires machines { vec_len ended.old.machines < vec_capacity ended.old.machines }
+    requires journals { vec_len ended.old.journals < vec_capacity ended.old.journals }
+    ensures machines { GainsOne closed.machine ended.old.machines ended.new.machines }
+    ensures journals { GainsOne closed.journal ended.old.journals ended.new.journals }
+{
+    let Closed {
+        machine,
+        journal,
+        lists,
+    } = closed;
+    ended.machines.push_reserved(machine);
+    ended.journals.push_reserved(journal);
+    // Only the next locks' room is lost where there is none.
+    let _ = ended.lists.push(lists);
 }
 
 /// Puts each machine behind a lock that has a pass for each worker. The last locks begin with these rooms, and where
@@ -88,21 +120,18 @@ fn room_for<M: Packs + Drop>(
     alloc: Global,
     count: usize,
 ) -> Result<(Started<M>, EndedLocks<M>), NoMemory>
-    ensures locks { IfOk result (λ r. (r.0.locks.items ≡ []) × (vec_len r.0.locks ≡ 0) × (vec_capacity r.0.locks ≡ count)) }
-    ensures trays { IfOk result (λ r. (r.0.trays.items ≡ []) × (vec_len r.0.trays ≡ 0) × (vec_capacity r.0.trays ≡ count)) }
-    ensures machines { IfOk result (λ r. (r.1.machines.items ≡ []) × (vec_len r.1.machines ≡ 0) × (vec_capacity r.1.machines ≡ count)) }
-    ensures journals { IfOk result (λ r. (r.1.journals.items ≡ []) × (vec_len r.1.journals ≡ 0) × (vec_capacity r.1.journals ≡ count)) }
+    ensures locks { IfOk result (λ r. HasRoom count r.0.locks) }
+    ensures trays { IfOk result (λ r. HasRoom count r.0.trays) }
+    ensures machines { IfOk result (λ r. HasRoom count r.1.machines) }
+    ensures journals { IfOk result (λ r. HasRoom count r.1.journals) }
 {
-    let started = Started {
-        locks: Vec::with_capacity(alloc, count)?,
-        trays: Vec::with_capacity(alloc, count)?,
+    let (locks, trays) = two_lists(alloc, count)?;
+    let Ok(ended) = EndedLocks::with_room(alloc, count) else {
+        locks.destroy_empty();
+        trays.destroy_empty();
+        return Err(NoMemory);
     };
-    let ended = EndedLocks {
-        machines: Vec::with_capacity(alloc, count)?,
-        journals: Vec::with_capacity(alloc, count)?,
-        lists: Vec::with_capacity(alloc, count)?,
-    };
-    Ok((started, ended))
+    Ok((Started { locks, trays }, ended))
 }
 
 // One machine behind a lock, or the machine where there is no memory.

@@ -16,7 +16,7 @@ use Rattle.coco_copy.specs.Puts.{after_ask, after_asks}
 use Rattle.coco_copy.specs.declared.ops.CopyAnswer.{CopyAnswer}
 use Rattle.coco_copy.specs.declared.ops.CopyAsk.{CopyAsk}
 use Rattle.coco_copy.specs.declared.ops.CopyAsk.TheVariants.{Put}
-use Rattle.coco_epoch.specs.Pieces.{pieces_of}
+use Rattle.coco_tail.specs.Pieces.{pieces_of}
 use Rattle.coco_journaled.specs.Passes.{entries_of}
 use Rattle.coco_journaled.specs.declared.entry.Entry.{Entry}
 use Rattle.coco_order.specs.Execution.{Beginning, InEachExecution}
@@ -28,7 +28,7 @@ use Rattle.coco_ship.specs.Placing.{IsCopy, table_of}
 use Rattle.coco_ship.specs.Shipping.{AreBegun}
 use Rattle.coco_ship.specs.declared.ring.Ring.{Ring}
 use Rattle.coco_worker.proofs.CopyLemmas.{table_within}
-use Rattle.coco_worker.specs.Copying.{partition_of}
+use Rattle.coco_worker.specs.Copying.{partition_of_table}
 use Rattle.coco_parallel.specs.Ending.{Start}
 use Rattle.coco_parallel.specs.Epochs.{beginning_with}
 use Rattle.coco_parallel.specs.Traces.{Traced, execution_in}
@@ -117,7 +117,7 @@ module _ (runs : InEachExecution WritesAreRuns) (s : Start) (dones : List Done) 
   in_epoch table lt = let m : IsMade table = made table lt in ap (λ (t : CopyState). t.epoch) m.is ∙ same_epoch (begun s.config.epoch m.stable) (map asked (journal_at table))
 
   -- an entry of a journal is a write of a piece
-  of_entry : (table : ℕ) → table < length before → partition_of s.config table < length s.shards → (e : Logged) → Among (journal_at table) e → IsOfPiece pieces s.config.epoch (partition_of s.config table) e.ask
+  of_entry : (table : ℕ) → table < length before → partition_of_table s.config table < length s.shards → (e : Logged) → Among (journal_at table) e → IsOfPiece pieces s.config.epoch (partition_of_table s.config table) e.ask
   of_entry table lt within e among =
       let pass : e.pass < s.config.workers = of_indexed (λ (d : Logged). d.pass < s.config.workers) (journal_at table) e (copied.commits.no_other table lt) among in
       let puts = copied.commits.puts e.pass pass in
@@ -126,14 +126,14 @@ module _ (runs : InEachExecution WritesAreRuns) (s : Start) (dones : List Done) 
       put_is_of_piece runs (beginning s) (execution_in trace) s.config dones pieces has s.carries e.pass (omega (arith, pass, count)) puts.worked puts.each puts.scripts table within e.ask
       (subst (λ (asks : List CopyAsk). Among asks e.ask) (puts.puts table lt) (mapped asked (entries_of e.pass (journal_at table)) e own))
 
-  of_ask : (table : ℕ) → table < length before → partition_of s.config table < length s.shards → (ask : CopyAsk) → (e : Logged) × Among (journal_at table) e × (asked e ≡ ask) → IsOfPiece pieces s.config.epoch (partition_of s.config table) ask
-  of_ask table lt within ask entry = subst (IsOfPiece pieces s.config.epoch (partition_of s.config table)) entry.2 (of_entry table lt within entry.0 entry.1)
+  of_ask : (table : ℕ) → table < length before → partition_of_table s.config table < length s.shards → (ask : CopyAsk) → (e : Logged) × Among (journal_at table) e × (asked e ≡ ask) → IsOfPiece pieces s.config.epoch (partition_of_table s.config table) ask
+  of_ask table lt within ask entry = subst (IsOfPiece pieces s.config.epoch (partition_of_table s.config table)) entry.2 (of_entry table lt within entry.0 entry.1)
 
-  written : (table p : ℕ) → table < length before → partition_of s.config table ≡ p → p < length s.shards → IsWritten pieces p (table_at after table)
+  written : (table p : ℕ) → table < length before → partition_of_table s.config table ≡ p → p < length s.shards → IsWritten pieces p (table_at after table)
   written table p lt at within k time value pends =
       let m : IsMade table = made table lt in
       let put = pending_was_put (begun s.config.epoch m.stable) (map asked (journal_at table)) k time value refl (ap (λ (t : CopyState). get t.pending k) (sym m.is) ∙ pends) in
-      in_piece pieces (partition_of s.config table) p s.config.epoch k time value put.0 put.2 (of_ask table lt (omega (arith, at, within)) put.0 (of_map asked (journal_at table) put.0 put.1)) at
+      in_piece pieces (partition_of_table s.config table) p s.config.epoch k time value put.0 put.2 (of_ask table lt (omega (arith, at, within)) put.0 (of_map asked (journal_at table) put.0 put.1)) at
 
   pub are_begun : AreBegun ring s.config.epoch pieces after
   are_begun = record {
@@ -154,5 +154,5 @@ module _ (runs : InEachExecution WritesAreRuns) (s : Start) (dones : List Done) 
           let in_shards : p < length s.shards = (let a : p < ring.partitions = is.partition in let c : ring.partitions ≡ length s.shards = fits.partitions in omega (arith, a, c)) in
           let in_copies : j < s.config.copies = (let a : j < ring.copies = is.copy in let c : ring.copies ≡ s.config.copies = fits.copies in omega (arith, a, c)) in
           let lt : table_of ring p j < length before = table_within (length s.shards) s.config.copies ring.copies p j (length before) copied.tables fits.copies in_shards in_copies in
-          let at : partition_of s.config (table_of ring p j) ≡ p = ap (λ (n : ℕ). partition_of s.config (p * n + j)) fits.copies ∙ div-mul-add p s.config.copies j in_copies in
+          let at : partition_of_table s.config (table_of ring p j) ≡ p = ap (λ (n : ℕ). partition_of_table s.config (p * n + j)) fits.copies ∙ div-mul-add p s.config.copies j in_copies in
           subst (IsWritten pieces p) (at_index after (table_of ring p j) t (begun 0 empty) there) (written (table_of ring p j) p lt at in_shards)

@@ -14,8 +14,8 @@ use Rattle.coco_copy.specs.CopyState.{CopyState}
 use Rattle.coco_copy.specs.Greatest.{greatest_put, greatest_time, put_on, puts_on}
 use Rattle.coco_copy.specs.declared.ops.CopyAsk.TheVariants.{Put}
 use Rattle.coco_order.specs.OneKey.{Among}
-use Rattle.coco_prepared.proofs.LastWriteLemmas.{or_none, stamped}
-use Rattle.coco_prepared.specs.LastWrites.{Stamp, held_pieces, holds, last_stamp, last_value}
+use Rattle.coco_append.proofs.LastWriteLemmas.{or_none, stamped}
+use Rattle.coco_append.specs.LastWrites.{Stamp, held_pieces, holds, last_stamp, last_value}
 use Rattle.coco_ship.specs.Pieces.{AreShippable, HasPieces, asks_of, puts_of}
 use Rattle.coco_ship.specs.declared.ring.Ring.{Ring}
 use Rattle.coco_early.proofs.Members.{by_bool, in_flat, kept, mapped, none_some, of_all, of_filter, of_flat, of_kept, of_map, same_some, to_contains}

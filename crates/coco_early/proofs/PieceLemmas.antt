@@ -15,7 +15,7 @@ use Rattle.coco_ast.specs.History.{IsBefore, IsRising, request_of, rows_after}
 use Rattle.coco_ast.specs.Keyed.{Rows}
 use Rattle.coco_ast.specs.Meaning.{run}
 use Rattle.coco_ast.specs.Tree.{Procedures}
-use Rattle.coco_epoch.specs.Pieces.{pieces_of, place_of}
+use Rattle.coco_tail.specs.Pieces.{pieces_of, place_of}
 use Rattle.coco_order.specs.OneKey.{Among}
 use Rattle.coco_pieces.specs.Pieces.{piece_of, pieces_from, request_pieces, writes_on}
 use Rattle.coco_early.proofs.Members.{by_bool, either, left, mapped, moved, of_all, right, two_sides}

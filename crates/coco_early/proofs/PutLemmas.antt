@@ -19,7 +19,7 @@ use Rattle.coco_copy.specs.Puts.{after_asks}
 use Rattle.coco_copy.specs.declared.ops.CopyAsk.{CopyAsk}
 use Rattle.coco_copy.specs.declared.ops.CopyAsk.TheVariants.{Put}
 use Rattle.coco_copy.proofs.Greatest.{greatest_pends}
-use Rattle.coco_epoch.specs.Pieces.{place_of}
+use Rattle.coco_tail.specs.Pieces.{place_of}
 use Rattle.coco_occ.specs.declared.outcome.Outcome.{Outcome}
 use Rattle.coco_occ.specs.declared.outcome.Outcome.TheVariants.{Committed, Conflict, OverTime}
 use Rattle.coco_occ.specs.declared.outcome.Tried.{Tried}
@@ -28,7 +28,7 @@ use Rattle.coco_order.specs.Laws.{WritesAreRuns}
 use Rattle.coco_order.specs.OneKey.{Among}
 use Rattle.coco_order.specs.Outcome.{commit_of, commits, done_of, tail_dones, tail_requests}
 use Rattle.coco_pieces.specs.Pieces.{writes_on}
-use Rattle.coco_worker.specs.Copying.{node_of, partition_of, put}
+use Rattle.coco_worker.specs.Copying.{node_of, partition_of_table, put}
 use Rattle.coco_worker.specs.Trying.{time_of}
 use Rattle.coco_worker.specs.Working.{IsWorkedOff, Job, Worked, commit_at, copied, copies_at, scripts_of}
 use Rattle.coco_worker.specs.declared.copies.WorkerCommit.{WorkerCommit}
@@ -81,7 +81,7 @@ record IsOfCommit (j : Job) (table : ℕ) (ask : CopyAsk) (w : Worked) : Type 0 
   pub reply : Reply
   pub outcome_is : w.tries.last.outcome ≡ Committed time reply
   pub write : Write
-  pub in_writes : Among (writes_on j.partitions (partition_of j.config table) w.writes) write
+  pub in_writes : Among (writes_on j.partitions (partition_of_table j.config table) w.writes) write
   pub is : ask ≡ Put j.config.epoch time write
 
 of_copied : (j : Job) (table : ℕ) (ask : CopyAsk) (w : Worked) → Among (copied j table w) ask → IsOfCommit j table ask w
@@ -92,8 +92,8 @@ of_copied j table ask w h = from w.tries.last.outcome refl h
     from OverTime out g = absurd g
     from (Committed time reply) out g =
         let c : WorkerCommit = commit_at j w.tries.place time in
-        by_bool (λ b. Among (cond b (map (put c) (writes_on j.partitions (partition_of j.config table) w.writes)) []) ask → IsOfCommit j table ask w) (j.carries j.config.epoch j.worker w.tries.place (node_of j.config table))
-        (λ _ among. (let found = of_map (put c) (writes_on j.partitions (partition_of j.config table) w.writes) ask among in record { time = time; reply = reply; outcome_is = out; write = found.0; in_writes = found.1; is = sym found.2 }))
+        by_bool (λ b. Among (cond b (map (put c) (writes_on j.partitions (partition_of_table j.config table) w.writes)) []) ask → IsOfCommit j table ask w) (j.carries j.config.epoch j.worker w.tries.place (node_of j.config table))
+        (λ _ among. (let found = of_map (put c) (writes_on j.partitions (partition_of_table j.config table) w.writes) ask among in record { time = time; reply = reply; outcome_is = out; write = found.0; in_writes = found.1; is = sym found.2 }))
         (λ _ none. absurd none) g
 
 last_script : (ws : List Worked) (w : Worked) → Among ws w → Among (scripts_of ws) w.tries.last
@@ -142,7 +142,7 @@ module _ (runs : InEachExecution WritesAreRuns) (b : Beginning) (x : Execution) 
       }
 
   module _ (worker : ℕ) (lt : worker < length x.transcripts) (worked : List Worked) (each : AllByRecursion (IsWorkedOff (job worker)) worked) (scripts : transcript_of x worker ≡ scripts_of worked) where
-    of_commit : (table : ℕ) → partition_of config table < b.partitions → (ask : CopyAsk) (w : Worked) → Among worked w → IsOfCommit (job worker) table ask w → IsOfPiece pieces config.epoch (partition_of config table) ask
+    of_commit : (table : ℕ) → partition_of_table config table < b.partitions → (ask : CopyAsk) (w : Worked) → Among worked w → IsOfCommit (job worker) table ask w → IsOfPiece pieces config.epoch (partition_of_table config table) ask
     of_commit table within ask w in_worked c =
         let t : Tried = w.tries.last in
         let is : IsWorkedOff (job worker) w = of_all (IsWorkedOff (job worker)) worked w each in_worked in
@@ -152,12 +152,12 @@ module _ (runs : InEachExecution WritesAreRuns) (b : Beginning) (x : Execution) 
         let commits_it : commit_of b config.epoch t ≡ Some d = ap (λ (o : Option Request). done_of config.epoch o t.outcome) is.last.placed ∙ ap (done_of config.epoch (Some r)) c.outcome_is in
         let in_dones : Among dones d = moved (made ++ tail) dones has.outcome.same d (left made tail d (kept (commit_of b config.epoch) (concat x.transcripts) t d in_x commits_it)) in
         let stands : Standing dones d = standing dones d in_dones in
-        piece_of_done r c.time c.reply stands (partition_of config table) within c.write
-        (subst (λ (ws : List Write). Among (writes_on b.partitions (partition_of config table) ws) c.write)
+        piece_of_done r c.time c.reply stands (partition_of_table config table) within c.write
+        (subst (λ (ws : List Write). Among (writes_on b.partitions (partition_of_table config table) ws) c.write)
         (runs b x has.execution config.epoch dones has.outcome has.distinct stands.before stands.behind d stands.split t in_x commits_it r w.writes is.last.placed is.last.script) c.in_writes)
         ask c.is
 
-    pub put_is_of_piece : (table : ℕ) → partition_of config table < b.partitions → (ask : CopyAsk) → Among (flat_map (copied (job worker) table) worked) ask → IsOfPiece pieces config.epoch (partition_of config table) ask
+    pub put_is_of_piece : (table : ℕ) → partition_of_table config table < b.partitions → (ask : CopyAsk) → Among (flat_map (copied (job worker) table) worked) ask → IsOfPiece pieces config.epoch (partition_of_table config table) ask
     put_is_of_piece table within ask among =
         let at = of_flat (copied (job worker) table) worked ask among in
         of_commit table within ask at.0 at.1 (of_copied (job worker) table ask at.0 at.2)

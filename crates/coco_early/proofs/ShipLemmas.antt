@@ -10,7 +10,7 @@ use Rattle.coco_types.specs.declared.call.Write.{Write}
 use Rattle.coco_ast.specs.Growth.{IsEpochOf}
 use Rattle.coco_ast.specs.History.{rows_after}
 use Rattle.coco_ast.specs.Meaning.{run}
-use Rattle.coco_epoch.specs.Pieces.{pieces_of}
+use Rattle.coco_tail.specs.Pieces.{pieces_of}
 use Rattle.coco_order.specs.Execution.{Beginning, Execution, InEachExecution, IsExecution}
 use Rattle.coco_order.specs.Laws.{ApartInTime, OnEachKeyOfEach, OutcomesAreEpochs, StepsAreMine, TailWritesAreRuns, WritesAreRuns}
 use Rattle.coco_order.specs.OneKey.{Among, WriteTimesRise}

@@ -1,14 +1,14 @@
 -- What the ship phase needs of the run of an epoch, and what it leaves in the copies.
-use Rattle.std.specs.Prelude.{◌≡◌, ◌≢◌, ℕ, ◌%◌, true, Bool, List, length, None}
+use Rattle.std.specs.Prelude.{◌≡◌, ◌≢◌, ℕ, true, Bool, List, length, None}
 use Rattle.std.specs.FinMap.{get}
-use Rattle.coco_types.specs.RowKey.{RowKey}
+use Rattle.coco_types.specs.RowKey.{RowKey, partition_of}
 use Rattle.coco_types.specs.declared.call.Done.{Done}
 use Rattle.coco_types.specs.declared.call.Piece.{Piece}
 use Rattle.coco_copy.specs.CopyState.{CopyState}
 use Rattle.coco_parallel.specs.Ending.{Start}
 use Rattle.coco_parallel.specs.Traces.{Traced}
 use Rattle.coco_parallel.specs.Worked.{CopyJournal}
-use Rattle.coco_prepared.specs.LastWrites.{held_pieces, holds, last_stamp}
+use Rattle.coco_append.specs.LastWrites.{held_pieces, holds, last_stamp}
 use Rattle.coco_shard.specs.RowState.{ShardState}
 use Rattle.coco_ship.specs.Pieces.{AreShippable, HasPieces}
 use Rattle.coco_ship.specs.Shipping.{AreBegun}
@@ -31,9 +31,9 @@ EarlyRowsAreOfPieces s dones pieces trace = (before after : List CopyState) (jou
 -- What pends in a copy of a partition is the last write of each key there, among all pieces, and among those of each
 -- node that holds the partition. For no other key anything pends.
 pub record PendsLast (count : ℕ) (pieces : List Piece) (p : ℕ) (table : CopyState) : Type 0 where
-  pub last : (k : RowKey) → k.row % count ≡ p → get table.pending k ≡ last_stamp k pieces
-  pub held : (held : List Bool) → holds held p ≡ true → (k : RowKey) → k.row % count ≡ p → get table.pending k ≡ last_stamp k (held_pieces held pieces)
-  pub elsewhere : (k : RowKey) → k.row % count ≢ p → get table.pending k ≡ None
+  pub last : (k : RowKey) → partition_of count k ≡ p → get table.pending k ≡ last_stamp k pieces
+  pub held : (held : List Bool) → holds held p ≡ true → (k : RowKey) → partition_of count k ≡ p → get table.pending k ≡ last_stamp k (held_pieces held pieces)
+  pub elsewhere : (k : RowKey) → partition_of count k ≢ p → get table.pending k ≡ None
 
 -- so it is of each copy that has the pieces of its partition
 abbrev pub PendingIsLast : Start → List Done → List Piece → Traced → Type 0

@@ -5,7 +5,7 @@ use Rattle.coco_types.specs.declared.call.Done.{Done}
 use Rattle.coco_types.specs.declared.call.Piece.{Piece}
 use Rattle.coco_types.specs.declared.call.Request.{Request}
 use Rattle.coco_copy.specs.CopyState.{CopyState}
-use Rattle.coco_epoch.specs.SerialEpoch.{IsSerialEpoch}
+use Rattle.coco_tail.specs.SerialEpoch.{IsSerialEpoch}
 use Rattle.coco_shard.specs.RowState.{ShardState}
 use Rattle.coco_ship.specs.declared.ring.Ring.{Ring}
 use Rattle.coco_parallel.specs.Ending.{Start}

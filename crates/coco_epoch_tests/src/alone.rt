@@ -2,15 +2,15 @@
 
 ghost use Rattle.std.specs.Prelude.{◌≤◌, length, map, nat_eq, IfOk};
 ghost use Rattle.std.specs.List.{IsDistinct};
-ghost use Rattle.coco_epoch.specs.Running.{FitAll};
+ghost use Rattle.coco_tail.specs.Running.{FitAll};
 
 use crate::made::{GET, Line, PUT, Work, answers, are_pieces, two_shards, work_of};
-use coco_epoch::promote_all;
 use coco_gate::OpenGate;
 use coco_net::QuietNet;
 use coco_parallel::epoch::{EpochDone, run_epoch};
 use coco_parallel::rooms::Rooms;
 use coco_shard::Shard;
+use coco_tail::promote_all;
 use coco_types::limits::MOST_BATCH_LINES;
 use coco_types::{Done, Key, NoMemory, Value};
 use coco_worker::EpochConfig;

@@ -3,8 +3,8 @@
 
 ghost use Rattle.std.specs.Prelude.{◌≡◌, length, map, IfOk, IfSome};
 ghost use Rattle.coco_ast.specs.Fitting.{Fits};
-ghost use Rattle.coco_epoch.specs.Running.{FitAll};
-ghost use Rattle.coco_epoch.specs.Shards.{AreOfPartitions, AreQuietAfter, AreSettled};
+ghost use Rattle.coco_tail.specs.Running.{FitAll};
+ghost use Rattle.coco_tail.specs.Shards.{AreOfPartitions, AreQuietAfter, AreSettled};
 
 use coco_ast::Checked;
 use coco_check::built_in;

@@ -3,7 +3,7 @@
 ghost use Rattle.std.specs.Prelude.{◌≡◌, ◌<◌, ◌≤◌, length, map, nat_eq, vec_len, IfOk};
 ghost use Rattle.std.specs.List.{IsDistinct};
 ghost use Rattle.coco_desks.specs.Desks.{HasRoom};
-ghost use Rattle.coco_epoch.specs.Running.{FitAll};
+ghost use Rattle.coco_tail.specs.Running.{FitAll};
 
 use crate::made::{Line, PUT, Work, answers, are_pieces, tables, three_shards, work_of};
 use coco_ast::Checked;

@@ -1,6 +1,6 @@
 //! The rows of a few pieces.
 
-use coco_prepared::prepared_rows;
+use coco_append::prepared_rows;
 use coco_types::{Key, NoMemory, Packed, PackedWrite, PackedWrites, Piece, Pieces};
 use std::alloc::Global;
 use std::test::Fail;

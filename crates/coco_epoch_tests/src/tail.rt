@@ -2,13 +2,13 @@
 
 ghost use Rattle.std.specs.Prelude.{◌≡◌, ◌≤◌, length, IfOk};
 ghost use Rattle.coco_types.specs.Limits.{most_batch_lines};
-ghost use Rattle.coco_epoch.specs.Running.{FitAll, requests_of};
-ghost use Rattle.coco_epoch.specs.Shards.{AreOfPartitions, AreQuietAfter};
+ghost use Rattle.coco_tail.specs.Running.{FitAll, requests_of};
+ghost use Rattle.coco_tail.specs.Shards.{AreOfPartitions, AreQuietAfter};
 
 use crate::made::{GET, PUT, Work, answers, two_shards, work_of};
 use coco_ast::Checked;
-use coco_epoch::{PlacedRequest, Progress, promote_all, revert_all};
 use coco_shard::Shard;
+use coco_tail::{PlacedRequest, Progress, promote_all, revert_all};
 use coco_types::{Done, Key, NoMemory, Piece, Request, Value};
 use std::alloc::Global;
 use std::test::Fail;

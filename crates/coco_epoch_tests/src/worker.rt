@@ -2,7 +2,7 @@
 
 ghost use Rattle.std.specs.Prelude.{◌≡◌, ◌<◌, length, vec_len, IfOk};
 ghost use Rattle.coco_desks.specs.Gains.{AreOf};
-ghost use Rattle.coco_epoch.specs.Running.{FitAll};
+ghost use Rattle.coco_tail.specs.Running.{FitAll};
 
 use crate::made::{Line, PUT, are_pieces, tables, three_shards, work_of};
 use coco_ast::Checked;
@@ -88,7 +88,7 @@ fn mark(
         by: OTHER,
         op: Op::Lock(key),
     };
-    let place = (key.row % locks.len() as u64) as usize;
+    let place = key.partition(locks.len());
     locks[place].step(rt, &mut passes[place], ask)?;
     Ok(())
 }

@@ -29,9 +29,6 @@ count-cons x xs = by (is_in x xs)
 same_of_eq : (m n : ℕ) → nat_eq m n ≡ true → m ≡ n
 same_of_eq m n h = (unsigned_Decides m n).0 h
 
-eq_itself : (n : ℕ) → nat_eq n n ≡ true
-eq_itself n = (unsigned_Decides n n).1 refl
-
 -- a filter keeps the numbers that it takes
 pub is_in-filter : (p : ℕ → Bool) (n : ℕ) (xs : List ℕ) → p n ≡ true → is_in n (filter p xs) ≡ is_in n xs
 is_in-filter p n [] h = refl

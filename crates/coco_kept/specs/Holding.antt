@@ -61,3 +61,8 @@ pub record MakesPlace (epoch : ℕ) (old new : Keeping) : Type 0 where
   pub within : (n : ℕ) → new.keep ≡ Some n → (d : Done) → d.epoch ≡ epoch → epoch_count (new.dones ++ d ∷ []) ≤ n
   pub absent : (id : ℕ) → done_of id old.dones ≡ None → done_of id new.dones ≡ None
   pub up_to : AreUpTo epoch new.dones
+
+-- Dones that may be added: behind those that are kept no id stands twice, and no epoch is below an earlier one
+pub record MayFollow (k : Keeping) (dones : List Done) : Type 0 where
+  pub once : HasDistinctIds (k.dones ++ dones)
+  pub rising : NeverFall (k.dones ++ dones)

@@ -5,7 +5,7 @@ use Rattle.std.proofs.lemmas.Bool.{eqb-true, eq-eqb}
 use Rattle.std.proofs.lemmas.List.{get_or-set_same, get_or-set_other, take_at}
 use Rattle.std.proofs.Math.ListN.{length-set}
 use Rattle.coco_shard.proofs.Steps.{loads_settle}
-use Rattle.coco_types.specs.RowKey.{RowKey, key_cmp}
+use Rattle.coco_types.specs.RowKey.{RowKey, key_cmp, partition_of}
 use Rattle.coco_types.specs.declared.value.Value.{Value}
 use Rattle.coco_types.proofs.KeyMaps.{same_keyed}
 use Rattle.coco_ast.specs.Keyed.{Rows, on_partition, value_at, write_at}
@@ -13,7 +13,6 @@ use Rattle.coco_ast.proofs.KeyedLemmas.{value_on_partition}
 use Rattle.coco_copy.specs.CopyState.{CopyState, begun}
 use Rattle.coco_entry.specs.declared.layout.Layout.{Layout}
 use Rattle.coco_shard.specs.RowState.{IsSettled, ShardState, loaded}
-use Rattle.coco_store.specs.Placement.{partition_of}
 use Rattle.coco_load.specs.Reading.{with_row}
 use Rattle.coco_load.specs.Tables.{AreTables, HoldMap, HoldMaps, IsCopyOf, IsRing, IsShardOf, Maps, copy_at, shard_at}
 use Rattle.coco_load.proofs.Loading.{copy_loaded, no_copy, no_shard, settled_of, shard_loaded}
@@ -74,7 +73,7 @@ same_maps layout maps others shards copies same hold = record {
 
 module _ (layout : Layout) (key : RowKey) (value : Option Value) (shards : List ShardState) (copies : List CopyState) where
   abbrev here : ℕ
-  here = partition_of layout key
+  here = partition_of layout.partitions key
 
   within : AreTables layout shards copies → here < layout.partitions
   within are = let some : 0 < layout.partitions = are.ring.some in omega arith
@@ -182,32 +181,32 @@ module _ (layout : Layout) (key : RowKey) (value : Option Value) (shards : List 
   abbrev shards_at : ℕ → List ShardState
   shards_at i = slice_set shards i (loaded (shard_at shards i) key value)
 
-  pub shard_left_tables : (i : ℕ) (now : List ShardState) → i ≡ partition_of layout key → now ≡ shards_at i → AreTables layout shards copies → AreTables layout now copies
+  pub shard_left_tables : (i : ℕ) (now : List ShardState) → i ≡ partition_of layout.partitions key → now ≡ shards_at i → AreTables layout shards copies → AreTables layout now copies
   shard_left_tables i now is are tables =
       subst (λ (l : List ShardState). AreTables layout l copies) (sym are)
       (subst (λ (n : ℕ). AreTables layout (shards_at n) copies) (sym is) (shard_tables layout key value shards copies tables))
 
-  pub shard_left : (behind i : ℕ) (now : List ShardState) → behind ≡ 0 → i ≡ partition_of layout key → now ≡ shards_at i
-      → (maps : Maps) → HoldMaps layout maps shards copies → HoldMaps layout (with_row (partition_of layout key) behind key value maps) now copies
+  pub shard_left : (behind i : ℕ) (now : List ShardState) → behind ≡ 0 → i ≡ partition_of layout.partitions key → now ≡ shards_at i
+      → (maps : Maps) → HoldMaps layout maps shards copies → HoldMaps layout (with_row (partition_of layout.partitions key) behind key value maps) now copies
   shard_left behind i now first is are maps hold =
-      subst (λ (n : ℕ). HoldMaps layout (with_row (partition_of layout key) n key value maps) now copies) (sym first)
-      (subst (λ (l : List ShardState). HoldMaps layout (with_row (partition_of layout key) 0 key value maps) l copies) (sym are)
-      (subst (λ (n : ℕ). HoldMaps layout (with_row (partition_of layout key) 0 key value maps) (shards_at n) copies) (sym is) (shard_hold layout key value shards copies maps hold)))
+      subst (λ (n : ℕ). HoldMaps layout (with_row (partition_of layout.partitions key) n key value maps) now copies) (sym first)
+      (subst (λ (l : List ShardState). HoldMaps layout (with_row (partition_of layout.partitions key) 0 key value maps) l copies) (sym are)
+      (subst (λ (n : ℕ). HoldMaps layout (with_row (partition_of layout.partitions key) 0 key value maps) (shards_at n) copies) (sym is) (shard_hold layout key value shards copies maps hold)))
 
   abbrev copies_at : ℕ → List CopyState
   copies_at i = (let copy = get_or copies i (begun 0 empty) in slice_set copies i (record copy { stable = write_at copy.stable key value }))
 
-  pub copy_left_tables : (behind p i : ℕ) (now : List CopyState) → 1 ≤ behind → behind ≤ layout.copies → p ≡ partition_of layout key → i ≡ p * layout.copies + behind - 1 → now ≡ copies_at i
+  pub copy_left_tables : (behind p i : ℕ) (now : List CopyState) → 1 ≤ behind → behind ≤ layout.copies → p ≡ partition_of layout.partitions key → i ≡ p * layout.copies + behind - 1 → now ≡ copies_at i
       → AreTables layout shards copies → AreTables layout shards now
   copy_left_tables behind p i now from to is there are tables =
       subst (λ (l : List CopyState). AreTables layout shards l) (sym are)
       (subst (λ (n : ℕ). AreTables layout shards (copies_at n)) (sym (there ∙ ap (λ (q : ℕ). q * layout.copies + behind - 1) is)) (copy_tables layout key value shards copies behind from to tables))
 
-  pub copy_left : (behind p i : ℕ) (now : List CopyState) → 1 ≤ behind → behind ≤ layout.copies → p ≡ partition_of layout key → i ≡ p * layout.copies + behind - 1 → now ≡ copies_at i
-      → (maps : Maps) → HoldMaps layout maps shards copies → HoldMaps layout (with_row (partition_of layout key) behind key value maps) shards now
+  pub copy_left : (behind p i : ℕ) (now : List CopyState) → 1 ≤ behind → behind ≤ layout.copies → p ≡ partition_of layout.partitions key → i ≡ p * layout.copies + behind - 1 → now ≡ copies_at i
+      → (maps : Maps) → HoldMaps layout maps shards copies → HoldMaps layout (with_row (partition_of layout.partitions key) behind key value maps) shards now
   copy_left behind p i now from to is there are maps hold =
-      subst (λ (l : List CopyState). HoldMaps layout (with_row (partition_of layout key) behind key value maps) shards l) (sym are)
-      (subst (λ (n : ℕ). HoldMaps layout (with_row (partition_of layout key) behind key value maps) shards (copies_at n)) (sym (there ∙ ap (λ (q : ℕ). q * layout.copies + behind - 1) is)) (copy_hold layout key value shards copies behind from to maps hold))
+      subst (λ (l : List CopyState). HoldMaps layout (with_row (partition_of layout.partitions key) behind key value maps) shards l) (sym are)
+      (subst (λ (n : ℕ). HoldMaps layout (with_row (partition_of layout.partitions key) behind key value maps) shards (copies_at n)) (sym (there ∙ ap (λ (q : ℕ). q * layout.copies + behind - 1) is)) (copy_hold layout key value shards copies behind from to maps hold))
 
 -- tables without rows hold the empty map
 pub none_held : (layout : Layout) (shards : List ShardState) (copies : List CopyState) → IsRing layout → length shards ≡ layout.partitions → length copies ≡ layout.partitions * layout.copies

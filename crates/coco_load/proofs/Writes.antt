@@ -4,7 +4,7 @@ use Rattle.std.proofs.lemmas.Bool.{eqb-true, eq-eqb}
 use Rattle.std.proofs.lemmas.Bool.Decides.{nat_tests}
 use Rattle.std.proofs.lemmas.List.{map-append}
 use Rattle.std.proofs.lemmas.List.Elements.{filter-append}
-use Rattle.coco_types.specs.RowKey.{RowKey}
+use Rattle.coco_types.specs.RowKey.{RowKey, partition_of}
 use Rattle.coco_types.specs.declared.call.Write.{Write}
 use Rattle.coco_types.specs.declared.value.Value.{Value}
 use Rattle.coco_types.proofs.Keys.{is_key, one_key}
@@ -17,7 +17,6 @@ use Rattle.coco_entry.specs.declared.layout.Layout.{Layout}
 use Rattle.coco_entry.specs.declared.prepared.Row.{Row}
 use Rattle.coco_shard.specs.RowState.{ShardState}
 use Rattle.coco_store.specs.Contents.{writes_on}
-use Rattle.coco_store.specs.Placement.{partition_of}
 use Rattle.coco_store.specs.Rules.{Setting}
 use Rattle.coco_load.specs.Reading.{puts, with_row, with_rows}
 use Rattle.coco_load.specs.Tables.{HoldMap, HoldMaps, Maps}
@@ -90,24 +89,24 @@ written_more false j n m key value = refl
 module _ (layout : Layout) (key : RowKey) (value : Option Value) (m : Rows) where
   -- the tables before this one have the row
   abbrev pub written_below : ℕ → Maps
-  written_below n p j = cond (nat_eq p (partition_of layout key) && nat_lt j n) (write_at (on_partition layout.partitions p m) key value) (on_partition layout.partitions p m)
+  written_below n p j = cond (nat_eq p (partition_of layout.partitions key) && nat_lt j n) (write_at (on_partition layout.partitions p m) key value) (on_partition layout.partitions p m)
 
   pub none_written : (shards : List ShardState) (copies : List CopyState) → HoldMap layout m shards copies → HoldMaps layout (written_below 0) shards copies
-  none_written shards copies = same_maps layout (λ p j. on_partition layout.partitions p m) (written_below 0) shards copies (λ p j below to. sym (ap (λ (b : Bool). cond b (write_at (on_partition layout.partitions p m) key value) (on_partition layout.partitions p m)) (no (nat_eq p (partition_of layout key)) j)))
+  none_written shards copies = same_maps layout (λ p j. on_partition layout.partitions p m) (written_below 0) shards copies (λ p j below to. sym (ap (λ (b : Bool). cond b (write_at (on_partition layout.partitions p m) key value) (on_partition layout.partitions p m)) (no (nat_eq p (partition_of layout.partitions key)) j)))
     where
       no : (b : Bool) (j : ℕ) → b && nat_lt j 0 ≡ false
       no true j = grind (arith, nat_tests)
       no false j = refl
 
-  more : (n p j : ℕ) → with_row (partition_of layout key) n key value (written_below n) p j ≡ written_below (n + 1) p j
-  more n p j = written_more (nat_eq p (partition_of layout key)) j n (on_partition layout.partitions p m) key value
+  more : (n p j : ℕ) → with_row (partition_of layout.partitions key) n key value (written_below n) p j ≡ written_below (n + 1) p j
+  more n p j = written_more (nat_eq p (partition_of layout.partitions key)) j n (on_partition layout.partitions p m) key value
 
-  pub one_more_written : (shards : List ShardState) (copies : List CopyState) (n : ℕ) → HoldMaps layout (with_row (partition_of layout key) n key value (written_below n)) shards copies → HoldMaps layout (written_below (n + 1)) shards copies
-  one_more_written shards copies n = same_maps layout (with_row (partition_of layout key) n key value (written_below n)) (written_below (n + 1)) shards copies (λ p j below to. more n p j)
+  pub one_more_written : (shards : List ShardState) (copies : List CopyState) (n : ℕ) → HoldMaps layout (with_row (partition_of layout.partitions key) n key value (written_below n)) shards copies → HoldMaps layout (written_below (n + 1)) shards copies
+  one_more_written shards copies n = same_maps layout (with_row (partition_of layout.partitions key) n key value (written_below n)) (written_below (n + 1)) shards copies (λ p j below to. more n p j)
 
   pub all_written : (shards : List ShardState) (copies : List CopyState) (n : ℕ) → layout.copies < n → HoldMaps layout (written_below n) shards copies → HoldMap layout (write_at m key value) shards copies
   all_written shards copies n over = same_maps layout (written_below n) (λ p j. on_partition layout.partitions p (write_at m key value)) shards copies
-      (λ p j below to. ap (λ (b : Bool). cond b (write_at (on_partition layout.partitions p m) key value) (on_partition layout.partitions p m)) (yes (nat_eq p (partition_of layout key)) j to) ∙ sym (on_written layout.partitions m key value p))
+      (λ p j below to. ap (λ (b : Bool). cond b (write_at (on_partition layout.partitions p m) key value) (on_partition layout.partitions p m)) (yes (nat_eq p (partition_of layout.partitions key)) j to) ∙ sym (on_written layout.partitions m key value p))
     where
       yes : (b : Bool) (j : ℕ) → j ≤ layout.copies → b && nat_lt j n ≡ b
       yes true j to = grind (arith, nat_tests)
@@ -124,7 +123,7 @@ module _ (s : Setting) (n : ℕ) (maps : Maps) where
   no_rows p j = elim (nat_eq ((p + j) % s.entry.layout.nodes) n) as (λ b. maps p j ≡ cond b (maps p j) (maps p j)) [ true ↦ refl | false ↦ refl ]
 
   abbrev home : Row → ℕ
-  home row = partition_of s.entry.layout row.key
+  home row = partition_of s.entry.layout.partitions row.key
 
   abbrev w : ℕ
   w = s.entry.layout.nodes
@@ -133,7 +132,7 @@ module _ (s : Setting) (n : ℕ) (maps : Maps) where
   write_of r = record { key = r.key; value = r.value }
 
   abbrev is_on : ℕ → Row → Bool
-  is_on p r = nat_eq (partition_of s.entry.layout r.key) p
+  is_on p r = nat_eq (partition_of s.entry.layout.partitions r.key) p
 
   writes_more : (p : ℕ) (rows : List Row) (row : Row) → writes_on s p (rows ++ row ∷ []) ≡ writes_on s p rows ++ map write_of (cond (is_on p row) (row ∷ []) [])
   writes_more p rows row = ap (map write_of) (filter-append (is_on p) rows (row ∷ [])) ∙ map-append write_of (filter (is_on p) rows) (cond (is_on p row) (row ∷ []) [])
@@ -145,7 +144,7 @@ module _ (s : Setting) (n : ℕ) (maps : Maps) where
   writes_apart p rows row is = writes_more p rows row ∙ ap (λ (b : Bool). writes_on s p rows ++ map write_of (cond b (row ∷ []) [])) is ∙ append-nil (writes_on s p rows)
 
   -- one row more goes to the table of its partition on this node, if there is one
-  row_more : (rows : List Row) (row : Row) (i p j : ℕ) → j < s.entry.layout.nodes → i < s.entry.layout.nodes → (partition_of s.entry.layout row.key + i) % s.entry.layout.nodes ≡ n
+  row_more : (rows : List Row) (row : Row) (i p j : ℕ) → j < s.entry.layout.nodes → i < s.entry.layout.nodes → (partition_of s.entry.layout.partitions row.key + i) % s.entry.layout.nodes ≡ n
       → with_row (home row) i row.key row.value (with_rows s n rows maps) p j ≡ with_rows s n (rows ++ row ∷ []) maps p j
   row_more rows row i p j below under at =
       elim (nat_eq (home row) p) as (λ b. nat_eq (home row) p ≡ b → with_row (home row) i row.key row.value (with_rows s n rows maps) p j ≡ with_rows s n (rows ++ row ∷ []) maps p j) [
@@ -175,11 +174,11 @@ pub rows_begin : (layout : Layout) (s : Setting) (n : ℕ) (maps : Maps) (shards
 rows_begin layout s n maps shards copies = same_maps layout maps (with_rows s n [] maps) shards copies (λ p j below to. no_rows s n maps p j)
 
 pub rows_more : (layout : Layout) (s : Setting) → s.entry.layout ≡ layout → (n : ℕ) (maps : Maps) (rows : List Row) (row : Row) (i : ℕ) (shards : List ShardState) (copies : List CopyState)
-    → i < layout.nodes → (partition_of layout row.key + i) % layout.nodes ≡ n
-    → HoldMaps layout (with_row (partition_of layout row.key) i row.key row.value (with_rows s n rows maps)) shards copies
+    → i < layout.nodes → (partition_of layout.partitions row.key + i) % layout.nodes ≡ n
+    → HoldMaps layout (with_row (partition_of layout.partitions row.key) i row.key row.value (with_rows s n rows maps)) shards copies
     → HoldMaps layout (with_rows s n (rows ++ row ∷ []) maps) shards copies
-rows_more layout s is n maps rows row i shards copies = subst (λ (l : Layout). i < l.nodes → (partition_of l row.key + i) % l.nodes ≡ n
-    → HoldMaps l (with_row (partition_of l row.key) i row.key row.value (with_rows s n rows maps)) shards copies
+rows_more layout s is n maps rows row i shards copies = subst (λ (l : Layout). i < l.nodes → (partition_of l.partitions row.key + i) % l.nodes ≡ n
+    → HoldMaps l (with_row (partition_of l.partitions row.key) i row.key row.value (with_rows s n rows maps)) shards copies
     → HoldMaps l (with_rows s n (rows ++ row ∷ []) maps) shards copies) is
-    (λ under at hold. same_maps s.entry.layout (with_row (partition_of s.entry.layout row.key) i row.key row.value (with_rows s n rows maps)) (with_rows s n (rows ++ row ∷ []) maps) shards copies
+    (λ under at hold. same_maps s.entry.layout (with_row (partition_of s.entry.layout.partitions row.key) i row.key row.value (with_rows s n rows maps)) (with_rows s n (rows ++ row ∷ []) maps) shards copies
     (λ p j below to. row_more s n maps rows row i p j (let around = hold.tables.ring.around in omega (arith, to, around)) under at) hold)

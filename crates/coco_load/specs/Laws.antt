@@ -6,7 +6,7 @@ use Rattle.coco_ast.specs.Keyed.{Rows, put_over}
 use Rattle.coco_copy.specs.CopyState.{CopyState}
 use Rattle.coco_entry.specs.declared.commit.Commit.{Commit}
 use Rattle.coco_entry.specs.declared.prepared.Prepared.{Prepared}
-use Rattle.coco_kept.specs.Holding.{NeverFall}
+use Rattle.coco_kept.specs.Holding.{MayFollow, NeverFall}
 use Rattle.coco_kept.specs.Keeping.{HoldsKept, Keeping}
 use Rattle.coco_shard.specs.RowState.{ShardState}
 use Rattle.coco_store.specs.Contents.{Contents, history_of, map_in, on, rows_of}
@@ -14,7 +14,6 @@ use Rattle.coco_store.specs.Entries.{BaseEntry}
 use Rattle.coco_store.specs.Placement.{IsHeldBy}
 use Rattle.coco_store.specs.Rules.{EachBehind, IsNextBase, IsNextCommit, Setting, base_of, commit_epochs, dones_in, dones_of, floor_in, kept_dones, values_of}
 use Rattle.coco_load.specs.Epochs.{IsNextTo}
-use Rattle.coco_load.specs.Keeping.{MayFollow}
 use Rattle.coco_load.specs.Reading.{HoldRead, maps_of, maps_read, puts, with_entry, with_rows}
 use Rattle.coco_load.specs.Tables.{HoldMap, HoldMaps}
 

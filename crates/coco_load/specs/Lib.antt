@@ -1,5 +1,4 @@
 pub mod Epochs
-pub mod Keeping
 pub mod Laws
 pub mod Packing
 pub mod Reading

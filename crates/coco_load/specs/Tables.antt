@@ -1,7 +1,7 @@
 -- What the tables of a store's partitions hold: for each partition a shard, and a copy on each of the nodes that follow its primary round the ring.
-use Rattle.std.specs.Prelude.{◌≡◌, ℕ, ◌+◌, ◌-◌, ◌*◌, ◌%◌, ◌<◌, ◌≤◌, List, length, slice_index_or, IsSome}
+use Rattle.std.specs.Prelude.{◌≡◌, ℕ, ◌+◌, ◌-◌, ◌*◌, ◌<◌, ◌≤◌, List, length, slice_index_or, IsSome}
 use Rattle.std.specs.FinMap.{empty}
-use Rattle.coco_types.specs.RowKey.{RowKey}
+use Rattle.coco_types.specs.RowKey.{RowKey, partition_of}
 use Rattle.coco_ast.specs.Keyed.{Rows, on_partition, value_at}
 use Rattle.coco_copy.specs.CopyState.{CopyState, begun}
 use Rattle.coco_entry.specs.declared.layout.Layout.{Layout}
@@ -39,7 +39,7 @@ pub record IsShardOf (count p : ℕ) (m : Rows) (s : ShardState) : Type 0 where
 -- so does a copy, in which no epoch is begun
 pub record IsCopyOf (count p : ℕ) (m : Rows) (s : CopyState) : Type 0 where
   pub holds : s ≡ begun 0 m
-  pub partition : (k : RowKey) → IsSome (value_at m k) → k.row % count ≡ p
+  pub partition : (k : RowKey) → IsSome (value_at m k) → partition_of count k ≡ p
 
 -- a map for each partition and each of its tables: 0 for the shard, and j for copy j
 abbrev pub Maps : Type 0

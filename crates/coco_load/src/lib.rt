@@ -2,14 +2,12 @@
 #![tactic(auto)]
 
 pub mod epochs;
-pub mod keeping;
 pub mod laws;
 pub mod merge;
 pub mod packed;
 pub mod tables;
 
 pub use epochs::next_epoch;
-pub use keeping::{add_dones, keep_dones, make_room};
 pub use laws::{epochs_begin_with_the_base, kept_dones_follow_the_files, tables_follow_the_files};
 pub use merge::{LentMap, merged};
 pub use packed::{PackedRow, PackedRows, packed_rows};

@@ -2,10 +2,10 @@
 
 ghost use Rattle.std.specs.Prelude.{◌≡◌, ℕ, ◌+◌, ◌%◌, ◌<◌, List, length, slice_index_or, slice_set, IfOk, OnOk};
 ghost use Rattle.std.specs.FinMap.{empty};
+ghost use Rattle.coco_types.specs.RowKey.{partition_of};
 ghost use Rattle.coco_ast.specs.Keyed.{Rows, put_over, write_at};
 ghost use Rattle.coco_copy.specs.CopyState.{begun};
 ghost use Rattle.coco_shard.specs.RowState.{IsSettled, loaded};
-ghost use Rattle.coco_store.specs.Placement.{partition_of};
 ghost use Rattle.coco_store.specs.Rules.{Setting};
 ghost use Rattle.coco_load.specs.Reading.{puts, with_row, with_rows};
 ghost use Rattle.coco_load.specs.Tables.{AreTables, HoldMap, HoldMaps, IsRing, Maps, shard_at};
@@ -60,7 +60,7 @@ impl Tables {
             HoldMaps layout.now (with_rows s node rows.now maps) self.new.shards.items self.new.copies.items) }
     {
         for row in rows {
-            let behind = nodes_behind(layout, partition(layout, row.key), node);
+            let behind = nodes_behind(layout, row.key.partition(layout.partitions as usize), node);
             self.load_at(layout, behind, row.key, &row.value.get())?;
         }
         Ok(())
@@ -96,9 +96,9 @@ impl Tables {
         requires { AreTables layout.now self.old.shards.items self.old.copies.items }
         ensures tables { OnOk result (AreTables layout.now self.new.shards.items self.new.copies.items) }
         ensures ok { OnOk result ((maps : Maps) → HoldMaps layout.now maps self.old.shards.items self.old.copies.items →
-            HoldMaps layout.now (with_row (partition_of layout.now key) behind key value.now maps) self.new.shards.items self.new.copies.items) }
+            HoldMaps layout.now (with_row (partition_of layout.now.partitions key) behind key value.now maps) self.new.shards.items self.new.copies.items) }
     {
-        let partition = partition(layout, key);
+        let partition = key.partition(layout.partitions as usize);
         let copies = layout.copies as usize;
         if behind == 0 {
             load_shard(&mut self.shards, partition, key, value)
@@ -161,15 +161,6 @@ fn empty_copies(alloc: Global, count: usize) -> Result<Vec<CopyTable>, NoMemory>
         copies.push(CopyTable::new(alloc))?;
     }
     Ok(copies)
-}
-
-// The partition of a key.
-fn partition(layout: &Layout, key: Key) -> usize
-    requires { 0 < layout.now.partitions }
-    ensures is { result ≡ partition_of layout.now key }
-    ensures within { result < layout.now.partitions }
-{
-    (key.row % layout.partitions as u64) as usize
 }
 
 // How many nodes behind a partition's primary a node is, round the ring.

@@ -1,5 +1,5 @@
 -- Tables that have maps of their own.
-use Rattle.std.proofs.Common.{◌≡◌, inl, inr, ℕ, ◌+◌, ◌%◌, ◌<◌, ◌≤◌, Bool, true, false, nat_lt, List, refl, sym, subst, arith}
+use Rattle.std.proofs.Common.{◌≡◌, inl, inr, ℕ, ◌+◌, ◌<◌, ◌≤◌, Bool, true, false, nat_lt, List, refl, sym, subst, arith}
 use Rattle.std.specs.FinMap.{empty}
 use Rattle.std.proofs.lemmas.Bool.{ltb-true, ltb-false}
 use Rattle.std.proofs.lemmas.List.{get_or_past}
@@ -7,7 +7,7 @@ use Rattle.std.proofs.lemmas.Nat.{mod_below}
 use Rattle.coco_ast.specs.Keyed.{Rows}
 use Rattle.coco_copy.specs.CopyState.{CopyState}
 use Rattle.coco_entry.specs.declared.layout.Layout.{Layout}
-use Rattle.coco_epoch.specs.Shards as epochs
+use Rattle.coco_tail.specs.Shards as epochs
 use Rattle.coco_finish.specs.Finishing.{is_behind, AreWhole, Finish}
 use Rattle.coco_finish.specs.declared.tables.NodeTables.{NodeTables}
 use Rattle.coco_load.proofs.Loading.{no_shard, settled_of}

@@ -1,5 +1,5 @@
 -- Requests at the places of their ids.
-use Rattle.std.proofs.Common.{◌≡◌, ◌≢◌, ◌⊎◌, inl, inr, ℕ, zero, suc, ◌+◌, ◌<◌, ◌≤◌, Bool, true, false, eqb, List, [], ◌∷◌, ◌++◌, length, map, replicate, get_or, Option, Some, None, Result, Ok, Err, refl, sym, ap, subst, ◌∙◌, arith, append_assoc, append-nil}
+use Rattle.std.proofs.Common.{◌≡◌, ◌≢◌, ◌⊎◌, inl, inr, ℕ, zero, suc, ◌+◌, ◌<◌, ◌≤◌, Bool, true, false, eqb, List, [], ◌∷◌, ◌++◌, length, map, get_or, Option, Some, None, Result, Ok, Err, refl, sym, ap, subst, ◌∙◌, arith, append_assoc, append-nil}
 use Rattle.std.specs.Prelude.{nat_eq, IfOk}
 use Rattle.std.specs.List.{slice_get, filter_map, All, AllByRecursion, Contains, IsDistinct}
 use Rattle.std.specs.List.Sorted.{IsBinarySearchResult, IsNonDecreasingBy, IsPermutation, IsSearchInRange, IsSortedByKey}
@@ -9,7 +9,7 @@ use Rattle.std.proofs.Math.ListN.{set}
 use Rattle.std.proofs.lemmas.Bool.{cases_lt, eqb-true, eqb-false, eq-eqb}
 use Rattle.std.proofs.lemmas.Bool.Decides.{nat_tests}
 use Rattle.std.proofs.lemmas.Cmp.{nat_cmp_total, ranked}
-use Rattle.std.proofs.lemmas.List.{ext_get_or, get_or-replicate, length-map, length-replicate, length-set, map-append}
+use Rattle.std.proofs.lemmas.List.{ext_get_or, length-map, length-set, map-append}
 use Rattle.std.proofs.lemmas.List.Elements.{All-append, All-cons, All-contains, All-nil, Contains-append_left, Contains-push, Contains-push_cases}
 use Rattle.std.proofs.lemmas.List.Sorted.{All-permutation, Contains-permutation, IsPermutation-sym, searchable_from_sorted}
 use Rattle.std.proofs.lemmas.Option.{get_or_from_slice_get, same_Some, slice_get-get_or, slice_get-map, slice_get_within}
@@ -93,11 +93,6 @@ rises_sorted places sorted i j d le lt =
     searchable_from_sorted nat_cmp_total (λ (place : ℕ × ℕ). place.0) places (get_or places j d).0 sorted i j d le lt in
     grind (arith, nat_tests)
 
--- ---- places
-
-pub places_none : (ids : List ℕ) → All (λ (place : ℕ × ℕ). slice_get ids place.1 ≡ Some place.0) []
-places_none ids k d lt = absurd (omega (arith, lt))
-
 -- ---- slots
 
 -- The slots have requests of the Dones that have come, each at the place of its id, and one at the place of each id that has come.
@@ -105,24 +100,6 @@ pub record Filled (ids : List ℕ) (passed : List Done) (slots : List (Option Re
   pub count : length slots ≡ length ids
   pub only : (n : ℕ) (r : Request) → slice_get slots n ≡ Some (Some r) → Contains (map request_of passed) r × (slice_get ids n ≡ Some r.id)
   pub each : IsDistinct nat_eq ids → (d : Done) (n : ℕ) → Contains passed d → slice_get ids n ≡ Some d.id → (r : Request) × (slice_get slots n ≡ Some (Some r))
-
-abbrev pub empty_slots : ℕ → List (Option Request)
-empty_slots n = replicate n None
-
-empty_at : (count n : ℕ) (r : Request) → slice_get (empty_slots count) n ≡ Some (Some r) → ⊥
-empty_at count n r at =
-    let less : n < length (empty_slots count) = slice_get_within (empty_slots count) n (Some r) at in
-    let long : length (empty_slots count) ≡ count = length-replicate {A = Option Request} count None in
-    let lt : n < count = omega (arith, less, long) in
-    let both : ◌≡◌ {A = Option Request} None (Some r) = sym (get_or-replicate {A = Option Request} count n None None lt) ∙ get_or_from_slice_get (empty_slots count) n (Some r) None at in
-    cc
-
-pub filled_none : (ids : List ℕ) → Filled ids [] (empty_slots (length ids))
-filled_none ids = record {
-  count = length-replicate {A = Option Request} (length ids) None;
-  only = λ n r at. absurd (empty_at (length ids) n r at);
-  each = λ distinct d n among at. absurd (omega (arith, among.1));
-}
 
 module _ (ids : List ℕ) (places : List (ℕ × ℕ)) (passed : List Done) (slots : List (Option Request)) (d : Done) (slots_new : List (Option Request))
     (are : ArePlaces ids places) (was : Filled ids passed slots) where

@@ -1,7 +1,7 @@
 -- What tables that have maps of their own come to.
 use Rattle.std.specs.Prelude.{◌≡◌, ℕ, ◌<◌, false, List}
 use Rattle.coco_ast.specs.Keyed.{Rows, on_partition}
-use Rattle.coco_epoch.specs.Shards as epochs
+use Rattle.coco_tail.specs.Shards as epochs
 use Rattle.coco_finish.specs.Finishing.{is_behind, AreWhole, Finish, HaveMap}
 use Rattle.coco_finish.specs.declared.tables.NodeTables.{NodeTables}
 use Rattle.coco_load.specs.Tables.{Maps}

@@ -2,9 +2,8 @@
 use Rattle.std.proofs.Common.{◌≡◌, inl, inr, ℕ, ◌<◌, ◌≤◌, true, false, List, [], ◌∷◌, refl, sym, ap, subst, ◌∙◌, arith}
 use Rattle.std.specs.List.{Contains}
 use Rattle.std.proofs.lemmas.List.Elements.{Contains-append_cases}
-use Rattle.coco_letters.proofs.TellingLemmas.{finished_weaker, votes_weaker}
 use Rattle.coco_letters.specs.Saying.{is_of_commit, posted}
-use Rattle.coco_letters.specs.Telling.{Adds, IsOfChief, IsOfFinish, IsOfNode, IsOfVote, FinishedBelow, VotesBelow, IsOfSettling}
+use Rattle.coco_letters.specs.Telling.{Adds, IsOfChief, IsOfFinish, IsOfNode, IsOfSettling}
 use Rattle.coco_msg.specs.Bytes.{bytes_of}
 use Rattle.coco_msg.specs.declared.message.Message.{Message}
 use Rattle.coco_msg.specs.declared.message.Message.TheVariants.{Ship, Total, Missing, All, Prepare, Vote, Commit, Finished, Abort, Query, Tell}
@@ -68,11 +67,6 @@ chief_letter p is = (is.message, is.say.commit, bytes_at p COORDINATOR p.to is.m
 node_letter : (a : Message) → is_of_commit a ≡ true → (p : Posted) → IsOfNode a p → IsCommitLetter p
 node_letter a commit p is = (a, commit, bytes_at p is.node COORDINATOR a is.is)
 
-pub vote_letter : (epoch : ℕ) (p : Posted) → IsOfVote epoch p → IsCommitLetter p
-vote_letter epoch p (inl is) = chief_letter p is
-vote_letter epoch p (inr (inl is)) = node_letter (Vote epoch true) refl p is
-vote_letter epoch p (inr (inr is)) = node_letter (Query epoch) refl p is
-
 pub finish_letter : (epoch : ℕ) (p : Posted) → IsOfFinish epoch p → IsCommitLetter p
 finish_letter epoch p (inl is) = chief_letter p is
 finish_letter epoch p (inr is) = node_letter (Finished epoch) refl p is
@@ -93,9 +87,6 @@ module _ (Such : Posted → Type 0) (commit : (p : Posted) → Such p → IsComm
 pub ships_below_chief : (next : ℕ) (sent sent_new : List Posted) → Adds IsOfChief sent sent_new → ShipsBelow next sent → ShipsBelow next sent_new
 ships_below_chief = ships_below_with IsOfChief chief_letter
 
-pub ships_below_vote : (epoch next : ℕ) (sent sent_new : List Posted) → Adds (IsOfVote epoch) sent sent_new → ShipsBelow next sent → ShipsBelow next sent_new
-ships_below_vote epoch = ships_below_with (IsOfVote epoch) (vote_letter epoch)
-
 pub ships_below_finish : (epoch next : ℕ) (sent sent_new : List Posted) → Adds (IsOfFinish epoch) sent sent_new → ShipsBelow next sent → ShipsBelow next sent_new
 ships_below_finish epoch = ships_below_with (IsOfFinish epoch) (finish_letter epoch)
 
@@ -103,9 +94,6 @@ pub ships_below_settling : (epoch next : ℕ) (sent sent_new : List Posted) → 
 ships_below_settling epoch = ships_below_with (IsOfSettling epoch) (settling_letter epoch)
 
 -- ---- later epochs
-
-pub ships_below_later : (next later : ℕ) (sent : List Posted) → next ≤ later → ShipsBelow next sent → ShipsBelow later sent
-ships_below_later next later sent le below e from = below e (omega (arith, le, from))
 
 -- nothing was sent
 pub none_below : (next : ℕ) → LettersBelow next []

@@ -14,7 +14,7 @@ use Rattle.coco_chief.specs.Chief.{Chief, has, last_of}
 use Rattle.coco_chief.specs.Shown.{chief_of}
 use Rattle.coco_chief.specs.Table.{restarted as chief_restarted}
 use Rattle.coco_chief.specs.declared.machine.ChiefCore.{ChiefCore}
-use Rattle.coco_commits.specs.EpochEntries.{HeldBy}
+use Rattle.coco_append.specs.EpochEntries.{HeldBy}
 use Rattle.coco_copy.specs.CopyState.{CopyState}
 use Rattle.coco_entry.specs.declared.layout.Layout.{Layout}
 use Rattle.coco_entry.specs.declared.layout.LayoutEntry.{LayoutEntry}

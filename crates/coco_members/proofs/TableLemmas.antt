@@ -4,7 +4,7 @@ use Rattle.coco_ast.specs.Keyed.{Rows, on_partition}
 use Rattle.coco_chief.specs.Chief.{Chief}
 use Rattle.coco_copy.specs.CopyState.{CopyState}
 use Rattle.coco_entry.specs.declared.layout.Layout.{Layout}
-use Rattle.coco_epoch.specs.Shards.{HoldMap}
+use Rattle.coco_tail.specs.Shards.{HoldMap}
 use Rattle.coco_finish.specs.Exchanges.{AreInStep, AreUp, HaveAllFinished}
 use Rattle.coco_finish.specs.Finishing.{is_behind, AreWhole, Finish, HaveMap}
 use Rattle.coco_finish.specs.declared.tables.NodeTables.{NodeTables}
@@ -32,9 +32,6 @@ primaries_stand layout m behind shards copies stand = record {
     others = λ p j within from to here. absurd (omega (arith, from, to));
   };
 }
-
-pub shards_have_map : (m : Rows) (t : NodeTables) → HaveMap m t → ShardsHaveMap m t
-shards_have_map m t = primaries_stand t.layout m (is_behind t.behind.items) t.shards.items t.copies.items
 
 -- the shards have their map still where nodes finish an epoch
 module _ (epoch : ℕ) (cores cores_new : List Node) (old new : NodeTables) (finish : Finish epoch cores cores_new old new) (whole : AreWhole new) (m : Rows) (has : ShardsHaveMap m old) where

@@ -6,7 +6,7 @@ use Rattle.coco_append.specs.Gaining.{IsChiefLog}
 use Rattle.coco_chief.specs.Chief.{has}
 use Rattle.coco_chief.specs.Shown.{chief_of}
 use Rattle.coco_chief.specs.Table.{restarted as chief_restarted}
-use Rattle.coco_commits.specs.EpochEntries.{HeldBy}
+use Rattle.coco_append.specs.EpochEntries.{HeldBy}
 use Rattle.coco_entry.specs.declared.layout.Layout.{Layout}
 use Rattle.coco_letters.specs.Worlds.{IsReached, IsWorld}
 use Rattle.coco_letters.specs.declared.voter.Voter.{Voter}

@@ -1,7 +1,7 @@
 //! The nodes of a store that was opened: their cores, their logs and what they hold.
 
 ghost use Rattle.std.specs.Prelude.{◌≡◌, ◌∷◌, ◌++◌, [], ◌<◌, ◌≤◌, ◌↔◌, None, length, Bool, IfOk, IsTrue, OnOk};
-ghost use Rattle.coco_commits.specs.EpochEntries.{HeldBy};
+ghost use Rattle.coco_append.specs.EpochEntries.{HeldBy};
 ghost use Rattle.coco_letters.specs.declared.voter.Voter.{Voter as InHand};
 ghost use Rattle.coco_node.specs.Node.{restarted};
 ghost use Rattle.coco_store.specs.Placement.{IsHeldBy};

@@ -2,6 +2,7 @@
 use Rattle.std.proofs.Common.{◌≡◌, ◌⊎◌, inl, inr, ℕ, ◌≤◌, Bool, true, false, List, [], ◌∷◌, ◌++◌, map, None, Some, refl, sym, ap, ◌∙◌, subst}
 use Rattle.std.specs.List.{AllByRecursion}
 use Rattle.std.proofs.lemmas.List.{map-append}
+use Rattle.coco_types.specs.RowKey.{partition_of}
 use Rattle.coco_types.specs.declared.call.AttemptId.{AttemptId}
 use Rattle.coco_types.specs.declared.call.Call.{Call}
 use Rattle.coco_types.specs.declared.call.Reply.{Reply}
@@ -15,7 +16,7 @@ use Rattle.coco_shard.specs.declared.ops.Ask.{Ask}
 use Rattle.coco_shard.specs.declared.ops.Op.{Op}
 use Rattle.coco_shard.specs.declared.ops.Answer.{Answer}
 use Rattle.coco_occ.specs.Course.{IsFresh, HasEnded, StandsIn, due_of, exchange, outcome_by}
-use Rattle.coco_occ.specs.Exchange.{Exchange, step_of, shard_of, MayAnswer}
+use Rattle.coco_occ.specs.Exchange.{Exchange, step_of, MayAnswer}
 use Rattle.coco_occ.specs.Keeping.{IsBehind, GoesIn, Goes, writes_in, rests_in, standing_of, IsAttempt}
 use Rattle.coco_occ.specs.Script.{IsBegun}
 use Rattle.coco_occ.specs.Steps.{AreBy}
@@ -53,7 +54,7 @@ attempt_sound e script by partitions snapshot c reply op false a =
 -- ---- what its standing says
 
 pub ready_free : (waits : Bool) (by : AttemptId) (partitions : ℕ) (op : Op) (c : Course) (reply : Reply) (s : eval.Standing) → standing_of waits by partitions op c reply s ≡ Ready → waits ≡ false
-ready_free true by partitions op c reply s is = absurd (let e : Waits (shard_of partitions (key_of op)) (record { by = by; op = op }) ≡ Ready = is in cc)
+ready_free true by partitions op c reply s is = absurd (let e : Waits (partition_of partitions (key_of op)) (record { by = by; op = op }) ≡ Ready = is in cc)
 ready_free false by partitions op c reply s is = refl
 
 rests_any : (at : Stage) (c : Course) (reply : Reply) (ws vs : List Write) → rests_in at c reply ws ≡ Ready → rests_in at c reply vs ≡ Ready
@@ -65,11 +66,8 @@ rests_any stage.Releasing c reply ws vs is = refl
 rests_any stage.Ended c reply ws vs is = absurd (let e : Ended (outcome_by c.conflict c.time reply) ws ≡ Ready = is in cc)
 
 pub ready_rests : (waits : Bool) (by : AttemptId) (partitions : ℕ) (op : Op) (c : Course) (reply : Reply) (s : eval.Standing) (ws : List Write) → standing_of waits by partitions op c reply s ≡ Ready → rests_in c.stage c reply ws ≡ Ready
-ready_rests true by partitions op c reply s ws is = absurd (let e : Waits (shard_of partitions (key_of op)) (record { by = by; op = op }) ≡ Ready = is in cc)
+ready_rests true by partitions op c reply s ws is = absurd (let e : Waits (partition_of partitions (key_of op)) (record { by = by; op = op }) ≡ Ready = is in cc)
 ready_rests false by partitions op c reply s ws is = rests_any c.stage c reply (writes_in s) ws is
-
-pub any_rests : (c : Course) (reply : Reply) (ws vs : List Write) → rests_in c.stage c reply ws ≡ Ready → rests_in c.stage c reply vs ≡ Ready
-any_rests c reply ws vs is = rests_any c.stage c reply ws vs is
 
 rests_waiting : (at : Stage) (c : Course) (reply : Reply) (ws : List Write) (shard : ℕ) (ask : Ask) → rests_in at c reply ws ≡ Waits shard ask → ⊥
 rests_waiting stage.Reading c reply ws shard ask is = let e : Ready ≡ Waits shard ask = is in cc
@@ -81,9 +79,9 @@ rests_waiting stage.Ended c reply ws shard ask is = let e : Ended (outcome_by c.
 
 -- an attempt that waits has asked what its fields say
 pub waits_for : (waits : Bool) (by : AttemptId) (partitions : ℕ) (op : Op) (c : Course) (reply : Reply) (s : eval.Standing) (shard : ℕ) (ask : Ask) → standing_of waits by partitions op c reply s ≡ Waits shard ask →
-    (waits ≡ true) × (shard_of partitions (key_of op) ≡ shard) × (record { by = by; op = op } ≡ ask)
+    (waits ≡ true) × (partition_of partitions (key_of op) ≡ shard) × (record { by = by; op = op } ≡ ask)
 waits_for true by partitions op c reply s shard ask is =
-    let e : Waits (shard_of partitions (key_of op)) (record { by = by; op = op }) ≡ Waits shard ask = is in (refl, (cc), (cc))
+    let e : Waits (partition_of partitions (key_of op)) (record { by = by; op = op }) ≡ Waits shard ask = is in (refl, (cc), (cc))
 waits_for false by partitions op c reply s shard ask is = absurd (rests_waiting c.stage c reply (writes_in s) shard ask is)
 
 -- ---- its calls

@@ -1,5 +1,5 @@
 -- How an attempt goes on behind its reads: what it asks next, and what each answer leads to.
-use Rattle.std.proofs.Common.{◌≡◌, ◌⊎◌, inl, inr, ℕ, zero, suc, ◌+◌, ◌-◌, ◌^◌, ◌<◌, ◌≤◌, max, min, Bool, true, false, cond, nat_eq, nat_le, List, [], ◌∷◌, ◌++◌, length, map, filter, Option, None, Some, refl, sym, ap, ◌∙◌, subst, arith, add-one, eq-eqb, Bor}
+use Rattle.std.proofs.Common.{◌≡◌, ◌⊎◌, inl, inr, ℕ, zero, suc, ◌+◌, ◌-◌, ◌^◌, ◌<◌, ◌≤◌, max, min, Bool, true, false, cond, nat_le, List, [], ◌∷◌, ◌++◌, length, map, filter, Option, None, Some, refl, sym, ap, ◌∙◌, subst, arith, add-one, eq-eqb, Bor}
 use Rattle.std.specs.List.{filter_map, find, slice_get, HoldsAt}
 use Rattle.std.specs.Option.{option_map, option_flatten, option_copied, MatchOption}
 use Rattle.std.proofs.lemmas.List.{map-append, append_assoc, append-nil, length-append, length-map}
@@ -17,14 +17,14 @@ use Rattle.coco_ast.proofs.Lists.{all_append}
 use Rattle.coco_shard.specs.Law.{greatest}
 use Rattle.coco_shard.specs.Table.{is_mark_of, unless_marked}
 use Rattle.coco_shard.specs.declared.ops.Op.{Op}
-use Rattle.coco_shard.specs.declared.ops.Op.TheVariants.{Lock, Extend, Install, Release}
+use Rattle.coco_shard.specs.declared.ops.Op.TheVariants.{Lock, Extend, Release}
 use Rattle.coco_shard.specs.declared.ops.Answer.{Answer}
 use Rattle.coco_shard.specs.declared.ops.Answer.TheVariants.{Locked, Marked, Changed, Extended}
 use Rattle.coco_occ.specs.Exchange.{Exchange, Found, ops_of, read, read_of, changed_since, conflict_of, shown_by, locked_by, MayAnswer}
 use Rattle.coco_occ.specs.Script.{AskedTo, time_of, needs_extension, extension, ends_of}
 use Rattle.coco_occ.specs.Course.{seen_of, wts_in, needs_seen, lock, install, release, keys, exchange, entered, outcome_by, HasLocked, IsLocking, IsExtending, IsEnding, IsInstalling, IsReleasing, Stands, StandsIn}
 use Rattle.coco_occ.specs.declared.course.Course.{Course}
-use Rattle.coco_occ.specs.declared.course.Seen.{Seen}
+use Rattle.coco_occ.specs.declared.course.SeenKey.{SeenKey}
 use Rattle.coco_occ.specs.declared.course.Stage.{Stage}
 use Rattle.coco_occ.specs.declared.course.Stage.TheVariants as stage
 use Rattle.coco_occ.specs.declared.outcome.Why.{Why}
@@ -74,7 +74,7 @@ moved done x more = sym (append_assoc done (x ∷ []) more)
 length_more : {X : Type 0} (done : List X) (x : X) → length (done ++ x ∷ []) ≡ length done + 1
 length_more done x = length-append done (x ∷ [])
 
-first_mapped : (left : List Found) (x : Seen) → first_of (map seen_of left) ≡ Some x → (f : Found) × (more : List Found) × (left ≡ f ∷ more) × (seen_of f ≡ x)
+first_mapped : (left : List Found) (x : SeenKey) → first_of (map seen_of left) ≡ Some x → (f : Found) × (more : List Found) × (left ≡ f ∷ more) × (seen_of f ≡ x)
 unfolding first_of
 first_mapped [] x is = absurd (let e : None ≡ Some x = is in cc)
 first_mapped (f ∷ left) x is = (f, left, refl, (let e : Some (seen_of f) ≡ Some x = is in cc))
@@ -96,23 +96,6 @@ greatest-push n t [] = omega arith
 greatest-push n t (u ∷ ts) = let h : greatest n (ts ++ t ∷ []) ≡ max (greatest n ts) t = greatest-push n t ts in ap (max u) h ∙ (omega arith)
 
 -- ---- what is asked next
-
-pub lock_due : (r : Run) (m : Rows) (asked : List Exchange) (c : Course) (w : Write) → IsLocking r m asked c None → slice_get r.writes c.place ≡ Some w → IsLocking r m asked c (Some (Lock w.key))
-lock_due r m asked c w s get =
-    let next = some_left s.left w (get_at r.writes s.done s.left c.place (Some w) s.split s.place get) in
-    record {
-      reads = s.reads;
-      locks = s.locks;
-      done = s.done;
-      left = s.left;
-      parts = s.parts;
-      has_read = s.has_read;
-      has_locked = s.has_locked;
-      split = s.split;
-      place = s.place;
-      no_time = s.no_time;
-      is_due = (map lock next.0, ap (map lock) next.1);
-    }
 
 all_locked : (r : Run) (m : Rows) (asked : List Exchange) (c : Course) (s : IsLocking r m asked c None) → slice_get r.writes c.place ≡ None → r.writes ≡ s.done
 all_locked r m asked c s get = s.split ∙ ap (λ l. s.done ++ l) (none_left s.left (get_at r.writes s.done s.left c.place None s.split s.place get)) ∙ append-nil s.done
@@ -220,7 +203,7 @@ extension_due r m asked c k wts rts t s get timed needed =
         next.1,
         next.2,
         ap (λ n. needs_extension n r.writes f) time ∙ ap (needs_seen t r.writes) next.3 ∙ needed,
-        sym (ap (λ n. extension n f) time ∙ ap (λ (x : Seen). Extend x.key x.wts t) next.3),
+        sym (ap (λ n. extension n f) time ∙ ap (λ (x : SeenKey). Extend x.key x.wts t) next.3),
       );
     }
 
@@ -296,69 +279,6 @@ all_extended r m asked c s end =
 
 -- ---- installs and releases
 
-committed_by : (c : Course) (time : ℕ) (reply : Reply) → c.conflict ≡ None → c.time ≡ Some time → outcome_by c.conflict c.time reply ≡ Committed time reply
-committed_by c time reply conflict timed = ap (λ w. outcome_by w c.time reply) conflict ∙ ap (λ t. outcome_by None t reply) timed
-
-pub install_due : (r : Run) (m : Rows) (asked : List Exchange) (c : Course) (t : ℕ) (w : Write) → IsInstalling r m asked c None → c.time ≡ Some t → slice_get r.writes c.place ≡ Some w → IsInstalling r m asked c (Some (Install w.key t w.value))
-install_due r m asked c t w s timed get =
-    let next = some_left s.left w (get_at r.writes s.done s.left c.place (Some w) s.split s.place get) in
-    let time : s.time ≡ t = (let e : Some s.time ≡ Some t = sym s.time_is ∙ timed in cc) in
-    record {
-      time = s.time;
-      done = s.done;
-      left = s.left;
-      no_conflict = s.no_conflict;
-      time_is = s.time_is;
-      few = s.few;
-      split = s.split;
-      place = s.place;
-      is_due = (map (install s.time) next.0, ap (map (install s.time)) next.1 ∙ ap (λ n. install n w ∷ map (install s.time) next.0) time);
-      ending = s.ending;
-    }
-
-pub install_end : (r : Run) (m : Rows) (asked : List Exchange) (c : Course) → IsInstalling r m asked c None → slice_get r.writes c.place ≡ None → IsEnding r m asked (outcome_by c.conflict c.time r.reply) []
-install_end r m asked c s get =
-    subst (λ o. IsEnding r m asked o []) (sym (committed_by c s.time r.reply s.no_conflict s.time_is))
-    (subst (λ (l : List Write). IsEnding r m asked (Committed s.time r.reply) (map (install s.time) l)) (none_left s.left (get_at r.writes s.done s.left c.place None s.split s.place get)) s.ending)
-
--- where a place is among those locked, a write stands there
-release_next : (done left unlocked : List Write) (place : ℕ) → place ≡ length done → place < length (done ++ left) → (w : Write) × (more : List Write) × (left ≡ w ∷ more) × (slice_get (done ++ left ++ unlocked) place ≡ Some w)
-release_next done [] unlocked place is below = absurd (omega (arith, length-append done [], below, is))
-release_next done (w ∷ more) unlocked place is below =
-    (w, more, refl, ap (slice_get (done ++ w ∷ more ++ unlocked)) is ∙ ap (λ l. slice_get l (length done)) (append_assoc done (w ∷ more) unlocked) ∙ get_behind done (w ∷ more ++ unlocked) ∙ first_cons w (more ++ unlocked))
-
-release_place : (r : Run) (m : Rows) (asked : List Exchange) (c : Course) (s : IsReleasing r m asked c None) → c.place < c.locked →
-    (w : Write) × (more : List Write) × (s.left ≡ w ∷ more) × (slice_get r.writes c.place ≡ Some w)
-release_place r m asked c s below =
-    let next = release_next s.done s.left s.unlocked c.place s.place (subst (λ (n : ℕ). c.place < n) s.locked below) in
-    (next.0, next.1, next.2, ap (λ l. slice_get l c.place) s.split ∙ next.3)
-
-pub release_due : (r : Run) (m : Rows) (asked : List Exchange) (c : Course) (w : Write) → IsReleasing r m asked c None → c.place < c.locked → slice_get r.writes c.place ≡ Some w → IsReleasing r m asked c (Some (Release w.key))
-release_due r m asked c w s below get =
-    let next = release_place r m asked c s below in
-    let same : next.0 ≡ w = (let e : Some next.0 ≡ Some w = sym next.3 ∙ get in cc) in
-    record {
-      done = s.done;
-      left = s.left;
-      unlocked = s.unlocked;
-      few = s.few;
-      split = s.split;
-      place = s.place;
-      locked = s.locked;
-      is_due = (map release next.1, ap (map release) next.2 ∙ ap (λ (x : Write). Release x.key ∷ map release next.1) same);
-      ending = s.ending;
-    }
-
-pub release_there : (r : Run) (m : Rows) (asked : List Exchange) (c : Course) → IsReleasing r m asked c None → c.place < c.locked → slice_get r.writes c.place ≡ None → ⊥
-release_there r m asked c s below get =
-    let next = release_place r m asked c s below in
-    let e : Some next.0 ≡ None = sym next.3 ∙ get in cc
-
-pub release_end : (r : Run) (m : Rows) (asked : List Exchange) (c : Course) → IsReleasing r m asked c None → c.locked ≤ c.place → IsEnding r m asked (outcome_by c.conflict c.time r.reply) []
-release_end r m asked c s above =
-    let none : length s.left ≡ 0 = omega (arith, length-append s.done s.left, s.locked, s.place, above) in
-    subst (λ (l : List Write). IsEnding r m asked (outcome_by c.conflict c.time r.reply) (map release l)) (no_more s.left none) s.ending
-
 -- ---- answers to locks
 
 -- the write whose lock is due
@@ -369,7 +289,7 @@ first_lock (w ∷ rest) key more is = (w, rest, refl, (let e : Lock w.key ∷ ma
 wts-read : (reads : List Found) (key : RowKey) → wts_in (map seen_of reads) key ≡ option_map (λ f. f.wts) (read_of reads key)
 wts-read [] key = refl
 wts-read (f ∷ reads) key =
-    elim (is_key key f.key) as (λ b. option_map (λ (s : Seen). s.wts) (cond b (Some (seen_of f)) (find (λ (s : Seen). is_key key s.key) (map seen_of reads))) ≡ option_map (λ (g : Found). g.wts) (cond b (Some f) (read_of reads key))) [
+    elim (is_key key f.key) as (λ b. option_map (λ (s : SeenKey). s.wts) (cond b (Some (seen_of f)) (find (λ (s : SeenKey). is_key key s.key) (map seen_of reads))) ≡ option_map (λ (g : Found). g.wts) (cond b (Some f) (read_of reads key))) [
       | true ↦ refl
       | false ↦ wts-read reads key
     ]
@@ -713,22 +633,6 @@ lock_answers by key a may = from may.0.mark may.1 where
         | true ↦ λ h. inl (may.0.wts, may.0.rts, h)
         | false ↦ λ h. inr (holder, h)
       ] is
-
-pub extension_answers : (by : AttemptId) (key : RowKey) (wts time : ℕ) (a : Answer) → MayAnswer (record { by = by; op = Extend key wts time }) a →
-    (a ≡ Extended) ⊎ (((holder : AttemptId) × (a ≡ Marked holder)) ⊎ ((found : ℕ) × (a ≡ Changed found)))
-extension_answers by key wts time a may =
-    elim (nat_eq may.0.wts wts) as (λ b. a ≡ cond b (unless_marked may.0.mark by Extended) (Changed may.0.wts) → (a ≡ Extended) ⊎ (((holder : AttemptId) × (a ≡ Marked holder)) ⊎ ((found : ℕ) × (a ≡ Changed found)))) [
-      | true ↦ λ h. from may.0.mark h
-      | false ↦ λ h. inr (inr (may.0.wts, h))
-    ] may.1
-  where
-    from : (mark : Option AttemptId) → a ≡ unless_marked mark by Extended → (a ≡ Extended) ⊎ (((holder : AttemptId) × (a ≡ Marked holder)) ⊎ ((found : ℕ) × (a ≡ Changed found)))
-    from None is = inl is
-    from (Some holder) is =
-        elim (is_mark_of by (Some holder)) as (λ b. a ≡ cond b Extended (Marked holder) → (a ≡ Extended) ⊎ (((holder : AttemptId) × (a ≡ Marked holder)) ⊎ ((found : ℕ) × (a ≡ Changed found)))) [
-          | true ↦ λ h. inl h
-          | false ↦ λ h. inr (inl (holder, h))
-        ] is
 
 -- ---- what the code leaves
 

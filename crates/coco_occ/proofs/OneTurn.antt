@@ -3,6 +3,7 @@ use Rattle.std.proofs.Common.{◌≡◌, ℕ, ◌<◌, ◌≤◌, inr, true, fal
 use Rattle.std.specs.List.{AllByRecursion, slice_get}
 use Rattle.std.proofs.lemmas.List.{append-nil}
 use Rattle.std.proofs.lemmas.Option.{slice_get-get_or}
+use Rattle.coco_types.specs.RowKey.{partition_of}
 use Rattle.coco_types.specs.declared.call.AttemptId.{AttemptId}
 use Rattle.coco_types.specs.declared.call.Write.{Write}
 use Rattle.coco_ast.specs.Tree.{Procedures}
@@ -11,7 +12,7 @@ use Rattle.coco_shard.specs.RowState.{ShardState}
 use Rattle.coco_shard.specs.Table.{after_ask, answer_in, key_of}
 use Rattle.coco_shard.specs.declared.ops.Ask.{Ask}
 use Rattle.coco_shard.specs.declared.ops.Answer.{Answer}
-use Rattle.coco_occ.specs.Exchange.{Exchange, shard_of, step_of}
+use Rattle.coco_occ.specs.Exchange.{Exchange, step_of}
 use Rattle.coco_occ.specs.Interleaving.{Act, Steps, Ends, Rests, end_move, move_in, standing_behind, standing_after, Plays, IsBrought, MayBeAsked, TakesTurn, WaitsForNone, MayPlay}
 use Rattle.coco_occ.specs.Trying.{Standing, Ready, Waits, Ended, Trying, IsSound, IsSoundAt, IsMoveOf, answered, has_ended}
 use Rattle.coco_occ.specs.declared.outcome.Move.{Move}
@@ -23,14 +24,14 @@ use Rattle.coco_occ.specs.declared.script.Step.{Step}
 -- ---- which shard is asked
 
 abbrev IsSentTo : ℕ → Step → Type 0
-IsSentTo partitions s = s.shard ≡ shard_of partitions (key_of s.ask.op)
+IsSentTo partitions s = s.shard ≡ partition_of partitions (key_of s.ask.op)
 
 all_sent : (by : AttemptId) (partitions : ℕ) (asked : List Exchange) → AllByRecursion (IsSentTo partitions) (map (step_of by partitions) asked)
 all_sent by partitions [] = tt
 all_sent by partitions (e ∷ asked) = (refl, all_sent by partitions asked)
 
 -- an attempt asks the shard of its key's partition
-pub asks_partition : (t : Trying) (shard : ℕ) (ask : Ask) → IsSound t → t.standing ≡ Waits shard ask → shard ≡ shard_of t.partitions (key_of ask.op)
+pub asks_partition : (t : Trying) (shard : ℕ) (ask : Ask) → IsSound t → t.standing ≡ Waits shard ask → shard ≡ partition_of t.partitions (key_of ask.op)
 asks_partition t shard ask sound waits =
     let s : IsSoundAt t (Waits shard ask) = subst (IsSoundAt t) waits sound in
     let begun = s.2 in
@@ -40,10 +41,10 @@ asks_partition t shard ask sound waits =
 
 pub asks_below : (procs : Procedures) (count : ℕ) (a b : Trying) (shard : ℕ) (ask : Ask) → MayPlay procs count a → b ≡ record a { standing = b.standing } → IsSound b → b.standing ≡ Waits shard ask → shard < count
 asks_below procs count a b shard ask may others sound waits =
-    let is : shard ≡ shard_of b.partitions (key_of ask.op) = asks_partition b shard ask sound waits in
+    let is : shard ≡ partition_of b.partitions (key_of ask.op) = asks_partition b shard ask sound waits in
     let same : b.partitions ≡ count = ap (λ (t : Trying). t.partitions) others ∙ may.partitions_are in
     let some : 1 ≤ count = may.some_shards in
-    let at : shard ≡ shard_of count (key_of ask.op) = is ∙ ap (λ (n : ℕ). shard_of n (key_of ask.op)) same in
+    let at : shard ≡ partition_of count (key_of ask.op) = is ∙ ap (λ (n : ℕ). partition_of n (key_of ask.op)) same in
     omega arith
 
 -- what lends the shard and what lends the ask say the same
@@ -89,16 +90,6 @@ end_turn shards a b outcome writes ready others sound ends = record {
     turns = (ap has_ended (sym ready), tt);
     left = others ∙ ap (λ (s : Standing). record a { standing = s }) ends ∙ ap (λ (x : List Step). record a { script = x; standing = Ended outcome writes }) (sym (append-nil a.script));
     sound = λ _. sound;
-  };
-  is_served = refl;
-}
-
-pub rest_turn : (shards : List ShardState) (a : Trying) → has_ended a.standing ≡ true → TakesTurn shards shards a a Rests
-rest_turn shards a ended = record {
-  plays = record {
-    turns = (sym ended, tt);
-    left = ap (λ (x : List Step). record a { script = x }) (sym (append-nil a.script));
-    sound = λ s. s;
   };
   is_served = refl;
 }

@@ -28,9 +28,6 @@ rests_ended stage.Installing c reply ws = refl
 rests_ended stage.Releasing c reply ws = refl
 rests_ended stage.Ended c reply ws = refl
 
-pub waits_not : (by : AttemptId) (partitions : ℕ) (op : Op) (c : Course) (reply : Reply) (s : eval.Standing) (waits : Bool) → waits ≡ true → has_ended (standing_of waits by partitions op c reply s) ≡ false
-waits_not by partitions op c reply s waits is = ap (λ (b : Bool). has_ended (standing_of b by partitions op c reply s)) is
-
 pub rests_told : (by : AttemptId) (partitions : ℕ) (op : Op) (c : Course) (reply : Reply) (s : eval.Standing) (waits : Bool) → waits ≡ false → has_ended (standing_of waits by partitions op c reply s) ≡ is_ended c.stage
 rests_told by partitions op c reply s waits is = ap (λ (b : Bool). has_ended (standing_of b by partitions op c reply s)) is ∙ rests_ended c.stage c reply (writes_in s)
 
@@ -91,19 +88,6 @@ forgets e script by partitions snapshot c d reply op waits a free ended f =
       snapshot_is = a.snapshot_is;
       goes = subst (λ (b : Bool). Goes snapshot e a.asked d reply (due_of b op)) (sym free) (goes_at snapshot e a.asked d reply None stage.Ended (same_stage c d f ∙ ended) behind);
     }
-
--- and it stands where it stood
-pub forgets_standing : (by : AttemptId) (partitions : ℕ) (op : Op) (c d : Course) (reply : Reply) (s : eval.Standing) (waits : Bool) → Forgets c d → standing_of waits by partitions op d reply s ≡ standing_of waits by partitions op c reply s
-forgets_standing by partitions op c d reply s true f = refl
-forgets_standing by partitions op c d reply s false f = ap (λ (x : Course). rests_in x.stage x reply (writes_in s)) f ∙ rests_kept c.stage
-  where
-    rests_kept : (at : Stage) → rests_in at (record c { seen = d.seen; expected = d.expected }) reply (writes_in s) ≡ rests_in at c reply (writes_in s)
-    rests_kept stage.Reading = refl
-    rests_kept stage.Locking = refl
-    rests_kept stage.Extending = refl
-    rests_kept stage.Installing = refl
-    rests_kept stage.Releasing = refl
-    rests_kept stage.Ended = refl
 
 -- its run has ended too
 pub run_ended : (e : eval.Evaluation) (script : List Step) (by : AttemptId) (partitions : ℕ) (snapshot : Bool) (c : Course) (reply : Reply) (op : Op) (waits : Bool) → IsAttempt e script by partitions snapshot c reply op waits → waits ≡ false → c.stage ≡ stage.Ended →

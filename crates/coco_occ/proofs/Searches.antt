@@ -15,7 +15,7 @@ use Rattle.coco_types.proofs.Keys.{keys_total, keys_exact, key_itself, key_swap}
 use Rattle.coco_ast.specs.Meaning.{is_key}
 use Rattle.coco_ast.proofs.Writing.{Ascend, IsBelowAll}
 use Rattle.coco_occ.specs.Course.{wts_in, keys, Rise}
-use Rattle.coco_occ.specs.declared.course.Seen.{Seen}
+use Rattle.coco_occ.specs.declared.course.SeenKey.{SeenKey}
 
 below_keys : (k : RowKey) (ws : List Write) → IsBelowAll k ws → AllByRecursion (λ q. key_cmp k q ≡ Less) (keys ws)
 below_keys k [] below = tt
@@ -94,27 +94,27 @@ or_none None = refl
 or_none (Some t) = refl
 
 -- one read more
-wts_in-push : (seen : List Seen) (s : Seen) (k : RowKey) → wts_in (seen ++ s ∷ []) k ≡ option_or (wts_in seen k) (cond (is_key k s.key) (Some s.wts) None)
-wts_in-push [] s k = elim (is_key k s.key) as (λ b. option_map (λ (x : Seen). x.wts) (cond b (Some s) None) ≡ cond b (Some s.wts) None) [ true ↦ refl | false ↦ refl ]
+wts_in-push : (seen : List SeenKey) (s : SeenKey) (k : RowKey) → wts_in (seen ++ s ∷ []) k ≡ option_or (wts_in seen k) (cond (is_key k s.key) (Some s.wts) None)
+wts_in-push [] s k = elim (is_key k s.key) as (λ b. option_map (λ (x : SeenKey). x.wts) (cond b (Some s) None) ≡ cond b (Some s.wts) None) [ true ↦ refl | false ↦ refl ]
 wts_in-push (x ∷ seen) s k =
-    elim (is_key k x.key) as (λ b. option_map (λ (y : Seen). y.wts) (cond b (Some x) (find (λ y. is_key k y.key) (seen ++ s ∷ []))) ≡ option_or (option_map (λ (y : Seen). y.wts) (cond b (Some x) (find (λ y. is_key k y.key) seen))) (cond (is_key k s.key) (Some s.wts) None)) [
+    elim (is_key k x.key) as (λ b. option_map (λ (y : SeenKey). y.wts) (cond b (Some x) (find (λ y. is_key k y.key) (seen ++ s ∷ []))) ≡ option_or (option_map (λ (y : SeenKey). y.wts) (cond b (Some x) (find (λ y. is_key k y.key) seen))) (cond (is_key k s.key) (Some s.wts) None)) [
       | true ↦ refl
       | false ↦ wts_in-push seen s k
     ]
 
-of_other : (seen : List Seen) (s : Seen) (k : RowKey) → is_key k s.key ≡ false → wts_in (seen ++ s ∷ []) k ≡ wts_in seen k
+of_other : (seen : List SeenKey) (s : SeenKey) (k : RowKey) → is_key k s.key ≡ false → wts_in (seen ++ s ∷ []) k ≡ wts_in seen k
 of_other seen s k other = wts_in-push seen s k ∙ ap (λ b. option_or (wts_in seen k) (cond b (Some s.wts) None)) other ∙ or_none (wts_in seen k)
 
-of_same : (seen : List Seen) (s : Seen) (k : RowKey) → k ≡ s.key → option_or (wts_in seen s.key) (Some s.wts) ≡ wts_in (seen ++ s ∷ []) k
+of_same : (seen : List SeenKey) (s : SeenKey) (k : RowKey) → k ≡ s.key → option_or (wts_in seen s.key) (Some s.wts) ≡ wts_in (seen ++ s ∷ []) k
 of_same seen s k is =
     ap (λ (x : RowKey). option_or (wts_in seen x) (Some s.wts)) (sym is)
     ∙ ap (λ b. option_or (wts_in seen k) (cond b (Some s.wts) None)) (sym (ap (is_key k) (sym is) ∙ key_itself k))
     ∙ sym (wts_in-push seen s k)
 
-abbrev pub times : List Seen → List Write → List (Option ℕ)
+abbrev pub times : List SeenKey → List Write → List (Option ℕ)
 times seen ws = map (λ w. wts_in seen w.key) ws
 
-pub times_same : (seen : List Seen) (s : Seen) (ws : List Write) → list_any (λ w. is_key s.key w.key) ws ≡ false → times seen ws ≡ times (seen ++ s ∷ []) ws
+pub times_same : (seen : List SeenKey) (s : SeenKey) (ws : List Write) → list_any (λ w. is_key s.key w.key) ws ≡ false → times seen ws ≡ times (seen ++ s ∷ []) ws
 times_same seen s [] none = refl
 times_same seen s (w ∷ ws) none = cons_same _ _ _ _ (sym (of_other seen s w.key (key_swap w.key s.key ∙ (no_either (is_key s.key w.key) _ none).0))) (times_same seen s ws (no_either (is_key s.key w.key) _ none).1)
   where
@@ -126,7 +126,7 @@ none_above : (k : RowKey) (ws : List Write) → AllByRecursion (λ q. key_cmp k 
 none_above k [] below = refl
 none_above k (w ∷ ws) below = ap (λ o. is_eq o || list_any (λ v. is_key k v.key) ws) below.0 ∙ none_above k ws below.1
 
-pub times_more : (seen : List Seen) (s : Seen) (ws : List Write) (place : ℕ) → Rise ws → place < length ws → HoldsAt (λ w. w.key ≡ s.key) ws place →
+pub times_more : (seen : List SeenKey) (s : SeenKey) (ws : List Write) (place : ℕ) → Rise ws → place < length ws → HoldsAt (λ w. w.key ≡ s.key) ws place →
     slice_set (times seen ws) place (option_or (wts_in seen s.key) (Some s.wts)) ≡ times (seen ++ s ∷ []) ws
 times_more seen s [] place rises lt is = absurd (omega arith)
 times_more seen s (w ∷ ws) zero rises lt is =
@@ -134,7 +134,7 @@ times_more seen s (w ∷ ws) zero rises lt is =
 times_more seen s (w ∷ ws) (suc place) rises lt is =
     cons_same _ _ _ _ (sym (of_other seen s w.key (ap is_eq (below_at w.key s.key ws place rises.0 (omega (arith, lt)) is)))) (times_more seen s ws place rises.1 (omega (arith, lt)) is)
 
-pub time_at : (seen : List Seen) (k : RowKey) (ws : List Write) (place : ℕ) (d : Option ℕ) → place < length ws → HoldsAt (λ w. w.key ≡ k) ws place → slice_index_or (times seen ws) place d ≡ wts_in seen k
+pub time_at : (seen : List SeenKey) (k : RowKey) (ws : List Write) (place : ℕ) (d : Option ℕ) → place < length ws → HoldsAt (λ w. w.key ≡ k) ws place → slice_index_or (times seen ws) place d ≡ wts_in seen k
 time_at seen k [] place d lt is = absurd (omega arith)
 time_at seen k (w ∷ ws) zero d lt is = ap (wts_in seen) (is w)
 time_at seen k (w ∷ ws) (suc place) d lt is = time_at seen k ws place d (omega (arith, lt)) is

@@ -16,22 +16,22 @@ use Rattle.coco_shard.specs.declared.ops.Answer.{Answer}
 use Rattle.coco_occ.specs.Exchange.{Exchange, Found, ops_of, read, conflict_of, shown_by, locked_by}
 use Rattle.coco_occ.specs.Script.{AskedAll, Reads, Locks, Extends, time_of, needs_extension, extension, outcome_of, ends_of}
 use Rattle.coco_occ.specs.declared.course.Course.{Course}
-use Rattle.coco_occ.specs.declared.course.Seen.{Seen}
+use Rattle.coco_occ.specs.declared.course.SeenKey.{SeenKey}
 use Rattle.coco_occ.specs.declared.course.Stage.{Stage}
 use Rattle.coco_occ.specs.declared.course.Stage.TheVariants as stage
 use Rattle.coco_occ.specs.declared.outcome.Why.{Why}
 use Rattle.coco_occ.specs.declared.outcome.Outcome.{Outcome}
 use Rattle.coco_occ.specs.declared.outcome.Outcome.TheVariants.{Committed, Conflict, OverTime}
 
-abbrev pub seen_of : Found → Seen
+abbrev pub seen_of : Found → SeenKey
 seen_of f = record { key = f.key; wts = f.wts; rts = f.rts }
 
 -- the write time that the read of a key showed
-abbrev pub wts_in : List Seen → RowKey → Option ℕ
+abbrev pub wts_in : List SeenKey → RowKey → Option ℕ
 wts_in seen key = option_map (λ s. s.wts) (find (λ s. is_key key s.key) seen)
 
 -- whether a key that was read so needs an extension
-abbrev pub needs_seen : ℕ → List Write → Seen → Bool
+abbrev pub needs_seen : ℕ → List Write → SeenKey → Bool
 needs_seen time writes s = not (list_any (λ w. is_key s.key w.key) writes) && nat_lt s.rts time
 
 abbrev pub lock : Write → Op
@@ -64,7 +64,7 @@ due_of true op = Some op
 due_of false op = None
 
 -- makes the version that was read valid until the time
-abbrev pub extension_of : Seen × ℕ → Op
+abbrev pub extension_of : SeenKey × ℕ → Op
 extension_of p = Extend p.0.key p.0.wts p.1
 
 -- the operation that an answer is awaited for, if there is one, is the first of those left

@@ -1,7 +1,7 @@
 -- One ask of an attempt with its answer: where it is sent, which answers it may have, and which of them conflict.
-use Rattle.std.specs.Prelude.{◌≡◌, ℕ, ◌%◌, nat_eq, if◌then◌else◌, List, map, Option, None, Some}
+use Rattle.std.specs.Prelude.{◌≡◌, ℕ, nat_eq, if◌then◌else◌, List, map, Option, None, Some}
 use Rattle.std.specs.List.{find}
-use Rattle.coco_types.specs.RowKey.{RowKey}
+use Rattle.coco_types.specs.RowKey.{RowKey, partition_of}
 use Rattle.coco_types.specs.declared.value.Value.{Value}
 use Rattle.coco_types.specs.declared.call.AttemptId.{AttemptId}
 use Rattle.coco_ast.specs.Meaning.{is_key}
@@ -24,13 +24,9 @@ pub record Exchange : Type 0 where
 abbrev pub ops_of : List Exchange → List Op
 ops_of exchanges = map (λ e. e.op) exchanges
 
--- the partition of a key, whose shard is asked
-abbrev pub shard_of : ℕ → RowKey → ℕ
-shard_of partitions key = key.row % partitions
-
 -- the step of an attempt that an exchange is
 abbrev pub step_of : AttemptId → ℕ → Exchange → Step
-step_of by partitions e = record { shard = shard_of partitions (key_of e.op); ask = record { by = by; op = e.op }; answer = e.answer }
+step_of by partitions e = record { shard = partition_of partitions (key_of e.op); ask = record { by = by; op = e.op }; answer = e.answer }
 
 -- some row gives this answer
 abbrev pub MayAnswer : Ask → Answer → Type 0

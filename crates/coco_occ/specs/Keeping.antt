@@ -2,7 +2,7 @@
 use Rattle.std.specs.Prelude.{◌≡◌, ℕ, ◌+◌, ◌≤◌, Bool, true, false, List, [], ◌++◌, length, map, Option, None, Some, vec_capacity}
 use Rattle.std.specs.List.{AllByRecursion}
 use Rattle.coco_types.specs.Limits.{most_keys}
-use Rattle.coco_types.specs.RowKey.{RowKey}
+use Rattle.coco_types.specs.RowKey.{RowKey, partition_of}
 use Rattle.coco_types.specs.declared.call.AttemptId.{AttemptId}
 use Rattle.coco_types.specs.declared.call.Reply.{Reply}
 use Rattle.coco_types.specs.declared.call.Reply.TheVariants.{Ok}
@@ -16,7 +16,7 @@ use Rattle.coco_shard.specs.Table.{key_of}
 use Rattle.coco_shard.specs.declared.ops.Op.{Op}
 use Rattle.coco_shard.specs.declared.ops.Op.TheVariants.{Read, Past}
 use Rattle.coco_occ.specs.Course.{seen_of, outcome_by, due_of, Stands}
-use Rattle.coco_occ.specs.Exchange.{Exchange, Found, read, step_of, shard_of, MayAnswer}
+use Rattle.coco_occ.specs.Exchange.{Exchange, Found, read, step_of, MayAnswer}
 use Rattle.coco_occ.specs.Script.{IsSnapshot, past}
 use Rattle.coco_occ.specs.Trying.{Standing, Ready, Waits, Ended}
 use Rattle.coco_occ.specs.declared.course.Course.{Course}
@@ -117,7 +117,7 @@ rests_in stage.Releasing c reply writes = Ready
 rests_in stage.Ended c reply writes = Ended (outcome_by c.conflict c.time reply) writes
 
 abbrev pub standing_of : Bool → AttemptId → ℕ → Op → Course → Reply → eval.Standing → Standing
-standing_of true by partitions op c reply s = Waits (shard_of partitions (key_of op)) (record { by = by; op = op })
+standing_of true by partitions op c reply s = Waits (partition_of partitions (key_of op)) (record { by = by; op = op })
 standing_of false by partitions op c reply s = rests_in c.stage c reply (writes_in s)
 
 pub record IsAttempt (e : eval.Evaluation) (script : List Step) (by : AttemptId) (partitions : ℕ) (snapshot : Bool) (c : Course) (reply : Reply) (op : Op) (waits : Bool) : Type 0 where

@@ -3,7 +3,8 @@ ghost use Rattle.std.specs.Prelude.{◌≡◌, ◌≤◌, ℕ, true, false, [], 
 ghost use Rattle.coco_ast.specs.Fitting.{Fits};
 ghost use Rattle.coco_shard.specs.declared.ops.Ask.{Ask as Asked};
 ghost use Rattle.coco_types.specs.declared.call.Write.{Write as Written};
-ghost use Rattle.coco_occ.specs.Exchange.{shard_of, MayAnswer};
+ghost use Rattle.coco_occ.specs.Exchange.{MayAnswer};
+ghost use Rattle.coco_types.specs.RowKey.{partition_of};
 ghost use Rattle.coco_occ.specs.declared.outcome.Outcome.{Outcome as End};
 ghost use Rattle.coco_occ.specs.Trying.{Ready, Waits, Ended, IsSound, IsMoveOf, answered, has_ended};
 
@@ -230,9 +231,9 @@ impl Attempt {
 // The shard of a key.
 fn shard_of(key: Key, partitions: u8) -> u8
     requires { 1 ≤ partitions }
-    ensures { result ≡ shard_of partitions key }
+    ensures { result ≡ partition_of partitions key }
 {
-    (key.row % u64::from(partitions)) as u8
+    key.partition(usize::from(partitions)) as u8
 }
 
 // What is asked before the first ask.

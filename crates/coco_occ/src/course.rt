@@ -20,7 +20,7 @@ use std::alloc::Global;
 
 /// A key that was read, with the times that it showed.
 #[derive(Clone, Copy, Debug)]
-pub struct Seen {
+pub struct SeenKey {
     pub key: Key,
     pub wts: u64,
     pub rts: u64,
@@ -43,7 +43,7 @@ pub struct Course {
     pub stage: Stage,
     pub place: usize,
     /// What was read, in order.
-    pub seen: Vec<Seen>,
+    pub seen: Vec<SeenKey>,
     /// For each write the write time that a read of its key showed.
     pub expected: Vec<Option<u64>>,
     /// How many of the keys of the writes are locked.
@@ -113,7 +113,7 @@ impl Course {
         ensures room { vec_capacity self.new.seen ≡ vec_capacity self.old.seen }
         ensures others { self.new ≡ record self.old { seen = self.new.seen; greatest = max self.old.greatest wts } }
     {
-        self.seen.push_reserved(Seen { key, wts, rts });
+        self.seen.push_reserved(SeenKey { key, wts, rts });
         self.greatest = self.greatest.max(wts);
     }
 
@@ -181,7 +181,7 @@ impl Course {
     {
         match self.extension(writes) {
             Some((seen, time)) => {
-                let Seen { key, wts, .. } = seen;
+                let SeenKey { key, wts, .. } = seen;
                 *op = Op::Extend { key, wts, time };
                 true
             }
@@ -204,7 +204,7 @@ impl Course {
     }
 
     // Goes on to the next key that isn't valid up to the time, and answers that with the time.
-    fn extension(&mut self, writes: &[Write]) -> Option<(Seen, u64)>
+    fn extension(&mut self, writes: &[Write]) -> Option<(SeenKey, u64)>
         ensures due { (r : Run) (m : Rows) (asked : List Exchange) → r.writes ≡ writes.now → IsExtending r m asked self.old None → IsExtending r m asked self.new (option_map extension_of result) }
         ensures all { IfNone result (self.new.time ≡ None ⊎ (length self.new.seen.items ≤ self.new.place)) }
         ensures stage { self.new.stage ≡ self.old.stage }
@@ -378,7 +378,7 @@ impl Course {
 }
 
 // Notes for each write the write time that the first read of its key showed.
-fn note_times(seen: &[Seen], writes: &[Write], times: &mut [Option<u64>])
+fn note_times(seen: &[SeenKey], writes: &[Write], times: &mut [Option<u64>])
     requires { times.old ≡ map (λ _. None) writes.now }
     ensures { Rise writes.now → times.new ≡ map (λ w. wts_in seen.now w.key) writes.now }
 {
@@ -391,7 +391,7 @@ fn note_times(seen: &[Seen], writes: &[Write], times: &mut [Option<u64>])
 }
 
 // Whether a key that was read isn't valid up to the time, and isn't written.
-fn needs_extension(seen: &Seen, time: u64, writes: &[Write]) -> bool
+fn needs_extension(seen: &SeenKey, time: u64, writes: &[Write]) -> bool
     ensures { Rise writes.now → result ≡ needs_seen time writes.now seen.now }
 {
     seen.rts < time && !is_written(writes, seen.key)

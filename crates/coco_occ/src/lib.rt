@@ -5,7 +5,6 @@ pub mod attempt;
 mod course;
 pub mod laws;
 pub mod outcome;
-mod packed;
 pub mod packed_outcome;
 mod progress;
 pub mod rooms;

@@ -2,8 +2,7 @@
 ghost use Rattle.std.specs.Prelude.{◌≡◌, ◌==◌, [], ◌∷◌, ◌++◌, length, slice_get, OnOk, OnErr, IfOk};
 ghost use Rattle.coco_occ.specs.Steps.{AreBy};
 
-use crate::packed::{PackedAnswer, PackedOp};
-use coco_shard::{Answer, Ask, Op};
+use coco_shard::{Answer, Ask, Op, PackedAnswer, PackedOp};
 use coco_types::{AttemptId, NoMemory};
 use std::alloc::Global;
 use std::marker::Model;
@@ -106,7 +105,7 @@ impl Script {
         let step = PackedStep {
             shard,
             op: PackedOp::of(alloc, op)?,
-            answer: PackedAnswer::of(alloc, answer)?,
+            answer: PackedAnswer::on_heap(alloc, answer)?,
         };
         self.items.reserve(1)?;
         self.by = by;

@@ -1,35 +1,31 @@
 -- With the tail behind the commits, the Dones of an epoch are serial.
-use Rattle.std.proofs.Common.{◌≡◌, ◌⊎◌, inl, inr, ℕ, zero, suc, ◌+◌, ◌<◌, ◌≤◌, Bool, true, false, ◌&&◌, ◌||◌, cond, eqb, ltb, List, [], ◌∷◌, ◌++◌, map, length, get_or, Option, None, Some, refl, sym, ap, ◌∙◌, subst, arith, append_assoc}
-use Rattle.std.proofs.lemmas.Bool.{cases_lt, lt-ltb, eqb-true, eq-eqb}
+use Rattle.std.proofs.Common.{◌≡◌, ◌⊎◌, inl, inr, ℕ, zero, suc, ◌+◌, ◌<◌, ◌≤◌, Bool, true, false, ◌&&◌, ◌||◌, cond, eqb, List, [], ◌∷◌, ◌++◌, map, length, Option, None, Some, refl, sym, ap, ◌∙◌, subst, arith, append_assoc}
+use Rattle.std.proofs.lemmas.Bool.{lt-ltb, eqb-true, eq-eqb}
 use Rattle.std.proofs.lemmas.List.{append-nil}
 use Rattle.std.proofs.lemmas.List.Sorted.{IsPermutation-map, IsPermutation-sym, Contains-permutation}
 use Rattle.std.proofs.lemmas.Map.Keys.{IsDistinct-IsPermutation}
 use Rattle.std.specs.Option.{unwrap_or}
-use Rattle.std.specs.List.{filter, list_any, sum_by, slice_get, AllByRecursion, IsDistinct}
+use Rattle.std.specs.List.{filter, list_any, slice_get, AllByRecursion, IsDistinct}
 use Rattle.std.specs.List.Sorted.{IsPermutation}
 use Rattle.coco_types.specs.RowKey.{RowKey}
 use Rattle.coco_types.specs.declared.value.Value.{Value}
 use Rattle.coco_types.specs.declared.call.AttemptId.{AttemptId}
-use Rattle.coco_types.specs.declared.call.Reply.{Reply}
 use Rattle.coco_types.specs.declared.call.Request.{Request}
 use Rattle.coco_types.specs.declared.call.Done.{Done}
-use Rattle.coco_types.specs.declared.call.Write.{Write}
 use Rattle.coco_ast.specs.Tree.{Procedures}
 use Rattle.coco_ast.specs.Keyed.{Rows, value_at, put_over}
-use Rattle.coco_ast.specs.Meaning.{Datum, Run, run}
-use Rattle.coco_ast.specs.History.{RepliesAreRuns, AreTimed, is_timed, rows_after}
+use Rattle.coco_ast.specs.Meaning.{Datum, run}
+use Rattle.coco_ast.specs.History.{AreTimed, is_timed, rows_after}
 use Rattle.coco_shard.specs.RowState.{RowState, resting}
-use Rattle.coco_shard.specs.Law.{Entry, law_row, read_time}
+use Rattle.coco_shard.specs.Law.{Entry, law_row}
 use Rattle.coco_occ.specs.Script.{IsAsked}
-use Rattle.coco_occ.specs.declared.outcome.Outcome.{Outcome}
-use Rattle.coco_occ.specs.declared.outcome.Outcome.TheVariants.{Committed, Conflict, OverTime}
-use Rattle.coco_order.specs.OneKey.{Among, is_attempt, on, left, walk, Installs, ReadsTheLast}
+use Rattle.coco_order.specs.OneKey.{Among, is_attempt, on, left, walk, Installs}
 use Rattle.coco_order.specs.Order.{AreInOrder}
 use Rattle.coco_occ.specs.declared.outcome.Tried.{Tried}
-use Rattle.coco_order.specs.Execution.{Beginning, Execution, IsTried, Tries, AreTries, AreWorkedOff, all_tries, concat_tries, how_many_at, IsExecution, journal_on, transcript_of, concat}
-use Rattle.coco_order.specs.Outcome.{commits, IsOutcome, IsGreatestRead, newest_at_end, is_commit, is_committed, uncommitted, tail_requests, tail_dones, tail_rows}
+use Rattle.coco_order.specs.Execution.{Beginning, Execution, IsTried, Tries, AreTries, all_tries, concat_tries, how_many_at, IsExecution, journal_on, transcript_of, concat}
+use Rattle.coco_order.specs.Outcome.{commits, IsOutcome, is_commit, is_committed, uncommitted, tail_requests, tail_dones, tail_rows}
 use Rattle.coco_order.specs.Laws.{OutcomeIsSerial, OutcomesAreSerial}
-use Rattle.coco_order.proofs.Attempts.{by_bool, not_both, one_attempt, attempt_itself, none_some, same_some, Among-append, Among-left, Among-right}
+use Rattle.coco_order.proofs.Attempts.{by_bool, not_both, none_some, same_some, Among-append, Among-left, Among-right}
 use Rattle.coco_order.proofs.Walking.{Holds}
 use Rattle.coco_order.proofs.Chains.{Good, good_next, next_holds, last_written, installs_within}
 use Rattle.coco_order.proofs.LawRows.{law_walk, lawful_told}
@@ -37,7 +33,7 @@ use Rattle.coco_order.proofs.OneKey.{nobody, good_start}
 use Rattle.coco_order.proofs.Passes.{all_among, all_append}
 use Rattle.coco_order.proofs.Orderly.{orderly}
 use Rattle.coco_order.proofs.Acts.{act, acts, acts_dones, Committing, act_from, all_tried, in_transcript}
-use Rattle.coco_order.proofs.CommitReads.{ReadsWell, reads_right}
+use Rattle.coco_order.proofs.CommitReads.{reads_right}
 use Rattle.coco_order.proofs.Serial.{Act, dones, writes_at, LastBelow, IsRight, ApartInTime, RiseInTime, Latest, Serial, serial, written, value_over}
 use Rattle.coco_order.proofs.Commits.{all_from, among_contains, contains_among, Lifted, lifted, dones_map, differ, rise_of, every, act_installs, install_acts, right_of, apart, every_epoch, every_distinct, timed_at, flips}
 
@@ -232,11 +228,6 @@ module _ (b : Beginning) (epoch : ℕ) where
         (tail_right (before ++ tail_act rows time r ∷ []) (after_request rows r) (suc time) rs (latest_more before rows time r latest early) (early_more before rows time r early) c more)
 
 -- ---- the tail holds no snapshot call
-
-among_join : {X : Type 0} (xss : List (List X)) (xs : List X) (x : X) → Among xss xs → Among xs x → Among (concat xss) x
-among_join [] xs x h g = absurd h
-among_join (ys ∷ xss) xs x (inl same) g = Among-left ys (concat xss) x (subst (λ (zs : List _). Among zs x) (sym same) g)
-among_join (ys ∷ xss) xs x (inr more) g = Among-right ys (concat xss) x (among_join xss xs x more g)
 
 tries_in : (rs : List Tries) (r : Tries) (t : Tried) → Among rs r → Among (all_tries r) t → Among (concat_tries rs) t
 tries_in [] r t h g = absurd h

@@ -1,7 +1,7 @@
 -- What an execution of an epoch's requests is: journals of shards and transcripts of workers that fit together. No order of all its steps is part of it.
-use Rattle.std.specs.Prelude.{◌≡◌, ℕ, ◌<◌, ◌≤◌, ◌%◌, Bool, true, false, nat_eq, List, [], ◌∷◌, ◌++◌, map, length, slice_index_or, Option, None, Some}
+use Rattle.std.specs.Prelude.{◌≡◌, ℕ, ◌<◌, ◌≤◌, Bool, true, false, nat_eq, List, [], ◌∷◌, ◌++◌, map, length, slice_index_or, Option, None, Some}
 use Rattle.std.specs.List.{filter, AllByRecursion, slice_get}
-use Rattle.coco_types.specs.RowKey.{RowKey}
+use Rattle.coco_types.specs.RowKey.{RowKey, partition_of}
 use Rattle.coco_types.specs.declared.call.Request.{Request}
 use Rattle.coco_types.specs.declared.call.Write.{Write}
 use Rattle.coco_ast.specs.Fitting.{Fits}
@@ -56,7 +56,7 @@ steps_of = map logged
 
 -- the steps of the journal in which a key's stand
 abbrev pub journal_on : Beginning → Execution → RowKey → List Entry
-journal_on b x k = steps_of (journal_of x (k.row % b.partitions))
+journal_on b x k = steps_of (journal_of x (partition_of b.partitions k))
 
 abbrev pub of_pass : ℕ → Journal → List Entry
 of_pass pass journal = steps_of (filter (λ e. nat_eq e.pass pass) journal)

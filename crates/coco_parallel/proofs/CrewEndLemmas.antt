@@ -30,13 +30,13 @@ use Rattle.coco_parallel.specs.Ending.{Start}
 use Rattle.coco_parallel.specs.Running.{IsDealt, IsRun, slots_of}
 use Rattle.coco_parallel.specs.Worked.{CopyJournal, HaveCommits, HaveWorked, PutsItsCommits, IsCopied, copy_passes_at, start_of, table_at}
 use Rattle.coco_parallel.specs.declared.workers.Station.{Station}
-use Rattle.coco_parallel.proofs.CrewLemmas.{Ran, Shift, all_dealt, column_slots, column_tables, crew, crew_at, crew_count, map_slots, seats_of, shard_rows, table_rows, tables_still}
+use Rattle.coco_parallel.proofs.CrewLemmas.{CrewRan, Shift, all_dealt, column_slots, column_tables, crew, crew_at, crew_count, map_slots, seats_of, shard_rows, table_rows, tables_still}
 use Rattle.coco_parallel.proofs.CopyLemmas.{copies_are_of_commits, within_list}
 use Rattle.coco_parallel.proofs.RunLemmas.{runs_end}
 
 -- ---- done
 
-module _ {p : Shift} {after : List Station} (ran : Ran p after) (some : 0 < p.config.started) where
+module _ {p : Shift} {after : List Station} (ran : CrewRan p after) (some : 0 < p.config.started) where
   abbrev start_at : Rows → Start
   start_at opening = start_of p.procs opening p.requests p.machines p.config p.carries
 

@@ -113,13 +113,13 @@ module _ (p : Shift) where
       })
 
   -- the stations once all have run
-  pub record Ran (after : List Station) : Type 0 where
+  pub record CrewRan (after : List Station) : Type 0 where
     pub still : length after ≡ length crew
     pub left : LeavesEach p.procs p.requests (length p.machines) p.config p.carries crew after
 
 -- ---- after
 
-module _ {p : Shift} {after : List Station} (ran : Ran p after) where
+module _ {p : Shift} {after : List Station} (ran : CrewRan p after) where
   rows_as : {M Q A : Type 0} (row : Station → Vec (Passing M Q A)) (rows : List (Vec (Passing M Q A))) → length rows ≡ p.config.started → ((n : ℕ) (d : Station) → n < p.config.started → row (slice_index_or (crew p) n d) ≡ slice_index_or rows n (row d))
       → ((n : ℕ) (d : Station) → n < length (crew p) → AreSame (row (slice_index_or (crew p) n d)).items (row (slice_index_or after n d)).items) → AreStill rows (map row after)
   rows_as {M} {Q} {A} row rows many at each = record { count = length-map after row ∙ ran.still ∙ crew_count p ∙ sym many; same = λ n d lt. same n d (some_at after n (within n lt)).0 lt }

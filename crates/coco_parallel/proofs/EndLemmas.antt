@@ -10,7 +10,7 @@ use Rattle.coco_ast.specs.Keyed.{value_at}
 use Rattle.coco_claim.specs.Numbers.{times}
 use Rattle.coco_claim.specs.Seats.{Drawer, times_drawn}
 use Rattle.coco_desks.proofs.StartingLemmas.{numbers_count}
-use Rattle.coco_epoch.specs.Shards.{shard_at}
+use Rattle.coco_tail.specs.Shards.{shard_at}
 use Rattle.coco_order.specs.Execution.{AreOf, AreTries, AreWorkedOff, Execution, IsTried, Journal, Transcript, Tries, all_at_shard, concat, concat_tries, how_many_at, journal_of, of_pass, steps_of, transcript_of}
 use Rattle.coco_order.specs.Laws.{ClosedIsLawful}
 use Rattle.coco_shard.specs.Law.{Entry, IsLawful, law_row}

@@ -9,7 +9,7 @@ use Rattle.std.proofs.lemmas.List.Elements.{filter_map-append}
 use Rattle.coco_types.specs.RowKey.{RowKey}
 use Rattle.coco_types.specs.declared.call.Done.{Done}
 use Rattle.coco_types.specs.declared.call.Request.{Request}
-use Rattle.coco_epoch.specs.Shards.{AreOfPartitions, row_in, shard_at}
+use Rattle.coco_tail.specs.Shards.{AreOfPartitions, row_in, shard_at}
 use Rattle.coco_occ.specs.declared.outcome.Tried.{Tried}
 use Rattle.coco_order.specs.Execution.{concat}
 use Rattle.coco_order.specs.Outcome.{done_of, is_commit}

@@ -17,8 +17,8 @@ use Rattle.coco_ast.specs.History.{rows_after}
 use Rattle.coco_ast.specs.Keyed.{Rows, put_over, value_at}
 use Rattle.coco_ast.specs.Meaning.{run}
 use Rattle.coco_ast.specs.Tree.{Procedures}
-use Rattle.coco_epoch.specs.Pieces.{pieces_of}
-use Rattle.coco_epoch.specs.Shards.{HaveNewest, HaveStable, KeepStable, row_in, shard_at}
+use Rattle.coco_tail.specs.Pieces.{pieces_of}
+use Rattle.coco_tail.specs.Shards.{HaveNewest, HaveStable, KeepStable, row_in, shard_at}
 use Rattle.coco_occ.specs.declared.outcome.Outcome.{Outcome}
 use Rattle.coco_occ.specs.declared.outcome.Outcome.TheVariants.{Committed, Conflict, OverTime}
 use Rattle.coco_occ.specs.declared.outcome.Tried.{Tried}

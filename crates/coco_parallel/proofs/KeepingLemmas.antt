@@ -17,7 +17,7 @@ use Rattle.coco_copy.specs.declared.ops.CopyAsk.TheVariants.{Put}
 use Rattle.coco_desks.specs.Desks.{AreBackBy, AreDealt, IsOpen}
 use Rattle.coco_desks.proofs.DeskLemmas.{as_many_started, bears, closed_by, machines_count, written_back}
 use Rattle.coco_desks.proofs.RowLemmas.{any_default}
-use Rattle.coco_epoch.specs.Shards.{AreSettled, SettleOn, shard_at}
+use Rattle.coco_tail.specs.Shards.{AreSettled, SettleOn, shard_at}
 use Rattle.coco_journaled.specs.declared.entry.Entry.{Entry}
 use Rattle.coco_journaled.specs.Passes.{Passing}
 use Rattle.coco_journaled.specs.Replay.{Replays, after}

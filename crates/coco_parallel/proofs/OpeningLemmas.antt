@@ -9,7 +9,7 @@ use Rattle.coco_types.proofs.Keys.{keys_total}
 use Rattle.coco_types.specs.declared.value.Value.{Value}
 use Rattle.coco_types.specs.declared.value.Value.TheVariants.{Int}
 use Rattle.coco_ast.specs.Keyed.{Rows}
-use Rattle.coco_epoch.specs.Shards.{AreOfPartitions, AreSettled, HoldMap, shard_at}
+use Rattle.coco_tail.specs.Shards.{AreOfPartitions, AreSettled, HoldMap, shard_at}
 use Rattle.coco_shard.specs.RowState.{RowState, ShardState, resting, stable_at}
 
 -- ---- entries of several maps

@@ -9,7 +9,7 @@ use Rattle.coco_types.specs.RowKey.{RowKey}
 use Rattle.coco_types.specs.declared.call.Done.{Done}
 use Rattle.coco_ast.specs.History.{rows_after}
 use Rattle.coco_ast.specs.Keyed.{Rows}
-use Rattle.coco_epoch.specs.Shards.{KeepStable, row_in, shard_at}
+use Rattle.coco_tail.specs.Shards.{KeepStable, row_in, shard_at}
 use Rattle.coco_journaled.specs.Replay.{after}
 use Rattle.coco_order.specs.Execution.{Execution, InEachExecution, IsExecution, Journal, journal_of, steps_of}
 use Rattle.coco_order.specs.Laws.{ClosedIsLawful, CommitsAreSerial, OnEachKeyOfEach}

@@ -22,7 +22,7 @@ use Rattle.coco_ast.specs.History.{request_of, rows_after}
 use Rattle.coco_ast.specs.Keyed.{Rows, put_over}
 use Rattle.coco_ast.specs.Meaning.{run}
 use Rattle.coco_ast.specs.Tree.{Procedures}
-use Rattle.coco_epoch.specs.Pieces.{pieces_of, place_of}
+use Rattle.coco_tail.specs.Pieces.{pieces_of, place_of}
 use Rattle.coco_occ.specs.Script.{IsScript}
 use Rattle.coco_occ.specs.declared.outcome.Outcome.{Outcome}
 use Rattle.coco_occ.specs.declared.outcome.Outcome.TheVariants.{Committed, Conflict, OverTime}

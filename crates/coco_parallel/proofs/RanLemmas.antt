@@ -15,7 +15,7 @@ use Rattle.coco_parallel.specs.Working.{IsManned, LeavesEach}
 use Rattle.coco_parallel.specs.declared.side_by_side.Crew.{Crew}
 use Rattle.coco_parallel.specs.declared.side_by_side.Desks.{Desks}
 use Rattle.coco_parallel.specs.declared.workers.Station.{Station}
-use Rattle.coco_parallel.proofs.CrewLemmas.{Ran, Shift, all_manned, crew, crew_count}
+use Rattle.coco_parallel.proofs.CrewLemmas.{CrewRan, Shift, all_manned, crew, crew_count}
 
 -- the shift of a crew at its desks
 abbrev pub shift_of : (procs : Procedures) (requests : List Request) (config : EpochConfig) (carries : ℕ → ℕ → ℕ → ℕ → Bool) (desks : Desks) (crew : Crew) {machines : List ShardState} {tables : List CopyState} → AreDealt config.started machines desks.shards.locks.items desks.rows.items
@@ -49,7 +49,7 @@ module _ (p : Shift) (seats : List Drawer) (before : List Station) (seats_are : 
       subst (λ (ls : List Lock). All (IsManned ls copies p.claims) before) (sym here)
       (subst (λ (ls : List Lock). All (IsManned p.locks ls p.claims) before) (sym there) (subst (All (IsManned p.locks p.copy_locks p.claims)) (sym began) (all_manned p)))
 
-  pub have_run : (new after : List Station) (shards : List Lock) → length new ≡ length before → shards ≡ p.locks → LeavesEach p.procs p.requests (length shards) p.config p.carries before new → after ≡ new → Ran p after
+  pub have_run : (new after : List Station) (shards : List Lock) → length new ≡ length before → shards ≡ p.locks → LeavesEach p.procs p.requests (length shards) p.config p.carries before new → after ≡ new → CrewRan p after
   have_run new after shards as_many here each back = record {
     still = ap length back ∙ as_many ∙ ap length began;
     left = subst (λ (n : ℕ). LeavesEach p.procs p.requests n p.config p.carries (crew p) after) (ap length here ∙ (as_many_started p.config.started p.machines p.locks p.dealt.trays p.dealt.started).0)

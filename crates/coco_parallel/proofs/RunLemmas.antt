@@ -9,7 +9,7 @@ use Rattle.std.proofs.lemmas.Option.{same_Some, slice_get-map}
 use Rattle.coco_ast.proofs.Lists.{all_map}
 use Rattle.coco_desks.specs.Locking.{AreEnded, AreStarted, IsEnded, IsStarted}
 use Rattle.coco_desks.specs.Rows.{column}
-use Rattle.coco_epoch.specs.Shards.{shard_at}
+use Rattle.coco_tail.specs.Shards.{shard_at}
 use Rattle.coco_journaled.specs.Passes.{HasPasses, new_pass}
 use Rattle.coco_journaled.specs.Replay.{Replays}
 use Rattle.coco_order.specs.Execution.{Journal}

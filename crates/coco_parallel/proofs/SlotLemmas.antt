@@ -11,7 +11,7 @@ use Rattle.coco_claim.specs.Numbers.{times}
 use Rattle.coco_claim.specs.Seats.{Drawer}
 use Rattle.coco_desks.specs.Gains.{done_by, undone}
 use Rattle.coco_desks.proofs.DeskLemmas.{some_mapped}
-use Rattle.coco_epoch.specs.Shards.{shard_at}
+use Rattle.coco_tail.specs.Shards.{shard_at}
 use Rattle.coco_journaled.specs.Passes.{new_pass}
 use Rattle.coco_occ.specs.declared.outcome.Tried.{Tried}
 use Rattle.coco_order.specs.Execution.{AreOf, IsTried, RiseByNumber, Tries, all_at_shard, how_many_at}

@@ -5,9 +5,9 @@ use Rattle.std.proofs.lemmas.Bool.{eq-eqb, eqb-true}
 use Rattle.std.proofs.lemmas.List.{append-nil, length-take-le, map-append, take_more}
 use Rattle.coco_types.specs.declared.call.Request.{Request}
 use Rattle.coco_ast.proofs.Lists.{all_append}
-use Rattle.coco_epoch.specs.Pieces.{place_of}
-use Rattle.coco_epoch.specs.Running.{AreAtTheirPlaces, requests_of}
-use Rattle.coco_epoch.specs.declared.placed.PlacedRequest.{PlacedRequest}
+use Rattle.coco_tail.specs.Pieces.{place_of}
+use Rattle.coco_tail.specs.Running.{AreAtTheirPlaces, requests_of}
+use Rattle.coco_tail.specs.declared.placed.PlacedRequest.{PlacedRequest}
 use Rattle.coco_order.specs.Execution.{Execution}
 use Rattle.coco_order.specs.Outcome.{is_committed, uncommitted}
 use Rattle.coco_parallel.proofs.SlotLemmas.{by_bool}

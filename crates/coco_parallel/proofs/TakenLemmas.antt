@@ -12,7 +12,7 @@ use Rattle.coco_types.specs.declared.call.Piece.{Piece}
 use Rattle.coco_types.specs.declared.call.Request.{Request}
 use Rattle.coco_types.proofs.Keys.{is_key, one_key}
 use Rattle.coco_ast.proofs.Lists.{all_weaker}
-use Rattle.coco_epoch.specs.Shards.{row_in, shard_of}
+use Rattle.coco_tail.specs.Shards.{row_in, shard_of}
 use Rattle.coco_occ.specs.declared.outcome.Outcome.{Outcome}
 use Rattle.coco_occ.specs.declared.outcome.Outcome.TheVariants.{Committed, Conflict, OverTime}
 use Rattle.coco_occ.specs.declared.outcome.Tried.{Tried}

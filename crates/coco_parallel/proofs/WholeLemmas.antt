@@ -11,8 +11,8 @@ use Rattle.coco_ast.specs.Keyed.{Rows}
 use Rattle.coco_ast.specs.Tree.{Procedures}
 use Rattle.coco_copy.specs.CopyState.{CopyState}
 use Rattle.coco_desks.proofs.StartingLemmas.{numbers_count}
-use Rattle.coco_epoch.specs.Running.{FitAll}
-use Rattle.coco_epoch.specs.Shards.{AreOfPartitions, AreSettled, HoldMap, KeepStable, SettleOn}
+use Rattle.coco_tail.specs.Running.{FitAll}
+use Rattle.coco_tail.specs.Shards.{AreOfPartitions, AreSettled, HoldMap, KeepStable, SettleOn}
 use Rattle.coco_order.specs.Execution.{Journal, Transcript}
 use Rattle.coco_shard.specs.RowState.{ShardState, stable_at}
 use Rattle.coco_worker.specs.declared.slot.EpochConfig.{EpochConfig}
@@ -22,11 +22,11 @@ use Rattle.coco_parallel.specs.Ends.{EndsAreSerial, IsEnd, IsSmall, MayBeginTail
 use Rattle.coco_parallel.specs.Epochs.{IsWorkedEpoch, started_with, execution_with}
 use Rattle.coco_parallel.specs.Laws.{AtEachEnd, IsStart}
 use Rattle.coco_parallel.specs.Worked.{HaveWorked, begun_all, emptied, start_of}
-use Rattle.coco_parallel.specs.declared.side_by_side.Worked.{Worked}
+use Rattle.coco_parallel.specs.declared.side_by_side.WorkersEnd.{WorkersEnd}
 use Rattle.coco_parallel.proofs.KeepingLemmas.{emptied_begun, emptied_copied, settled_same}
 use Rattle.coco_parallel.proofs.OpeningLemmas.{hold_some_map}
 
-module _ {procs : Procedures} {requests : List Request} {shards : List ShardState} {config : EpochConfig} {carries : ℕ → ℕ → ℕ → ℕ → Bool} (tables : List CopyState) (left : Worked)
+module _ {procs : Procedures} {requests : List Request} {shards : List ShardState} {config : EpochConfig} {carries : ℕ → ℕ → ℕ → ℕ → Bool} (tables : List CopyState) (left : WorkersEnd)
     (worked : (opening : Rows) → HaveWorked (start_of procs opening requests shards config carries) (begun_all config.epoch tables) left.shards.items left.journals.items left.copies.items left.copy_journals.items left.transcripts.items left.pieces.items) where
   -- the copies as they were when the epoch began
   pub copies_back : emptied left.copies.items ≡ begun_all config.epoch tables

@@ -6,7 +6,7 @@ use Rattle.coco_ast.specs.Keyed.{Rows}
 use Rattle.coco_ast.specs.Tree.{Procedures}
 use Rattle.coco_claim.specs.Seats.{times_drawn}
 use Rattle.coco_desks.specs.Gains.{AreSame}
-use Rattle.coco_epoch.specs.Shards.{shard_at}
+use Rattle.coco_tail.specs.Shards.{shard_at}
 use Rattle.coco_journaled.specs.Passes.{HasPasses, new_pass}
 use Rattle.coco_journaled.specs.Replay.{Replays}
 use Rattle.coco_order.specs.Execution.{Beginning, Execution, Journal}

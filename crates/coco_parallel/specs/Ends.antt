@@ -8,10 +8,10 @@ use Rattle.coco_types.specs.declared.call.Piece.{Piece}
 use Rattle.coco_types.specs.declared.call.Request.{Request}
 use Rattle.coco_ast.specs.Keyed.{Rows}
 use Rattle.coco_ast.specs.Tree.{Procedures}
-use Rattle.coco_epoch.specs.Pieces.{pieces_of}
-use Rattle.coco_epoch.specs.Running.{AreAtTheirPlaces, requests_of}
-use Rattle.coco_epoch.specs.declared.placed.PlacedRequest.{PlacedRequest}
-use Rattle.coco_epoch.specs.Shards.{AreOfPartitions, AreQuietAfter, HaveNewest, KeepStable}
+use Rattle.coco_tail.specs.Pieces.{pieces_of}
+use Rattle.coco_tail.specs.Running.{AreAtTheirPlaces, requests_of}
+use Rattle.coco_tail.specs.declared.placed.PlacedRequest.{PlacedRequest}
+use Rattle.coco_tail.specs.Shards.{AreOfPartitions, AreQuietAfter, HaveNewest, KeepStable}
 use Rattle.coco_occ.specs.declared.outcome.Ended.{Ended}
 use Rattle.coco_occ.specs.declared.outcome.Tried.{Tried}
 use Rattle.coco_order.specs.Execution.{Beginning, Execution, Journal, Transcript, concat}

@@ -5,7 +5,7 @@ use Rattle.coco_types.specs.declared.call.Piece.{Piece}
 use Rattle.coco_types.specs.declared.call.Request.{Request}
 use Rattle.coco_ast.specs.Keyed.{Rows}
 use Rattle.coco_ast.specs.Tree.{Procedures}
-use Rattle.coco_epoch.specs.SerialEpoch.{IsSerialEpoch}
+use Rattle.coco_tail.specs.SerialEpoch.{IsSerialEpoch}
 use Rattle.coco_order.specs.Execution.{Beginning, Execution, IsExecution, Journal, Transcript}
 use Rattle.coco_order.specs.Outcome.{IsOutcome}
 use Rattle.coco_shard.specs.RowState.{ShardState}

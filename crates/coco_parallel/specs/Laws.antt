@@ -8,7 +8,7 @@ use Rattle.coco_types.specs.declared.call.Request.{Request}
 use Rattle.coco_ast.specs.Fitting.{Fits}
 use Rattle.coco_ast.specs.History.{rows_after}
 use Rattle.coco_ast.specs.Keyed.{Rows, value_at}
-use Rattle.coco_epoch.specs.Shards.{AreOfPartitions, HaveNewest, HoldMap, KeepStable, row_in}
+use Rattle.coco_tail.specs.Shards.{AreOfPartitions, HaveNewest, HoldMap, KeepStable, row_in}
 use Rattle.coco_order.specs.Execution.{IsExecution, Journal, journal_on}
 use Rattle.coco_order.specs.Order.{AreInOrder}
 use Rattle.coco_order.specs.Outcome.{AreCommits, IsOutcome, tail_dones, tail_requests}

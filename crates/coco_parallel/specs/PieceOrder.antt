@@ -6,7 +6,7 @@ use Rattle.coco_types.specs.declared.call.Done.{Done}
 use Rattle.coco_types.specs.declared.call.Piece.{Piece}
 use Rattle.coco_types.specs.declared.call.Request.{Request}
 use Rattle.coco_ast.specs.History.{rows_after}
-use Rattle.coco_epoch.specs.Pieces.{pieces_of}
+use Rattle.coco_tail.specs.Pieces.{pieces_of}
 use Rattle.coco_order.specs.Execution.{Journal, concat}
 use Rattle.coco_order.specs.Outcome.{tail_dones, tail_requests}
 use Rattle.coco_shard.specs.RowState.{ShardState}

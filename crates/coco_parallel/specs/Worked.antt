@@ -11,7 +11,7 @@ use Rattle.coco_copy.specs.CopyState.{CopyState, begun}
 use Rattle.coco_copy.specs.Puts.{after_ask, answer_in}
 use Rattle.coco_copy.specs.declared.ops.CopyAnswer.{CopyAnswer}
 use Rattle.coco_copy.specs.declared.ops.CopyAsk.{CopyAsk}
-use Rattle.coco_epoch.specs.Shards.{shard_at}
+use Rattle.coco_tail.specs.Shards.{shard_at}
 use Rattle.coco_journaled.specs.declared.entry.Entry.{Entry}
 use Rattle.coco_journaled.specs.Passes.{HasPasses, entries_of}
 use Rattle.coco_journaled.specs.Replay.{Replays}

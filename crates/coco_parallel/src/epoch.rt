@@ -3,9 +3,9 @@
 ghost use Rattle.std.specs.Prelude.{◌≡◌, ℕ, ◌*◌, ◌<◌, ◌≤◌, [], length, map, nat_eq, slice_index_or, IfOk, IfErr};
 ghost use Rattle.std.specs.List.{IsDistinct};
 ghost use Rattle.coco_ast.specs.Keyed.{Rows};
-ghost use Rattle.coco_epoch.specs.Running.{FitAll};
-ghost use Rattle.coco_epoch.specs.SerialEpoch.{IsSerialEpoch};
-ghost use Rattle.coco_epoch.specs.Shards.{HoldMap, AreOfPartitions, AreSettled};
+ghost use Rattle.coco_tail.specs.Running.{FitAll};
+ghost use Rattle.coco_tail.specs.SerialEpoch.{IsSerialEpoch};
+ghost use Rattle.coco_tail.specs.Shards.{HoldMap, AreOfPartitions, AreSettled};
 ghost use Rattle.coco_parallel.specs.Epochs.{beginning_with};
 ghost use Rattle.coco_parallel.specs.Traces.{IsTraceOf, traced};
 ghost use Rattle.coco_parallel.specs.Worked.{AreReplayed, HaveCommits, begun_all, start_of};
@@ -13,7 +13,7 @@ ghost use Rattle.coco_parallel.specs.Worked.{AreReplayed, HaveCommits, begun_all
 use crate::ends::end_epoch;
 use crate::laws::{ends_are_serial, tails_are_left};
 use crate::rooms::Rooms;
-use crate::side_by_side::{EpochRefused, Worked, run_workers, taken_back};
+use crate::side_by_side::{EpochRefused, WorkersEnd, run_workers, taken_back};
 use crate::trace::{Trace, add_idle};
 use coco_ast::Checked;
 use coco_copy::CopyTable;
@@ -45,7 +45,7 @@ pub struct EpochDone {
 /// as a tail, those that no worker committed. The calls of the requests go into their Dones, and what is left of the
 /// requests isn't told. The copies begin the epoch. Out of memory, the shards are as they were handed in, and so are the
 /// copies but for what pended in them. The locks and the transcripts begin with these rooms (`Rooms::keep` takes them back,
-/// once they are read). `promote_all` of `coco_epoch` commits what it leaves in the shards.
+/// once they are read). `promote_all` of `coco_tail` commits what it leaves in the shards.
 pub fn run_epoch<R: Threads + Wait + Sync, G: Gate + Sync, N: Net + Sync>(
     rt: &R,
     alloc: Global,
@@ -82,7 +82,7 @@ pub fn run_epoch<R: Threads + Wait + Sync, G: Gate + Sync, N: Net + Sync>(
     ensures shards { IfErr result (λ refused. refused.shards.items ≡ shards.items) }
     ensures copies { IfErr result (λ refused. refused.copies.items ≡ begun_all config.epoch copies.items) }
 {
-    let Worked {
+    let WorkersEnd {
         mut shards,
         journals,
         copies,

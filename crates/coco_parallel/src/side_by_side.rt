@@ -6,7 +6,7 @@ ghost use Rattle.coco_ast.specs.Fitting.{Fits};
 ghost use Rattle.coco_ast.specs.Keyed.{Rows};
 ghost use Rattle.coco_copy.specs.CopyState.{CopyState};
 ghost use Rattle.coco_desks.specs.Desks.{AreBackBy, AreDealt, IsOpen};
-ghost use Rattle.coco_epoch.specs.Shards.{AreSettled, SettleOn};
+ghost use Rattle.coco_tail.specs.Shards.{AreSettled, SettleOn};
 ghost use Rattle.coco_shard.specs.RowState.{ShardState, stable_at};
 ghost use Rattle.coco_parallel.specs.Closing.{HasAllBack};
 ghost use Rattle.coco_parallel.specs.Stations.{IsCrew};
@@ -20,7 +20,6 @@ use coco_claim::{ClaimSeat, Claims};
 use coco_copy::CopyTable;
 use coco_desks::desks::{Desk, close, open};
 use coco_desks::locks::EndedLocks;
-use coco_epoch::revert_all;
 use coco_gate::Gate;
 use coco_journaled::{Journal, Pass};
 use coco_net::Net;
@@ -28,6 +27,7 @@ use coco_occ::Transcript;
 use coco_order::laws::closed_journals_are_lawful;
 use coco_packs::Packs;
 use coco_shard::Shard;
+use coco_tail::revert_all;
 use coco_types::limits::{MOST_BATCH_LINES, MOST_PARTITIONS};
 use coco_types::{NoMemory, Pieces, Request};
 use coco_worker::EpochConfig;
@@ -37,7 +37,7 @@ use std::thread::Threads;
 
 /// What workers came to: the shards and the copies with the journals of their locks, and what each worker kept.
 #[derive(Drop)]
-pub struct Worked {
+pub struct WorkersEnd {
     pub shards: Vec<Shard>,
     pub journals: Vec<Journal<Shard>>,
     pub copies: Vec<CopyTable>,
@@ -86,7 +86,7 @@ pub fn run_workers<R: Threads + Wait + Sync, G: Gate + Sync, N: Net + Sync>(
     gate: &G,
     net: &N,
     rooms: &mut Rooms,
-) -> Result<Worked, EpochRefused>
+) -> Result<WorkersEnd, EpochRefused>
     requires some { 0 < length shards.items }
     requires most { length shards.items ≤ MOST_PARTITIONS }
     requires tables { length copies.items ≡ length shards.items * config.copies }
@@ -133,7 +133,7 @@ fn run_crew<R: Threads + Wait + Sync, G: Gate + Sync, N: Net + Sync>(
     gate: &G,
     net: &N,
     rooms: &mut Rooms,
-) -> (Worked, bool)
+) -> (WorkersEnd, bool)
     requires shards { (machines : List ShardState) × IsOpen config.started machines desks.shards.locks desks.shards.trays desks.shards.back desks.shards.ended.machines desks.shards.ended.journals desks.rows.items }
     requires copies { (tables : List CopyState) × IsOpen config.started tables desks.copies.locks desks.copies.trays desks.copies.back desks.copies.ended.machines desks.copies.ended.journals desks.copy_rows.items }
     requires crew { IsCrew (length requests.now) config.started crew.claims crew.seats crew.back crew.stations crew.left }
@@ -207,7 +207,7 @@ fn worked_of(
     copies: EndedLocks<CopyTable>,
     left: Left,
     rooms: &mut Rooms,
-) -> Worked
+) -> WorkersEnd
     ensures { result ≡ record { shards = shards.machines; journals = shards.journals; copies = copies.machines; copy_journals = copies.journals; transcripts = left.transcripts; pieces = left.pieces } }
 {
     let Left {
@@ -218,7 +218,7 @@ fn worked_of(
     rooms.scripts = scripts;
     rooms.shard_lists = shards.lists;
     rooms.copy_lists = copies.lists;
-    Worked {
+    WorkersEnd {
         shards: shards.machines,
         journals: shards.journals,
         copies: copies.machines,

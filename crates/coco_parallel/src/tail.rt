@@ -2,7 +2,7 @@
 
 ghost use Rattle.std.specs.Prelude.{◌≡◌, ℕ, ◌<◌, ◌≤◌, ◌||◌, ◌++◌, ◌∷◌, [], List, Bool, All, true, false, length, map, nat_eq, slice_index_or, vec_len, IfOk, OnOk};
 ghost use Rattle.std.specs.List.{IsDistinct};
-ghost use Rattle.coco_epoch.specs.Running.{AreAtTheirPlaces, requests_of};
+ghost use Rattle.coco_tail.specs.Running.{AreAtTheirPlaces, requests_of};
 ghost use Rattle.coco_order.specs.Execution.{Execution, Journal, concat};
 ghost use Rattle.coco_order.specs.Outcome.{uncommitted};
 ghost use Rattle.coco_parallel.specs.Ends.{AreCommitted, ends_at, has_commit};
@@ -10,8 +10,8 @@ ghost use Rattle.coco_parallel.specs.Epochs.{execution_with};
 ghost use Rattle.coco_parallel.specs.Tails.{tail_from};
 ghost use Rattle.coco_worker.specs.Trying.{ends_of};
 
-use coco_epoch::PlacedRequest;
 use coco_occ::{Ended, Ends, Outcome, Tailed, Transcript, Tried};
+use coco_tail::PlacedRequest;
 use coco_types::limits::MOST_BATCH_LINES;
 use coco_types::{NoMemory, Request};
 use coco_worker::Tail;

@@ -67,11 +67,6 @@ piece_first count place time ws p lt there =
     one [] there = absurd (there refl)
     one (v ∷ vs) there = refl
 
--- a request without writes has none
-pub nothing_written : (count place time p n : ℕ) → pieces_from count place time [] p n ≡ []
-nothing_written count place time p zero = refl
-nothing_written count place time p (suc n) = nothing_written count place time (suc p) n
-
 -- before the first partition that is written, all pieces are to come
 pub pieces_begin : (count place time : ℕ) (ws : List Write) (next : ℕ) → next ≤ count → ((q : ℕ) → 0 ≤ q → q < next → writes_on count q ws ≡ []) → pieces_from count place time ws next (count - next) ≡ request_pieces count place time ws
 pieces_begin count place time ws next most none =

@@ -1,12 +1,13 @@
 -- What a request wrote, partition by partition.
-use Rattle.std.specs.Prelude.{ℕ, zero, suc, ◌%◌, nat_eq, List, [], ◌∷◌, ◌++◌}
+use Rattle.std.specs.Prelude.{ℕ, zero, suc, nat_eq, List, [], ◌∷◌, ◌++◌}
 use Rattle.std.specs.List.{filter}
+use Rattle.coco_types.specs.RowKey.{partition_of}
 use Rattle.coco_types.specs.declared.call.Piece.{Piece}
 use Rattle.coco_types.specs.declared.call.Write.{Write}
 
 -- those of the writes that are on the partition p of so many
 abbrev pub writes_on : ℕ → ℕ → List Write → List Write
-writes_on count p = filter (λ w. nat_eq (w.key.row % count) p)
+writes_on count p = filter (λ w. nat_eq (partition_of count w.key) p)
 
 -- a request's piece of a partition, where it writes there
 abbrev pub piece_of : ℕ → ℕ → ℕ → List Write → List Piece

@@ -3,4 +3,4 @@
 
 mod pieces;
 
-pub use pieces::{add_pieces, partition_of};
+pub use pieces::add_pieces;

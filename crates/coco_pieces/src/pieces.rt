@@ -1,20 +1,11 @@
 //! The pieces of a request: its writes, partition by partition.
 
-ghost use Rattle.std.specs.Prelude.{◌≡◌, ◌≢◌, ◌<◌, ◌≤◌, ◌++◌, ◌%◌, ℕ, [], length, IfOk, OnOk};
+ghost use Rattle.std.specs.Prelude.{◌≡◌, ◌≢◌, ◌<◌, ◌≤◌, ◌++◌, ℕ, [], IfOk, OnOk};
 ghost use Rattle.coco_pieces.specs.Pieces.{request_pieces, writes_on};
 
 use coco_types::limits::MOST_PARTITIONS;
-use coco_types::{Key, NoMemory, PackedWrite, PackedWrites, Piece, Pieces, Write};
+use coco_types::{NoMemory, PackedWrite, PackedWrites, Piece, Pieces, Write};
 use std::alloc::Global;
-
-/// The partition of a key, of so many.
-pub fn partition_of(key: Key, count: usize) -> usize
-    requires { 0 < count }
-    ensures is { result ≡ key.row % count }
-    ensures within { result < count }
-{
-    (key.row % count as u64) as usize
-}
 
 /// Adds the pieces of a request at this place and time, one for each of so many partitions that it writes, rising
 /// by partition.
@@ -54,7 +45,7 @@ fn next_partition(writes: &[Write], count: usize, from: usize) -> usize
     let mut next = count;
     if from < count {
         for write in writes {
-            let partition = partition_of(write.key, count);
+            let partition = write.key.partition(count);
             if from <= partition && partition < next {
                 next = partition;
             }
@@ -75,7 +66,7 @@ fn writes_in(
 {
     let mut found = Vec::new(alloc);
     for write in writes {
-        if partition_of(write.key, count) == partition {
+        if write.key.partition(count) == partition {
             found.push(PackedWrite::of(alloc, write)?)?;
         }
     }

@@ -20,7 +20,7 @@ use Rattle.coco_query.specs.Answers.{FrozenJournal, HaveRead, IsReplied, IsTold,
 use Rattle.coco_query.specs.Placing.{HaveRun, blanks, put_all, put_lists}
 use Rattle.coco_query.specs.Readers.{IsServed, Served, places_of, reading_of, replied}
 use Rattle.coco_query.specs.declared.answering.Answered.{Answered}
-use Rattle.coco_query.specs.declared.answering.Ran.{Ran}
+use Rattle.coco_query.specs.declared.answering.ReadersEnd.{ReadersEnd}
 use Rattle.coco_query.specs.declared.frozen.Frozen.{Frozen}
 use Rattle.coco_query.specs.declared.frozen.FrozenAnswer.{FrozenAnswer}
 use Rattle.coco_query.specs.declared.frozen.FrozenAsk.{FrozenAsk}
@@ -122,7 +122,7 @@ told_all : (procs : Procedures) (requests : List Request) (replies : List Reply)
 told_all procs requests replies [] each put = tt
 told_all procs requests replies (s ∷ served) each put = ((s.reply, put.0, each.0), told_all procs requests replies served each.1 put.1)
 
-module _ (procs : Procedures) (requests : List Request) (gate readers : ℕ) (tables : List Frozen) (r : Ran) (ran : HaveRun procs requests gate readers tables r) where
+module _ (procs : Procedures) (requests : List Request) (gate readers : ℕ) (tables : List Frozen) (r : ReadersEnd) (ran : HaveRun procs requests gate readers tables r) where
   abbrev all_replies : List Replied
   all_replies = joined r.replies.items
 

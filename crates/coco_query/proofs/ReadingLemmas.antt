@@ -70,9 +70,6 @@ pub never_changed : (table : Frozen) (entries : List (Entry FrozenAsk FrozenAnsw
 never_changed table [] = refl
 never_changed table (e ∷ entries) = never_changed table entries
 
-given_same : (key : RowKey) (table : Frozen) → given_by key (answer_in table (Get key)) ≡ record { key = key; value = had table key }
-given_same key table = refl
-
 module _ (count : ℕ) (passes : List FrozenPass) (i : ℕ) (q d : FrozenPass) (key : RowKey) (answer : FrozenAnswer) (at : i ≡ key.row % count) (lt : i < length passes) (steps : Steps answer_in after_ask (slice_index_or passes i d) (Get key) answer q) where
   abbrev one : Given
   one = given_by key answer

@@ -1,6 +1,7 @@
 -- What readers of tables come to.
-use Rattle.std.specs.Prelude.{◌≡◌, ℕ, ◌%◌, ◌<◌, List, [], All, Some, length, map, slice_index_or, sum_by}
+use Rattle.std.specs.Prelude.{◌≡◌, ℕ, ◌<◌, List, [], All, Some, length, map, slice_index_or, sum_by}
 use Rattle.std.specs.List.{AllByRecursion, flat_map, slice_get}
+use Rattle.coco_types.specs.RowKey.{partition_of}
 use Rattle.coco_types.specs.declared.call.Reply.{Reply}
 use Rattle.coco_types.specs.declared.call.Request.{Request}
 use Rattle.coco_ast.specs.Keyed.{Rows}
@@ -33,7 +34,7 @@ entered e = given_in e.ask e.answer
 
 -- the value is the one that the key has in its table
 abbrev pub IsIn : List Frozen → Given → Type 0
-IsIn tables g = g.value ≡ had (table_at tables (g.key.row % length tables)) g.key
+IsIn tables g = g.value ≡ had (table_at tables (partition_of (length tables) g.key)) g.key
 
 -- the reply that stands at the reading's place is the one of its call
 abbrev pub IsReplied : Procedures → List Request → List Reply → Reading → Type 0

@@ -3,7 +3,7 @@ use Rattle.std.specs.Prelude.{◌≡◌, ℕ, suc, ◌<◌, ◌^◌, false, List
 use Rattle.std.specs.Global.{Vec}
 use Rattle.coco_types.specs.declared.call.Request.{Request}
 use Rattle.coco_ast.specs.Tree.{Procedures}
-use Rattle.coco_claim.specs.Seats.{Drawer, new_seats}
+use Rattle.coco_claim.specs.Seats.{Drawer, Round, new_seats}
 use Rattle.coco_desks.specs.Desks.{HasRoom}
 use Rattle.coco_query.specs.Reading.{FrozenPass}
 use Rattle.coco_query.specs.Readers.{Leaves}
@@ -34,3 +34,9 @@ pub record IsCrew (requests readers : ℕ) (crew : Crew) : Type 0 where
 abbrev pub LeavesEach : Procedures → List Request → ℕ → ℕ → List Reader → List Reader → Type 0
 LeavesEach procs requests count gate before after =
     (place : ℕ) (d : Reader) → place < length before → Leaves procs requests count gate (slice_index_or before place d) (slice_index_or after place d)
+
+-- the readers of these rows and of the claims' seats have left so much
+pub record HaveLeft (procs : Procedures) (requests : List Request) (count gate : ℕ) (rows : List (Vec FrozenPass)) (claims : Round) (after : List Reader) : Type 0 where
+  pub as_many : length after ≡ claims.seats
+  pub each : (n : ℕ) (d : Reader) → n < claims.seats
+      → Leaves procs requests count gate (reader_of n (slice_index_or rows n d.passes) (slice_index_or (new_seats claims) n d.seat)) (slice_index_or after n d)

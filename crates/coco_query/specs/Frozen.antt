@@ -1,7 +1,7 @@
 -- Tables that never change: what they have, and the map that they hold together.
-use Rattle.std.specs.Prelude.{◌≡◌, ℕ, ◌%◌, ◌<◌, List, length, slice_index_or, Option, IsSome}
+use Rattle.std.specs.Prelude.{◌≡◌, ℕ, ◌<◌, List, length, slice_index_or, Option, IsSome}
 use Rattle.std.specs.FinMap.{empty}
-use Rattle.coco_types.specs.RowKey.{RowKey}
+use Rattle.coco_types.specs.RowKey.{RowKey, partition_of}
 use Rattle.coco_types.specs.declared.value.Value.{Value}
 use Rattle.coco_ast.specs.Keyed.{Rows, on_partition, value_at}
 use Rattle.coco_shard.specs.RowState.{stable_at}
@@ -33,7 +33,7 @@ table_at tables p = slice_index_or tables p (Shard empty)
 
 -- each key of the table at place p is of partition p of so many
 abbrev pub AreOfPartitions : List Frozen → Type 0
-AreOfPartitions tables = (p : ℕ) (k : RowKey) → p < length tables → IsSome (had (table_at tables p) k) → k.row % length tables ≡ p
+AreOfPartitions tables = (p : ℕ) (k : RowKey) → p < length tables → IsSome (had (table_at tables p) k) → partition_of (length tables) k ≡ p
 
 -- the table at place p has the map's rows of partition p, and no others
 abbrev pub HoldsFrozen : Rows → List Frozen → Type 0

@@ -11,7 +11,7 @@ use Rattle.coco_journaled.specs.Passes.{entries_of}
 use Rattle.coco_query.specs.Answers.{IsIn, entered, journal_at}
 use Rattle.coco_query.specs.Reading.{gets_at}
 use Rattle.coco_query.specs.Readers.{IsServed, Served, had_by, places_of, points_of, reading_of, replied}
-use Rattle.coco_query.specs.declared.answering.Ran.{Ran}
+use Rattle.coco_query.specs.declared.answering.ReadersEnd.{ReadersEnd}
 use Rattle.coco_query.specs.declared.frozen.Frozen.{Frozen}
 use Rattle.coco_query.specs.declared.frozen.FrozenAnswer.{FrozenAnswer}
 use Rattle.coco_query.specs.declared.frozen.FrozenAsk.{FrozenAsk}
@@ -21,7 +21,7 @@ use Rattle.coco_query.specs.declared.readers.Transcript.{Transcript}
 -- ---- what readers leave
 
 -- what one reader left: its readings with their replies
-pub record HasRun (procs : Procedures) (requests : List Request) (gate : ℕ) (tables : List Frozen) (r : Ran) (reader : ℕ) (t : Transcript) (kept : List Replied) : Type 0 where
+pub record HasRun (procs : Procedures) (requests : List Request) (gate : ℕ) (tables : List Frozen) (r : ReadersEnd) (reader : ℕ) (t : Transcript) (kept : List Replied) : Type 0 where
   pub served : List Served
   pub each : AllByRecursion (IsServed procs requests) served
   pub readings : t.readings ≡ map reading_of served
@@ -30,7 +30,7 @@ pub record HasRun (procs : Procedures) (requests : List Request) (gate : ℕ) (t
   pub entries : (p : ℕ) → p < length tables → map entered (entries_of reader (journal_at r.journals.items p)) ≡ gets_at (length tables) p (had_by t.readings)
   pub passed : t.passed ≡ flat_map (points_of gate reader) t.readings
 
-pub record HaveRun (procs : Procedures) (requests : List Request) (gate readers : ℕ) (tables : List Frozen) (r : Ran) : Type 0 where
+pub record HaveRun (procs : Procedures) (requests : List Request) (gate readers : ℕ) (tables : List Frozen) (r : ReadersEnd) : Type 0 where
   pub journals : length r.journals.items ≡ length tables
   pub count : length r.transcripts.items ≡ readers
   pub as_many : length r.replies.items ≡ readers

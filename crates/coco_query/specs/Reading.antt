@@ -1,7 +1,7 @@
 -- What a reader asks of tables and is answered, and what that says of its call.
-use Rattle.std.specs.Prelude.{◌≡◌, ℕ, ◌%◌, nat_eq, List, filter, Option, None, Some}
+use Rattle.std.specs.Prelude.{◌≡◌, ℕ, nat_eq, List, filter, Option, None, Some}
 use Rattle.std.specs.List.{AllByRecursion, slice_get}
-use Rattle.coco_types.specs.RowKey.{RowKey}
+use Rattle.coco_types.specs.RowKey.{RowKey, partition_of}
 use Rattle.coco_types.specs.declared.call.Call.{Call}
 use Rattle.coco_types.specs.declared.call.Reply.{Reply}
 use Rattle.coco_ast.specs.Keyed.{Rows}
@@ -38,7 +38,7 @@ got c = given_in c.ask c.answer
 
 -- those of them whose keys are on the table at a place, of so many
 abbrev pub gets_at : ℕ → ℕ → List Given → List Given
-gets_at count p gs = filter (λ (g : Given). nat_eq (g.key.row % count) p) gs
+gets_at count p gs = filter (λ (g : Given). nat_eq (partition_of count g.key) p) gs
 
 -- the table that a pass found at its start
 abbrev pub root_of : Option FrozenPass → Option Frozen
@@ -47,7 +47,7 @@ root_of (Some p) = p.root
 
 -- the value is the one that the key has in its table, by the pass of that
 abbrev pub IsAnswered : ℕ → List FrozenPass → Given → Type 0
-IsAnswered count passes g = (table : Frozen) × (root_of (slice_get passes (g.key.row % count)) ≡ Some table) × (g.value ≡ had table g.key)
+IsAnswered count passes g = (table : Frozen) × (root_of (slice_get passes (partition_of count g.key)) ≡ Some table) × (g.value ≡ had table g.key)
 
 -- each key was asked for at its table and nowhere else, in order, and answered with the value that it has there
 pub record Reads (count : ℕ) (before after : List FrozenPass) (gs : List Given) : Type 0 where

@@ -10,7 +10,7 @@ ghost use Rattle.coco_query.specs.Frozen.{after_ask, answer_in};
 ghost use Rattle.coco_query.specs.Placing.{HaveRun, blanks, put_lists};
 ghost use Rattle.coco_query.specs.declared.frozen.Frozen.{Frozen as Table};
 
-use crate::crew::{Crew, all_done, dismiss, run_all, seated};
+use crate::crew::{Crew, all_done, dismiss, seat_and_run};
 use crate::frozen::Frozen;
 use crate::readers::{Replied, Transcript};
 use coco_ast::Checked;
@@ -33,7 +33,7 @@ pub struct Answered {
 
 /// What readers came to, their replies as they left them.
 #[derive(Drop)]
-pub struct Ran {
+pub struct ReadersEnd {
     pub tables: Vec<Frozen>,
     pub journals: Vec<Journal<Frozen>>,
     pub transcripts: Vec<Transcript>,
@@ -69,7 +69,7 @@ pub fn answers<R: Threads + Wait + Sync, G: Gate + Sync>(
         Err(tables) => return Err((tables, NoMemory)),
     };
     let (ran, done) = run_crew(rt, alloc, desk, rows, crew, procs, requests, gate);
-    let Ran {
+    let ReadersEnd {
         tables,
         journals,
         transcripts,
@@ -99,7 +99,7 @@ fn run_crew<R: Threads + Wait + Sync, G: Gate + Sync>(
     procs: &Checked,
     requests: &[Request],
     gate: &G,
-) -> (Ran, bool)
+) -> (ReadersEnd, bool)
     requires open { (tables : List Table) × IsOpen crew.claims.seats tables desk.locks desk.trays desk.back desk.ended.machines desk.ended.journals rows.items }
     requires crew { IsCrew (length requests.now) crew.claims.seats crew }
     requires some { 0 < length desk.locks.items }
@@ -116,16 +116,17 @@ fn run_crew<R: Threads + Wait + Sync, G: Gate + Sync>(
         readers,
         mut left,
     } = crew;
-    let mut readers = seated(alloc, rows, seats, readers);
-    run_all(
+    let readers = seat_and_run(
         rt,
         alloc,
         &desk.locks,
         &claims,
+        rows,
+        seats,
+        readers,
         procs,
         requests,
         gate,
-        readers.as_mut_slice(),
     );
     let done = all_done(&readers);
     dismiss(readers, &mut desk.back, &mut back, &mut left);
@@ -133,7 +134,7 @@ fn run_crew<R: Threads + Wait + Sync, G: Gate + Sync>(
         claims.close(back);
     }
     let ended = close(desk);
-    let ran = Ran {
+    let ran = ReadersEnd {
         tables: ended.machines,
         journals: ended.journals,
         transcripts: left.transcripts,

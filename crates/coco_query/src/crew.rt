@@ -1,11 +1,13 @@
 //! The readers of a query: made, let run, and taken apart.
 
-ghost use Rattle.std.specs.Prelude.{◌≡◌, ◌<◌, ◌^◌, All, true, map, length, vec_len, IfOk};
+ghost use Rattle.std.specs.Prelude.{◌≡◌, ◌<◌, ◌^◌, List, All, true, map, length, vec_len, IfOk};
 ghost use Rattle.std.specs.List.{AllByRecursion};
 ghost use Rattle.coco_ast.specs.Fitting.{Fits};
-ghost use Rattle.coco_desks.specs.Desks.{HasRoom};
-ghost use Rattle.coco_query.specs.Crews.{IsCrew, LeavesEach, readers_of};
+ghost use Rattle.coco_claim.specs.Seats.{new_seats};
+ghost use Rattle.coco_desks.specs.Desks.{AreDealt, HasRoom};
+ghost use Rattle.coco_query.specs.Crews.{HaveLeft, IsCrew, LeavesEach, readers_of};
 ghost use Rattle.coco_query.specs.Readers.{IsSeated};
+ghost use Rattle.coco_query.specs.declared.frozen.Frozen.{Frozen as Table};
 ghost use Rattle.coco_query.specs.declared.readers.Reader.{Reader as Seated};
 
 use crate::frozen::Frozen;
@@ -61,8 +63,45 @@ impl Crew {
     }
 }
 
-/// A reader for each row of passes and its seat. There is room for them, and no memory is taken.
-pub fn seated(
+/// Seats a reader for each row of passes, and lets all of them run beside each other.
+pub fn seat_and_run<R: Threads + Wait + Sync, G: Gate + Sync>(
+    rt: &R,
+    alloc: Global,
+    tables: &[Journaled<Frozen>],
+    claims: &Claims,
+    rows: Vec<Vec<Pass<Frozen>>>,
+    seats: Vec<ClaimSeat>,
+    readers: Vec<Reader>,
+    procs: &Checked,
+    requests: &[Request],
+    gate: &G,
+) -> Vec<Reader>
+    requires some { 0 < length tables.now }
+    requires readers { 0 < claims.now.seats }
+    requires few { claims.now.seats < 2 ^ 32 }
+    requires numbers { claims.now.n ≡ length requests.now }
+    requires fit { AllByRecursion (λ r. Fits procs.now r.call) requests.now }
+    requires dealt { (of : List Table) × AreDealt claims.now.seats of tables.now rows.items }
+    requires seats { seats.items ≡ new_seats claims.now }
+    requires room { HasRoom claims.now.seats readers }
+    ensures { HaveLeft procs.now requests.now (length tables.now) (G.named gate.now) rows.items claims.now result.items }
+{
+    let mut readers = seated(alloc, rows, seats, readers);
+    run_all(
+        rt,
+        alloc,
+        tables,
+        claims,
+        procs,
+        requests,
+        gate,
+        readers.as_mut_slice(),
+    );
+    readers
+}
+
+// A reader for each row of passes and its seat. There is room for them, and no memory is taken.
+fn seated(
     alloc: Global,
     rows: Vec<Vec<Pass<Frozen>>>,
     seats: Vec<ClaimSeat>,
@@ -95,8 +134,8 @@ pub fn seated(
     readers
 }
 
-/// Lets each reader run in a thread of its own; a single one runs on this thread.
-pub fn run_all<R: Threads + Wait + Sync, G: Gate + Sync>(
+// Lets each reader run in a thread of its own; a single one runs on this thread.
+fn run_all<R: Threads + Wait + Sync, G: Gate + Sync>(
     rt: &R,
     alloc: Global,
     tables: &[Journaled<Frozen>],

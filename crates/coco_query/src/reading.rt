@@ -11,7 +11,6 @@ use crate::frozen::{Frozen, FrozenAnswer, FrozenAsk};
 use coco_ast::Checked;
 use coco_eval::Run;
 use coco_journaled::{Journaled, Pass};
-use coco_pieces::partition_of;
 use coco_types::{Key, NoMemory, Packed, Sequence, Value};
 use std::alloc::Global;
 use std::marker::Model;
@@ -105,6 +104,6 @@ fn get(
     ensures same { AreSame passes.old passes.new }
     ensures reads { OnOk result (Reads (length tables.now) passes.old passes.new (given_by key answer.new ∷ [])) }
 {
-    let place = partition_of(key, tables.len());
+    let place = key.partition(tables.len());
     tables[place].step_lent(rt, &mut passes[place], &FrozenAsk::Get(key), answer)
 }

@@ -1,8 +1,9 @@
 //! The tables of an opened store at one of its epochs.
 
-ghost use Rattle.std.specs.Prelude.{◌≡◌, ℕ, ◌*◌, ◌%◌, ◌<◌, [], ◌∷◌, length, map, slice_index_or, slice_set, vec_len, None, Err, IfOk, OnOk};
+ghost use Rattle.std.specs.Prelude.{◌≡◌, ℕ, ◌*◌, ◌<◌, [], ◌∷◌, length, map, slice_index_or, slice_set, vec_len, None, Err, IfOk, OnOk};
 ghost use Rattle.std.specs.List.{AllByRecursion, flat_map};
 ghost use Rattle.std.specs.FinMap.{empty};
+ghost use Rattle.coco_types.specs.RowKey.{partition_of};
 ghost use Rattle.coco_ast.specs.Fitting.{Fits};
 ghost use Rattle.coco_ast.specs.History.{map_of, rows_after, up_to};
 ghost use Rattle.coco_ast.specs.Keyed.{Rows, put_over};
@@ -26,7 +27,6 @@ use coco_copy::CopyTable;
 use coco_entry::Layout;
 use coco_kept::Kept;
 use coco_load::{PackedRow, PackedRows, Tables};
-use coco_pieces::partition_of;
 use coco_recover::Opened;
 use coco_serial::Executor;
 use coco_shard::Shard;
@@ -287,10 +287,10 @@ fn load_writes(shards: &mut Vec<Shard>, layout: &Layout, writes: &[Write]) -> Re
 
 fn load_write(shards: &mut Vec<Shard>, write: &Write) -> Result<(), NoMemory>
     requires some { 0 < length shards.old.items }
-    requires settled { IsSettled (shard_at shards.old.items (write.now.key.row % length shards.old.items)) }
-    ensures { OnOk result (let place = write.now.key.row % length shards.old.items in
+    requires settled { IsSettled (shard_at shards.old.items (partition_of (length shards.old.items) write.now.key)) }
+    ensures { OnOk result (let place = partition_of (length shards.old.items) write.now.key in
         shards.new.items ≡ slice_set shards.old.items place (loaded (shard_at shards.old.items place) write.now.key write.now.value)) }
 {
-    let place = partition_of(write.key, shards.len());
+    let place = write.key.partition(shards.len());
     shards[place].load(write.key, write.value)
 }

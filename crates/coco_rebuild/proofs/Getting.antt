@@ -5,14 +5,13 @@ use Rattle.std.specs.List.{AllByRecursion, flat_map}
 use Rattle.std.proofs.Math.Nat.{mod-add-div'}
 use Rattle.std.proofs.lemmas.Bool.{eq-eqb, eqb-false, eqb-true, le-leb, leb-true, ltb-false, ltb-true, ne_eqb}
 use Rattle.std.proofs.lemmas.Nat.{mod-mul-add, mod_below}
-use Rattle.coco_types.specs.RowKey.{RowKey}
+use Rattle.coco_types.specs.RowKey.{RowKey, partition_of}
 use Rattle.coco_ast.proofs.Lists.{all_append}
 use Rattle.coco_entry.specs.declared.layout.Layout.{Layout}
 use Rattle.coco_entry.specs.declared.prepared.Prepared.{Prepared}
 use Rattle.coco_entry.specs.declared.prepared.Row.{Row}
 use Rattle.coco_load.proofs.Ring.{behind_above, behind_below, one_round}
 use Rattle.coco_store.specs.Contents.{Contents}
-use Rattle.coco_store.specs.Placement.{partition_of}
 use Rattle.coco_store.specs.Rules.{EachBehind, IsNextPrepared, IsNodeRow, Setting}
 use Rattle.coco_rebuild.specs.Rebuilding.{IsHeldAlone, holder_behind, on_rows, rows_at}
 use Rattle.coco_rebuild.specs.Sources.{AreGot, Interleaves, gets, node_after, node_first, nodes_behind}
@@ -71,7 +70,7 @@ module _ (layout : Layout) (node : ℕ) (less : node < layout.nodes) (around : l
   one_place : (p j : ℕ) → j ≤ layout.copies → node ≡ (p + j) % layout.nodes → nodes_behind layout p node ≡ j
   one_place p j le held = let is = behind_is p in one_round layout.nodes p (nodes_behind layout p node) j is.0 (omega (arith, le, around)) (is.1 ∙ held)
 
-  gets_is : (from p j : ℕ) (key : RowKey) → partition_of layout key ≡ p → j ≤ layout.copies → node ≡ (p + j) % layout.nodes → gets layout node from key ≡ (holder_behind layout p j == from)
+  gets_is : (from p j : ℕ) (key : RowKey) → partition_of layout.partitions key ≡ p → j ≤ layout.copies → node ≡ (p + j) % layout.nodes → gets layout node from key ≡ (holder_behind layout p j == from)
   gets_is from p j key on le held =
       ap (λ (q : ℕ). nat_le (nodes_behind layout q node) layout.copies && (holder_behind layout q (nodes_behind layout q node) == from)) on
       ∙ ap (λ (i : ℕ). nat_le i layout.copies && (holder_behind layout p i == from)) (one_place p j le held)
@@ -88,7 +87,7 @@ module _ (layout : Layout) (node : ℕ) (less : node < layout.nodes) (around : l
   -- ---- the rows of a partition that the node holds
 
   module _ (from p j : ℕ) (le : j ≤ layout.copies) (held : node ≡ (p + j) % layout.nodes) where
-    off : (r : Row) (rs : List Row) → nat_eq (partition_of layout r.key) p ≡ false
+    off : (r : Row) (rs : List Row) → nat_eq (partition_of layout.partitions r.key) p ≡ false
         → on_rows layout p (cond (gets layout node from r.key) (r ∷ filter (λ x. gets layout node from x.key) rs) (filter (λ x. gets layout node from x.key) rs)) ≡ on_rows layout p (filter (λ x. gets layout node from x.key) rs)
     off r rs f =
         let those : List Row = filter (λ x. gets layout node from x.key) rs in
@@ -102,8 +101,8 @@ module _ (layout : Layout) (node : ℕ) (less : node < layout.nodes) (around : l
     gets_all from_it [] = refl
     gets_all from_it (r ∷ rs) =
         let those : List Row = filter (λ x. gets layout node from x.key) rs in
-        elim (nat_eq (partition_of layout r.key) p) as (λ b. nat_eq (partition_of layout r.key) p ≡ b → on_rows layout p (cond (gets layout node from r.key) (r ∷ those) those) ≡ cond b (r ∷ on_rows layout p rs) (on_rows layout p rs)) [
-          | true ↦ λ t. (let got : gets layout node from r.key ≡ true = gets_is from p j r.key (eqb-true (partition_of layout r.key) p t) le held ∙ from_it in
+        elim (nat_eq (partition_of layout.partitions r.key) p) as (λ b. nat_eq (partition_of layout.partitions r.key) p ≡ b → on_rows layout p (cond (gets layout node from r.key) (r ∷ those) those) ≡ cond b (r ∷ on_rows layout p rs) (on_rows layout p rs)) [
+          | true ↦ λ t. (let got : gets layout node from r.key ≡ true = gets_is from p j r.key (eqb-true (partition_of layout.partitions r.key) p t) le held ∙ from_it in
               ap (λ (b : Bool). on_rows layout p (cond b (r ∷ those) those)) got
               ∙ ap (λ (b : Bool). cond b (r ∷ on_rows layout p those) (on_rows layout p those)) t
               ∙ ap (λ (l : List Row). r ∷ l) (gets_all from_it rs))
@@ -114,8 +113,8 @@ module _ (layout : Layout) (node : ℕ) (less : node < layout.nodes) (around : l
     gets_none other [] = refl
     gets_none other (r ∷ rs) =
         let those : List Row = filter (λ x. gets layout node from x.key) rs in
-        elim (nat_eq (partition_of layout r.key) p) as (λ b. nat_eq (partition_of layout r.key) p ≡ b → on_rows layout p (cond (gets layout node from r.key) (r ∷ those) those) ≡ []) [
-          | true ↦ λ t. (let not_got : gets layout node from r.key ≡ false = gets_is from p j r.key (eqb-true (partition_of layout r.key) p t) le held ∙ other in
+        elim (nat_eq (partition_of layout.partitions r.key) p) as (λ b. nat_eq (partition_of layout.partitions r.key) p ≡ b → on_rows layout p (cond (gets layout node from r.key) (r ∷ those) those) ≡ []) [
+          | true ↦ λ t. (let not_got : gets layout node from r.key ≡ false = gets_is from p j r.key (eqb-true (partition_of layout.partitions r.key) p t) le held ∙ other in
               ap (λ (b : Bool). on_rows layout p (cond b (r ∷ those) those)) not_got ∙ gets_none other rs)
           | false ↦ λ f. off r rs f ∙ gets_none other rs
         ] refl
@@ -155,7 +154,7 @@ module _ (layout : Layout) (node : ℕ) (less : node < layout.nodes) (around : l
 
       by_first : n ≡ after → on_rows layout p zs ≡ on_rows layout p (rows_at epoch (c.prepared n))
       by_first is =
-          first_alone (λ r. nat_eq (partition_of layout r.key) p) xs ys zs both (no_second is)
+          first_alone (λ r. nat_eq (partition_of layout.partitions r.key) p) xs ys zs both (no_second is)
           ∙ ap (on_rows layout p) (got.after some)
           ∙ gets_all after p j le held (eq-eqb n after is) (rows_at epoch (c.prepared after))
           ∙ ap (λ (m : ℕ). on_rows layout p (rows_at epoch (c.prepared m))) (sym is)
@@ -164,7 +163,7 @@ module _ (layout : Layout) (node : ℕ) (less : node < layout.nodes) (around : l
       by_second is apart =
           let none : on_rows layout p xs ≡ [] =
           ap (on_rows layout p) (got.after some) ∙ gets_none after p j le held (ne_eqb n after (λ e. apart (sym e ∙ is))) (rows_at epoch (c.prepared after)) in
-          second_alone (λ r. nat_eq (partition_of layout r.key) p) xs ys zs both none
+          second_alone (λ r. nat_eq (partition_of layout.partitions r.key) p) xs ys zs both none
           ∙ ap (on_rows layout p) (got.first some apart)
           ∙ gets_all first p j le held (eq-eqb n first is) (rows_at epoch (c.prepared first))
           ∙ ap (λ (m : ℕ). on_rows layout p (rows_at epoch (c.prepared m))) (sym is)
@@ -203,7 +202,7 @@ and_left false b e = let no : false ≡ true = e in cc
 module _ (s : Setting) (node : ℕ) (less : node < s.entry.layout.nodes) (around : s.entry.layout.copies < s.entry.layout.nodes) where
   own_row : (from m : ℕ) (r : Row) → gets s.entry.layout node from r.key ≡ true → IsNodeRow s m r → IsNodeRow s node r
   own_row from m r got is =
-      let p : ℕ = partition_of s.entry.layout r.key in
+      let p : ℕ = partition_of s.entry.layout.partitions r.key in
       let j : ℕ = nodes_behind s.entry.layout p node in
       let le : j ≤ s.entry.layout.copies = leb-true j s.entry.layout.copies (and_left (nat_le j s.entry.layout.copies) (holder_behind s.entry.layout p j == from) got) in
       record { held = (j, le, sym (behind_is s.entry.layout node less around p).1); table = is.table }

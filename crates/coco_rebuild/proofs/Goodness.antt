@@ -5,6 +5,7 @@ use Rattle.std.specs.Set.{is_member}
 use Rattle.std.proofs.lemmas.Bool.{eq-eqb, eqb-false, eqb-true, or_left, or_right}
 use Rattle.std.proofs.lemmas.List.{get_or-set_other, get_or-set_same, map-append}
 use Rattle.std.proofs.lemmas.List.Elements.{filter-append}
+use Rattle.coco_types.specs.RowKey.{partition_of}
 use Rattle.coco_types.specs.declared.call.Write.{Write}
 use Rattle.coco_host.specs.Files.{Files}
 use Rattle.coco_append.proofs.PastLemmas.{logs_besides}
@@ -23,7 +24,7 @@ use Rattle.coco_recover.proofs.LeftOut.{behind_gates_but}
 use Rattle.coco_store.specs.Contents.{Contents, HoldsNode, chief_of, committed_writes, file_of, map_in, on, rows_of, writes_on}
 use Rattle.coco_store.specs.Entries.{ArePrepared, files_of}
 use Rattle.coco_store.specs.Laws.{KeepLogs}
-use Rattle.coco_store.specs.Placement.{IsHeldBy, partition_of}
+use Rattle.coco_store.specs.Placement.{IsHeldBy}
 use Rattle.coco_store.specs.Rules.{EachBehind, IsNextCommit, IsNextEpoch, IsNextPrepared, IsWithinLimits, Setting, base_of, commit_epochs, prepared_epochs}
 use Rattle.coco_store.specs.Switching.{Allows, IsReadyFor, KeepRules, Switches}
 use Rattle.coco_store.proofs.Switching.{where_allowed}
@@ -54,7 +55,7 @@ module _ (s : Setting) (p : ℕ) where
   write_of r = record { key = r.key; value = r.value }
 
   abbrev is_on : Row → Bool
-  is_on r = nat_eq (partition_of s.entry.layout r.key) p
+  is_on r = nat_eq (partition_of s.entry.layout.partitions r.key) p
 
   writes_together : (xs : List Prepared) → flat_map (λ e. writes_on s p e.rows) xs ≡ writes_on s p (flat_map (λ e. e.rows) xs)
   writes_together [] = refl

@@ -104,15 +104,6 @@ merging_more rows others were also rest more taken x was apart last =
     )))
     last
 
--- at the end
-pub merging_all : (rows others rest more zs : List Row) → IsMerging rows others rest more zs → rest ≡ [] → more ≡ [] → Interleaves rows others zs × FitInTurn RowRises None zs
-merging_all rows others rest more zs was none empty =
-    let no_more : rows ≡ was.taken = was.rows_are ∙ ap (λ (l : List Row). l ++ was.taken) none in
-    let no_others : others ≡ was.also = was.others_are ∙ ap (λ (l : List Row). l ++ was.also) empty in (
-      subst (λ (l : List Row). Interleaves l others zs) (sym no_more) (subst (λ (l : List Row). Interleaves was.taken l zs) (sym no_others) was.both),
-      subst (λ (l : List Row). FitInTurn RowRises None (l ++ zs)) none was.rise,
-    )
-
 -- ---- what they have
 
 module _ {A : Type 0} (test : A → Bool) where

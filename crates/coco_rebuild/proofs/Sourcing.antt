@@ -4,7 +4,7 @@ use Rattle.std.specs.Prelude.{IsSome, nat_le}
 use Rattle.std.specs.List.{AllByRecursion}
 use Rattle.std.specs.Set.{is_member}
 use Rattle.std.proofs.lemmas.Bool.{eqb-true}
-use Rattle.coco_types.specs.RowKey.{RowKey}
+use Rattle.coco_types.specs.RowKey.{RowKey, partition_of}
 use Rattle.coco_types.proofs.Keys.{keys_total}
 use Rattle.coco_bytes.specs.Lists.{FitInTurn}
 use Rattle.coco_host.specs.Files.{Files}
@@ -16,7 +16,6 @@ use Rattle.coco_entry.specs.Rows.{IsRow, RowRises}
 use Rattle.coco_log.specs.Reading.{IsOf, IsReading, Reading}
 use Rattle.coco_store.specs.Contents.{Contents}
 use Rattle.coco_store.specs.Entries.{ArePrepared, prepared_kind}
-use Rattle.coco_store.specs.Placement.{partition_of}
 use Rattle.coco_store.specs.Rules.{HavePrepared, commit_epochs, prepared_epochs}
 use Rattle.coco_rebuild.specs.Rebuilding.{holder_behind, rows_at}
 use Rattle.coco_rebuild.specs.Sources.{AreGot, AreOthers, HasEpoch, HaveOtherKeys, IsAfterSource, IsFirstSource, IsReadUpTo, file_at, gets, node_after, node_first, nodes_behind}
@@ -136,7 +135,7 @@ module _ (layout : Layout) (node : ℕ) where
   -- a partition is got from one node
   one_giver : (a b : ℕ) (key : RowKey) → gets layout node a key ≡ true → gets layout node b key ≡ true → a ≡ b
   one_giver a b key got also =
-      let p : ℕ = partition_of layout key in
+      let p : ℕ = partition_of layout.partitions key in
       let j : ℕ = nodes_behind layout p node in
       let h : ℕ = holder_behind layout p j in
       sym (eqb-true h a (and_right (nat_le j layout.copies) (h == a) got)) ∙ eqb-true h b (and_right (nat_le j layout.copies) (h == b) also)

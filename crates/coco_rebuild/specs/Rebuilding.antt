@@ -1,6 +1,7 @@
 -- What a store becomes when the lost file of one of its nodes is made again out of those of other holders.
 use Rattle.std.specs.Prelude.{◌≡◌, ℕ, ◌+◌, ◌%◌, ◌<◌, ◌≤◌, nat_eq, List, [], ◌∷◌, ◌++◌, slice_index, slice_set, ◌==◌, if◌then◌else◌}
 use Rattle.std.specs.List.{AllByRecursion, filter, flat_map}
+use Rattle.coco_types.specs.RowKey.{partition_of}
 use Rattle.coco_host.specs.Files.{Files}
 use Rattle.coco_entry.specs.declared.layout.Layout.{Layout}
 use Rattle.coco_entry.specs.declared.layout.LayoutEntry.{LayoutEntry}
@@ -10,7 +11,7 @@ use Rattle.coco_entry.specs.Rows.{IsPrepared}
 use Rattle.coco_make.specs.Free.{free_files}
 use Rattle.coco_store.specs.Contents.{Contents, IsGoodStore, history_of}
 use Rattle.coco_store.specs.Entries.{files_of, layouts_file}
-use Rattle.coco_store.specs.Placement.{IsHeldBy, partition_of}
+use Rattle.coco_store.specs.Placement.{IsHeldBy}
 use Rattle.coco_store.specs.Rules.{IsNodeRow, commit_epochs, prepared_epochs}
 
 -- ---- where the rows come from
@@ -31,7 +32,7 @@ rows_at epoch entries = flat_map (λ e. e.rows) (filter (λ e. nat_eq e.epoch ep
 
 -- those of a partition
 abbrev pub on_rows : Layout → ℕ → List Row → List Row
-on_rows layout p rows = filter (λ r. nat_eq (partition_of layout r.key) p) rows
+on_rows layout p rows = filter (λ r. nat_eq (partition_of layout.partitions r.key) p) rows
 
 -- ---- the new file
 

@@ -3,7 +3,7 @@ use Rattle.std.specs.Prelude.{◌≡◌, ◌≢◌, ◌⊎◌, ℕ, ◌+◌, ◌
 use Rattle.std.specs.List.{AllByRecursion, filter}
 use Rattle.std.specs.Set.{is_member}
 use Rattle.std.specs.declared.cmp.Ordering.TheVariants.{Less}
-use Rattle.coco_types.specs.RowKey.{RowKey, key_cmp}
+use Rattle.coco_types.specs.RowKey.{RowKey, key_cmp, partition_of}
 use Rattle.coco_bytes.specs.Lists.{last_item}
 use Rattle.coco_host.specs.Files.{Files}
 use Rattle.coco_ast.specs.History.{RisesAbove}
@@ -17,7 +17,6 @@ use Rattle.coco_read.specs.declared.fault.OpenFault.{OpenFault}
 use Rattle.coco_read.specs.declared.fault.OpenFault.TheVariants as fault
 use Rattle.coco_store.specs.Contents.{Contents, HoldsNode, file_of}
 use Rattle.coco_store.specs.Entries.{ArePrepared, prepared_kind}
-use Rattle.coco_store.specs.Placement.{partition_of}
 use Rattle.coco_store.specs.Rules.{commit_epochs, prepared_epochs}
 use Rattle.coco_rebuild.specs.Rebuilding.{AreRebuilt, IsHeldAlone, holder_behind, rows_at}
 use Rattle.coco_rebuild.specs.declared.sources.Sources.{Sources}
@@ -31,7 +30,7 @@ nodes_behind layout p n = if nat_lt n (p % layout.nodes) then n + layout.nodes -
 -- a node gets the partition of a key from another: it is a holder, and that one is the next
 abbrev pub gets : Layout → ℕ → ℕ → RowKey → Bool
 gets layout node from key =
-    let p : ℕ = partition_of layout key in
+    let p : ℕ = partition_of layout.partitions key in
     let j : ℕ = nodes_behind layout p node in
     nat_le j layout.copies && (holder_behind layout p j == from)
 

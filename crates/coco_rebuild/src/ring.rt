@@ -52,7 +52,7 @@ pub fn gets(layout: &Layout, node: u8, from: u8, key: Key) -> bool
     ensures { result ≡ gets layout.now node from key }
 {
     let nodes = usize::from(layout.nodes);
-    let partition = (key.row % u64::from(layout.partitions)) as usize;
+    let partition = key.partition(usize::from(layout.partitions));
     let primary = partition % nodes;
     let node = usize::from(node);
     let behind = if node < primary {

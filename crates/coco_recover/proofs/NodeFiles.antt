@@ -2,6 +2,7 @@
 use Rattle.std.proofs.Common.{◌≡◌, ℕ, ◌<◌, Bool, true, false, nat_eq, List, [], ◌∷◌, ◌++◌, length, refl, sym, subst}
 use Rattle.std.specs.Prelude.{Result}
 use Rattle.std.specs.Set.{is_member}
+use Rattle.coco_types.specs.RowKey.{partition_of}
 use Rattle.coco_ast.specs.Tree.{Procedures}
 use Rattle.coco_ast.proofs.Lists.{all_from_map, all_map, all_weaker}
 use Rattle.coco_bytes.specs.declared.fault.FieldFault.{FieldFault}
@@ -16,7 +17,7 @@ use Rattle.coco_rules.specs.Readying.{AreAmong}
 use Rattle.coco_rules.specs.declared.prepared.NodeRules.{NodeRules}
 use Rattle.coco_store.specs.Contents.{HoldsNode}
 use Rattle.coco_store.specs.Entries.{prepared_kind}
-use Rattle.coco_store.specs.Placement.{IsHeldBy, partition_of}
+use Rattle.coco_store.specs.Placement.{IsHeldBy}
 use Rattle.coco_store.specs.Refusals.{IsFirst, IsNodeRefused, IsRefusedAt, PreparedBreaks, bad_prepared_epoch, bad_row, breaks, lacks, no_entry, no_log}
 use Rattle.coco_store.specs.Rules.{EachBehind, HavePrepared, IsNextEpoch, IsNextPrepared, IsNodeRow, Setting, commit_epochs, prepared_epochs}
 use Rattle.coco_recover.specs.Nodes.{AreTaken, IsNodeRead, Loads, NodeBasis, node_rules, setting_with}
@@ -43,7 +44,7 @@ among_so others (x ∷ xs) denied = (true_so (is_member nat_eq others x) (λ lac
 module _ (n : ℕ) (s t : Setting) (layouts : s.entry.layout ≡ t.entry.layout) (trees : s.tree ≡ t.tree) where
   row_so : (r : Row) → IsNodeRow s n r → IsNodeRow t n r
   row_so r is = record {
-    held = subst (λ (l : Layout). IsHeldBy l (partition_of l r.key) n) layouts is.held;
+    held = subst (λ (l : Layout). IsHeldBy l (partition_of l.partitions r.key) n) layouts is.held;
     table = subst (λ (ps : Procedures). r.key.table < length ps.tables) trees is.table;
   }
 

@@ -3,6 +3,7 @@ use Rattle.std.proofs.Common.{◌≡◌, ◌≢◌, ℕ, zero, suc, ◌+◌, ◌
 use Rattle.std.specs.List.{AllByRecursion, flat_map, range_with_len}
 use Rattle.std.specs.Set.{is_member}
 use Rattle.std.proofs.lemmas.Bool.{eq-eqb, eqb-false, eqb-true, ne_eqb}
+use Rattle.coco_types.specs.RowKey.{partition_of}
 use Rattle.coco_types.specs.declared.call.Write.{Write}
 use Rattle.coco_ast.specs.Keyed.{Rows, on_partition, put_over, write_at}
 use Rattle.coco_ast.proofs.Lists.{all_append}
@@ -11,7 +12,6 @@ use Rattle.coco_entry.specs.declared.prepared.Row.{Row}
 use Rattle.coco_load.specs.Reading.{maps_read}
 use Rattle.coco_load.proofs.Writes.{on_written, put_over-append}
 use Rattle.coco_store.specs.Contents.{committed_writes, on, writes_on}
-use Rattle.coco_store.specs.Placement.{partition_of}
 use Rattle.coco_store.specs.Rules.{Setting}
 
 module _ (count p : ℕ) where
@@ -63,9 +63,9 @@ module _ (count p : ℕ) where
 module _ (s : Setting) (p : ℕ) where
   rows_on : (rows : List Row) → AreOn s.entry.layout.partitions p p (writes_on s p rows)
   rows_on [] = tt
-  rows_on (r ∷ rows) = elim (nat_eq (partition_of s.entry.layout r.key) p) as (λ b. nat_eq (partition_of s.entry.layout r.key) p ≡ b
-      → AreOn s.entry.layout.partitions p p (map (λ (x : Row). record { key = x.key; value = x.value }) (cond b (r ∷ filter (λ x. nat_eq (partition_of s.entry.layout x.key) p) rows) (filter (λ x. nat_eq (partition_of s.entry.layout x.key) p) rows)))) [
-        | true ↦ λ t. (eqb-true (partition_of s.entry.layout r.key) p t, rows_on rows)
+  rows_on (r ∷ rows) = elim (nat_eq (partition_of s.entry.layout.partitions r.key) p) as (λ b. nat_eq (partition_of s.entry.layout.partitions r.key) p ≡ b
+      → AreOn s.entry.layout.partitions p p (map (λ (x : Row). record { key = x.key; value = x.value }) (cond b (r ∷ filter (λ x. nat_eq (partition_of s.entry.layout.partitions x.key) p) rows) (filter (λ x. nat_eq (partition_of s.entry.layout.partitions x.key) p) rows)))) [
+        | true ↦ λ t. (eqb-true (partition_of s.entry.layout.partitions r.key) p t, rows_on rows)
         | false ↦ λ _. rows_on rows
       ] refl
 

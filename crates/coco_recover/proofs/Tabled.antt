@@ -5,7 +5,7 @@ use Rattle.std.specs.List.{AllByRecursion, flat_map}
 use Rattle.std.specs.FinMap.{empty, get-empty}
 use Rattle.std.specs.Set.{is_member}
 use Rattle.coco_types.proofs.Keys.{one_key}
-use Rattle.coco_types.specs.RowKey.{RowKey, key_cmp}
+use Rattle.coco_types.specs.RowKey.{RowKey, key_cmp, partition_of}
 use Rattle.coco_types.specs.declared.call.Write.{Write}
 use Rattle.coco_types.specs.declared.value.Value.{Value}
 use Rattle.coco_ast.specs.Keyed.{Rows, on_partition, put_over, value_at, write_at}
@@ -18,7 +18,6 @@ use Rattle.coco_entry.specs.declared.prepared.Row.{Row}
 use Rattle.coco_load.specs.Reading.{maps_read}
 use Rattle.coco_store.specs.Contents.{committed_writes, writes_on}
 use Rattle.coco_store.specs.Entries.{BaseEntry}
-use Rattle.coco_store.specs.Placement.{partition_of}
 use Rattle.coco_store.specs.Rules.{EachBehind, HasTable, IsNextBase, IsNextPrepared, IsNextValue, IsNodeRow, Setting, base_of, base_values, values_of}
 use Rattle.coco_recover.proofs.Keeping.{each_all, flat_all}
 
@@ -51,8 +50,8 @@ module _ (P : RowKey → Type 0) where
     rows_keys : (rows : List Row) → AllByRecursion (λ (r : Row). P r.key) rows → AllByRecursion (λ (w : Write). P w.key) (writes_on s p rows)
     rows_keys [] all = tt
     rows_keys (r ∷ rows) all = (
-        let others = filter (λ (x : Row). nat_eq (partition_of s.entry.layout x.key) p) rows in
-        elim (nat_eq (partition_of s.entry.layout r.key) p) as (λ b. AllByRecursion (λ (w : Write). P w.key) (map (λ (x : Row). record { key = x.key; value = x.value }) (cond b (r ∷ others) others))) [
+        let others = filter (λ (x : Row). nat_eq (partition_of s.entry.layout.partitions x.key) p) rows in
+        elim (nat_eq (partition_of s.entry.layout.partitions r.key) p) as (λ b. AllByRecursion (λ (w : Write). P w.key) (map (λ (x : Row). record { key = x.key; value = x.value }) (cond b (r ∷ others) others))) [
           | true ↦ (all.0, rows_keys rows all.1)
           | false ↦ rows_keys rows all.1
         ])

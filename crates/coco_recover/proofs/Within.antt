@@ -375,7 +375,3 @@ base_fault before body at fault =
 -- a body that is no entry is bad at its tag, where that may not stand there
 pub tag_bad : (before : List BaseEntry) (body : List ℕ) (at : ℕ) → may_stand (last_item before) (get_or body 0 0) ≡ false → IsFaultAt at (base_in body) → IsFaultAt 0 (base_behind before body)
 tag_bad before body at may fault = (Bad 0, ap (at_tag (base_in body)) may ∙ ap (λ (r : Result BaseEntry FieldFault). at_tag r false) fault.1, refl)
-
--- and else where it was read
-pub tag_good : (before : List BaseEntry) (body : List ℕ) (at : ℕ) → may_stand (last_item before) (get_or body 0 0) ≡ true → IsFaultAt at (base_in body) → IsFaultAt at (base_behind before body)
-tag_good before body at may fault = (fault.0, ap (at_tag (base_in body)) may ∙ ap (λ (r : Result BaseEntry FieldFault). at_tag r true) fault.1, fault.2)

@@ -1,9 +1,9 @@
 -- What is had of an opened store: what its files hold, by logs that stand in them.
-use Rattle.std.specs.Prelude.{◌≡◌, ◌≢◌, ℕ, ◌%◌, ◌<◌, ◌≤◌, nat_eq, List, length, map, Option, None, slice_index, slice_index_or, IsSome}
+use Rattle.std.specs.Prelude.{◌≡◌, ◌≢◌, ℕ, ◌<◌, ◌≤◌, nat_eq, List, length, map, Option, None, slice_index, slice_index_or, IsSome}
 use Rattle.std.specs.List.{AllByRecursion, filter, flat_map, range_with_len, slice_get}
 use Rattle.std.specs.FinMap.{empty}
 use Rattle.std.specs.Option.{unwrap_or}
-use Rattle.coco_types.specs.RowKey.{RowKey}
+use Rattle.coco_types.specs.RowKey.{RowKey, partition_of}
 use Rattle.coco_types.specs.Limits.{epochs_end, files_end, most_batch_lines}
 use Rattle.coco_types.specs.declared.call.Done.{Done}
 use Rattle.coco_host.specs.Files.{Files}
@@ -51,7 +51,7 @@ shard_in shards p = unwrap_or (slice_get shards p) empty
 pub record ShardsHold (m : Rows) (shards : List ShardState) : Type 0 where
   pub partitions : (p : ℕ) → IsOfPartition (length shards) p (shard_in shards p)
   pub settled : (p : ℕ) → IsSettled (shard_in shards p)
-  pub values : (k : RowKey) → stable_at (shard_in shards (k.row % length shards)) k ≡ value_at m k
+  pub values : (k : RowKey) → stable_at (shard_in shards (partition_of (length shards) k)) k ≡ value_at m k
 
 -- ---- what the files hold
 

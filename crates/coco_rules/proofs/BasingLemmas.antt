@@ -13,7 +13,7 @@ use Rattle.coco_types.specs.RowKey.{RowKey, key_cmp}
 use Rattle.coco_types.specs.declared.call.Done.{Done}
 use Rattle.coco_types.specs.declared.value.Value.{Value}
 use Rattle.coco_types.proofs.Keys.{keys_total}
-use Rattle.coco_ast.proofs.Lists.{all_append, all_right, all_weaker}
+use Rattle.coco_ast.proofs.Lists.{all_append, all_weaker}
 use Rattle.coco_bytes.specs.Lists.{last_item}
 use Rattle.coco_bytes.proofs.ListLemmas.{last_item-push}
 use Rattle.coco_entry.specs.Bases.{base_done_bytes, base_row_bytes}
@@ -274,13 +274,6 @@ row_rises before (Some last) key (front, row, is, at, all) e =
     let next : key_cmp last key ≡ Less = less_is (key_cmp last key) e in
     subst (AllByRecursion (λ r. key_cmp r.0 key ≡ Less)) (sym is)
     (all_append (λ r. key_cmp r.0 key ≡ Less) front (row ∷ []) (all_weaker (λ r. key_cmp r.0 last ≡ Less) (λ r. key_cmp r.0 key ≡ Less) (λ r h. keys_total.trans r.0 last key h next) front all) (ap (λ k. key_cmp k key) at ∙ next, tt))
-
-pub row_falls : (before : List (RowKey × Value)) (last : Option RowKey) (key : RowKey) → EndsAtKey before last → key_rises last key ≡ false → ¬ (AllByRecursion (λ r. key_cmp r.0 key ≡ Less) before)
-row_falls before None key ends e all = let w : true ≡ false = e in cc
-row_falls before (Some last) key (front, row, is, at, others) e all =
-    let next = all_right (λ r. key_cmp r.0 key ≡ Less) front (row ∷ []) (subst (AllByRecursion (λ r. key_cmp r.0 key ≡ Less)) is all) in
-    let w : true ≡ false = sym (ap is_lt (ap (λ k. key_cmp k key) (sym at) ∙ next.0)) ∙ e in
-    cc
 
 pub ends_more : (before : List (RowKey × Value)) (row : RowKey × Value) → AllByRecursion (λ r. key_cmp r.0 row.0 ≡ Less) before → EndsAtKey (before ++ row ∷ []) (Some row.0)
 ends_more before row all = (before, row, refl, refl, all)

@@ -1,7 +1,7 @@
 -- A commit is judged by its epoch, and then by its first broken Done.
 use Rattle.std.proofs.Common.{◌≡◌, ℕ, ◌+◌, ◌≤◌, true, false, List, [], ◌∷◌, ◌++◌, length, take, Option, None, Some, sym, ap, subst, ◌∙◌, arith, append_assoc, append-nil}
 use Rattle.std.specs.List.{flat_map, sum_by}
-use Rattle.std.proofs.lemmas.Bool.{ltb-true, lt-ltb}
+use Rattle.std.proofs.lemmas.Bool.{lt-ltb}
 use Rattle.std.proofs.lemmas.List.{map-append}
 use Rattle.std.proofs.lemmas.List.Concat.{flat_map-append}
 use Rattle.coco_types.specs.declared.call.Done.{Done}
@@ -19,10 +19,6 @@ use Rattle.coco_rules.proofs.EpochLemmas.{below_all, newest}
 use Rattle.coco_rules.proofs.JudgedLemmas.{first_place, len_ahead, len_front}
 
 -- ---- ids above the floor
-
-pub above_is : (floor : Option ℕ) (id : ℕ) → is_above floor id ≡ true → AreAbove floor (id ∷ [])
-above_is None id e = tt
-above_is (Some floor) id e = (ltb-true floor id e, tt)
 
 pub not_above : (floor : Option ℕ) (id : ℕ) → is_above floor id ≡ false → ¬ (AreAbove floor (id ∷ []))
 not_above None id e all = let no : true ≡ false = e in cc

@@ -8,12 +8,13 @@ use Rattle.std.proofs.lemmas.Bool.{eq-eqb, lt-ltb}
 use Rattle.std.proofs.lemmas.Bool.Decides.{nat_tests}
 use Rattle.std.proofs.lemmas.List.{drop_more, length-take-le, map-append}
 use Rattle.std.proofs.lemmas.List.Folds.{list_any-append}
+use Rattle.coco_types.specs.RowKey.{partition_of}
 use Rattle.coco_ast.specs.History.{RisesAbove}
 use Rattle.coco_ast.proofs.Lists.{all_append, all_left, all_right, all_weaker}
 use Rattle.coco_entry.specs.Rows.{prepared_bytes, row_bytes}
 use Rattle.coco_entry.specs.declared.prepared.Prepared.{Prepared}
 use Rattle.coco_entry.specs.declared.prepared.Row.{Row}
-use Rattle.coco_store.specs.Placement.{IsHeldBy, partition_of}
+use Rattle.coco_store.specs.Placement.{IsHeldBy}
 use Rattle.coco_store.specs.Refusals.{IsFirst, ItemBreaks, PreparedBreaks, bad_prepared_epoch, bad_row}
 use Rattle.coco_store.specs.Rules.{EachBehind, HasTable, IsNextEpoch, IsNodeRow, Setting, prepared_epochs}
 use Rattle.coco_rules.specs.Behind.{greatest}
@@ -283,7 +284,7 @@ prepared_all s before committed node behind = (λ full none. forth node.coming.n
 
 -- ---- rows
 
-pub node_row : (s : Setting) (n : ℕ) (row : Row) (held table : Bool) → (IsTrue held ↔ IsHeldBy s.entry.layout (partition_of s.entry.layout row.key) n) → (IsTrue table ↔ HasTable s row.key)
+pub node_row : (s : Setting) (n : ℕ) (row : Row) (held table : Bool) → (IsTrue held ↔ IsHeldBy s.entry.layout (partition_of s.entry.layout.partitions row.key) n) → (IsTrue table ↔ HasTable s row.key)
     → MatchBool (held && table) (IsNodeRow s n row) (¬ (IsNodeRow s n row))
 node_row s n row true true h t = record { held = h.0 refl; table = t.0 refl }
 node_row s n row true false h t = λ is. let no : false ≡ true = t.1 is.table in cc

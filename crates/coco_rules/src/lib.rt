@@ -12,5 +12,5 @@ pub mod prepared;
 pub use base::BaseRules;
 pub use commits::HistoryRules;
 pub use layouts::layout_tree;
-pub use placing::{is_held_by, partition_of};
+pub use placing::is_held_by;
 pub use prepared::NodeRules;

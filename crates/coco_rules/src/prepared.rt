@@ -13,7 +13,7 @@ ghost use Rattle.coco_rules.specs.Readying.{AreAmong, IsBehindPrepared};
 
 use crate::commits::goes_on;
 use crate::lengths::rows_len;
-use crate::placing::{is_held_by, partition_of};
+use crate::placing::is_held_by;
 use coco_ast::Checked;
 use coco_entry::{Layout, Prepared, Row};
 use coco_types::Key;
@@ -111,7 +111,8 @@ impl<'a> NodeRules<'a> {
         ensures { (s : Setting) → s.entry.layout ≡ layout.now → s.tree ≡ procs.now
             → MatchBool result (IsNodeRow s self.now.node row.now) (¬ (IsNodeRow s self.now.node row.now)) }
     {
-        is_held_by(layout, partition_of(layout, &row.key), self.node) && has_table(procs, &row.key)
+        let partition = row.key.partition(usize::from(layout.partitions)) as u8;
+        is_held_by(layout, partition, self.node) && has_table(procs, &row.key)
     }
 
     // The place of the first row that breaks a rule.

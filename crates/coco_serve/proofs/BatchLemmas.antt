@@ -24,13 +24,14 @@ use Rattle.coco_cluster.specs.Faults.{MayHaveCommitted}
 use Rattle.coco_recover.proofs.Resting.{stands_still}
 use Rattle.coco_parallel.specs.Traces.{IsTraceOf, Traced, execution_in, traced}
 use Rattle.coco_cluster.specs.Turning.{EndsWithout, Grown, HasRoom, KeepsHistory, ShowsHistory, ShowsStore, Turns, IsUntraced, beginning_on, epochs_of}
-use Rattle.coco_cluster.specs.declared.fault.TurnFault.{TurnFault}
-use Rattle.coco_cluster.specs.declared.fault.TurnFault.TheVariants as turn
+use Rattle.coco_cluster.specs.Faults.{stop_of_saying}
+use Rattle.coco_cluster.specs.declared.stop.Stop.{Stop}
+use Rattle.coco_cluster.specs.declared.stop.Stop.TheVariants as stop
 use Rattle.coco_cluster.specs.Writing.{WritesLogs}
 use Rattle.coco_cluster.proofs.BehindLemmas.{behind_later}
 use Rattle.coco_cluster.proofs.WriteLemmas.{writes_none, writes_then}
 use Rattle.coco_log.proofs.OnlyRead.{sees_then, sees_weaker}
-use Rattle.coco_commits.specs.EpochEntries.{HasRoomFor}
+use Rattle.coco_append.specs.EpochEntries.{HasRoomFor}
 use Rattle.coco_host.specs.Files.{Files, NoMore}
 use Rattle.coco_host.specs.Moments.{IsNew, IsSaidBetween, Observation, SeesOnly}
 use Rattle.coco_host.specs.Record.{known}
@@ -40,13 +41,10 @@ use Rattle.coco_order.specs.Execution.{Beginning}
 use Rattle.coco_order.specs.Outcome.{ComeOfExecution}
 use Rattle.coco_store.specs.Contents.{Contents, history_of}
 use Rattle.coco_store.specs.Rules.{Setting}
-use Rattle.coco_serve.specs.Faults.{fault_of_saying, fault_of_turn}
 use Rattle.coco_serve.specs.Growth.{AddsWithin, GrowsByExecution, HasExecution, Manner, manner_of}
 use Rattle.coco_serve.specs.OneBatch.{BatchEnds, IsRefused, RefusedEnds, SaysPart, WorksOffBatch, batch_texts}
 use Rattle.coco_serve.specs.Seen.{ShowsBatch}
 use Rattle.coco_serve.specs.Texts.{texts_over}
-use Rattle.coco_serve.specs.declared.fault.BatchFault.{BatchFault}
-use Rattle.coco_serve.specs.declared.fault.BatchFault.TheVariants as fault
 use Rattle.coco_serve.specs.declared.bounds.RunBounds.{RunBounds}
 use Rattle.coco_serve.proofs.NumberLemmas.{added_by, adds_none}
 
@@ -139,8 +137,8 @@ all_stand_still k was now might may same fewer stand = record {
 }
 
 -- a fault that refuses no file
-abbrev pub RefusesNone : TurnFault → Type 0
-RefusesNone f = (file at : ℕ) → f ≢ turn.NotAStore file at
+abbrev pub RefusesNone : Stop → Type 0
+RefusesNone f = (file at : ℕ) → f ≢ stop.NotAStore file at
 
 -- ---- moments
 
@@ -171,7 +169,7 @@ module _ {H : Type 0} (frame : HostGhosts H) where
   unmoved_so only_now c end host rests below = sees_weaker frame.moment frame.observed host host (ShowsHistory c.setting (history_of c) end (frame.said host)) (ShowsStore c.setting (history_of c) (history_of c) end (frame.said host))
       (λ seen shows. record { store = inl shows.0; said = shows.1 }) (unmoved only_now c end host rests below)
 
-  pub committed : OnlyNow → (result : Result (Unit {0}) TurnFault) (x : Unit {0}) (requests : List Request) (bounds : RunBounds) (spare : ℕ) (c : Contents) (before after : Cluster) (old mid : H) → result ≡ Ok x
+  pub committed : OnlyNow → (result : Result (Unit {0}) Stop) (x : Unit {0}) (requests : List Request) (bounds : RunBounds) (spare : ℕ) (c : Contents) (before after : Cluster) (old mid : H) → result ≡ Ok x
       → (requests ≡ [] → (mid ≡ old) × IsUntraced before after) → RestsOn c (frame.reads old) (frame.may_leave old) → StandsAt c before
       → KeepsHistory frame result requests before.next_epoch spare c old mid ⊎ Turns frame result requests bounds.workers bounds.attempts spare c before after old mid
       → Committed c requests bounds before.next_epoch spare after old mid
@@ -219,15 +217,17 @@ module _ {H : Type 0} (frame : HostGhosts H) where
 
   -- ---- a turn that failed
 
-  refused_so : (f : TurnFault) (c : Contents) (end : ℕ) (host : H) → RefusesNone f → EndsWithout c end (frame.reads host) (frame.may_leave host) (Err f) → RefusedEnds c end (frame.reads host) (frame.may_leave host) (Err (fault_of_turn f))
-  refused_so turn.Disk c end host none ends = tt
-  refused_so (turn.NotAStore file at) c end host none ends = absurd (none file at refl)
-  refused_so turn.Unreachable c end host none ends = ends
-  refused_so turn.EpochsUsedUp c end host none ends = ends
-  refused_so turn.NoMemory c end host none ends = tt
+  refused_so : (f : Stop) (c : Contents) (end : ℕ) (host : H) → RefusesNone f → EndsWithout c end (frame.reads host) (frame.may_leave host) (Err f) → RefusedEnds c end (frame.reads host) (frame.may_leave host) (Err f)
+  refused_so stop.Read c end host none ends = absurd ends
+  refused_so stop.Say c end host none ends = absurd ends
+  refused_so stop.Disk c end host none ends = tt
+  refused_so (stop.NotAStore file at) c end host none ends = absurd (none file at refl)
+  refused_so stop.Unreachable c end host none ends = ends
+  refused_so stop.EpochsUsedUp c end host none ends = ends
+  refused_so stop.NoMemory c end host none ends = tt
 
-  pub refused : (f : TurnFault) (turned : Result (Unit {0}) TurnFault) (requests : List Request) (spare : ℕ) (c : Contents) (before : Cluster) (old new : H) → turned ≡ Err f → RefusesNone f → frame.said new ≡ frame.said old
-      → KeepsHistory frame turned requests before.next_epoch spare c old new → IsRefused frame (Err (fault_of_turn f)) c before.next_epoch spare old new
+  pub refused : (f : Stop) (turned : Result (Unit {0}) Stop) (requests : List Request) (spare : ℕ) (c : Contents) (before : Cluster) (old new : H) → turned ≡ Err f → RefusesNone f → frame.said new ≡ frame.said old
+      → KeepsHistory frame turned requests before.next_epoch spare c old new → IsRefused frame (Err f) c before.next_epoch spare old new
   refused f turned requests spare c before old new was none quiet k = record {
     number = k.number;
     taken = k.taken;
@@ -239,7 +239,7 @@ module _ {H : Type 0} (frame : HostGhosts H) where
   }
 
   -- out of memory before the turn
-  pub refused_early : OnlyNow → (result : Result (Unit {0}) BatchFault) (c : Contents) (k : Cluster) (spare : ℕ) (host : H) → result ≡ Err fault.NoMemory → RestsOn c (frame.reads host) (frame.may_leave host) → StandsAt c k
+  pub refused_early : OnlyNow → (result : Result (Unit {0}) Stop) (c : Contents) (k : Cluster) (spare : ℕ) (host : H) → result ≡ Err stop.NoMemory → RestsOn c (frame.reads host) (frame.may_leave host) → StandsAt c k
       → IsRefused frame result c k.next_epoch spare host host
   refused_early only_now result c k spare host is rests stands =
       let later = behind_later c k.next_epoch (k.next_epoch + 1) (omega arith) stands.next in
@@ -257,9 +257,9 @@ module _ {H : Type 0} (frame : HostGhosts H) where
   turn_shows s before after end bytes texts seen shows =
       ⊎_elim (λ was. inl (was, shows.said)) (λ grown. inr (grown, nothing_said bytes seen.said texts shows.said)) shows.store
 
-  turn_ends : (f : TurnFault) (result : Result (Unit {0}) TurnFault) (batch : Batch) (requests : List Request) (bounds : RunBounds) (spare : ℕ) (c : Contents) (before after : Cluster) (old new : H) → result ≡ Err f → RefusesNone f → requests ≡ batch.fresh → frame.said new ≡ frame.said old
+  turn_ends : (f : Stop) (result : Result (Unit {0}) Stop) (batch : Batch) (requests : List Request) (bounds : RunBounds) (spare : ℕ) (c : Contents) (before after : Cluster) (old new : H) → result ≡ Err f → RefusesNone f → requests ≡ batch.fresh → frame.said new ≡ frame.said old
       → Turns frame result requests bounds.workers bounds.attempts spare c before after old new
-      → WorksOffBatch frame (Err (fault_of_turn f)) batch bounds c before.next_epoch spare after old new
+      → WorksOffBatch frame (Err f) batch bounds c before.next_epoch spare after old new
   turn_ends f result batch requests bounds spare c before after old new was none same quiet t = by f none (subst MayHaveCommitted was t.may)
     where
       numbers : AddsWithin before.next_epoch (t.number + epochs_of batch.fresh) spare (history_of c) (history_of t.d)
@@ -277,15 +277,17 @@ module _ {H : Type 0} (frame : HostGhosts H) where
           (ShowsBatch c.setting (history_of c) (history_of t.d) (t.number + 1) (frame.said old) (batch_texts c t.d batch))
           (turn_shows c.setting (history_of c) (history_of t.d) (t.number + 1) (frame.said old) (batch_texts c t.d batch)) t.moments
 
-      by : (f : TurnFault) → RefusesNone f → MayHaveCommitted {T = Unit {0}} (Err f) → WorksOffBatch frame (Err (fault_of_turn f)) batch bounds c before.next_epoch spare after old new
-      by turn.Disk none may = record { d = t.d; setting = t.grown.setting; grows = grows; number = t.number; taken = t.taken; numbers = numbers; below = below; next_is = tt; moments = moments; others = t.others; ends = (t.left, quiet) }
-      by (turn.NotAStore file at) none may = absurd (none file at refl)
-      by turn.Unreachable none may = absurd may
-      by turn.EpochsUsedUp none may = absurd may
-      by turn.NoMemory none may = record { d = t.d; setting = t.grown.setting; grows = grows; number = t.number; taken = t.taken; numbers = numbers; below = below; next_is = tt; moments = moments; others = t.others; ends = inl (t.left, quiet) }
+      by : (f : Stop) → RefusesNone f → MayHaveCommitted {T = Unit {0}} (Err f) → WorksOffBatch frame (Err f) batch bounds c before.next_epoch spare after old new
+      by stop.Read none may = absurd may
+      by stop.Say none may = absurd may
+      by stop.Disk none may = record { d = t.d; setting = t.grown.setting; grows = grows; number = t.number; taken = t.taken; numbers = numbers; below = below; next_is = tt; moments = moments; others = t.others; ends = (t.left, quiet) }
+      by (stop.NotAStore file at) none may = absurd (none file at refl)
+      by stop.Unreachable none may = absurd may
+      by stop.EpochsUsedUp none may = absurd may
+      by stop.NoMemory none may = record { d = t.d; setting = t.grown.setting; grows = grows; number = t.number; taken = t.taken; numbers = numbers; below = below; next_is = tt; moments = moments; others = t.others; ends = inl (t.left, quiet) }
 
-  pub turn_failed : (f : TurnFault) (turned : Result (Unit {0}) TurnFault) (result : Result (Unit {0}) BatchFault) (batch : Batch) (requests : List Request) (bounds : RunBounds) (spare : ℕ) (c : Contents) (before after : Cluster) (old new : H)
-      → turned ≡ Err f → ((file at : ℕ) → turned ≢ Err (turn.NotAStore file at)) → result ≡ Err (fault_of_turn f) → requests ≡ batch.fresh → frame.said new ≡ frame.said old
+  pub turn_failed : (f : Stop) (turned : Result (Unit {0}) Stop) (result : Result (Unit {0}) Stop) (batch : Batch) (requests : List Request) (bounds : RunBounds) (spare : ℕ) (c : Contents) (before after : Cluster) (old new : H)
+      → turned ≡ Err f → ((file at : ℕ) → turned ≢ Err (stop.NotAStore file at)) → result ≡ Err f → requests ≡ batch.fresh → frame.said new ≡ frame.said old
       → KeepsHistory frame turned requests before.next_epoch spare c old new ⊎ Turns frame turned requests bounds.workers bounds.attempts spare c before after old new
       → IsRefused frame result c before.next_epoch spare old new ⊎ WorksOffBatch frame result batch bounds c before.next_epoch spare after old new
   turn_failed f turned result batch requests bounds spare c before after old new was never is same quiet turns =
@@ -319,7 +321,7 @@ module _ {H : Type 0} (frame : HostGhosts H) where
     shown = sees_weaker frame.moment frame.observed old mid (ShowsStore c.setting (history_of c) (history_of done.d) (done.number + 1) (frame.said old)) Shows (turn_shows c.setting (history_of c) (history_of done.d) (done.number + 1) (frame.said old) texts) done.moments
 
     -- out of memory before anything is said
-    pub unsaid : (result : Result (Unit {0}) BatchFault) → result ≡ Err fault.NoMemory → WorksOffBatch frame result batch bounds c next spare after old mid
+    pub unsaid : (result : Result (Unit {0}) Stop) → result ≡ Err stop.NoMemory → WorksOffBatch frame result batch bounds c next spare after old mid
     unsaid result is = subst (λ r. WorksOffBatch frame r batch bounds c next spare after old mid) (sym is) (record {
       d = done.d;
       setting = done.setting;
@@ -355,7 +357,7 @@ module _ {H : Type 0} (frame : HostGhosts H) where
         left = λ image leaves. done.rests.left image (crash image leaves);
       }
 
-      answered : (result : Result (Unit {0}) BatchFault) → OnOk result (after.next_epoch ≡ done.number + epochs_of batch.fresh)
+      answered : (result : Result (Unit {0}) Stop) → OnOk result (after.next_epoch ≡ done.number + epochs_of batch.fresh)
           → BatchEnds c done.d (done.number + 1) after texts (frame.said old) (frame.said new) (frame.reads new) (frame.may_leave new) result → WorksOffBatch frame result batch bounds c next spare after old new
       answered result next_is ends = record {
         d = done.d;
@@ -376,12 +378,12 @@ module _ {H : Type 0} (frame : HostGhosts H) where
       pub all_said : frame.said new ≡ append_known (frame.said mid) piece → WorksOffBatch frame (Ok tt) batch bounds c next spare after old new
       all_said whole = answered (Ok tt) next_so (rests_still, done.stands, whole ∙ ap (λ o. append_known o piece) quiet ∙ ap (append_known (frame.said old)) are)
 
-      by_fault : (f : OutFault) → WorksOffBatch frame (Err (fault_of_saying f)) batch bounds c next spare after old new
-      by_fault out.Failed = answered (Err fault.Say) tt (rests_still, said_part)
-      by_fault out.NoMemory = answered (Err fault.NoMemory) tt (inr (rests_still, said_part))
+      by_fault : (f : OutFault) → WorksOffBatch frame (Err (stop_of_saying f)) batch bounds c next spare after old new
+      by_fault out.Failed = answered (Err stop.Say) tt (rests_still, said_part)
+      by_fault out.NoMemory = answered (Err stop.NoMemory) tt (inr (rests_still, said_part))
 
       -- the saying broke off
-      pub partly_said : (f : OutFault) (result : Result (Unit {0}) BatchFault) → result ≡ Err (fault_of_saying f) → WorksOffBatch frame result batch bounds c next spare after old new
+      pub partly_said : (f : OutFault) (result : Result (Unit {0}) Stop) → result ≡ Err (stop_of_saying f) → WorksOffBatch frame result batch bounds c next spare after old new
       partly_said f result is = subst (λ r. WorksOffBatch frame r batch bounds c next spare after old new) (sym is) (by_fault f)
 
 -- ---- texts

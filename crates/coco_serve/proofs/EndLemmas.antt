@@ -23,14 +23,11 @@ use Rattle.coco_lines.specs.declared.error.LineFault.{LineFault}
 use Rattle.coco_lines.specs.declared.error.LineFault.TheVariants as line
 use Rattle.coco_lines.proofs.LinesLemmas.{ended-first, lines_of-first, lines_of-nil}
 use Rattle.coco_store.specs.Contents.{Contents}
-use Rattle.coco_serve.specs.Endings.{ending_of}
 use Rattle.coco_serve.specs.Faults.{Counts, CountsBatch}
 use Rattle.coco_serve.specs.OneBatch.{IsRefused, WorksOffBatch}
 use Rattle.coco_serve.specs.Serving.{HasCause, Outside, Serves}
-use Rattle.coco_serve.specs.declared.ending.Served.{Served}
-use Rattle.coco_serve.specs.declared.ending.Served.TheVariants as ending
-use Rattle.coco_serve.specs.declared.fault.BatchFault.{BatchFault}
-use Rattle.coco_serve.specs.declared.fault.BatchFault.TheVariants as fault
+use Rattle.coco_cluster.specs.declared.stop.Stop.{Stop}
+use Rattle.coco_cluster.specs.declared.stop.Stop.TheVariants as stop
 use Rattle.coco_serve.specs.declared.bounds.RunBounds.{RunBounds}
 use Rattle.coco_serve.proofs.NextLemmas.{answers_failed, finished_short, served_more}
 use Rattle.coco_serve.proofs.RefusedLemmas.{HasReason, refused_ends}
@@ -38,25 +35,27 @@ use Rattle.coco_serve.proofs.RunLemmas.{AreServed, AreTaken, OnlyNow, SeenNow, f
 
 -- ---- causes
 
-pub reason_of : (f : BatchFault) (next requests : ℕ) (was now : Around) (before after : Counts) → CountsBatch {T = Unit {0}} (Err f) next was now requests before after → HasReason next (spare was now) requests f
-reason_of fault.Say next requests was now before after counts = tt
-reason_of fault.Disk next requests was now before after counts = tt
-reason_of (fault.NotAStore file at) next requests was now before after counts = tt
-reason_of fault.Unreachable next requests was now before after counts = counts.1
-reason_of fault.EpochsUsedUp next requests was now before after counts = counts
-reason_of fault.NoMemory next requests was now before after counts = tt
+pub reason_of : (f : Stop) (next requests : ℕ) (was now : Around) (before after : Counts) → CountsBatch {T = Unit {0}} (Err f) next was now requests before after → HasReason next (spare was now) requests f
+reason_of stop.Read next requests was now before after counts = tt
+reason_of stop.Say next requests was now before after counts = tt
+reason_of stop.Disk next requests was now before after counts = tt
+reason_of (stop.NotAStore file at) next requests was now before after counts = tt
+reason_of stop.Unreachable next requests was now before after counts = counts.1
+reason_of stop.EpochsUsedUp next requests was now before after counts = counts
+reason_of stop.NoMemory next requests was now before after counts = tt
 
 -- the cause of a batch's fault is the run's, since no count of faults of the host moved before
-pub cause_of : (f : BatchFault) (next now requests : ℕ) (bytes : List ℕ) (start end : Outside) (was : Around) (before : Counts) → before.say ≡ start.say_faults → before.disk ≡ start.disk_faults
+pub cause_of : (f : Stop) (next now requests : ℕ) (bytes : List ℕ) (start end : Outside) (was : Around) (before : Counts) → before.say ≡ start.say_faults → before.disk ≡ start.disk_faults
     → SkipsFew next now (length (lines_of bytes)) (spare start.around was) → IsLater start.around was → IsLater was end.around
-    → CountsBatch {T = Unit {0}} (Err f) now was end.around requests before (record { say = end.say_faults; disk = end.disk_faults }) → HasCause next bytes start end (ending_of f)
-cause_of fault.Say next now requests bytes start end was before says disks low first second counts = subst (λ n. Rose n end.say_faults) says counts
-cause_of fault.Disk next now requests bytes start end was before says disks low first second counts = subst (λ n. Rose n end.disk_faults) disks counts
-cause_of (fault.NotAStore file at) next now requests bytes start end was before says disks low first second counts = ((λ i. (counts i).say) ∙ says, (λ i. (counts i).disk) ∙ disks)
-cause_of fault.Unreachable next now requests bytes start end was before says disks low first second counts = (was, first, counts.0)
-cause_of fault.EpochsUsedUp next now requests bytes start end was before says disks low first second counts =
+    → CountsBatch {T = Unit {0}} (Err f) now was end.around requests before (record { say = end.say_faults; disk = end.disk_faults }) → HasCause next bytes start end (Err f)
+cause_of stop.Read next now requests bytes start end was before says disks low first second counts = absurd counts
+cause_of stop.Say next now requests bytes start end was before says disks low first second counts = subst (λ n. Rose n end.say_faults) says counts
+cause_of stop.Disk next now requests bytes start end was before says disks low first second counts = subst (λ n. Rose n end.disk_faults) disks counts
+cause_of (stop.NotAStore file at) next now requests bytes start end was before says disks low first second counts = ((λ i. (counts i).say) ∙ says, (λ i. (counts i).disk) ∙ disks)
+cause_of stop.Unreachable next now requests bytes start end was before says disks low first second counts = (was, first, counts.0)
+cause_of stop.EpochsUsedUp next now requests bytes start end was before says disks low first second counts =
     (let used = counts.0 in let adds = spare_then start.around was end.around first second in subst (SkipsFew next epochs_end (length (lines_of bytes))) (sym adds) (omega (arith, used, low)))
-cause_of fault.NoMemory next now requests bytes start end was before says disks low first second counts = tt
+cause_of stop.NoMemory next now requests bytes start end was before says disks low first second counts = tt
 
 -- ---- batches
 
@@ -67,7 +66,7 @@ module _ {H : Type 0} (frame : HostGhosts H) where
     pub served : (c : Contents) → RestsOn c (frame.reads first) (frame.may_leave first) → StandsAt c start → AreServed frame c next spare bounds taken.lines k first host
 
   -- at the end, where more may be skipped than did so far
-  pub record RunsTo (next spare total : ℕ) (bounds : RunBounds) (reader : ReaderState) (before now : SourceMoment) (start k : Cluster) (e : Served) (first host : H) : Type 0 where
+  pub record RunsTo (next spare total : ℕ) (bounds : RunBounds) (reader : ReaderState) (before now : SourceMoment) (start k : Cluster) (e : Result (Unit {0}) Stop) (first host : H) : Type 0 where
     pub bytes : List ℕ
     pub gives : Gives before now bytes
     pub count : reader.taken ≡ length bytes
@@ -95,7 +94,7 @@ module _ {H : Type 0} (frame : HostGhosts H) where
         omega (arith, all, low, length-append (run.taken.lines ++ more) (lines_of behind), length-append run.taken.lines more)
 
     -- ends without a turn
-    ends_here : (e : Served) (more : List Line) (behind : List ℕ) → (takes : TakesLines reader reader' m n more behind)
+    ends_here : (e : Result (Unit {0}) Stop) (more : List Line) (behind : List ℕ) → (takes : TakesLines reader reader' m n more behind)
         → ((c : Contents) → AreServed frame c next spare bounds run.taken.lines k first mid → Serves frame c next spare bounds (takes_on more behind takes).bytes e first mid)
         → RunsTo next spare spare bounds reader' before n start k e first mid
     ends_here e more behind takes ends =
@@ -114,20 +113,20 @@ module _ {H : Type 0} (frame : HostGhosts H) where
 
       -- ---- a batch that isn't read whole
 
-      pub broken_memory : (f : LineFault) → BreaksOff reader reader' m n bounds.size f → RunsTo next spare spare bounds reader' before n start k ending.NoMemory first mid
-      broken_memory f b = ends_here ending.NoMemory b.lines b.rest b.takes (λ c a.
+      pub broken_memory : (f : LineFault) → BreaksOff reader reader' m n bounds.size f → RunsTo next spare spare bounds reader' before n start k (Err stop.NoMemory) first mid
+      broken_memory f b = ends_here (Err stop.NoMemory) b.lines b.rest b.takes (λ c a.
           memory_ran_out frame seen_now c next spare bounds run.taken.lines k first mid a (takes_on b.lines b.rest b.takes).bytes (b.lines ++ lines_of b.rest) (others_so b.lines b.rest b.takes))
 
-      broken_read : (f : LineFault) → (b : BreaksOff reader reader' m n bounds.size f) → (length b.lines < bounds.size) × HasNoFeed b.rest × (reader'.ended ≡ false) → RunsTo next spare spare bounds reader' before n start k ending.ReadFault first mid
-      broken_read f b cut = ends_here ending.ReadFault b.lines b.rest b.takes (λ c a.
+      broken_read : (f : LineFault) → (b : BreaksOff reader reader' m n bounds.size f) → (length b.lines < bounds.size) × HasNoFeed b.rest × (reader'.ended ≡ false) → RunsTo next spare spare bounds reader' before n start k (Err stop.Read) first mid
+      broken_read f b cut = ends_here (Err stop.Read) b.lines b.rest b.takes (λ c a.
           let t = takes_on b.lines b.rest b.takes in
           read_failed frame seen_now c next spare bounds run.taken.lines k first mid a t.bytes (b.lines ++ lines_of b.rest) (others_so b.lines b.rest b.takes)
           b.lines (ended-first (run.taken.lines ++ b.lines) t.bytes b.rest reader'.ended t.text cut.2 cut.1) cut.0)
 
-      pub broken_failed : (f : LineFault) → BreaksOff reader reader' m n bounds.size f → f ≡ line.Failed → RunsTo next spare spare bounds reader' before n start k ending.ReadFault first mid
+      pub broken_failed : (f : LineFault) → BreaksOff reader reader' m n bounds.size f → f ≡ line.Failed → RunsTo next spare spare bounds reader' before n start k (Err stop.Read) first mid
       broken_failed f b is = broken_read f b (subst (λ x. IsCutOff x bounds.size b.lines b.rest reader'.ended) is b.cut_off)
 
-      pub broken_much : (f : LineFault) → BreaksOff reader reader' m n bounds.size f → f ≡ line.TooMuch → RunsTo next spare spare bounds reader' before n start k ending.ReadFault first mid
+      pub broken_much : (f : LineFault) → BreaksOff reader reader' m n bounds.size f → f ≡ line.TooMuch → RunsTo next spare spare bounds reader' before n start k (Err stop.Read) first mid
       broken_much f b is = broken_read f b (subst (λ x. IsCutOff x bounds.size b.lines b.rest reader'.ended) is b.cut_off)
 
       -- ---- a batch that is read
@@ -140,8 +139,8 @@ module _ {H : Type 0} (frame : HostGhosts H) where
         took = takes_on more reader'.pending r.taking.takes
 
         -- without a line
-        pub finished_empty : length batch.answers.items ≡ 0 → 0 < bounds.size → RunsTo next spare spare bounds reader' before n start k ending.Finished first mid
-        finished_empty none some = ends_here ending.Finished more reader'.pending r.taking.takes (λ c a.
+        pub finished_empty : length batch.answers.items ≡ 0 → 0 < bounds.size → RunsTo next spare spare bounds reader' before n start k (Ok tt) first mid
+        finished_empty none some = ends_here (Ok tt) more reader'.pending r.taking.takes (λ c a.
             let end = r.ends (omega (arith, none, some)) in
             let no_lines : more ≡ [] = nothing more (omega (arith, r.taking.as_many, none)) in
             finished frame seen_now c next spare bounds run.taken.lines k first mid a took.bytes (more ++ lines_of reader'.pending) (others_so more reader'.pending r.taking.takes)
@@ -151,7 +150,7 @@ module _ {H : Type 0} (frame : HostGhosts H) where
             nothing [] e = refl
             nothing (l ∷ ls) e = absurd (omega arith)
 
-        abbrev Tries : ℕ → Result (Unit {0}) BatchFault → Cluster → H → Type 0
+        abbrev Tries : ℕ → Result (Unit {0}) Stop → Cluster → H → Type 0
         Tries later result k' host =
             (d : Contents) → RestsOn d (frame.reads mid) (frame.may_leave mid) → StandsAt d k
             → IsRefused frame result d k.next_epoch later mid host ⊎ WorksOffBatch frame result batch bounds d k.next_epoch later k' mid host
@@ -161,7 +160,7 @@ module _ {H : Type 0} (frame : HostGhosts H) where
         answered later k' host tries d rests stands = ⊎_elim (λ none. absurd none.ends) (λ yes. yes) (tries d rests stands)
 
         -- it was whole, and there are more
-        pub running_more : (later total : ℕ) (result : Result (Unit {0}) BatchFault) (k' : Cluster) (host : H) → total ≡ spare + later → result ≡ Ok tt → Tries later result k' host → bounds.size ≤ length batch.answers.items
+        pub running_more : (later total : ℕ) (result : Result (Unit {0}) Stop) (k' : Cluster) (host : H) → total ≡ spare + later → result ≡ Ok tt → Tries later result k' host → bounds.size ≤ length batch.answers.items
             → 0 < length batch.answers.items → reader'.given ≡ reader.given + length batch.answers.items → SkipsFew k.next_epoch k'.next_epoch (epochs_of batch.fresh) later
             → IsRunning next total bounds reader' before n start k' first host
         running_more later total result k' host adds ok tries full some given numbers =
@@ -180,11 +179,11 @@ module _ {H : Type 0} (frame : HostGhosts H) where
             })
 
         -- it was the last one
-        pub finished_last : (later total : ℕ) (result : Result (Unit {0}) BatchFault) (k' : Cluster) (host : H) → total ≡ spare + later → result ≡ Ok tt → Tries later result k' host → length batch.answers.items < bounds.size
-            → 0 < length batch.answers.items → RunsTo next spare total bounds reader' before n start k ending.Finished first host
+        pub finished_last : (later total : ℕ) (result : Result (Unit {0}) Stop) (k' : Cluster) (host : H) → total ≡ spare + later → result ≡ Ok tt → Tries later result k' host → length batch.answers.items < bounds.size
+            → 0 < length batch.answers.items → RunsTo next spare total bounds reader' before n start k (Ok tt) first host
         finished_last later total result k' host adds ok tries short some =
             let good = subst (λ x. Tries later x k' host) ok tries in
-            subst (λ t. RunsTo next spare t bounds reader' before n start k ending.Finished first host) (sym adds) (record {
+            subst (λ t. RunsTo next spare t bounds reader' before n start k (Ok tt) first host) (sym adds) (record {
               bytes = took.bytes;
               gives = took.gives;
               count = omega (arith, took.taken);
@@ -197,9 +196,9 @@ module _ {H : Type 0} (frame : HostGhosts H) where
             })
 
         -- it broke off
-        pub batch_broke : (later total : ℕ) (result : Result (Unit {0}) BatchFault) (f : BatchFault) (k' : Cluster) (host : H) → total ≡ spare + later → result ≡ Err f → Tries later result k' host
-            → HasReason k.next_epoch later (length batch.fresh) f → 0 < length batch.answers.items → RunsTo next spare total bounds reader' before n start k (ending_of f) first host
-        batch_broke later total result f k' host adds is tries reason some = subst (λ t. RunsTo next spare t bounds reader' before n start k (ending_of f) first host) (sym adds) (record {
+        pub batch_broke : (later total : ℕ) (result : Result (Unit {0}) Stop) (f : Stop) (k' : Cluster) (host : H) → total ≡ spare + later → result ≡ Err f → Tries later result k' host
+            → HasReason k.next_epoch later (length batch.fresh) f → 0 < length batch.answers.items → RunsTo next spare total bounds reader' before n start k (Err f) first host
+        batch_broke later total result f k' host adds is tries reason some = subst (λ t. RunsTo next spare t bounds reader' before n start k (Err f) first host) (sym adds) (record {
           bytes = took.bytes;
           gives = took.gives;
           count = omega (arith, took.taken);

@@ -1,5 +1,5 @@
 -- One batch more: what it makes of a run, and how the run ends with it.
-use Rattle.std.proofs.Common.{◌≡◌, true, ℕ, ◌+◌, ◌-◌, ◌<◌, ◌≤◌, inl, inr, ◌⊎◌, ⊎_elim, Err, List, [], ◌∷◌, ◌++◌, length, map, take, Option, Some, refl, sym, ap, subst, ◌∙◌, arith, append-nil, length-append}
+use Rattle.std.proofs.Common.{◌≡◌, true, ℕ, ◌+◌, ◌-◌, ◌<◌, ◌≤◌, inl, inr, ◌⊎◌, ⊎_elim, Ok, Err, List, [], ◌∷◌, ◌++◌, length, map, take, Option, Some, refl, sym, ap, subst, ◌∙◌, arith, append-nil, length-append}
 use Rattle.std.specs.Prelude.{Result}
 use Rattle.std.proofs.Math.Seq.{take-append-add, take-append_seam, take-length, take_all}
 use Rattle.std.specs.Io.KnownBytes.{append_known}
@@ -38,13 +38,10 @@ use Rattle.coco_serve.specs.Growth.{AddsWithin, AreFirstBatches, GrowsByExecutio
 use Rattle.coco_serve.specs.OneBatch.{BatchEnds, SaysPart, WorksOffBatch, batch_texts}
 use Rattle.coco_serve.specs.Texts.{texts_over}
 use Rattle.coco_serve.specs.Seen.{IsServed, LeavesEither, ShowsBatch}
-use Rattle.coco_serve.specs.Serving.{LeavesLast, Progress, RestsAt, RunEnds, SaysAll, SaysUpTo, Serves}
-use Rattle.coco_serve.specs.declared.ending.Served.{Served}
-use Rattle.coco_serve.specs.declared.ending.Served.TheVariants as ending
-use Rattle.coco_serve.specs.declared.fault.BatchFault.{BatchFault}
-use Rattle.coco_serve.specs.declared.fault.BatchFault.TheVariants as fault
+use Rattle.coco_serve.specs.Serving.{LeavesLast, ServedSoFar, RestsAt, RunEnds, SaysAll, SaysUpTo, Serves}
+use Rattle.coco_cluster.specs.declared.stop.Stop.{Stop}
+use Rattle.coco_cluster.specs.declared.stop.Stop.TheVariants as stop
 use Rattle.coco_serve.specs.declared.bounds.RunBounds.{RunBounds}
-use Rattle.coco_serve.specs.Endings.{ending_of}
 use Rattle.coco_log.proofs.OnlyRead.{sees_then, sees_weaker}
 use Rattle.coco_serve.proofs.NumberLemmas.{adds_more, adds_none}
 use Rattle.coco_serve.proofs.ReplyLemmas.{keeps_some, no_later_done, texts_are_answers}
@@ -59,7 +56,7 @@ module _ {H : Type 0} (frame : HostGhosts H) where
     read_next = first_more bounds.size bytes lines r.taking.lines (lines_of reader'.pending) a.batches a.lines_are a.whole (omega (arith, r.taking.as_many, some)) (omega (arith, r.taking.as_many, r.few))
         (λ short. ap lines_of (r.ends (omega (arith, r.taking.as_many, short))).1 ∙ lines_of-nil) all
 
-  module _ (c : Contents) (next spare more_spare : ℕ) (bounds : RunBounds) (lines : List Line) (k k' : Cluster) (first mid host : H) (reader reader' : ReaderState) (m n : SourceMoment) (batch : Batch) (result : Result (Unit {0}) BatchFault)
+  module _ (c : Contents) (next spare more_spare : ℕ) (bounds : RunBounds) (lines : List Line) (k k' : Cluster) (first mid host : H) (reader reader' : ReaderState) (m n : SourceMoment) (batch : Batch) (result : Result (Unit {0}) Stop)
       (a : AreServed frame c next spare bounds lines k first mid) (given : reader.given ≡ length lines) (r : ReadsBatch k.procs (known_of k.kept []) reader reader' m n bounds.size batch)
       (x : WorksOffBatch frame result batch bounds a.d k.next_epoch more_spare k' mid host) where
     abbrev tree : Procedures
@@ -211,10 +208,10 @@ module _ {H : Type 0} (frame : HostGhosts H) where
       firsts : AreFirstBatches bounds.size bytes batches'
       firsts = read_next c next spare bounds lines k first mid reader reader' m n batch a r bytes lines_are some
 
-      abbrev progress' : Progress manner opening next all bounds.size bytes
+      abbrev progress' : ServedSoFar manner opening next all bounds.size bytes
       progress' = record { batches = batches'; classes = classes'; history = g; grown = grown'; end = end'; numbers = numbers'; first = firsts }
 
-      ends_so : (e : Served) → RunEnds c next all bounds bytes progress' (frame.said first) (frame.said host) (frame.reads host) (frame.may_leave host) e → Serves frame c next all bounds bytes e first host
+      ends_so : (e : Result (Unit {0}) Stop) → RunEnds c next all bounds bytes progress' (frame.said first) (frame.said host) (frame.reads host) (frame.may_leave host) e → Serves frame c next all bounds bytes e first host
       ends_so e ends = record {
         progress = progress';
         moments = moments';
@@ -223,10 +220,10 @@ module _ {H : Type 0} (frame : HostGhosts H) where
         ends = ends;
       }
 
-      pub finished_short : IsWhole → length batch.answers.items < bounds.size → Serves frame c next all bounds bytes ending.Finished first host
+      pub finished_short : IsWhole → length batch.answers.items < bounds.size → Serves frame c next all bounds bytes (Ok tt) first host
       finished_short done short =
           let end = cut_short (r.ends short) in
-          ends_so ending.Finished (
+          ends_so (Ok tt) (
             (all_lines ∙ ap (λ ls. joined batches' ++ ls) end.0 ∙ append-nil (joined batches'), end.1),
             (x.d, x.setting ∙ a.setting, refl, x.below, done.0),
             says_whole done,
@@ -262,8 +259,8 @@ module _ {H : Type 0} (frame : HostGhosts H) where
       rests_then : RestsOn x.d (frame.reads host) (frame.may_leave host) → RestsAt c.setting g end' (frame.reads host) (frame.may_leave host)
       rests_then rests = (x.d, x.setting ∙ a.setting, refl, x.below, rests)
 
-      say_ends : RestsOn x.d (frame.reads host) (frame.may_leave host) × SaysPart texts (frame.said mid) (frame.said host) → Serves frame c next all bounds bytes ending.SayFault first host
-      say_ends ends = ends_so ending.SayFault (rests_then ends.0, says_part ends.1)
+      say_ends : RestsOn x.d (frame.reads host) (frame.may_leave host) × SaysPart texts (frame.said mid) (frame.said host) → Serves frame c next all bounds bytes (Err stop.Say) first host
+      say_ends ends = ends_so (Err stop.Say) (rests_then ends.0, says_part ends.1)
 
       abbrev Leaves : (History → List (List Class) → Type 0) → Type 0
       Leaves Says = LeavesLast c.setting bounds opening next all batches' classes' g Says (frame.said host) (frame.may_leave host)
@@ -296,8 +293,8 @@ module _ {H : Type 0} (frame : HostGhosts H) where
             most = omega arith;
           }
 
-      disk_ends : LeavesEither a.d.setting h g (x.number + 1) (frame.said mid) (frame.may_leave host) × (frame.said host ≡ frame.said mid) → Serves frame c next all bounds bytes ending.DiskFault first host
-      disk_ends ends = ends_so ending.DiskFault (leaves_before (SaysAll (frame.said first) (frame.said host)) ends.0 ends.1 (says_before ends.1))
+      disk_ends : LeavesEither a.d.setting h g (x.number + 1) (frame.said mid) (frame.may_leave host) × (frame.said host ≡ frame.said mid) → Serves frame c next all bounds bytes (Err stop.Disk) first host
+      disk_ends ends = ends_so (Err stop.Disk) (leaves_before (SaysAll (frame.said first) (frame.said host)) ends.0 ends.1 (says_before ends.1))
 
       -- the batch is committed
       leaves_after : (Says : History → List (List Class) → Type 0) → RestsOn x.d (frame.reads host) (frame.may_leave host) → Says g classes' → Leaves Says
@@ -323,18 +320,19 @@ module _ {H : Type 0} (frame : HostGhosts H) where
           all_classes = ap (λ i. take i classes') (sym (paired tree opening batches' classes' g grown'.grown)) ∙ take-length classes'
 
       memory_ends : LeavesEither a.d.setting h g (x.number + 1) (frame.said mid) (frame.may_leave host) × (frame.said host ≡ frame.said mid) ⊎ RestsOn x.d (frame.reads host) (frame.may_leave host) × SaysPart texts (frame.said mid) (frame.said host)
-          → Serves frame c next all bounds bytes ending.NoMemory first host
-      memory_ends ends = ends_so ending.NoMemory (⊎_elim
+          → Serves frame c next all bounds bytes (Err stop.NoMemory) first host
+      memory_ends ends = ends_so (Err stop.NoMemory) (⊎_elim
           (λ before. leaves_before (SaysUpTo (frame.said first) (frame.said host)) before.0 before.1 (says_before_whole before.1))
           (λ after. leaves_after (SaysUpTo (frame.said first) (frame.said host)) after.0 (says_part after.1)) ends)
 
-      batch_fails : (f : BatchFault) → BatchEnds a.d x.d (x.number + 1) k' texts (frame.said mid) (frame.said host) (frame.reads host) (frame.may_leave host) (Err f) → Serves frame c next all bounds bytes (ending_of f) first host
-      batch_fails fault.Say ends = say_ends ends
-      batch_fails fault.Disk ends = disk_ends ends
-      batch_fails (fault.NotAStore file at) ends = absurd ends
-      batch_fails fault.Unreachable ends = absurd ends
-      batch_fails fault.EpochsUsedUp ends = absurd ends
-      batch_fails fault.NoMemory ends = memory_ends ends
+      batch_fails : (f : Stop) → BatchEnds a.d x.d (x.number + 1) k' texts (frame.said mid) (frame.said host) (frame.reads host) (frame.may_leave host) (Err f) → Serves frame c next all bounds bytes (Err f) first host
+      batch_fails stop.Read ends = absurd ends
+      batch_fails stop.Say ends = say_ends ends
+      batch_fails stop.Disk ends = disk_ends ends
+      batch_fails (stop.NotAStore file at) ends = absurd ends
+      batch_fails stop.Unreachable ends = absurd ends
+      batch_fails stop.EpochsUsedUp ends = absurd ends
+      batch_fails stop.NoMemory ends = memory_ends ends
 
-      pub answers_failed : (f : BatchFault) → result ≡ Err f → Serves frame c next all bounds bytes (ending_of f) first host
+      pub answers_failed : (f : Stop) → result ≡ Err f → Serves frame c next all bounds bytes (Err f) first host
       answers_failed f is = batch_fails f (subst (BatchEnds a.d x.d (x.number + 1) k' texts (frame.said mid) (frame.said host) (frame.reads host) (frame.may_leave host)) is x.ends)

@@ -1,5 +1,5 @@
 -- A batch that isn't committed: how a run ends with it.
-use Rattle.std.proofs.Common.{◌≡◌, ℕ, ◌+◌, ◌-◌, ◌<◌, inl, Err, List, [], ◌++◌, length, length-append, map, take, Option, refl, sym, ap, subst, ◌∙◌, arith, append_assoc}
+use Rattle.std.proofs.Common.{◌≡◌, ℕ, ◌+◌, ◌-◌, ◌<◌, inl, Ok, Err, List, [], ◌++◌, length, length-append, map, take, Option, refl, sym, ap, subst, ◌∙◌, arith, append_assoc}
 use Rattle.std.specs.Prelude.{⊤, Result}
 use Rattle.std.proofs.Math.Seq.{take-length, take_all}
 use Rattle.std.specs.Io.KnownBytes.{append_known}
@@ -25,31 +25,29 @@ use Rattle.coco_lines.specs.declared.class.Class.{Class}
 use Rattle.coco_log.proofs.OnlyRead.{sees_then, sees_weaker}
 use Rattle.coco_store.specs.Contents.{Contents, epoch_of, history_of}
 use Rattle.coco_store.specs.Rules.{base_of}
-use Rattle.coco_serve.specs.Endings.{ending_of}
 use Rattle.coco_serve.specs.Growth.{AddsWithin, IsGrown, Manner, answers_of, manner_of}
 use Rattle.coco_serve.specs.OneBatch.{IsRefused, RefusedEnds}
 use Rattle.coco_serve.specs.Seen.{IsServed}
-use Rattle.coco_serve.specs.Serving.{HasNext, LeavesLast, Progress, RestsAt, RunEnds, SaysAll, SaysUpTo, Serves}
+use Rattle.coco_serve.specs.Serving.{HasNext, LeavesLast, ServedSoFar, RestsAt, RunEnds, SaysAll, SaysUpTo, Serves}
 use Rattle.coco_serve.specs.declared.bounds.RunBounds.{RunBounds}
-use Rattle.coco_serve.specs.declared.ending.Served.{Served}
-use Rattle.coco_serve.specs.declared.ending.Served.TheVariants as ending
-use Rattle.coco_serve.specs.declared.fault.BatchFault.{BatchFault}
-use Rattle.coco_serve.specs.declared.fault.BatchFault.TheVariants as fault
+use Rattle.coco_cluster.specs.declared.stop.Stop.{Stop}
+use Rattle.coco_cluster.specs.declared.stop.Stop.TheVariants as stop
 use Rattle.coco_serve.proofs.NextLemmas.{read_next}
 use Rattle.coco_serve.proofs.NumberLemmas.{adds_more, adds_none}
 use Rattle.coco_serve.proofs.RunLemmas.{AreServed, SeenNow, all_served, classes_at, later_served, left_by, moved, paired}
 
 -- why a batch of so many requests broke off, where no store says it
-abbrev pub HasReason : ℕ → ℕ → ℕ → BatchFault → Type 0
-HasReason next spare requests fault.Say = ⊤
-HasReason next spare requests fault.Disk = ⊤
-HasReason next spare requests (fault.NotAStore file at) = ⊤
-HasReason next spare requests fault.Unreachable = 0 < requests
-HasReason next spare requests fault.EpochsUsedUp = SkipsFew next epochs_end 0 spare × (0 < requests)
-HasReason next spare requests fault.NoMemory = ⊤
+abbrev pub HasReason : ℕ → ℕ → ℕ → Stop → Type 0
+HasReason next spare requests stop.Read = ⊤
+HasReason next spare requests stop.Say = ⊤
+HasReason next spare requests stop.Disk = ⊤
+HasReason next spare requests (stop.NotAStore file at) = ⊤
+HasReason next spare requests stop.Unreachable = 0 < requests
+HasReason next spare requests stop.EpochsUsedUp = SkipsFew next epochs_end 0 spare × (0 < requests)
+HasReason next spare requests stop.NoMemory = ⊤
 
 module _ {H : Type 0} (frame : HostGhosts H) where
-  module _ (c : Contents) (next spare more_spare : ℕ) (bounds : RunBounds) (lines : List Line) (k : Cluster) (first mid host : H) (reader reader' : ReaderState) (m n : SourceMoment) (batch : Batch) (result : Result (Unit {0}) BatchFault)
+  module _ (c : Contents) (next spare more_spare : ℕ) (bounds : RunBounds) (lines : List Line) (k : Cluster) (first mid host : H) (reader reader' : ReaderState) (m n : SourceMoment) (batch : Batch) (result : Result (Unit {0}) Stop)
       (a : AreServed frame c next spare bounds lines k first mid) (r : ReadsBatch k.procs (known_of k.kept []) reader reader' m n bounds.size batch) (bytes : List ℕ)
       (lines_are : lines_of bytes ≡ (lines ++ r.taking.lines) ++ lines_of reader'.pending) (some : 0 < length batch.answers.items)
       (x : IsRefused frame result a.d k.next_epoch more_spare mid host) (seen_now : SeenNow frame) where
@@ -85,7 +83,7 @@ module _ {H : Type 0} (frame : HostGhosts H) where
     others = writes_then c.setting (frame.reads first) (frame.reads mid) (frame.reads host) (frame.may_leave first) (frame.may_leave mid) (frame.may_leave host) a.others
         (subst (λ s. WritesLogs s (frame.reads mid) (frame.reads host) (frame.may_leave mid) (frame.may_leave host)) a.setting x.others)
 
-    abbrev progress : Progress manner opening next total bounds.size bytes
+    abbrev progress : ServedSoFar manner opening next total bounds.size bytes
     progress = record {
       batches = a.batches;
       classes = a.classes;
@@ -100,7 +98,7 @@ module _ {H : Type 0} (frame : HostGhosts H) where
       };
     }
 
-    ends_so : (e : Served) → RunEnds c next total bounds bytes progress (frame.said first) (frame.said host) (frame.reads host) (frame.may_leave host) e → Serves frame c next total bounds bytes e first host
+    ends_so : (e : Result (Unit {0}) Stop) → RunEnds c next total bounds bytes progress (frame.said first) (frame.said host) (frame.reads host) (frame.may_leave host) e → Serves frame c next total bounds bytes e first host
     ends_so e ends = record { progress = progress; moments = moments; left = left_by frame seen_now first host Shows moments; others = others; ends = ends }
 
     -- ---- what is said and left
@@ -147,17 +145,18 @@ module _ {H : Type 0} (frame : HostGhosts H) where
           some = omega (arith, same, fresh);
         }
 
-    ends : (f : BatchFault) → HasReason k.next_epoch more_spare (length batch.fresh) f → RefusedEnds a.d x.number (frame.reads host) (frame.may_leave host) (Err f) → Serves frame c next total bounds bytes (ending_of f) first host
-    ends fault.Say reason left = absurd left
-    ends fault.Disk reason left = ends_so ending.DiskFault (leaves (SaysAll (frame.said first) (frame.said host)) says)
-    ends (fault.NotAStore file at) reason left = absurd left
-    ends fault.Unreachable reason left = ends_so ending.Unreachable (rests left, says, has_next reason)
-    ends fault.EpochsUsedUp reason left =
+    ends : (f : Stop) → HasReason k.next_epoch more_spare (length batch.fresh) f → RefusedEnds a.d x.number (frame.reads host) (frame.may_leave host) (Err f) → Serves frame c next total bounds bytes (Err f) first host
+    ends stop.Read reason left = absurd left
+    ends stop.Say reason left = absurd left
+    ends stop.Disk reason left = ends_so (Err stop.Disk) (leaves (SaysAll (frame.said first) (frame.said host)) says)
+    ends (stop.NotAStore file at) reason left = absurd left
+    ends stop.Unreachable reason left = ends_so (Err stop.Unreachable) (rests left, says, has_next reason)
+    ends stop.EpochsUsedUp reason left =
         let few = a.numbers.few in
         let end = reason.0 in
         let no_more = length-append a.numbers.added [] in
-        ends_so ending.EpochsUsedUp (rests left, says, record { end = omega (arith, few, end, no_more); has_next = has_next reason.1 })
-    ends fault.NoMemory reason left = ends_so ending.NoMemory (leaves (SaysUpTo (frame.said first) (frame.said host)) says_whole)
+        ends_so (Err stop.EpochsUsedUp) (rests left, says, record { end = omega (arith, few, end, no_more); has_next = has_next reason.1 })
+    ends stop.NoMemory reason left = ends_so (Err stop.NoMemory) (leaves (SaysUpTo (frame.said first) (frame.said host)) says_whole)
 
-    pub refused_ends : (f : BatchFault) → result ≡ Err f → HasReason k.next_epoch more_spare (length batch.fresh) f → Serves frame c next total bounds bytes (ending_of f) first host
+    pub refused_ends : (f : Stop) → result ≡ Err f → HasReason k.next_epoch more_spare (length batch.fresh) f → Serves frame c next total bounds bytes (Err f) first host
     refused_ends f is reason = ends f reason (subst (RefusedEnds a.d x.number (frame.reads host) (frame.may_leave host)) is x.ends)

@@ -90,7 +90,7 @@ found_behind id (x ∷ xs) ys d once found =
     ap (λ b. cond b (Some x) (done_of id (xs ++ ys))) (nat_eq_equiv.symm id x.id ∙ apart) ∙ rest
 
 -- ---- no Done is of a later epoch than the last
--- (the first four lemmas stand in coco_ast and coco_commits too, where they are private)
+-- (the first four lemmas stand in coco_ast and coco_append too, where they are private)
 
 last_least : (m : ℕ) (es : List Epoch) → RisesAbove m (map (λ (e : Epoch). e.number) es) → m ≤ last_number m es
 last_least m [] rises = omega arith

@@ -1,5 +1,5 @@
 -- A run over request lines, batch by batch. What stands in coco's lemmas too, for a history without files, is to be merged with them.
-use Rattle.std.proofs.Common.{◌≡◌, false, ℕ, suc, ◌+◌, ◌-◌, ◌<◌, ◌≤◌, inl, inr, ⊎_elim, List, [], ◌∷◌, ◌++◌, length, map, take, Option, Some, refl, sym, ap, subst, ◌∙◌, arith, append_assoc, append-nil, length-append}
+use Rattle.std.proofs.Common.{◌≡◌, false, ℕ, suc, ◌+◌, ◌-◌, ◌<◌, ◌≤◌, inl, inr, ⊎_elim, Result, Ok, Err, List, [], ◌∷◌, ◌++◌, length, map, take, Option, Some, refl, sym, ap, subst, ◌∙◌, arith, append_assoc, append-nil, length-append}
 use Rattle.std.proofs.Math.Seq.{take-length, take_all}
 use Rattle.std.proofs.lemmas.Bool.{cases_lt}
 use Rattle.std.proofs.lemmas.List.{take-append-le}
@@ -37,10 +37,10 @@ use Rattle.coco_lines.specs.Reads.{SourceMoment}
 use Rattle.coco_lines.specs.declared.class.Class.{Class}
 use Rattle.coco_store.specs.Contents.{Contents, history_of}
 use Rattle.coco_serve.specs.Growth.{AddsWithin, AreFirstBatches, GrowsByExecution, HaveSize, IsGrown, Manner, answers_of, manner_of}
+use Rattle.coco_cluster.specs.declared.stop.Stop.{Stop}
+use Rattle.coco_cluster.specs.declared.stop.Stop.TheVariants as stop
 use Rattle.coco_serve.specs.Seen.{IsServed, LeavesEither}
-use Rattle.coco_serve.specs.Serving.{LeavesLast, Progress, RestsAt, RunEnds, SaysUpTo, Serves}
-use Rattle.coco_serve.specs.declared.ending.Served.{Served}
-use Rattle.coco_serve.specs.declared.ending.Served.TheVariants as ending
+use Rattle.coco_serve.specs.Serving.{LeavesLast, ServedSoFar, RestsAt, RunEnds, SaysUpTo, Serves}
 use Rattle.coco_serve.specs.declared.bounds.RunBounds.{RunBounds}
 use Rattle.coco_serve.proofs.NumberLemmas.{adds_later, adds_none}
 
@@ -275,7 +275,7 @@ module _ {H : Type 0} (frame : HostGhosts H) where
     abbrev h : History
     h = history_of a.d
 
-    abbrev still : Progress manner (history_of c) next spare bounds.size bytes
+    abbrev still : ServedSoFar manner (history_of c) next spare bounds.size bytes
     still = record {
       batches = a.batches;
       classes = a.classes;
@@ -286,7 +286,7 @@ module _ {H : Type 0} (frame : HostGhosts H) where
       first = record { others = others; lines = all ∙ ap (λ ls. ls ++ others) a.lines_are; cut = inl a.whole };
     }
 
-    ended_so : (e : Served) → RunEnds c next spare bounds bytes still (frame.said first) (frame.said host) (frame.reads host) (frame.may_leave host) e → Serves frame c next spare bounds bytes e first host
+    ended_so : (e : Result (Unit {0}) Stop) → RunEnds c next spare bounds bytes still (frame.said first) (frame.said host) (frame.reads host) (frame.may_leave host) e → Serves frame c next spare bounds bytes e first host
     ended_so e ends = record {
       progress = still;
       moments = a.moments;
@@ -334,18 +334,18 @@ module _ {H : Type 0} (frame : HostGhosts H) where
           most = omega arith;
         }
 
-    pub memory_ran_out : Serves frame c next spare bounds bytes ending.NoMemory first host
-    memory_ran_out = ended_so ending.NoMemory (leaves_by (SaysUpTo (frame.said first) (frame.said host)) says_whole)
+    pub memory_ran_out : Serves frame c next spare bounds bytes (Err stop.NoMemory) first host
+    memory_ran_out = ended_so (Err stop.NoMemory) (leaves_by (SaysUpTo (frame.said first) (frame.said host)) says_whole)
 
-    pub read_failed : (rest : List Line) → ended_lines_of bytes ≡ lines ++ rest → length rest < bounds.size → Serves frame c next spare bounds bytes ending.ReadFault first host
-    read_failed rest ended few = ended_so ending.ReadFault (
+    pub read_failed : (rest : List Line) → ended_lines_of bytes ≡ lines ++ rest → length rest < bounds.size → Serves frame c next spare bounds bytes (Err stop.Read) first host
+    read_failed rest ended few = ended_so (Err stop.Read) (
       record { whole = a.whole; others = rest; lines = ended ∙ ap (λ ls. ls ++ rest) a.lines_are; few = few },
       rests_at,
       a.says,
     )
 
-    pub finished : others ≡ [] → 0 < bounds.size → Serves frame c next spare bounds bytes ending.Finished first host
-    finished none some = ended_so ending.Finished (
+    pub finished : others ≡ [] → 0 < bounds.size → Serves frame c next spare bounds bytes (Ok tt) first host
+    finished none some = ended_so (Ok tt) (
       (all ∙ ap (λ ls. lines ++ ls) none ∙ append-nil lines ∙ a.lines_are, cut_full bounds.size a.batches a.whole some),
       rests_at,
       a.says,

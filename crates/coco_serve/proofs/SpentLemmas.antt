@@ -52,9 +52,6 @@ same_has r (q ∷ qs) h = by (nat_eq r.id q.id) (call.ghosts.eq q.call r.call) h
     by true b e rest = refl
     by false b e rest = rest e
 
-not_full : (c : Class) → IsNotFull c → c ≡ Refused error.Full → ⊥
-not_full c fits e = fits e
-
 taken_by : (k : Known) (r : Request) (c : Class) (a b o f : Bool) → is_same k r ≡ a → is_known k r ≡ b → is_up_to k.floor r.id ≡ o → first_that_fits (tests_by r a b o f) ≡ Some c → IsNotFull c
     → IsTaken (and_known k (new_in c)) r
 taken_by k r c true b o f same known old h fits = inl (here k r (new_in c) (same_has r k.requests same))

@@ -1,5 +1,4 @@
 pub mod Again
-pub mod Endings
 pub mod Faults
 pub mod Growth
 pub mod OneBatch

@@ -16,8 +16,8 @@ use Rattle.coco_store.specs.Contents.{Contents, history_of}
 use Rattle.coco_serve.specs.Growth.{AddsWithin, GrowsByExecution, manner_of}
 use Rattle.coco_serve.specs.Seen.{LeavesEither, ShowsBatch}
 use Rattle.coco_serve.specs.Texts.{texts_over}
-use Rattle.coco_serve.specs.declared.fault.BatchFault.{BatchFault}
-use Rattle.coco_serve.specs.declared.fault.BatchFault.TheVariants as fault
+use Rattle.coco_cluster.specs.declared.stop.Stop.{Stop}
+use Rattle.coco_cluster.specs.declared.stop.Stop.TheVariants as stop
 use Rattle.coco_serve.specs.declared.bounds.RunBounds.{RunBounds}
 
 -- the answers of a batch that made one store out of another
@@ -30,20 +30,21 @@ SaysPart texts before now = (k : ℕ) × (now ≡ append_known before (take k te
 
 -- how a batch ends, by its answer: committed and said whole; committed, and the saying broke off; or its turn failed, and the one store or the other is
 -- left, in which no entry is of this epoch or a later one. Memory may run out at either place; no file of such a store is refused when it is read anew
-abbrev pub BatchEnds : Contents → Contents → ℕ → Cluster → List ℕ → Option (List ℕ) → Option (List ℕ) → Option Files → (Files → Type 0) → Result (Unit {0}) BatchFault → Type 0
+abbrev pub BatchEnds : Contents → Contents → ℕ → Cluster → List ℕ → Option (List ℕ) → Option (List ℕ) → Option Files → (Files → Type 0) → Result (Unit {0}) Stop → Type 0
 BatchEnds c d end after texts before now reads may_leave (Ok x) = RestsOn d reads may_leave × StandsAt d after × (now ≡ append_known before texts)
-BatchEnds c d end after texts before now reads may_leave (Err fault.Say) = RestsOn d reads may_leave × SaysPart texts before now
-BatchEnds c d end after texts before now reads may_leave (Err fault.Disk) = LeavesEither c.setting (history_of c) (history_of d) end before may_leave × (now ≡ before)
-BatchEnds c d end after texts before now reads may_leave (Err (fault.NotAStore file at)) = ⊥
-BatchEnds c d end after texts before now reads may_leave (Err fault.Unreachable) = ⊥
-BatchEnds c d end after texts before now reads may_leave (Err fault.EpochsUsedUp) = ⊥
-BatchEnds c d end after texts before now reads may_leave (Err fault.NoMemory) =
+BatchEnds c d end after texts before now reads may_leave (Err stop.Read) = ⊥
+BatchEnds c d end after texts before now reads may_leave (Err stop.Say) = RestsOn d reads may_leave × SaysPart texts before now
+BatchEnds c d end after texts before now reads may_leave (Err stop.Disk) = LeavesEither c.setting (history_of c) (history_of d) end before may_leave × (now ≡ before)
+BatchEnds c d end after texts before now reads may_leave (Err (stop.NotAStore file at)) = ⊥
+BatchEnds c d end after texts before now reads may_leave (Err stop.Unreachable) = ⊥
+BatchEnds c d end after texts before now reads may_leave (Err stop.EpochsUsedUp) = ⊥
+BatchEnds c d end after texts before now reads may_leave (Err stop.NoMemory) =
     LeavesEither c.setting (history_of c) (history_of d) end before may_leave × (now ≡ before) ⊎ RestsOn d reads may_leave × SaysPart texts before now
 
 -- the store has grown by a batch, whose epoch, if it has one, has this number, before which few were skipped, and whose answers are said behind it. At each moment there is the
 -- store of before with nothing said, or the grown one with a front of the answers, and no entry is of a later epoch; and behind it the other files are as they were
 pub record WorksOffBatch {H : Type 0} (frame : HostGhosts H)
-    (result : Result (Unit {0}) BatchFault) (batch : Batch) (bounds : RunBounds) (c : Contents) (next spare : ℕ) (after : Cluster) (old new : H) : Type 0 where
+    (result : Result (Unit {0}) Stop) (batch : Batch) (bounds : RunBounds) (c : Contents) (next spare : ℕ) (after : Cluster) (old new : H) : Type 0 where
   pub d : Contents
   pub setting : d.setting ≡ c.setting
   pub grows : GrowsByExecution (manner_of c.setting bounds) (history_of c) batch.fresh (history_of d)
@@ -58,19 +59,20 @@ pub record WorksOffBatch {H : Type 0} (frame : HostGhosts H)
 
 -- how a batch ends that isn't committed: where its turn gave up, or found no number, the host rests on the store of before, but for prepared entries, and none is of this epoch or a later one.
 -- No file of such a store is refused
-abbrev pub RefusedEnds : Contents → ℕ → Option Files → (Files → Type 0) → Result (Unit {0}) BatchFault → Type 0
+abbrev pub RefusedEnds : Contents → ℕ → Option Files → (Files → Type 0) → Result (Unit {0}) Stop → Type 0
 RefusedEnds c end reads may_leave (Ok x) = ⊥
-RefusedEnds c end reads may_leave (Err fault.Say) = ⊥
-RefusedEnds c end reads may_leave (Err fault.Disk) = ⊤
-RefusedEnds c end reads may_leave (Err (fault.NotAStore file at)) = ⊥
-RefusedEnds c end reads may_leave (Err fault.Unreachable) = RestsWithout c end reads may_leave
-RefusedEnds c end reads may_leave (Err fault.EpochsUsedUp) = RestsWithout c end reads may_leave
-RefusedEnds c end reads may_leave (Err fault.NoMemory) = ⊤
+RefusedEnds c end reads may_leave (Err stop.Read) = ⊥
+RefusedEnds c end reads may_leave (Err stop.Say) = ⊥
+RefusedEnds c end reads may_leave (Err stop.Disk) = ⊤
+RefusedEnds c end reads may_leave (Err (stop.NotAStore file at)) = ⊥
+RefusedEnds c end reads may_leave (Err stop.Unreachable) = RestsWithout c end reads may_leave
+RefusedEnds c end reads may_leave (Err stop.EpochsUsedUp) = RestsWithout c end reads may_leave
+RefusedEnds c end reads may_leave (Err stop.NoMemory) = ⊤
 
 -- nothing of a batch is committed or said. At each moment, and behind it, there is the store of before, in which no entry is of a later epoch than the one tried last; and behind it the other
 -- files are as they were
 pub record IsRefused {H : Type 0} (frame : HostGhosts H)
-    (result : Result (Unit {0}) BatchFault) (c : Contents) (next spare : ℕ) (old new : H) : Type 0 where
+    (result : Result (Unit {0}) Stop) (c : Contents) (next spare : ℕ) (old new : H) : Type 0 where
   pub number : ℕ
   pub taken : IsTaken next number spare
   pub moments : SeesOnly frame.moment frame.observed old new (ShowsHistory c.setting (history_of c) (number + 1) (frame.said old))

@@ -1,5 +1,5 @@
 -- What a run makes of the store in hand and of the bytes that its source gives.
-use Rattle.std.specs.Prelude.{◌≡◌, ◌⊎◌, ⊤, ℕ, ◌+◌, ◌-◌, ◌<◌, ◌≤◌, List, [], ◌∷◌, ◌++◌, length, take, Option, Some}
+use Rattle.std.specs.Prelude.{◌≡◌, ◌⊎◌, ⊤, ℕ, ◌+◌, ◌-◌, ◌<◌, ◌≤◌, List, [], ◌∷◌, ◌++◌, length, take, Option, Some, Result, Ok, Err}
 use Rattle.std.specs.Io.KnownBytes.{append_known}
 use Rattle.coco_types.specs.Limits.{epochs_end, most_input_bytes}
 use Rattle.coco_append.specs.Gaining.{RestsOn}
@@ -9,6 +9,8 @@ use Rattle.coco_cluster.specs.GivingUp.{AreGivenUp}
 use Rattle.coco_cluster.specs.Standing.{IsBehindAll, StandsAt}
 use Rattle.coco_cluster.specs.Writing.{WritesLogs}
 use Rattle.coco_cluster.specs.declared.cluster.Cluster.{Cluster}
+use Rattle.coco_cluster.specs.declared.stop.Stop.{Stop}
+use Rattle.coco_cluster.specs.declared.stop.Stop.TheVariants as stop
 use Rattle.coco_host.specs.Files.{Files}
 use Rattle.coco_host.specs.Moments.{Observation, SeesOnly}
 use Rattle.coco_host.specs.declared.host.Host.{Ghosts as HostGhosts}
@@ -22,9 +24,7 @@ use Rattle.coco_store.specs.Contents.{Contents, history_of}
 use Rattle.coco_store.specs.Rules.{Setting}
 use Rattle.coco_serve.specs.Growth.{AddsWithin, AreFirstBatches, HaveSize, IsGrown, Manner, answers_of, manner_of}
 use Rattle.coco_serve.specs.Seen.{IsServed, LeavesEither}
-use Rattle.coco_serve.specs.declared.ending.Served.{Served}
 use Rattle.coco_serve.specs.declared.bounds.RunBounds.{RunBounds}
-use Rattle.coco_serve.specs.declared.ending.Served.TheVariants.{Finished, ReadFault, SayFault, DiskFault, NotAStore, Unreachable, EpochsUsedUp, NoMemory}
 
 -- ---- causes
 
@@ -43,20 +43,20 @@ spare_of before after = spare before.around after.around
 -- why a run ended so, by the bytes that the source gave; nodes are unreachable where from some moment of the run on four attempts were given up, one behind the other; epochs are used up
 -- where the numbers from the next one on reach the end, by one for each line and few that may be skipped. Where a node's file was refused, no
 -- count of the host's rose. Want of memory needs no cause
-abbrev pub HasCause : ℕ → List ℕ → Outside → Outside → Served → Type 0
-HasCause next bytes before after Finished = IsSpent after.source
-HasCause next bytes before after ReadFault = Rose before.source_faults after.source_faults ⊎ (length bytes ≡ most_input_bytes)
-HasCause next bytes before after SayFault = Rose before.say_faults after.say_faults
-HasCause next bytes before after DiskFault = Rose before.disk_faults after.disk_faults
-HasCause next bytes before after (NotAStore file at) = (after.say_faults ≡ before.say_faults) × (after.disk_faults ≡ before.disk_faults)
-HasCause next bytes before after Unreachable = (m : Around) × IsLater before.around m × AreGivenUp 4 m after.around
-HasCause next bytes before after EpochsUsedUp = SkipsFew next epochs_end (length (lines_of bytes)) (spare_of before after)
-HasCause next bytes before after NoMemory = ⊤
+abbrev pub HasCause : ℕ → List ℕ → Outside → Outside → Result (Unit {0}) Stop → Type 0
+HasCause next bytes before after (Ok x) = IsSpent after.source
+HasCause next bytes before after (Err stop.Read) = Rose before.source_faults after.source_faults ⊎ (length bytes ≡ most_input_bytes)
+HasCause next bytes before after (Err stop.Say) = Rose before.say_faults after.say_faults
+HasCause next bytes before after (Err stop.Disk) = Rose before.disk_faults after.disk_faults
+HasCause next bytes before after (Err (stop.NotAStore file at)) = (after.say_faults ≡ before.say_faults) × (after.disk_faults ≡ before.disk_faults)
+HasCause next bytes before after (Err stop.Unreachable) = (m : Around) × IsLater before.around m × AreGivenUp 4 m after.around
+HasCause next bytes before after (Err stop.EpochsUsedUp) = SkipsFew next epochs_end (length (lines_of bytes)) (spare_of before after)
+HasCause next bytes before after (Err stop.NoMemory) = ⊤
 
 -- ---- batches and answers
 
 -- a history grown by the first batches of these bytes, the epochs that it has more numbered from `next` on and below `end`
-pub record Progress (m : Manner) (opening : History) (next spare size : ℕ) (bytes : List ℕ) : Type 0 where
+pub record ServedSoFar (m : Manner) (opening : History) (next spare size : ℕ) (bytes : List ℕ) : Type 0 where
   pub batches : List Batch
   pub classes : List (List Class)
   pub history : History
@@ -106,7 +106,7 @@ pub record LeavesLast (s : Setting) (bounds : RunBounds) (opening : History) (ne
   pub left : LeavesEither s history whole (number + 1) now may_leave
 
 -- the next batch has a new request
-pub record HasNext (m : Manner) (opening : History) (next spare size : ℕ) (bytes : List ℕ) (p : Progress m opening next spare size bytes) : Type 0 where
+pub record HasNext (m : Manner) (opening : History) (next spare size : ℕ) (bytes : List ℕ) (p : ServedSoFar m opening next spare size bytes) : Type 0 where
   pub batch : Batch
   pub classes : List Class
   pub first : AreFirstBatches size bytes (p.batches ++ batch ∷ [])
@@ -114,7 +114,7 @@ pub record HasNext (m : Manner) (opening : History) (next spare size : ℕ) (byt
   pub some : 0 < length (new_of classes)
 
 -- as many epochs were added as there were numbers for, but for few that may be skipped, and the next batch has a new request
-pub record AreUsedUp (m : Manner) (opening : History) (next spare size : ℕ) (bytes : List ℕ) (p : Progress m opening next spare size bytes) : Type 0 where
+pub record AreUsedUp (m : Manner) (opening : History) (next spare size : ℕ) (bytes : List ℕ) (p : ServedSoFar m opening next spare size bytes) : Type 0 where
   pub end : SkipsFew next epochs_end (length p.numbers.added) spare
   pub has_next : HasNext m opening next spare size bytes p
 
@@ -123,24 +123,24 @@ pub record AreUsedUp (m : Manner) (opening : History) (next spare size : ℕ) (b
 -- by its ending: an input that was read to its end is committed and answered whole; after a fault of reading so are all whole batches; a fault of saying
 -- leaves all batches committed, the last one said in part; where nodes are unreachable, or epochs used up, all that is committed is said, and the next batch
 -- has a new request; and after a fault of the disk, or out of memory, one batch more may be committed than is said. No file of such a store is refused
-abbrev pub RunEnds : (c : Contents) → (next spare : ℕ) → (bounds : RunBounds) → (bytes : List ℕ) → Progress (manner_of c.setting bounds) (history_of c) next spare bounds.size bytes → Option (List ℕ) → Option (List ℕ) → Option Files → (Files → Type 0) → Served → Type 0
-RunEnds c next spare bounds bytes p before now reads may_leave Finished = AreAll bounds.size bytes p.batches × RestsAt c.setting p.history p.end reads may_leave × SaysAll before now p.history p.classes
-RunEnds c next spare bounds bytes p before now reads may_leave ReadFault = AreAllWhole bounds.size bytes p.batches × RestsAt c.setting p.history p.end reads may_leave × SaysAll before now p.history p.classes
-RunEnds c next spare bounds bytes p before now reads may_leave SayFault = RestsAt c.setting p.history p.end reads may_leave × SaysUpTo before now p.history p.classes
-RunEnds c next spare bounds bytes p before now reads may_leave DiskFault =
+abbrev pub RunEnds : (c : Contents) → (next spare : ℕ) → (bounds : RunBounds) → (bytes : List ℕ) → ServedSoFar (manner_of c.setting bounds) (history_of c) next spare bounds.size bytes → Option (List ℕ) → Option (List ℕ) → Option Files → (Files → Type 0) → Result (Unit {0}) Stop → Type 0
+RunEnds c next spare bounds bytes p before now reads may_leave (Ok x) = AreAll bounds.size bytes p.batches × RestsAt c.setting p.history p.end reads may_leave × SaysAll before now p.history p.classes
+RunEnds c next spare bounds bytes p before now reads may_leave (Err stop.Read) = AreAllWhole bounds.size bytes p.batches × RestsAt c.setting p.history p.end reads may_leave × SaysAll before now p.history p.classes
+RunEnds c next spare bounds bytes p before now reads may_leave (Err stop.Say) = RestsAt c.setting p.history p.end reads may_leave × SaysUpTo before now p.history p.classes
+RunEnds c next spare bounds bytes p before now reads may_leave (Err stop.Disk) =
     LeavesLast c.setting bounds (history_of c) next spare p.batches p.classes p.history (SaysAll before now) now may_leave
-RunEnds c next spare bounds bytes p before now reads may_leave (NotAStore file at) = ⊥
-RunEnds c next spare bounds bytes p before now reads may_leave Unreachable =
+RunEnds c next spare bounds bytes p before now reads may_leave (Err (stop.NotAStore file at)) = ⊥
+RunEnds c next spare bounds bytes p before now reads may_leave (Err stop.Unreachable) =
     RestsAt c.setting p.history p.end reads may_leave × SaysAll before now p.history p.classes × HasNext (manner_of c.setting bounds) (history_of c) next spare bounds.size bytes p
-RunEnds c next spare bounds bytes p before now reads may_leave EpochsUsedUp =
+RunEnds c next spare bounds bytes p before now reads may_leave (Err stop.EpochsUsedUp) =
     RestsAt c.setting p.history p.end reads may_leave × SaysAll before now p.history p.classes × AreUsedUp (manner_of c.setting bounds) (history_of c) next spare bounds.size bytes p
-RunEnds c next spare bounds bytes p before now reads may_leave NoMemory =
+RunEnds c next spare bounds bytes p before now reads may_leave (Err stop.NoMemory) =
     LeavesLast c.setting bounds (history_of c) next spare p.batches p.classes p.history (SaysUpTo before now) now may_leave
 
 -- of a host that rested on these contents: what was seen in the run and is left behind it, which files it wrote, and how it ended
 pub record Serves {H : Type 0} (frame : HostGhosts H)
-    (c : Contents) (next spare : ℕ) (bounds : RunBounds) (bytes : List ℕ) (ending : Served) (old new : H) : Type 0 where
-  pub progress : Progress (manner_of c.setting bounds) (history_of c) next spare bounds.size bytes
+    (c : Contents) (next spare : ℕ) (bounds : RunBounds) (bytes : List ℕ) (ending : Result (Unit {0}) Stop) (old new : H) : Type 0 where
+  pub progress : ServedSoFar (manner_of c.setting bounds) (history_of c) next spare bounds.size bytes
   pub moments : SeesOnly frame.moment frame.observed old new (IsServed c.setting bounds (history_of c) next spare progress.batches progress.classes progress.history (frame.said old))
   pub left : (seen : Observation) → frame.said new ≡ Some seen.said → frame.may_leave new seen.image → IsServed c.setting bounds (history_of c) next spare progress.batches progress.classes progress.history (frame.said old) seen
   pub others : WritesLogs c.setting (frame.reads old) (frame.reads new) (frame.may_leave old) (frame.may_leave new)
@@ -148,7 +148,7 @@ pub record Serves {H : Type 0} (frame : HostGhosts H)
 
 -- the bytes that the source gave, what came of net and power, why the run ended so, and what it made of each store that the cluster stood at
 pub record Runs {H : Type 0} (frame : HostGhosts H)
-    (cluster : Cluster) (bounds : RunBounds) (before after : Outside) (ending : Served) (old new : H) : Type 0 where
+    (cluster : Cluster) (bounds : RunBounds) (before after : Outside) (ending : Result (Unit {0}) Stop) (old new : H) : Type 0 where
   pub bytes : List ℕ
   pub gives : Gives before.source after.source bytes
   pub later : IsLater before.around after.around

@@ -7,10 +7,9 @@ ghost use Rattle.coco_serve.specs.Serving.{Runs};
 ghost use Rattle.coco_lines.specs.Reads.{source_moment};
 
 use crate::bounds::RunBounds;
-use crate::ending::Served;
 use crate::one_batch::turn_and_say;
 use coco_batches::read_batch;
-use coco_cluster::Cluster;
+use coco_cluster::{Cluster, Stop};
 use coco_gate::Gate;
 use coco_host::Host;
 use coco_io::Source;
@@ -41,7 +40,7 @@ pub fn answer_lines<
     input: &mut S,
     bounds: RunBounds,
     gate: &G,
-) -> Served
+) -> Result<(), Stop>
     requires some { 0 < bounds.size }
     requires few { bounds.size ≤ most_batch_lines }
     requires workers { 0 < bounds.workers }
@@ -67,20 +66,17 @@ pub fn answer_lines<
             bounds.size,
         ) {
             Ok(batch) => batch,
-            Err(LineFault::NoMemory) => return Served::NoMemory,
-            Err(LineFault::Failed) => return Served::ReadFault,
-            Err(LineFault::TooMuch) => return Served::ReadFault,
+            Err(LineFault::NoMemory) => return Err(Stop::NoMemory),
+            Err(LineFault::Failed) => return Err(Stop::Read),
+            Err(LineFault::TooMuch) => return Err(Stop::Read),
         };
         let count = batch.answers.len();
         if count == 0 {
-            return Served::Finished;
+            return Ok(());
         }
-        match turn_and_say(rt, alloc, host, net, power, cluster, batch, bounds, gate) {
-            Ok(()) => {}
-            Err(fault) => return Served::from(fault),
-        }
+        turn_and_say(rt, alloc, host, net, power, cluster, batch, bounds, gate)?;
         if count < bounds.size as usize {
-            return Served::Finished;
+            return Ok(());
         }
     }
 }

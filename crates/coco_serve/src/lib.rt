@@ -3,13 +3,9 @@
 
 mod all_batches;
 mod bounds;
-mod ending;
-mod fault;
 pub mod laws;
 mod one_batch;
 mod texts;
 
 pub use all_batches::answer_lines;
 pub use bounds::RunBounds;
-pub use ending::Served;
-pub use fault::BatchFault;

@@ -11,10 +11,9 @@ ghost use Rattle.coco_serve.specs.Faults.{CountsBatch};
 ghost use Rattle.coco_serve.specs.OneBatch.{IsRefused, WorksOffBatch};
 
 use crate::bounds::RunBounds;
-use crate::fault::BatchFault;
 use crate::texts::{early_texts, late_texts};
 use coco_batches::Batch;
-use coco_cluster::Cluster;
+use coco_cluster::{Cluster, Stop};
 use coco_gate::Gate;
 use coco_host::{Host, say_all};
 use coco_net::Net;
@@ -42,7 +41,7 @@ pub fn turn_and_say<
     batch: Batch,
     bounds: RunBounds,
     gate: &G,
-) -> Result<(), BatchFault>
+) -> Result<(), Stop>
     requires sound { IsSound cluster.old (N.sent net.old) }
     requires workers { 0 < bounds.workers }
     requires attempts { 0 < bounds.attempts }

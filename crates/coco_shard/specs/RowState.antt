@@ -1,11 +1,11 @@
 -- What contracts see of a shard: a finite map from the keys that have a row to what each row says.
-use Rattle.std.specs.Prelude.{◌≡◌, ℕ, ◌%◌, ◌≤◌, Bool, if◌then◌else◌, List, Option, None, Some, IsSome}
+use Rattle.std.specs.Prelude.{◌≡◌, ℕ, ◌≤◌, Bool, if◌then◌else◌, List, Option, None, Some, IsSome}
 use Rattle.std.specs.List.Sorted.{IsStrictlySortedBy}
 use Rattle.std.specs.Map.{keys_of, lookup}
 use Rattle.std.specs.BTreeMap.{is_at}
 use Rattle.std.specs.Option.{unwrap_or, option_map}
 use Rattle.std.specs.FinMap.{FinMap, get, insert, remove}
-use Rattle.coco_types.specs.RowKey.{RowKey, key_cmp}
+use Rattle.coco_types.specs.RowKey.{RowKey, key_cmp, partition_of}
 use Rattle.coco_types.specs.declared.value.Value.{Value}
 use Rattle.coco_types.specs.declared.call.AttemptId.{AttemptId}
 
@@ -70,4 +70,4 @@ pub record IsGreatestTime (s : ShardState) (time : ℕ) : Type 0 where
 
 -- every key that has a row is of this partition of so many
 abbrev pub IsOfPartition : ℕ → ℕ → ShardState → Type 0
-IsOfPartition count partition s = (k : RowKey) → IsSome (get s k) → k.row % count ≡ partition
+IsOfPartition count partition s = (k : RowKey) → IsSome (get s k) → partition_of count k ≡ partition

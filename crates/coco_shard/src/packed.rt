@@ -81,6 +81,37 @@ impl PackedOp {
         })
     }
 
+    /// The same once more.
+    pub fn try_clone(&self) -> Result<PackedOp, NoMemory>
+        ensures { IfOk result (λ copy. op_of copy ≡ op_of self.now) }
+    {
+        Ok(match self {
+            PackedOp::Read(key) => PackedOp::Read(*key),
+            PackedOp::Lock(key) => PackedOp::Lock(*key),
+            PackedOp::Extend { key, wts, time } => PackedOp::Extend {
+                key: *key,
+                wts: *wts,
+                time: *time,
+            },
+            PackedOp::InstallNone { key, time } => PackedOp::InstallNone {
+                key: *key,
+                time: *time,
+            },
+            PackedOp::InstallInt { key, time, number } => PackedOp::InstallInt {
+                key: *key,
+                time: *time,
+                number: *number,
+            },
+            PackedOp::InstallText { key, time, text } => PackedOp::InstallText {
+                key: *key,
+                time: *time,
+                text: text.clone()?,
+            },
+            PackedOp::Release(key) => PackedOp::Release(*key),
+            PackedOp::Past(key) => PackedOp::Past(*key),
+        })
+    }
+
     /// The operation.
     pub fn get(&self) -> Op
         ensures { result ≡ op_of self.now }
@@ -159,6 +190,61 @@ impl PackedAnswer {
         (packed, Some(room))
     }
 
+    /// The answer, a text of it on this heap.
+    pub fn on_heap(alloc: Global, answer: &Answer) -> Result<PackedAnswer, NoMemory>
+        ensures { IfOk result (λ packed. answer_of packed ≡ answer.now) }
+    {
+        Ok(match answer {
+            Answer::Got { wts, rts, value } => got_on_heap(alloc, *wts, *rts, value)?,
+            Answer::Stood(value) => stood_on_heap(alloc, value)?,
+            Answer::Locked { wts, rts } => PackedAnswer::Locked {
+                wts: *wts,
+                rts: *rts,
+            },
+            Answer::Marked { holder } => PackedAnswer::Marked { holder: *holder },
+            Answer::Changed { wts } => PackedAnswer::Changed { wts: *wts },
+            Answer::Extended => PackedAnswer::Extended,
+            Answer::Installed => PackedAnswer::Installed,
+            Answer::Released => PackedAnswer::Released,
+            Answer::NotMine { mark } => PackedAnswer::NotMine { mark: *mark },
+        })
+    }
+
+    /// The same once more.
+    pub fn try_clone(&self) -> Result<PackedAnswer, NoMemory>
+        ensures { IfOk result (λ copy. answer_of copy ≡ answer_of self.now) }
+    {
+        Ok(match self {
+            PackedAnswer::GotNone { wts, rts } => PackedAnswer::GotNone {
+                wts: *wts,
+                rts: *rts,
+            },
+            PackedAnswer::GotInt { wts, rts, number } => PackedAnswer::GotInt {
+                wts: *wts,
+                rts: *rts,
+                number: *number,
+            },
+            PackedAnswer::GotText { wts, rts, text } => PackedAnswer::GotText {
+                wts: *wts,
+                rts: *rts,
+                text: text.clone()?,
+            },
+            PackedAnswer::Locked { wts, rts } => PackedAnswer::Locked {
+                wts: *wts,
+                rts: *rts,
+            },
+            PackedAnswer::Marked { holder } => PackedAnswer::Marked { holder: *holder },
+            PackedAnswer::Changed { wts } => PackedAnswer::Changed { wts: *wts },
+            PackedAnswer::Extended => PackedAnswer::Extended,
+            PackedAnswer::Installed => PackedAnswer::Installed,
+            PackedAnswer::Released => PackedAnswer::Released,
+            PackedAnswer::NotMine { mark } => PackedAnswer::NotMine { mark: *mark },
+            PackedAnswer::StoodNone => PackedAnswer::StoodNone,
+            PackedAnswer::StoodInt(number) => PackedAnswer::StoodInt(*number),
+            PackedAnswer::StoodText(text) => PackedAnswer::StoodText(text.clone()?),
+        })
+    }
+
     /// The answer.
     pub fn get(&self) -> Answer
         ensures { result ≡ answer_of self.now }
@@ -225,6 +311,37 @@ fn packed_stood(value: &Option<Value>, mut room: Box<Text>) -> (PackedAnswer, Op
             (PackedAnswer::StoodText(room), None)
         }
     }
+}
+
+fn got_on_heap(
+    alloc: Global,
+    wts: u64,
+    rts: u64,
+    value: &Option<Value>,
+) -> Result<PackedAnswer, NoMemory>
+    ensures { IfOk result (λ packed. answer_of packed ≡ Answer.Got wts rts value.now) }
+{
+    Ok(match value {
+        None => PackedAnswer::GotNone { wts, rts },
+        Some(Value::Int(number)) => {
+            let number = *number;
+            PackedAnswer::GotInt { wts, rts, number }
+        }
+        Some(Value::Text(text)) => {
+            let text = Box::new(alloc, *text)?;
+            PackedAnswer::GotText { wts, rts, text }
+        }
+    })
+}
+
+fn stood_on_heap(alloc: Global, value: &Option<Value>) -> Result<PackedAnswer, NoMemory>
+    ensures { IfOk result (λ packed. answer_of packed ≡ Answer.Stood value.now) }
+{
+    Ok(match value {
+        None => PackedAnswer::StoodNone,
+        Some(Value::Int(number)) => PackedAnswer::StoodInt(*number),
+        Some(Value::Text(text)) => PackedAnswer::StoodText(Box::new(alloc, *text)?),
+    })
 }
 
 impl Packs for Shard {

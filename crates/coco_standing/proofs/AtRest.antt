@@ -9,8 +9,8 @@ use Rattle.coco_ast.specs.Keyed.{Rows, on_partition, value_at}
 use Rattle.coco_ast.proofs.KeyedLemmas.{value_on_partition}
 use Rattle.coco_copy.specs.CopyState.{CopyState, begun}
 use Rattle.coco_entry.specs.declared.layout.Layout.{Layout}
-use Rattle.coco_epoch.specs.Shards.{SettleOn, stable_in}
-use Rattle.coco_epoch.specs.Shards as epochs
+use Rattle.coco_tail.specs.Shards.{SettleOn, stable_in}
+use Rattle.coco_tail.specs.Shards as epochs
 use Rattle.coco_load.proofs.Loading.{no_shard, settled_of}
 use Rattle.coco_load.specs.Tables.{IsShardOf, copy_at, shard_at}
 use Rattle.coco_shard.specs.RowState.{ShardState, Holds, IsOfPartition, IsSettled, stable_at}

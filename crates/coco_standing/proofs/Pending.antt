@@ -17,13 +17,13 @@ use Rattle.coco_ast.specs.Meaning.{run}
 use Rattle.coco_ast.specs.Tree.{Procedures}
 use Rattle.coco_ast.proofs.KeyedLemmas.{value_on_partition}
 use Rattle.coco_copy.specs.CopyState.{CopyState, promoted_at}
-use Rattle.coco_epoch.specs.Pieces.{pieces_of, place_of}
-use Rattle.coco_epoch.specs.Shards.{AreOfPartitions, row_in}
-use Rattle.coco_epoch.specs.Shards as epochs
+use Rattle.coco_tail.specs.Pieces.{pieces_of, place_of}
+use Rattle.coco_tail.specs.Shards.{AreOfPartitions, row_in}
+use Rattle.coco_tail.specs.Shards as epochs
 use Rattle.coco_load.specs.Tables.{copy_at, shard_at}
 use Rattle.coco_pieces.specs.Pieces.{piece_of, pieces_from, request_pieces, writes_on}
-use Rattle.coco_prepared.specs.LastWrites.{Stamp, held_pieces, holds, last_stamp, last_value}
-use Rattle.coco_prepared.proofs.LastWriteLemmas.{last_append, or_none, stamp_append, value_after}
+use Rattle.coco_append.specs.LastWrites.{Stamp, held_pieces, holds, last_stamp, last_value}
+use Rattle.coco_append.proofs.LastWriteLemmas.{last_append, or_none, stamp_append, value_after}
 use Rattle.coco_shard.specs.RowState.{RowState, ShardState, resting, row_at}
 use Rattle.coco_standing.specs.Laws.{PendingKeeps, PendingStands}
 use Rattle.coco_standing.specs.Standing.{ShardHas}

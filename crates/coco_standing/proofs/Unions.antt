@@ -11,7 +11,7 @@ use Rattle.coco_types.proofs.Keys.{is_key, one_key}
 use Rattle.coco_ast.specs.Keyed.{Rows, value_at, write_at}
 use Rattle.coco_ast.proofs.Writing.{value_written}
 use Rattle.coco_shard.specs.RowState.{RowState, ShardState, resting}
-use Rattle.coco_epoch.specs.Shards.{shard_at, stable_in}
+use Rattle.coco_tail.specs.Shards.{shard_at, stable_in}
 use Rattle.coco_standing.specs.Laws.{SettledHold}
 
 -- ---- a map of values at some keys

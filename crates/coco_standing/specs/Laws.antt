@@ -1,7 +1,7 @@
 -- What holds of a store's tables before an epoch, and behind one.
-use Rattle.std.specs.Prelude.{◌≡◌, ◌≢◌, ℕ, ◌%◌, ◌<◌, ◌≤◌, Bool, List, None}
+use Rattle.std.specs.Prelude.{◌≡◌, ◌≢◌, ℕ, ◌<◌, ◌≤◌, Bool, List, None}
 use Rattle.std.specs.FinMap.{get}
-use Rattle.coco_types.specs.RowKey.{RowKey}
+use Rattle.coco_types.specs.RowKey.{RowKey, partition_of}
 use Rattle.coco_types.specs.declared.call.Done.{Done}
 use Rattle.coco_types.specs.declared.call.Piece.{Piece}
 use Rattle.coco_types.specs.declared.call.Request.{Request}
@@ -10,12 +10,12 @@ use Rattle.coco_ast.specs.Keyed.{Rows, on_partition}
 use Rattle.coco_ast.specs.Tree.{Procedures}
 use Rattle.coco_copy.specs.CopyState.{CopyState}
 use Rattle.coco_entry.specs.declared.layout.Layout.{Layout}
-use Rattle.coco_epoch.specs.SerialEpoch.{IsSerialEpoch}
-use Rattle.coco_epoch.specs.Shards.{AreOfPartitions, AreSettled}
-use Rattle.coco_epoch.specs.Shards as epochs
+use Rattle.coco_tail.specs.SerialEpoch.{IsSerialEpoch}
+use Rattle.coco_tail.specs.Shards.{AreOfPartitions, AreSettled}
+use Rattle.coco_tail.specs.Shards as epochs
 use Rattle.coco_load.specs.Tables as loads
 use Rattle.coco_load.specs.Tables.{copy_at}
-use Rattle.coco_prepared.specs.LastWrites.{last_stamp}
+use Rattle.coco_append.specs.LastWrites.{last_stamp}
 use Rattle.coco_shard.specs.RowState.{ShardState}
 use Rattle.coco_standing.specs.Standing.{AreCounted, TablesKeep, TablesStand, all_behind, none_behind}
 
@@ -47,8 +47,8 @@ NodesCount = (layout : Layout) (m : Rows) (behind other : ℕ → Bool) (shards 
 -- anything does.
 pub record PendLastWrites (layout : Layout) (m : Rows) (parts : List Piece) (copies : List CopyState) : Type 0 where
   pub stable : (p j : ℕ) → p < layout.partitions → 1 ≤ j → j ≤ layout.copies → (copy_at layout copies p j).stable ≡ on_partition layout.partitions p m
-  pub last : (p j : ℕ) → p < layout.partitions → 1 ≤ j → j ≤ layout.copies → (k : RowKey) → k.row % layout.partitions ≡ p → get (copy_at layout copies p j).pending k ≡ last_stamp k parts
-  pub elsewhere : (p j : ℕ) → p < layout.partitions → 1 ≤ j → j ≤ layout.copies → (k : RowKey) → k.row % layout.partitions ≢ p → get (copy_at layout copies p j).pending k ≡ None
+  pub last : (p j : ℕ) → p < layout.partitions → 1 ≤ j → j ≤ layout.copies → (k : RowKey) → partition_of layout.partitions k ≡ p → get (copy_at layout copies p j).pending k ≡ last_stamp k parts
+  pub elsewhere : (p j : ℕ) → p < layout.partitions → 1 ≤ j → j ≤ layout.copies → (k : RowKey) → partition_of layout.partitions k ≢ p → get (copy_at layout copies p j).pending k ≡ None
 
 -- what a run of an epoch leaves gives the map after the epoch where it is promoted
 abbrev pub PendingStands : Type 0

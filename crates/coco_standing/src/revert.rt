@@ -3,7 +3,7 @@
 ghost use Rattle.std.specs.Prelude.{◌≡◌, map};
 ghost use Rattle.coco_ast.specs.Keyed.{Rows};
 ghost use Rattle.coco_entry.specs.declared.layout.Layout.{Layout as LayoutState};
-ghost use Rattle.coco_epoch.specs.Shards.{SettleOn};
+ghost use Rattle.coco_tail.specs.Shards.{SettleOn};
 ghost use Rattle.coco_shard.specs.RowState.{stable_at};
 ghost use Rattle.coco_standing.specs.Changes.{reverted};
 ghost use Rattle.coco_standing.specs.Standing.{TablesKeep, TablesStand, none_behind};
@@ -17,7 +17,7 @@ pub fn revert_all(shards: &mut [Shard], copies: &mut [CopyTable])
     ensures copies { copies.new ≡ map reverted copies.old }
     ensures stand { (layout : LayoutState) (m : Rows) → TablesKeep layout m shards.old copies.old → TablesStand layout m none_behind shards.new copies.new }
 {
-    coco_epoch::revert_all(shards);
+    coco_tail::revert_all(shards);
     revert_copies(copies);
 }
 

@@ -17,7 +17,7 @@ use Rattle.coco_entry.specs.Layouts.{IsLayout, layout_bytes}
 use Rattle.coco_store.specs.Contents.{Contents, Holds, HoldsBase, HoldsCommits, HoldsLayouts, HoldsNode, IsGoodLayout, IsGoodStore, chief_of, file_of}
 use Rattle.coco_store.specs.Entries.{AreLayouts, BaseEntry, layouts_file, layouts_kind}
 use Rattle.coco_store.specs.Laws.{KeepAllLogs, KeepsLog}
-use Rattle.coco_store.specs.Placement.{IsHeldBy, partition_of}
+use Rattle.coco_store.specs.Placement.{IsHeldBy}
 use Rattle.coco_store.specs.Rules.{EachBehind, IsBase, IsCommittedDone, IsKeptDone, IsNextBase, IsNextCommit, IsNextDone, IsNextEpoch, IsNextPrepared, IsNextValue, IsNodeRow, MayFollow, Setting, base_values, commit_epochs, dones_in, dones_of, kept_dones, prepared_epochs, values_of}
 use Rattle.coco_store.specs.Switching.{AfterSwitch, Allows, GainsLayout, IsReadyFor, Switches, WhereAllowed, WhileSwitch}
 use Rattle.coco_store.specs.Texts.{IsAcceptedText}

@@ -2,6 +2,7 @@
 use Rattle.std.specs.Prelude.{◌≡◌, ℕ, ◌<◌, nat_eq, List, [], ◌∷◌, ◌++◌, map, slice_index, Option, None, Some}
 use Rattle.std.specs.List.{AllByRecursion, filter, flat_map}
 use Rattle.std.specs.Set.{is_member}
+use Rattle.coco_types.specs.RowKey.{partition_of}
 use Rattle.coco_types.specs.declared.call.Write.{Write}
 use Rattle.coco_host.specs.Files.{Files}
 use Rattle.coco_ast.specs.History.{Epoch, History, IsOrdered, IsSerial, map_of}
@@ -12,7 +13,7 @@ use Rattle.coco_entry.specs.declared.layout.LayoutEntry.{LayoutEntry}
 use Rattle.coco_entry.specs.declared.prepared.Prepared.{Prepared}
 use Rattle.coco_entry.specs.declared.prepared.Row.{Row}
 use Rattle.coco_store.specs.Entries.{BaseEntry, AreBase, AreCommits, AreLayouts, ArePrepared}
-use Rattle.coco_store.specs.Placement.{IsHeldBy, partition_of}
+use Rattle.coco_store.specs.Placement.{IsHeldBy}
 use Rattle.coco_store.specs.Rules.{EachBehind, HavePrepared, IsBase, IsNextCommit, IsNextPrepared, IsWithinLimits, Setting, base_of, commit_epochs}
 use Rattle.coco_store.specs.Texts.{IsAcceptedText}
 
@@ -78,7 +79,7 @@ history_of c = record { base = base_of c.setting c.base; epochs = map epoch_of c
 
 -- what an entry writes in a partition
 abbrev pub writes_on : Setting → ℕ → List Row → List Write
-writes_on s p rows = map (λ r. record { key = r.key; value = r.value }) (filter (λ r. nat_eq (partition_of s.entry.layout r.key) p) rows)
+writes_on s p rows = map (λ r. record { key = r.key; value = r.value }) (filter (λ r. nat_eq (partition_of s.entry.layout.partitions r.key) p) rows)
 
 -- what the entries of these epochs write there, in order
 abbrev pub committed_writes : Setting → ℕ → List ℕ → List Prepared → List Write

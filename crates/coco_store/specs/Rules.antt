@@ -5,7 +5,7 @@ use Rattle.std.specs.Set.{is_member}
 use Rattle.std.specs.FinMap.{empty}
 use Rattle.std.specs.declared.cmp.Ordering.TheVariants.{Less}
 use Rattle.coco_types.specs.Limits.{epochs_end, most_batch_lines, most_keep, most_kept, most_nodes, most_partitions, most_time}
-use Rattle.coco_types.specs.RowKey.{RowKey, key_cmp}
+use Rattle.coco_types.specs.RowKey.{RowKey, key_cmp, partition_of}
 use Rattle.coco_types.specs.declared.call.Done.{Done}
 use Rattle.coco_types.specs.declared.value.Value.{Value}
 use Rattle.coco_ast.specs.Fitting.{Fits}
@@ -19,7 +19,7 @@ use Rattle.coco_entry.specs.declared.layout.LayoutEntry.{LayoutEntry}
 use Rattle.coco_entry.specs.declared.prepared.Prepared.{Prepared}
 use Rattle.coco_entry.specs.declared.prepared.Row.{Row}
 use Rattle.coco_store.specs.Entries.{BaseEntry, Head, Dones, Values}
-use Rattle.coco_store.specs.Placement.{IsHeldBy, partition_of}
+use Rattle.coco_store.specs.Placement.{IsHeldBy}
 
 -- each item keeps a rule behind all that come before it
 abbrev pub EachBehind : {A : Type 0} → (List A → A → Type 0) → List A → List A → Type 0
@@ -170,7 +170,7 @@ pub record IsNextCommit (s : Setting) (base : List BaseEntry) (before : List Com
 -- ---- prepared epochs
 
 pub record IsNodeRow (s : Setting) (n : ℕ) (row : Row) : Type 0 where
-  pub held : IsHeldBy s.entry.layout (partition_of s.entry.layout row.key) n
+  pub held : IsHeldBy s.entry.layout (partition_of s.entry.layout.partitions row.key) n
   pub table : HasTable s row.key
 
 abbrev pub prepared_epochs : List Prepared → List ℕ

@@ -22,9 +22,9 @@ const TWO_NODES: [u8; 73] = [
 
 // What is seen of an opened store: the number of its next epoch, how many replies it keeps, its row 5, how many nodes
 // its last layout has, and where that layout's body begins.
-type Seen = (u64, u64, Option<i64>, u8, u64);
+type Summary = (u64, u64, Option<i64>, u8, u64);
 
-fn seen(store: &Opened) -> Seen {
+fn seen(store: &Opened) -> Summary {
     let five = Key { table: 0, row: 5 };
     let value = match store.shards.first() {
         Some(shard) => number(shard.stable(five)),
@@ -40,7 +40,7 @@ fn seen(store: &Opened) -> Seen {
 }
 
 // What is seen once a store is opened, with all replies or by its keep number.
-fn opened(alloc: Global, host: &mut MemoryHost, is_whole: bool) -> Result<Seen, OpenFault> {
+fn opened(alloc: Global, host: &mut MemoryHost, is_whole: bool) -> Result<Summary, OpenFault> {
     let store = if is_whole {
         recover_whole(alloc, host)
     } else {
@@ -53,7 +53,7 @@ fn opened(alloc: Global, host: &mut MemoryHost, is_whole: bool) -> Result<Seen, 
 }
 
 // Of the store that is refused the node lacks the entry of the committed epoch, which is found at its last gate.
-const STORES: [(&str, Files, Result<Seen, OpenFault>); 7] = [
+const STORES: [(&str, Files, Result<Summary, OpenFault>); 7] = [
     (
         "no epoch",
         &[(0, &LAYOUTS), (1, &NO_COMMITS), (2, &NONE_PREPARED)],
@@ -112,7 +112,7 @@ fn is_opened(
     alloc: Global,
     files: Files,
     is_whole: bool,
-    wanted: &Result<Seen, OpenFault>,
+    wanted: &Result<Summary, OpenFault>,
 ) -> Result<bool, OutFault> {
     let mut host = host_with(alloc, files)?;
     Ok(opened(alloc, &mut host, is_whole) == *wanted)

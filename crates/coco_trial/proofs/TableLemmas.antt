@@ -16,7 +16,7 @@ use Rattle.coco_copy.specs.declared.ops.CopyAsk.{CopyAsk}
 use Rattle.coco_early.specs.Laws.{OfEachRun, PendingIsLast, PendsLast}
 use Rattle.coco_early.specs.Runs.{HasCopied, HasRun}
 use Rattle.coco_entry.specs.declared.layout.Layout.{Layout}
-use Rattle.coco_epoch.specs.SerialEpoch.{IsSerialEpoch}
+use Rattle.coco_tail.specs.SerialEpoch.{IsSerialEpoch}
 use Rattle.coco_finish.specs.declared.tables.NodeTables.{NodeTables}
 use Rattle.coco_journaled.specs.declared.entry.Entry.{Entry}
 use Rattle.coco_load.specs.Tables.{copy_at}

@@ -6,7 +6,7 @@ use Rattle.coco_types.specs.declared.call.Request.{Request}
 use Rattle.coco_ast.specs.Keyed.{Rows}
 use Rattle.coco_ast.specs.Tree.{Procedures}
 use Rattle.coco_entry.specs.declared.layout.Layout.{Layout}
-use Rattle.coco_epoch.specs.Running.{FitAll}
+use Rattle.coco_tail.specs.Running.{FitAll}
 use Rattle.coco_finish.specs.Finishing.{AreWhole}
 use Rattle.coco_members.specs.AtRest.{primaries_of}
 use Rattle.coco_finish.specs.declared.tables.NodeTables.{NodeTables}

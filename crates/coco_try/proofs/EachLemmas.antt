@@ -1,5 +1,5 @@
 -- Requests worked off batch by batch, of each store that the cluster may stand at, and how that ends.
-use Rattle.std.proofs.Common.{◌≡◌, ℕ, ◌+◌, ◌*◌, ◌≤◌, inl, inr, ⊎_elim, List, [], ◌∷◌, ◌++◌, drop, length, take, Option, Result, Ok, Err, refl, sym, ap, subst, ◌∙◌, arith, length-append}
+use Rattle.std.proofs.Common.{◌≡◌, ℕ, ◌+◌, ◌*◌, ◌≤◌, inl, inr, ⊎_elim, List, [], ◌∷◌, ◌++◌, drop, length, take, Result, Ok, Err, refl, sym, ap, subst, ◌∙◌, arith, length-append}
 use Rattle.std.specs.Prelude.{⊤, OnOk}
 use Rattle.coco_cluster.proofs.SeeingLemmas.{same_history}
 use Rattle.coco_types.specs.Limits.{epochs_end}
@@ -17,7 +17,6 @@ use Rattle.coco_cluster.specs.Turning.{RestsWithout, ShowsHistory, ShowsStore, e
 use Rattle.coco_cluster.specs.Writing.{WritesLogs}
 use Rattle.coco_cluster.proofs.BehindLemmas.{behind_later}
 use Rattle.coco_cluster.proofs.WriteLemmas.{writes_none, writes_then}
-use Rattle.coco_host.specs.Files.{Files}
 use Rattle.coco_host.specs.Moments.{Observation, SeesOnly}
 use Rattle.coco_host.proofs.Sees.{started}
 use Rattle.coco_host.specs.declared.host.Host.{Ghosts as HostGhosts}
@@ -33,50 +32,53 @@ use Rattle.coco_serve.specs.OneBatch.{IsRefused, RefusedEnds}
 use Rattle.coco_serve.specs.Seen.{LeavesEither}
 use Rattle.coco_serve.specs.Serving.{RestsAt}
 use Rattle.coco_serve.specs.declared.bounds.RunBounds.{RunBounds}
-use Rattle.coco_serve.specs.declared.fault.BatchFault.{BatchFault}
-use Rattle.coco_serve.specs.declared.fault.BatchFault.TheVariants as fault
+use Rattle.coco_cluster.specs.declared.stop.Stop.{Stop}
+use Rattle.coco_cluster.specs.declared.stop.Stop.TheVariants as stop
 use Rattle.coco_serve.proofs.BatchLemmas.{refused_early}
 use Rattle.coco_serve.proofs.NumberLemmas.{added_by, adds_more, adds_none}
 use Rattle.coco_serve.proofs.RunLemmas.{OnlyNow, known_at, moved}
 use Rattle.coco_try.specs.Growth.{AreClassesOf, GrowsByParts, part_at, parts_of}
 use Rattle.coco_try.specs.Report.{answered_in}
-use Rattle.coco_try.specs.Trying.{HasCause, LeavesLast, Progress, ShowsParts}
+use Rattle.coco_try.specs.Trying.{HasCause, LeavesLast, TriedSoFar, ShowsParts}
 use Rattle.coco_try.specs.Work.{ComesOfPart, CountsPart, HasNew, IsCountOf, PartEnds, WorksOffPart, done_of}
 use Rattle.coco_try.specs.Working.{Unsaid, WorkEnds, Works}
-use Rattle.coco_try.specs.declared.one_part.Worked.{Worked}
+use Rattle.coco_try.specs.declared.one_part.Tally.{Tally}
 use Rattle.coco_try.proofs.GrowthLemmas.{all_parts, all_shown, answered_more, grows_more, later_shown, more_shown, paired, rest_more, with_others, with_theirs}
 
 -- why a batch broke off, where no store says it
-abbrev pub HasReason : ℕ → ℕ → Known → List Request → BatchFault → Type 0
-HasReason next spare k part fault.Say = ⊤
-HasReason next spare k part fault.Disk = ⊤
-HasReason next spare k part (fault.NotAStore file at) = ⊤
-HasReason next spare k part fault.Unreachable = HasNew k part
-HasReason next spare k part fault.EpochsUsedUp = SkipsFew next epochs_end 0 spare × HasNew k part
-HasReason next spare k part fault.NoMemory = ⊤
+abbrev pub HasReason : ℕ → ℕ → Known → List Request → Stop → Type 0
+HasReason next spare k part stop.Read = ⊤
+HasReason next spare k part stop.Say = ⊤
+HasReason next spare k part stop.Disk = ⊤
+HasReason next spare k part (stop.NotAStore file at) = ⊤
+HasReason next spare k part stop.Unreachable = HasNew k part
+HasReason next spare k part stop.EpochsUsedUp = SkipsFew next epochs_end 0 spare × HasNew k part
+HasReason next spare k part stop.NoMemory = ⊤
 
-pub reason_of : (f : BatchFault) (k : Known) (part : List Request) (next : ℕ) (was now : Around) (before after : Counts) → CountsPart (Err f) k part next was now before after → HasReason next (spare was now) k part f
-reason_of fault.Say k part next was now before after counts = tt
-reason_of fault.Disk k part next was now before after counts = tt
-reason_of (fault.NotAStore file at) k part next was now before after counts = tt
-reason_of fault.Unreachable k part next was now before after counts = counts.1
-reason_of fault.EpochsUsedUp k part next was now before after counts = counts
-reason_of fault.NoMemory k part next was now before after counts = tt
+pub reason_of : (f : Stop) (k : Known) (part : List Request) (next : ℕ) (was now : Around) (before after : Counts) → CountsPart (Err f) k part next was now before after → HasReason next (spare was now) k part f
+reason_of stop.Read k part next was now before after counts = tt
+reason_of stop.Say k part next was now before after counts = tt
+reason_of stop.Disk k part next was now before after counts = tt
+reason_of (stop.NotAStore file at) k part next was now before after counts = tt
+reason_of stop.Unreachable k part next was now before after counts = counts.1
+reason_of stop.EpochsUsedUp k part next was now before after counts = counts
+reason_of stop.NoMemory k part next was now before after counts = tt
 
 -- the cause of a batch's fault is that of all of them, since no count of faults moved before
-pub cause_of : (f : BatchFault) (k : Known) (part : List Request) (next at epochs requests : ℕ) (start was now : Around) (first before after : Counts) → before ≡ first → SkipsFew next at epochs (spare start was) → epochs ≤ requests
+pub cause_of : (f : Stop) (k : Known) (part : List Request) (next at epochs requests : ℕ) (start was now : Around) (first before after : Counts) → before ≡ first → SkipsFew next at epochs (spare start was) → epochs ≤ requests
     → IsLater start was → IsLater was now → CountsPart (Err f) k part at was now before after → HasCause next requests start now first after (Err f)
-cause_of fault.Say k part next at epochs requests start was now first before after same low few later then_ counts = absurd counts
-cause_of fault.Disk k part next at epochs requests start was now first before after same low few later then_ counts = subst (λ (c : Counts). Rose c.disk after.disk) same counts
-cause_of (fault.NotAStore file at_byte) k part next at epochs requests start was now first before after same low few later then_ counts = counts ∙ same
-cause_of fault.Unreachable k part next at epochs requests start was now first before after same low few later then_ counts = (was, later, counts.0)
-cause_of fault.EpochsUsedUp k part next at epochs requests start was now first before after same low few later then_ counts =
+cause_of stop.Read k part next at epochs requests start was now first before after same low few later then_ counts = absurd counts
+cause_of stop.Say k part next at epochs requests start was now first before after same low few later then_ counts = absurd counts
+cause_of stop.Disk k part next at epochs requests start was now first before after same low few later then_ counts = subst (λ (c : Counts). Rose c.disk after.disk) same counts
+cause_of (stop.NotAStore file at_byte) k part next at epochs requests start was now first before after same low few later then_ counts = counts ∙ same
+cause_of stop.Unreachable k part next at epochs requests start was now first before after same low few later then_ counts = (was, later, counts.0)
+cause_of stop.EpochsUsedUp k part next at epochs requests start was now first before after same low few later then_ counts =
     (let used = counts.0 in let adds = spare_then start was now later then_ in subst (SkipsFew next epochs_end requests) (sym adds) (omega (arith, used, low, few)))
-cause_of fault.NoMemory k part next at epochs requests start was now first before after same low few later then_ counts = tt
+cause_of stop.NoMemory k part next at epochs requests start was now first before after same low few later then_ counts = tt
 
 module _ {H : Type 0} (frame : HostGhosts H) where
   -- the requests before these others are whole batches, and a host rests on the store that they make
-  pub record AreWorkedOff (c : Contents) (next spare : ℕ) (bounds : RunBounds) (requests rest : List Request) (worked : Worked) (k : Cluster) (first host : H) : Type 0 where
+  pub record AreWorkedOff (c : Contents) (next spare : ℕ) (bounds : RunBounds) (requests rest : List Request) (worked : Tally) (k : Cluster) (first host : H) : Type 0 where
     pub count : ℕ
     pub classes : List (List Class)
     pub d : Contents
@@ -91,7 +93,7 @@ module _ {H : Type 0} (frame : HostGhosts H) where
     pub moments : SeesOnly frame.moment frame.observed first host (Unsaid (ShowsParts c.setting bounds (history_of c) next spare requests count classes (history_of d)) (frame.said first))
     pub others : WritesLogs c.setting (frame.reads first) (frame.reads host) (frame.may_leave first) (frame.may_leave host)
 
-  pub worked_new : OnlyNow frame → (c : Contents) (spare : ℕ) (bounds : RunBounds) (requests : List Request) (worked : Worked) (k : Cluster) (host : H) → worked.answered ≡ 0 → worked.epochs ≡ 0
+  pub worked_new : OnlyNow frame → (c : Contents) (spare : ℕ) (bounds : RunBounds) (requests : List Request) (worked : Tally) (k : Cluster) (host : H) → worked.answered ≡ 0 → worked.epochs ≡ 0
       → RestsOn c (frame.reads host) (frame.may_leave host) → StandsAt c k → AreWorkedOff c k.next_epoch spare bounds requests requests worked k host host
   worked_new only_now c spare bounds requests worked k host answered epochs rests stands = record {
     count = 0;
@@ -116,7 +118,7 @@ module _ {H : Type 0} (frame : HostGhosts H) where
   }
 
   -- all are worked off
-  pub works_done : (c : Contents) (next spare : ℕ) (bounds : RunBounds) (requests rest : List Request) (worked : Worked) (k : Cluster) (first host : H)
+  pub works_done : (c : Contents) (next spare : ℕ) (bounds : RunBounds) (requests rest : List Request) (worked : Tally) (k : Cluster) (first host : H)
       → AreWorkedOff c next spare bounds requests rest worked k first host → rest ≡ [] → Works frame c next spare bounds requests (Ok worked) k first host
   works_done c next spare bounds requests rest worked k first host a none = record {
     progress = record { count = a.count; classes = a.classes; history = history_of a.d; grown = a.grown; end = k.next_epoch; numbers = a.numbers };
@@ -131,7 +133,7 @@ module _ {H : Type 0} (frame : HostGhosts H) where
     );
   }
 
-  module _ (c : Contents) (next spare more_spare : ℕ) (bounds : RunBounds) (requests rest : List Request) (worked : Worked) (k : Cluster) (first mid host : H) (part : List Request)
+  module _ (c : Contents) (next spare more_spare : ℕ) (bounds : RunBounds) (requests rest : List Request) (worked : Tally) (k : Cluster) (first mid host : H) (part : List Request)
       (a : AreWorkedOff c next spare bounds requests rest worked k first mid) (quiet : frame.said mid ≡ frame.said first) (part_is : part ≡ take bounds.size rest) where
     abbrev manner : Manner
     manner = manner_of c.setting bounds
@@ -156,11 +158,11 @@ module _ {H : Type 0} (frame : HostGhosts H) where
 
     -- ---- nothing of the next batch is committed
 
-    module _ (result : Result (Unit {0}) BatchFault) (x : IsRefused frame result a.d k.next_epoch more_spare mid host) where
+    module _ (result : Result (Unit {0}) Stop) (x : IsRefused frame result a.d k.next_epoch more_spare mid host) where
       abbrev numbers_still : AddsWithin next x.number all opening h
       numbers_still = adds_more next k.next_epoch x.number spare more_spare opening h h a.numbers (adds_none k.next_epoch x.number more_spare h x.taken)
 
-      abbrev still : Progress manner opening next all bounds.size requests
+      abbrev still : TriedSoFar manner opening next all bounds.size requests
       still = record { count = a.count; classes = a.classes; history = h; grown = a.grown; end = x.number; numbers = numbers_still }
 
       abbrev Still : Observation → Type 0
@@ -197,20 +199,21 @@ module _ {H : Type 0} (frame : HostGhosts H) where
       next_new : HasNew (known_of k.kept []) part → HasNew (known_in h) (part_at bounds.size requests a.count)
       next_new new = subst (λ p. HasNew (known_in h) p) part_so (subst (λ kn. HasNew kn part) (known_at a.d k a.stands) new)
 
-      by_still : (f : BatchFault) → HasReason k.next_epoch more_spare (known_of k.kept []) part f → RefusedEnds a.d x.number (frame.reads host) (frame.may_leave host) (Err f)
+      by_still : (f : Stop) → HasReason k.next_epoch more_spare (known_of k.kept []) part f → RefusedEnds a.d x.number (frame.reads host) (frame.may_leave host) (Err f)
           → WorkEnds c next all bounds requests still k (frame.said first) (frame.reads host) (frame.may_leave host) (Err f)
-      by_still fault.Say reason ends = absurd ends
-      by_still fault.Disk reason ends = leaves_still
-      by_still (fault.NotAStore file at) reason ends = absurd ends
-      by_still fault.Unreachable reason ends = (rests_still ends, next_new reason)
-      by_still fault.EpochsUsedUp reason ends =
+      by_still stop.Read reason ends = absurd ends
+      by_still stop.Say reason ends = absurd ends
+      by_still stop.Disk reason ends = leaves_still
+      by_still (stop.NotAStore file at) reason ends = absurd ends
+      by_still stop.Unreachable reason ends = (rests_still ends, next_new reason)
+      by_still stop.EpochsUsedUp reason ends =
           let few = a.numbers.few in
           let end = reason.0 in
           let no_more = length-append a.numbers.added [] in
           (rests_still ends, record { end = omega (arith, few, end, no_more); has_next = next_new reason.1 })
-      by_still fault.NoMemory reason ends = leaves_still
+      by_still stop.NoMemory reason ends = leaves_still
 
-      pub works_refused : (f : BatchFault) (after : Cluster) → result ≡ Err f → HasReason k.next_epoch more_spare (known_of k.kept []) part f
+      pub works_refused : (f : Stop) (after : Cluster) → result ≡ Err f → HasReason k.next_epoch more_spare (known_of k.kept []) part f
           → Works frame c next all bounds requests (Err f) after first host
       works_refused f after is reason = record {
         progress = still;
@@ -220,17 +223,18 @@ module _ {H : Type 0} (frame : HostGhosts H) where
       }
         where
           -- how it ended says nothing of the cluster
-          ended : (f : BatchFault) → WorkEnds c next all bounds requests still k (frame.said first) (frame.reads host) (frame.may_leave host) (Err f) → WorkEnds c next all bounds requests still after (frame.said first) (frame.reads host) (frame.may_leave host) (Err f)
-          ended fault.Say ends = ends
-          ended fault.Disk ends = ends
-          ended (fault.NotAStore file at) ends = ends
-          ended fault.Unreachable ends = ends
-          ended fault.EpochsUsedUp ends = ends
-          ended fault.NoMemory ends = ends
+          ended : (f : Stop) → WorkEnds c next all bounds requests still k (frame.said first) (frame.reads host) (frame.may_leave host) (Err f) → WorkEnds c next all bounds requests still after (frame.said first) (frame.reads host) (frame.may_leave host) (Err f)
+          ended stop.Read ends = ends
+          ended stop.Say ends = ends
+          ended stop.Disk ends = ends
+          ended (stop.NotAStore file at) ends = ends
+          ended stop.Unreachable ends = ends
+          ended stop.EpochsUsedUp ends = ends
+          ended stop.NoMemory ends = ends
 
     -- ---- the next batch may be committed
 
-    module _ (result : Result Worked BatchFault) (k' : Cluster) (x : WorksOffPart frame result part bounds a.d k.next_epoch more_spare k' mid host) where
+    module _ (result : Result Tally Stop) (k' : Cluster) (x : WorksOffPart frame result part bounds a.d k.next_epoch more_spare k' mid host) where
       abbrev g : History
       g = history_of x.d
 
@@ -284,7 +288,7 @@ module _ {H : Type 0} (frame : HostGhosts H) where
           (subst (λ s. WritesLogs s (frame.reads mid) (frame.reads host) (frame.may_leave mid) (frame.may_leave host)) a.setting x.others)
 
       -- it was committed
-      pub worked_more : (more worked' : Worked) (rest' : List Request) → result ≡ Ok more → worked'.answered ≡ worked.answered + more.answered → worked'.epochs ≡ worked.epochs + more.epochs → rest' ≡ drop bounds.size rest
+      pub worked_more : (more worked' : Tally) (rest' : List Request) → result ≡ Ok more → worked'.answered ≡ worked.answered + more.answered → worked'.epochs ≡ worked.epochs + more.epochs → rest' ≡ drop bounds.size rest
           → AreWorkedOff c next all bounds requests rest' worked' k' first host
       worked_more more worked' rest' is answered epochs rest_so = record {
         count = a.count + 1;
@@ -329,7 +333,7 @@ module _ {H : Type 0} (frame : HostGhosts H) where
               omega (arith, counted, by.2, length-append h.epochs x.numbers.added, length-append h.epochs by.0)
 
       -- its turn failed
-      abbrev progress' : Progress manner opening next all bounds.size requests
+      abbrev progress' : TriedSoFar manner opening next all bounds.size requests
       progress' = record { count = a.count + 1; classes = classes'; history = g; grown = grown'; end = end'; numbers = numbers' }
 
       leaves' : LeavesEither a.d.setting h g (x.number + 1) (frame.said mid) (frame.may_leave host) → LeavesLast c.setting bounds opening next all requests progress' (frame.said first) (frame.may_leave host)
@@ -345,15 +349,16 @@ module _ {H : Type 0} (frame : HostGhosts H) where
             (λ grew. inr (moved a.d.setting c.setting g (x.number + 1) (x.number + 1) image a.setting (omega arith) grew)) (left bytes (quiet ∙ spoke) image leaves);
       }
 
-      by_part : (f : BatchFault) → PartEnds a.d x.d (x.number + 1) k' x.classes (frame.said mid) (frame.reads host) (frame.may_leave host) (Err f) → WorkEnds c next all bounds requests progress' k' (frame.said first) (frame.reads host) (frame.may_leave host) (Err f)
-      by_part fault.Say ends = ends
-      by_part fault.Disk ends = leaves' ends
-      by_part (fault.NotAStore file at) ends = ends
-      by_part fault.Unreachable ends = absurd ends
-      by_part fault.EpochsUsedUp ends = absurd ends
-      by_part fault.NoMemory ends = leaves' ends
+      by_part : (f : Stop) → PartEnds a.d x.d (x.number + 1) k' x.classes (frame.said mid) (frame.reads host) (frame.may_leave host) (Err f) → WorkEnds c next all bounds requests progress' k' (frame.said first) (frame.reads host) (frame.may_leave host) (Err f)
+      by_part stop.Read ends = ends
+      by_part stop.Say ends = ends
+      by_part stop.Disk ends = leaves' ends
+      by_part (stop.NotAStore file at) ends = ends
+      by_part stop.Unreachable ends = absurd ends
+      by_part stop.EpochsUsedUp ends = absurd ends
+      by_part stop.NoMemory ends = leaves' ends
 
-      pub works_failed : (f : BatchFault) → result ≡ Err f → Works frame c next all bounds requests (Err f) k' first host
+      pub works_failed : (f : Stop) → result ≡ Err f → Works frame c next all bounds requests (Err f) k' first host
       works_failed f is = record {
         progress = progress';
         moments = moments';
@@ -364,27 +369,27 @@ module _ {H : Type 0} (frame : HostGhosts H) where
   -- ---- one batch, as it ends
 
   -- what is known of a batch that came off the front, and of its answer
-  module _ (c : Contents) (next spare more_spare total : ℕ) (bounds : RunBounds) (requests rest : List Request) (worked : Worked) (k k' : Cluster) (first mid host : H) (part : List Request) (result : Result Worked BatchFault)
+  module _ (c : Contents) (next spare more_spare total : ℕ) (bounds : RunBounds) (requests rest : List Request) (worked : Tally) (k k' : Cluster) (first mid host : H) (part : List Request) (result : Result Tally Stop)
       (sums : total ≡ spare + more_spare) (a : AreWorkedOff c next spare bounds requests rest worked k first mid) (quiet : frame.said mid ≡ frame.said first) (part_is : part ≡ take bounds.size rest)
       (comes : ComesOfPart frame result part bounds a.d k.next_epoch more_spare k' mid host) where
     -- it was committed, if it has an epoch
-    pub worked_on : (more worked' : Worked) (rest' : List Request) → result ≡ Ok more → worked'.answered ≡ worked.answered + more.answered → worked'.epochs ≡ worked.epochs + more.epochs → rest' ≡ drop bounds.size rest
+    pub worked_on : (more worked' : Tally) (rest' : List Request) → result ≡ Ok more → worked'.answered ≡ worked.answered + more.answered → worked'.epochs ≡ worked.epochs + more.epochs → rest' ≡ drop bounds.size rest
         → AreWorkedOff c next total bounds requests rest' worked' k' first host
     worked_on more worked' rest' is answered epochs rest_so = subst (λ n. AreWorkedOff c next n bounds requests rest' worked' k' first host) (sym sums) (⊎_elim
         (λ x. absurd (subst (λ r. RefusedEnds a.d x.number (frame.reads host) (frame.may_leave host) (done_of r)) is x.ends))
         (λ x. worked_more c next spare more_spare bounds requests rest worked k first mid host part a quiet part_is result k' x more worked' rest' is answered epochs rest_so) comes)
 
     -- it broke off
-    pub worked_off : (f : BatchFault) → result ≡ Err f → HasReason k.next_epoch more_spare (known_of k.kept []) part f → Works frame c next total bounds requests (Err f) k' first host
+    pub worked_off : (f : Stop) → result ≡ Err f → HasReason k.next_epoch more_spare (known_of k.kept []) part f → Works frame c next total bounds requests (Err f) k' first host
     worked_off f is reason = subst (λ n. Works frame c next n bounds requests (Err f) k' first host) (sym sums) (⊎_elim
         (λ x. works_refused c next spare more_spare bounds requests rest worked k first mid host part a quiet part_is (done_of result) x f k' (ap done_of is) reason)
         (λ x. works_failed c next spare more_spare bounds requests rest worked k first mid host part a quiet part_is result k' x f is) comes)
 
   -- nothing is worked off, since memory ran out before
   pub works_none : OnlyNow frame → (c : Contents) (spare : ℕ) (bounds : RunBounds) (requests : List Request) (k : Cluster) (host : H) → RestsOn c (frame.reads host) (frame.may_leave host) → StandsAt c k
-      → Works frame c k.next_epoch spare bounds requests (Err fault.NoMemory) k host host
+      → Works frame c k.next_epoch spare bounds requests (Err stop.NoMemory) k host host
   works_none only_now c spare bounds requests k host rests stands =
-      let worked : Worked = record { answered = 0; epochs = 0 } in
+      let worked : Tally = record { answered = 0; epochs = 0 } in
       let a = worked_new only_now c 0 bounds requests worked k host refl refl rests stands in
-      worked_off c k.next_epoch 0 spare spare bounds requests requests worked k k host host host (take bounds.size requests) (Err fault.NoMemory) (omega arith) a refl refl
-      (inl (refused_early frame only_now (Err fault.NoMemory) a.d k spare host refl a.rests a.stands)) fault.NoMemory refl tt
+      worked_off c k.next_epoch 0 spare spare bounds requests requests worked k k host host host (take bounds.size requests) (Err stop.NoMemory) (omega arith) a refl refl
+      (inl (refused_early frame only_now (Err stop.NoMemory) a.d k spare host refl a.rests a.stands)) stop.NoMemory refl tt

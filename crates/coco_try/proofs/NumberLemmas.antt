@@ -11,7 +11,7 @@ use Rattle.coco_lines.specs.declared.class.Class.{Class}
 use Rattle.coco_serve.specs.Growth.{Manner}
 use Rattle.coco_serve.proofs.NumberLemmas.{added_by}
 use Rattle.coco_try.specs.Growth.{GrowsByParts, part_at, parts_of}
-use Rattle.coco_try.specs.Trying.{AreUsedUp, Progress}
+use Rattle.coco_try.specs.Trying.{AreUsedUp, TriedSoFar}
 use Rattle.coco_try.specs.Work.{HasNew}
 use Rattle.coco_try.proofs.GrowthLemmas.{parts-length}
 
@@ -40,7 +40,7 @@ some_left (suc n) requests count some =
     let most : count * suc n ≡ count * n + count = grind arith in
     omega (arith, some, cut, left, most)
 
-pub few_have_numbers : (m : Manner) (opening : History) (next size : ℕ) (requests : List Request) → next + length requests ≤ epochs_end → (p : Progress m opening next 0 size requests)
+pub few_have_numbers : (m : Manner) (opening : History) (next size : ℕ) (requests : List Request) → next + length requests ≤ epochs_end → (p : TriedSoFar m opening next 0 size requests)
     → ¬ (AreUsedUp m opening next 0 size requests p)
 few_have_numbers m opening next size requests few p used =
     let gained = gains_few m opening (parts_of size requests p.count) p.classes p.history p.grown in

@@ -45,9 +45,6 @@ classes_more k (x ∷ xs) (d ∷ cs) r c are is =
 known_with : (held : Keeping) (fresh : List Request) → known_of held fresh ≡ and_known (known_of held []) fresh
 known_with held fresh = ap (λ l. record { requests = l; floor = held.floor }) (ap (λ l. l ++ fresh) (sym (append-nil (map request_of held.dones))))
 
-pub part_start : (k : Known) (fresh : List Request) (answered : ℕ) → fresh ≡ [] → answered ≡ 0 → HasClasses k [] fresh answered
-part_start k fresh answered none nothing = record { classes = []; are = refl; fresh_are = none; answered_are = nothing }
-
 -- what one request more does
 pub record TakesIn (held : Keeping) (r : Request) (fresh grown : List Request) (answered counted : ℕ) : Type 0 where
   pub class : Class

@@ -1,5 +1,5 @@
 -- Requests that are worked off are told of, or they aren't: how that ends.
-use Rattle.std.proofs.Common.{◌≡◌, ℕ, ◌+◌, inl, inr, List, take, Option, Result, Ok, Err, refl, sym, ap, subst, ◌∙◌, arith}
+use Rattle.std.proofs.Common.{◌≡◌, ℕ, ◌+◌, inl, inr, List, take, Result, Ok, Err, refl, sym, ap, subst, ◌∙◌, arith}
 use Rattle.std.specs.Io.KnownBytes.{append_known}
 use Rattle.coco_types.specs.declared.call.Request.{Request}
 use Rattle.coco_types.specs.declared.error.OutFault.{OutFault}
@@ -12,7 +12,7 @@ use Rattle.coco_cluster.specs.declared.cluster.Cluster.{Cluster}
 use Rattle.coco_cluster.specs.Standing.{IsBehindAll}
 use Rattle.coco_cluster.proofs.BehindLemmas.{behind_later}
 use Rattle.coco_cluster.proofs.WriteLemmas.{writes_none, writes_then}
-use Rattle.coco_host.specs.Files.{Files, NoMore}
+use Rattle.coco_host.specs.Files.{NoMore}
 use Rattle.coco_host.specs.Moments.{IsNew, IsSaidBetween, Observation, SeesOnly}
 use Rattle.coco_host.specs.declared.host.Host.{Ghosts as HostGhosts}
 use Rattle.coco_io.specs.Counts.{CountsWrite}
@@ -22,26 +22,27 @@ use Rattle.coco_finish.specs.Finishing.{HaveMap}
 use Rattle.coco_load.specs.RowMaps.{joined, map_with}
 use Rattle.coco_types.specs.RowKey.{RowKey}
 use Rattle.coco_types.specs.declared.value.Value.{Value}
-use Rattle.coco_serve.specs.Faults.{Counts, fault_of_saying}
+use Rattle.coco_cluster.specs.Faults.{stop_of_saying}
+use Rattle.coco_serve.specs.Faults.{Counts}
 use Rattle.coco_serve.specs.Growth.{manner_of}
 use Rattle.coco_serve.specs.OneBatch.{SaysPart}
 use Rattle.coco_serve.specs.Serving.{RestsAt}
 use Rattle.coco_serve.specs.declared.bounds.RunBounds.{RunBounds}
-use Rattle.coco_serve.specs.declared.fault.BatchFault.{BatchFault}
-use Rattle.coco_serve.specs.declared.fault.BatchFault.TheVariants as fault
+use Rattle.coco_cluster.specs.declared.stop.Stop.{Stop}
+use Rattle.coco_cluster.specs.declared.stop.Stop.TheVariants as stop
 use Rattle.coco_serve.proofs.BatchLemmas.{said_between}
 use Rattle.coco_serve.proofs.RunLemmas.{SeenNow, left_by}
 use Rattle.coco_try.specs.Report.{report_text, sum_in}
 use Rattle.coco_try.specs.Trying.{HasCause, IsSeen, IsToldInPart, LeavesLast, ShowsParts, Tries, TryEnds, report_of}
 use Rattle.coco_try.specs.Working.{StandsWith, Unsaid, WorkEnds, Works}
-use Rattle.coco_try.specs.declared.one_part.Worked.{Worked}
+use Rattle.coco_try.specs.declared.one_part.Tally.{Tally}
 use Rattle.coco_try.proofs.GrowthLemmas.{all_shown, with_theirs}
 
 -- ---- causes
 
 -- where all is worked off and its telling broke off so
 pub told_cause : (next requests : ℕ) (was now : Around) (before mid after : Counts) (result : Result (Unit {0}) OutFault) → mid ≡ before → after.disk ≡ mid.disk → CountsWrite result mid.say after.say
-    → (f : OutFault) → result ≡ Err f → HasCause next requests was now before after (Err (fault_of_saying f))
+    → (f : OutFault) → result ≡ Err f → HasCause next requests was now before after (Err (stop_of_saying f))
 told_cause next requests was now before mid after result same disks counts out.Failed is =
     subst (λ (c : Counts). CountsWrite {T = Unit {0}} (Err out.Failed) c.say after.say) same (subst (λ r. CountsWrite r mid.say after.say) is counts)
 told_cause next requests was now before mid after result same disks counts out.NoMemory is = tt
@@ -53,7 +54,7 @@ done_cause next requests was now before mid after same disks says = (λ i. recor
 
 module _ {H : Type 0} (frame : HostGhosts H) where
   -- working off broke off, and nothing is said
-  module _ (seen_now : SeenNow frame) (c : Contents) (next spare : ℕ) (bounds : RunBounds) (requests : List Request) (result : Result Worked BatchFault) (k : Cluster) (first host : H)
+  module _ (seen_now : SeenNow frame) (c : Contents) (next spare : ℕ) (bounds : RunBounds) (requests : List Request) (result : Result Tally Stop) (k : Cluster) (first host : H)
       (w : Works frame c next spare bounds requests result k first host) (quiet : frame.said host ≡ frame.said first) where
     abbrev Seen : Observation → Type 0
     Seen = IsSeen c.setting bounds (history_of c) next spare requests w.progress (frame.said first)
@@ -67,16 +68,17 @@ module _ {H : Type 0} (frame : HostGhosts H) where
     leaves_now : LeavesLast c.setting bounds (history_of c) next spare requests w.progress (frame.said first) (frame.may_leave host) → LeavesLast c.setting bounds (history_of c) next spare requests w.progress (frame.said host) (frame.may_leave host)
     leaves_now l = subst (λ o. LeavesLast c.setting bounds (history_of c) next spare requests w.progress o (frame.may_leave host)) (sym quiet) l
 
-    by_fault : (f : BatchFault) → WorkEnds c next spare bounds requests w.progress k (frame.said first) (frame.reads host) (frame.may_leave host) (Err f)
+    by_fault : (f : Stop) → WorkEnds c next spare bounds requests w.progress k (frame.said first) (frame.reads host) (frame.may_leave host) (Err f)
         → TryEnds c next spare bounds requests w.progress (frame.said first) (frame.said host) (frame.reads host) (frame.may_leave host) (Err f)
-    by_fault fault.Say ends = absurd ends
-    by_fault fault.Disk ends = (leaves_now ends, quiet)
-    by_fault (fault.NotAStore file at) ends = ends
-    by_fault fault.Unreachable ends = (ends.0, quiet, ends.1)
-    by_fault fault.EpochsUsedUp ends = (ends.0, quiet, ends.1)
-    by_fault fault.NoMemory ends = inl (leaves_now ends, quiet)
+    by_fault stop.Read ends = absurd ends
+    by_fault stop.Say ends = absurd ends
+    by_fault stop.Disk ends = (leaves_now ends, quiet)
+    by_fault (stop.NotAStore file at) ends = ends
+    by_fault stop.Unreachable ends = (ends.0, quiet, ends.1)
+    by_fault stop.EpochsUsedUp ends = (ends.0, quiet, ends.1)
+    by_fault stop.NoMemory ends = inl (leaves_now ends, quiet)
 
-    pub ends_unsaid : (tried : Result (Unit {0}) BatchFault) → TryEnds c next spare bounds requests w.progress (frame.said first) (frame.said host) (frame.reads host) (frame.may_leave host) tried
+    pub ends_unsaid : (tried : Result (Unit {0}) Stop) → TryEnds c next spare bounds requests w.progress (frame.said first) (frame.said host) (frame.reads host) (frame.may_leave host) tried
         → Tries frame c next spare bounds requests tried first host
     ends_unsaid tried ends = record {
       progress = w.progress;
@@ -86,13 +88,13 @@ module _ {H : Type 0} (frame : HostGhosts H) where
       ends = ends;
     }
 
-    pub tries_failed : (f : BatchFault) (tried : Result (Unit {0}) BatchFault) → result ≡ Err f → tried ≡ Err f → Tries frame c next spare bounds requests tried first host
+    pub tries_failed : (f : Stop) (tried : Result (Unit {0}) Stop) → result ≡ Err f → tried ≡ Err f → Tries frame c next spare bounds requests tried first host
     tries_failed f tried was is =
         ends_unsaid tried (subst (TryEnds c next spare bounds requests w.progress (frame.said first) (frame.said host) (frame.reads host) (frame.may_leave host)) (sym is)
         (by_fault f (subst (WorkEnds c next spare bounds requests w.progress k (frame.said first) (frame.reads host) (frame.may_leave host)) was w.ends)))
 
     -- all is worked off
-    module _ (worked : Worked) (done : result ≡ Ok worked) where
+    module _ (worked : Tally) (done : result ≡ Ok worked) where
       ends_so : WorkEnds c next spare bounds requests w.progress k (frame.said first) (frame.reads host) (frame.may_leave host) (Ok worked)
       ends_so = subst (WorkEnds c next spare bounds requests w.progress k (frame.said first) (frame.reads host) (frame.may_leave host)) done w.ends
 
@@ -112,7 +114,7 @@ module _ {H : Type 0} (frame : HostGhosts H) where
           is ∙ ap (λ (m : Rows). report_text worked.answered worked.epochs (sum_in m)) (rows (map_in stand.d) stand.stands.map) ∙ (λ i. report_text (answered i) (epochs i) (sum_in (map_of (settings i).tree (histories i))))
 
       -- out of memory before anything is said
-      pub tries_untold : (tried : Result (Unit {0}) BatchFault) → tried ≡ Err fault.NoMemory → Tries frame c next spare bounds requests tried first host
+      pub tries_untold : (tried : Result (Unit {0}) Stop) → tried ≡ Err stop.NoMemory → Tries frame c next spare bounds requests tried first host
       tries_untold tried is = ends_unsaid tried (subst (TryEnds c next spare bounds requests w.progress (frame.said first) (frame.said host) (frame.reads host) (frame.may_leave host)) (sym is) (inl (
         record {
           count = w.progress.count;
@@ -166,7 +168,7 @@ module _ {H : Type 0} (frame : HostGhosts H) where
         rests_at : RestsAt c.setting w.progress.history w.progress.end (frame.reads new) (frame.may_leave new)
         rests_at = (stand.d, stand.setting, stand.history, below, rests_still)
 
-        told : (tried : Result (Unit {0}) BatchFault) → TryEnds c next spare bounds requests w.progress (frame.said first) (frame.said new) (frame.reads new) (frame.may_leave new) tried
+        told : (tried : Result (Unit {0}) Stop) → TryEnds c next spare bounds requests w.progress (frame.said first) (frame.said new) (frame.reads new) (frame.may_leave new) tried
             → Tries frame c next spare bounds requests tried first new
         told tried ends = record {
           progress = w.progress;
@@ -184,10 +186,10 @@ module _ {H : Type 0} (frame : HostGhosts H) where
         in_part : IsToldInPart c.setting bounds (history_of c) next spare requests w.progress (frame.said first) (frame.said new) (frame.reads new) (frame.may_leave new)
         in_part = (ends_so.0, rests_at, part_so)
 
-        by_saying : (f : OutFault) → TryEnds c next spare bounds requests w.progress (frame.said first) (frame.said new) (frame.reads new) (frame.may_leave new) (Err (fault_of_saying f))
+        by_saying : (f : OutFault) → TryEnds c next spare bounds requests w.progress (frame.said first) (frame.said new) (frame.reads new) (frame.may_leave new) (Err (stop_of_saying f))
         by_saying out.Failed = in_part
         by_saying out.NoMemory = inr in_part
 
         -- the saying broke off
-        pub tries_cut : (f : OutFault) (tried : Result (Unit {0}) BatchFault) → tried ≡ Err (fault_of_saying f) → Tries frame c next spare bounds requests tried first new
+        pub tries_cut : (f : OutFault) (tried : Result (Unit {0}) Stop) → tried ≡ Err (stop_of_saying f) → Tries frame c next spare bounds requests tried first new
         tries_cut f tried is = told tried (subst (TryEnds c next spare bounds requests w.progress (frame.said first) (frame.said new) (frame.reads new) (frame.may_leave new)) (sym is) (by_saying f))

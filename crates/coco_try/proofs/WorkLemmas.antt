@@ -1,29 +1,23 @@
 -- One batch of requests: what its turn makes of the store.
-use Rattle.std.proofs.Common.{◌≡◌, ◌≢◌, ℕ, ◌+◌, ◌<◌, ◌≤◌, inl, inr, ◌⊎◌, ⊎_elim, List, [], ◌∷◌, length, Option, Result, Ok, Err, refl, sym, ap, subst, ◌∙◌, arith, true≢false}
-use Rattle.std.specs.Prelude.{IsOk}
+use Rattle.std.proofs.Common.{◌≡◌, ◌≢◌, ℕ, ◌+◌, ◌<◌, ◌≤◌, inl, inr, ◌⊎◌, ⊎_elim, List, [], ◌∷◌, length, Result, Ok, Err, refl, sym, ap, subst, ◌∙◌, arith, true≢false}
 use Rattle.coco_types.specs.declared.call.Request.{Request}
 use Rattle.coco_batches.specs.Asking.{known_of}
-use Rattle.coco_cluster.specs.Around.{Around}
-use Rattle.coco_cluster.specs.Faults.{CountsTurn, MayHaveCommitted}
+use Rattle.coco_cluster.specs.Faults.{MayHaveCommitted}
 use Rattle.coco_cluster.specs.Standing.{IsBehindAll, StandsAt}
 use Rattle.coco_cluster.specs.Turning.{KeepsHistory, Turns, epochs_of}
 use Rattle.coco_cluster.specs.declared.cluster.Cluster.{Cluster}
-use Rattle.coco_cluster.specs.declared.fault.TurnFault.{TurnFault}
-use Rattle.coco_cluster.specs.declared.fault.TurnFault.TheVariants as turn
-use Rattle.coco_host.specs.Files.{Files}
-use Rattle.coco_host.specs.Moments.{Observation}
+use Rattle.coco_cluster.specs.declared.stop.Stop.{Stop}
+use Rattle.coco_cluster.specs.declared.stop.Stop.TheVariants as stop
 use Rattle.coco_host.specs.declared.host.Host.{Ghosts as HostGhosts}
 use Rattle.coco_lines.specs.Classes.{Known, known_in, new_of}
 use Rattle.coco_store.specs.Contents.{Contents, history_of}
-use Rattle.coco_serve.specs.Faults.{Counts, fault_of_turn}
 use Rattle.coco_serve.specs.Growth.{AddsWithin, GrowsByExecution, manner_of}
 use Rattle.coco_serve.specs.declared.bounds.RunBounds.{RunBounds}
-use Rattle.coco_serve.specs.declared.fault.BatchFault.{BatchFault}
 use Rattle.coco_serve.proofs.BatchLemmas.{Committed, RefusesNone, adds_one, below_one, grows_by_execution, refused}
 use Rattle.coco_serve.proofs.RunLemmas.{few_new, known_at}
 use Rattle.coco_try.specs.Growth.{AreClassesOf}
-use Rattle.coco_try.specs.Work.{ComesOfPart, CountsPart, HasClasses, HasNew, IsFew, WorksOffPart}
-use Rattle.coco_try.specs.declared.one_part.Worked.{Worked}
+use Rattle.coco_try.specs.Work.{ComesOfPart, HasClasses, HasNew, IsFew, WorksOffPart}
+use Rattle.coco_try.specs.declared.one_part.Tally.{Tally}
 use Rattle.coco_try.proofs.PartLemmas.{classes-length, part_few}
 
 -- ---- new requests
@@ -40,7 +34,7 @@ epochs_few [] = omega arith
 epochs_few (r ∷ rs) = omega arith
 
 -- what is counted is no more than there are requests
-pub worked_few : (k : Known) (part fresh requests : List Request) (answered : ℕ) (worked : Worked) → HasClasses k part fresh answered → requests ≡ fresh → worked.answered ≡ answered → worked.epochs ≡ epochs_of requests
+pub worked_few : (k : Known) (part fresh requests : List Request) (answered : ℕ) (worked : Tally) → HasClasses k part fresh answered → requests ≡ fresh → worked.answered ≡ answered → worked.epochs ≡ epochs_of requests
     → IsFew (length part) worked
 worked_few k part fresh requests answered worked has same answered_is epochs_is =
     let counted = part_few k part fresh answered has in
@@ -49,35 +43,10 @@ worked_few k part fresh requests answered worked has same answered_is epochs_is 
     let as_many = ap (length {A = Request}) same in
     record { answered = omega (arith, answered_is, counted); epochs = omega (arith, epochs_is, made, as_many, few) }
 
--- a turn that failed had a request
-some_failed : (requests : List Request) (f : TurnFault) (turned : Result (Unit {0}) TurnFault) → turned ≡ Err f → (requests ≡ [] → IsOk turned) → 0 < length requests
-some_failed [] f turned was nothing = absurd (true≢false (sym (subst (λ r. IsOk r) was (nothing refl))))
-some_failed (r ∷ rs) f turned was nothing = omega arith
-
 has_new : (k : Known) (part fresh requests : List Request) (answered : ℕ) → HasClasses k part fresh answered → requests ≡ fresh → 0 < length requests → HasNew k part
 has_new k part fresh requests answered has same some =
     let as_many = ap (length {A = Request}) (same ∙ has.fresh_are) in
     record { classes = has.classes; are = has.are; some = omega (arith, as_many, some) }
-
--- the counts of a turn's fault are those of its batch
-pub part_counts : (f : TurnFault) (turned : Result (Unit {0}) TurnFault) (result : Result Worked BatchFault) (k : Known) (part fresh requests : List Request) (answered next : ℕ) (was now : Around) (before after : Counts)
-    → turned ≡ Err f → result ≡ Err (fault_of_turn f) → (requests ≡ [] → IsOk turned) → HasClasses k part fresh answered → requests ≡ fresh → after.say ≡ before.say → CountsTurn turned next was now before.disk after.disk
-    → CountsPart result k part next was now before after
-part_counts f turned result k part fresh requests answered next was now before after failed is nothing has same says counts =
-    subst (λ r. CountsPart r k part next was now before after) (sym is) (by f (subst (λ r. CountsTurn r next was now before.disk after.disk) failed counts))
-  where
-    new : HasNew k part
-    new = has_new k part fresh requests answered has same (some_failed requests f turned failed nothing)
-
-    both : after.disk ≡ before.disk → after ≡ before
-    both disks = λ i. record { say = says i; disk = disks i }
-
-    by : (f : TurnFault) → CountsTurn {T = Unit {0}} (Err f) next was now before.disk after.disk → CountsPart (Err (fault_of_turn f)) k part next was now before after
-    by turn.Disk counts = counts
-    by (turn.NotAStore file at) counts = both counts
-    by turn.NoMemory counts = tt
-    by turn.Unreachable counts = (counts.1, new)
-    by turn.EpochsUsedUp counts = (counts.1, new)
 
 -- ---- files
 
@@ -91,9 +60,9 @@ module _ {H : Type 0} (frame : HostGhosts H) where
     news = same ∙ has.fresh_are
 
     -- its turn failed
-    module _ (f : TurnFault) (turned : Result (Unit {0}) TurnFault) (was : turned ≡ Err f) (none : RefusesNone f) where
+    module _ (f : Stop) (turned : Result (Unit {0}) Stop) (was : turned ≡ Err f) (none : RefusesNone f) where
       fails : Turns frame turned requests bounds.workers bounds.attempts spare c before after old new
-          → WorksOffPart frame (Err (fault_of_turn f)) part bounds c before.next_epoch spare after old new
+          → WorksOffPart frame (Err f) part bounds c before.next_epoch spare after old new
       fails t = by f none (subst MayHaveCommitted was t.may)
         where
           numbers : AddsWithin before.next_epoch (t.number + epochs_of (new_of has.classes)) spare (history_of c) (history_of t.d)
@@ -106,8 +75,10 @@ module _ {H : Type 0} (frame : HostGhosts H) where
           grows : GrowsByExecution (manner_of c.setting bounds) (history_of c) (new_of has.classes) (history_of t.d)
           grows = subst (λ rs. GrowsByExecution (manner_of c.setting bounds) (history_of c) rs (history_of t.d)) news (grows_by_execution requests bounds t.number t.trace c t.d t.grown)
 
-          by : (f : TurnFault) → RefusesNone f → MayHaveCommitted {T = Unit {0}} (Err f) → WorksOffPart frame (Err (fault_of_turn f)) part bounds c before.next_epoch spare after old new
-          by turn.Disk none may = record {
+          by : (f : Stop) → RefusesNone f → MayHaveCommitted {T = Unit {0}} (Err f) → WorksOffPart frame (Err f) part bounds c before.next_epoch spare after old new
+          by stop.Read none may = absurd may
+          by stop.Say none may = absurd may
+          by stop.Disk none may = record {
             classes = has.classes;
             are = are;
             d = t.d;
@@ -122,10 +93,10 @@ module _ {H : Type 0} (frame : HostGhosts H) where
             others = t.others;
             ends = t.left;
           }
-          by (turn.NotAStore file at) none may = absurd (none file at refl)
-          by turn.Unreachable none may = absurd may
-          by turn.EpochsUsedUp none may = absurd may
-          by turn.NoMemory none may = record {
+          by (stop.NotAStore file at) none may = absurd (none file at refl)
+          by stop.Unreachable none may = absurd may
+          by stop.EpochsUsedUp none may = absurd may
+          by stop.NoMemory none may = record {
             classes = has.classes;
             are = are;
             d = t.d;
@@ -141,8 +112,8 @@ module _ {H : Type 0} (frame : HostGhosts H) where
             ends = t.left;
           }
 
-    pub part_failed : (f : TurnFault) (turned : Result (Unit {0}) TurnFault) (result : Result Worked BatchFault) → turned ≡ Err f → ((file at : ℕ) → turned ≢ Err (turn.NotAStore file at))
-        → result ≡ Err (fault_of_turn f) → frame.said new ≡ frame.said old
+    pub part_failed : (f : Stop) (turned : Result (Unit {0}) Stop) (result : Result Tally Stop) → turned ≡ Err f → ((file at : ℕ) → turned ≢ Err (stop.NotAStore file at))
+        → result ≡ Err f → frame.said new ≡ frame.said old
         → KeepsHistory frame turned requests before.next_epoch spare c old new ⊎ Turns frame turned requests bounds.workers bounds.attempts spare c before after old new
         → ComesOfPart frame result part bounds c before.next_epoch spare after old new
     part_failed f turned result was never is quiet turns =
@@ -151,7 +122,7 @@ module _ {H : Type 0} (frame : HostGhosts H) where
         (⊎_elim (λ keeps. inl (refused frame f turned requests spare c before old new was none quiet keeps)) (λ t. inr (fails f turned was none t)) turns)
 
     -- it committed
-    pub part_done : (worked : Worked) → worked.answered ≡ answered → worked.epochs ≡ epochs_of requests → Committed frame c requests bounds before.next_epoch spare after old new
+    pub part_done : (worked : Tally) → worked.answered ≡ answered → worked.epochs ≡ epochs_of requests → Committed frame c requests bounds before.next_epoch spare after old new
         → WorksOffPart frame (Ok worked) part bounds c before.next_epoch spare after old new
     part_done worked answered_is epochs_is done = record {
       classes = has.classes;

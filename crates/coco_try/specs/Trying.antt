@@ -24,8 +24,8 @@ use Rattle.coco_serve.specs.OneBatch.{SaysPart}
 use Rattle.coco_serve.specs.Seen.{LeavesEither}
 use Rattle.coco_serve.specs.Serving.{RestsAt}
 use Rattle.coco_serve.specs.declared.bounds.RunBounds.{RunBounds}
-use Rattle.coco_serve.specs.declared.fault.BatchFault.{BatchFault}
-use Rattle.coco_serve.specs.declared.fault.BatchFault.TheVariants as fault
+use Rattle.coco_cluster.specs.declared.stop.Stop.{Stop}
+use Rattle.coco_cluster.specs.declared.stop.Stop.TheVariants as stop
 use Rattle.coco_store.specs.Contents.{Contents, history_of}
 use Rattle.coco_store.specs.Rules.{Setting}
 use Rattle.coco_try.specs.Growth.{AreAllParts, GrowsByParts, part_at, parts_of}
@@ -36,19 +36,20 @@ use Rattle.coco_try.specs.Work.{HasNew}
 
 -- why a call ended so, that was to work off so many requests: nodes are unreachable where from some moment of it on four attempts were given up, one behind the other; epochs are used up where
 -- the numbers from the next one on reach the end, by one for each request and few that may be skipped. Want of memory needs no cause
-abbrev pub HasCause : ℕ → ℕ → Around → Around → Counts → Counts → Result (Unit {0}) BatchFault → Type 0
+abbrev pub HasCause : ℕ → ℕ → Around → Around → Counts → Counts → Result (Unit {0}) Stop → Type 0
 HasCause next requests was now before after (Ok done) = after ≡ before
-HasCause next requests was now before after (Err fault.Say) = Rose before.say after.say
-HasCause next requests was now before after (Err fault.Disk) = Rose before.disk after.disk
-HasCause next requests was now before after (Err (fault.NotAStore file at)) = after ≡ before
-HasCause next requests was now before after (Err fault.Unreachable) = (m : Around) × IsLater was m × AreGivenUp 4 m now
-HasCause next requests was now before after (Err fault.EpochsUsedUp) = SkipsFew next epochs_end requests (spare was now)
-HasCause next requests was now before after (Err fault.NoMemory) = ⊤
+HasCause next requests was now before after (Err stop.Read) = ⊥
+HasCause next requests was now before after (Err stop.Say) = Rose before.say after.say
+HasCause next requests was now before after (Err stop.Disk) = Rose before.disk after.disk
+HasCause next requests was now before after (Err (stop.NotAStore file at)) = after ≡ before
+HasCause next requests was now before after (Err stop.Unreachable) = (m : Around) × IsLater was m × AreGivenUp 4 m now
+HasCause next requests was now before after (Err stop.EpochsUsedUp) = SkipsFew next epochs_end requests (spare was now)
+HasCause next requests was now before after (Err stop.NoMemory) = ⊤
 
 -- ---- how far it came
 
 -- a history grown by the first batches of these requests, the epochs that it has more numbered from `next` on and below `end`
-pub record Progress (m : Manner) (opening : History) (next spare size : ℕ) (requests : List Request) : Type 0 where
+pub record TriedSoFar (m : Manner) (opening : History) (next spare size : ℕ) (requests : List Request) : Type 0 where
   pub count : ℕ
   pub classes : List (List Class)
   pub history : History
@@ -57,15 +58,15 @@ pub record Progress (m : Manner) (opening : History) (next spare size : ℕ) (re
   pub numbers : AddsWithin next end spare opening history
 
 -- what is told of it: how many requests are same or new, how many epochs there are more, and the sum of table `main`
-abbrev pub report_of : {m : Manner} {opening : History} {next spare size : ℕ} {requests : List Request} → Progress m opening next spare size requests → List ℕ
+abbrev pub report_of : {m : Manner} {opening : History} {next spare size : ℕ} {requests : List Request} → TriedSoFar m opening next spare size requests → List ℕ
 report_of {m} p = report_text (answered_in (joined p.classes)) (length p.numbers.added) (sum_in (map_of m.procs p.history))
 
 -- all of the requests are worked off
-abbrev pub IsWhole : {m : Manner} {opening : History} {next spare size : ℕ} {requests : List Request} → Progress m opening next spare size requests → Type 0
+abbrev pub IsWhole : {m : Manner} {opening : History} {next spare size : ℕ} {requests : List Request} → TriedSoFar m opening next spare size requests → Type 0
 IsWhole {m} {opening} {next} {spare} {size} {requests} p = AreAllParts size requests p.count
 
 -- the next batch has a new request
-abbrev pub HasNext : {m : Manner} {opening : History} {next spare size : ℕ} {requests : List Request} → Progress m opening next spare size requests → Type 0
+abbrev pub HasNext : {m : Manner} {opening : History} {next spare size : ℕ} {requests : List Request} → TriedSoFar m opening next spare size requests → Type 0
 HasNext {m} {opening} {next} {spare} {size} {requests} p = HasNew (known_in p.history) (part_at size requests p.count)
 
 -- ---- what is seen
@@ -83,7 +84,7 @@ pub record ShowsParts (s : Setting) (bounds : RunBounds) (opening : History) (ne
   pub begins : IsPrefixOf history whole
 
 -- nothing is said before all requests are worked off, and every store that is seen has them; then a front of what is told of them is
-pub record IsSeen (s : Setting) (bounds : RunBounds) (opening : History) (next spare : ℕ) (requests : List Request) (p : Progress (manner_of s bounds) opening next spare bounds.size requests)
+pub record IsSeen (s : Setting) (bounds : RunBounds) (opening : History) (next spare : ℕ) (requests : List Request) (p : TriedSoFar (manner_of s bounds) opening next spare bounds.size requests)
     (said : Option (List ℕ)) (seen : Observation) : Type 0 where
   pub shows : ShowsParts s bounds opening next spare requests p.count p.classes p.history seen
   pub says : (said ≡ Some seen.said) ⊎ (IsWhole p × (shows.history ≡ p.history) × SaysPart (report_of p) said (Some seen.said))
@@ -92,7 +93,7 @@ pub record IsSeen (s : Setting) (bounds : RunBounds) (opening : History) (next s
 
 -- all batches but maybe the last one are surely committed: what a crash may leave is a store of their history or of the whole one, and no entry in it is of a later epoch than the one that was
 -- tried last
-pub record LeavesLast (s : Setting) (bounds : RunBounds) (opening : History) (next spare : ℕ) (requests : List Request) (p : Progress (manner_of s bounds) opening next spare bounds.size requests)
+pub record LeavesLast (s : Setting) (bounds : RunBounds) (opening : History) (next spare : ℕ) (requests : List Request) (p : TriedSoFar (manner_of s bounds) opening next spare bounds.size requests)
     (now : Option (List ℕ)) (may_leave : Files → Type 0) : Type 0 where
   pub count : ℕ
   pub last : (p.count ≡ count) ⊎ (p.count ≡ count + 1)
@@ -103,36 +104,37 @@ pub record LeavesLast (s : Setting) (bounds : RunBounds) (opening : History) (ne
   pub left : LeavesEither s history p.history (number + 1) now may_leave
 
 -- as many epochs were added as there were numbers for, but for few that may be skipped, and the next batch has a new request
-pub record AreUsedUp (m : Manner) (opening : History) (next spare size : ℕ) (requests : List Request) (p : Progress m opening next spare size requests) : Type 0 where
+pub record AreUsedUp (m : Manner) (opening : History) (next spare size : ℕ) (requests : List Request) (p : TriedSoFar m opening next spare size requests) : Type 0 where
   pub end : SkipsFew next epochs_end (length p.numbers.added) spare
   pub has_next : HasNext p
 
 -- the host rests at all requests, and a front of what is told of them is said
-abbrev pub IsToldInPart : (s : Setting) (bounds : RunBounds) (opening : History) (next spare : ℕ) (requests : List Request) → Progress (manner_of s bounds) opening next spare bounds.size requests
+abbrev pub IsToldInPart : (s : Setting) (bounds : RunBounds) (opening : History) (next spare : ℕ) (requests : List Request) → TriedSoFar (manner_of s bounds) opening next spare bounds.size requests
     → Option (List ℕ) → Option (List ℕ) → Option Files → (Files → Type 0) → Type 0
 IsToldInPart s bounds opening next spare requests p before now reads may_leave = IsWhole p × RestsAt s p.history p.end reads may_leave × SaysPart (report_of p) before now
 
 -- by the answer: all requests are committed and told of; a fault of saying leaves all of them committed, and told of in part; where nodes are unreachable, or epochs used up, nothing is said,
 -- and the next batch has a new request; after a fault of the disk nothing is said, and one batch more may be committed than surely is; out of memory so too, or as where saying failed. No file
 -- of such a store is refused
-abbrev pub TryEnds : (c : Contents) (next spare : ℕ) (bounds : RunBounds) (requests : List Request) → Progress (manner_of c.setting bounds) (history_of c) next spare bounds.size requests
-    → Option (List ℕ) → Option (List ℕ) → Option Files → (Files → Type 0) → Result (Unit {0}) BatchFault → Type 0
+abbrev pub TryEnds : (c : Contents) (next spare : ℕ) (bounds : RunBounds) (requests : List Request) → TriedSoFar (manner_of c.setting bounds) (history_of c) next spare bounds.size requests
+    → Option (List ℕ) → Option (List ℕ) → Option Files → (Files → Type 0) → Result (Unit {0}) Stop → Type 0
 TryEnds c next spare bounds requests p before now reads may_leave (Ok done) = IsWhole p × RestsAt c.setting p.history p.end reads may_leave × (now ≡ append_known before (report_of p))
-TryEnds c next spare bounds requests p before now reads may_leave (Err fault.Say) = IsToldInPart c.setting bounds (history_of c) next spare requests p before now reads may_leave
-TryEnds c next spare bounds requests p before now reads may_leave (Err fault.Disk) = LeavesLast c.setting bounds (history_of c) next spare requests p now may_leave × (now ≡ before)
-TryEnds c next spare bounds requests p before now reads may_leave (Err (fault.NotAStore file at)) = ⊥
-TryEnds c next spare bounds requests p before now reads may_leave (Err fault.Unreachable) =
+TryEnds c next spare bounds requests p before now reads may_leave (Err stop.Read) = ⊥
+TryEnds c next spare bounds requests p before now reads may_leave (Err stop.Say) = IsToldInPart c.setting bounds (history_of c) next spare requests p before now reads may_leave
+TryEnds c next spare bounds requests p before now reads may_leave (Err stop.Disk) = LeavesLast c.setting bounds (history_of c) next spare requests p now may_leave × (now ≡ before)
+TryEnds c next spare bounds requests p before now reads may_leave (Err (stop.NotAStore file at)) = ⊥
+TryEnds c next spare bounds requests p before now reads may_leave (Err stop.Unreachable) =
     RestsAt c.setting p.history p.end reads may_leave × (now ≡ before) × HasNext p
-TryEnds c next spare bounds requests p before now reads may_leave (Err fault.EpochsUsedUp) =
+TryEnds c next spare bounds requests p before now reads may_leave (Err stop.EpochsUsedUp) =
     RestsAt c.setting p.history p.end reads may_leave × (now ≡ before) × AreUsedUp (manner_of c.setting bounds) (history_of c) next spare bounds.size requests p
-TryEnds c next spare bounds requests p before now reads may_leave (Err fault.NoMemory) =
+TryEnds c next spare bounds requests p before now reads may_leave (Err stop.NoMemory) =
     LeavesLast c.setting bounds (history_of c) next spare requests p now may_leave × (now ≡ before)
     ⊎ IsToldInPart c.setting bounds (history_of c) next spare requests p before now reads may_leave
 
 -- of a host that rested on these contents: what was seen meanwhile and is left behind, which files were written, and how it ended
 pub record Tries {H : Type 0} (frame : HostGhosts H)
-    (c : Contents) (next spare : ℕ) (bounds : RunBounds) (requests : List Request) (result : Result (Unit {0}) BatchFault) (old new : H) : Type 0 where
-  pub progress : Progress (manner_of c.setting bounds) (history_of c) next spare bounds.size requests
+    (c : Contents) (next spare : ℕ) (bounds : RunBounds) (requests : List Request) (result : Result (Unit {0}) Stop) (old new : H) : Type 0 where
+  pub progress : TriedSoFar (manner_of c.setting bounds) (history_of c) next spare bounds.size requests
   pub moments : SeesOnly frame.moment frame.observed old new (IsSeen c.setting bounds (history_of c) next spare requests progress (frame.said old))
   pub left : (seen : Observation) → frame.said new ≡ Some seen.said → frame.may_leave new seen.image → IsSeen c.setting bounds (history_of c) next spare requests progress (frame.said old) seen
   pub others : WritesLogs c.setting (frame.reads old) (frame.reads new) (frame.may_leave old) (frame.may_leave new)
@@ -140,7 +142,7 @@ pub record Tries {H : Type 0} (frame : HostGhosts H)
 
 -- what came of net and power, why the call ended so, and what it made of each store that the cluster stood at
 pub record TriesOut {H : Type 0} (frame : HostGhosts H)
-    (cluster : Cluster) (bounds : RunBounds) (requests : List Request) (was now : Around) (before after : Counts) (result : Result (Unit {0}) BatchFault) (old new : H) : Type 0 where
+    (cluster : Cluster) (bounds : RunBounds) (requests : List Request) (was now : Around) (before after : Counts) (result : Result (Unit {0}) Stop) (old new : H) : Type 0 where
   pub later : IsLater was now
   pub cause : HasCause cluster.next_epoch (length requests) was now before after result
   pub tries : (c : Contents) → RestsOn c (frame.reads old) (frame.may_leave old) → StandsAt c cluster

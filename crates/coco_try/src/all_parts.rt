@@ -13,15 +13,15 @@ ghost use Rattle.coco_try.specs.Trying.{HasCause, TriesOut};
 ghost use Rattle.coco_try.specs.Work.{done_of};
 ghost use Rattle.coco_try.specs.Working.{Works};
 
-use crate::one_part::{Worked, work_part};
+use crate::one_part::{Tally, work_part};
 use crate::report::report_of;
-use coco_cluster::Cluster;
+use coco_cluster::{Cluster, Stop};
 use coco_gate::Gate;
 use coco_gen::workload;
 use coco_host::{Host, say_all};
 use coco_net::Net;
 use coco_power::Power;
-use coco_serve::{BatchFault, RunBounds};
+use coco_serve::RunBounds;
 use coco_types::Request;
 use std::alloc::Global;
 use std::sync::Wait;
@@ -55,7 +55,7 @@ pub fn try_calls<
     load: Workload,
     bounds: RunBounds,
     gate: &G,
-) -> Result<(), BatchFault>
+) -> Result<(), Stop>
     requires calls { load.calls ≤ 1000000 }
     requires seed { load.seed < 2 ^ 43 }
     requires some { 0 < bounds.size }
@@ -94,7 +94,7 @@ fn work_off<R: Threads + Wait + Clock + Sync, H: Host, N: Net + Sync, P: Power, 
     requests: &[Request],
     bounds: RunBounds,
     gate: &G,
-) -> Result<Worked, BatchFault>
+) -> Result<Tally, Stop>
     requires some { 0 < bounds.size }
     requires few { bounds.size ≤ most_batch_lines }
     requires workers { 0 < bounds.workers }
@@ -111,7 +111,7 @@ fn work_off<R: Threads + Wait + Clock + Sync, H: Host, N: Net + Sync, P: Power, 
         (around N.Net P.Power net.old power.old) (around N.Net P.Power net.new power.new)
         (record { say = H.say_faults host.old; disk = H.disk_faults host.old }) (record { say = H.say_faults host.new; disk = H.disk_faults host.new }) (done_of result) }
 {
-    let mut worked = Worked {
+    let mut worked = Tally {
         answered: 0,
         epochs: 0,
     };

@@ -6,4 +6,4 @@ mod one_part;
 mod report;
 
 pub use all_parts::{Workload, try_calls};
-pub use one_part::Worked;
+pub use one_part::Tally;

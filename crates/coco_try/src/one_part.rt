@@ -19,14 +19,14 @@ ghost use Rattle.coco_try.specs.Work.{ComesOfPart, CountsPart, HasClasses, IsFew
 use coco_ast::Checked;
 use coco_batches::NewRequests;
 use coco_batches::classify::class_of_request;
-use coco_cluster::Cluster;
+use coco_cluster::{Cluster, Stop};
 use coco_gate::Gate;
 use coco_host::Host;
 use coco_kept::Kept;
 use coco_lines::Class;
 use coco_net::Net;
 use coco_power::Power;
-use coco_serve::{BatchFault, RunBounds};
+use coco_serve::RunBounds;
 use coco_types::{NoMemory, Request};
 use std::alloc::Global;
 use std::sync::Wait;
@@ -35,7 +35,7 @@ use std::time::Clock;
 
 /// How many requests have a Done, be it new or kept from before, and how many epochs were committed for them.
 #[derive(Clone, Copy, Debug, PartialEq, Eq)]
-pub struct Worked {
+pub struct Tally {
     pub answered: u64,
     pub epochs: u64,
 }
@@ -112,7 +112,7 @@ pub fn work_part<
     part: &[Request],
     bounds: RunBounds,
     gate: &G,
-) -> Result<Worked, BatchFault>
+) -> Result<Tally, Stop>
     requires sound { IsSound cluster.old (N.sent net.old) }
     requires workers { 0 < bounds.workers }
     requires attempts { 0 < bounds.attempts }
@@ -148,7 +148,7 @@ pub fn work_part<
         bounds.attempts,
         gate,
     )?;
-    Ok(Worked {
+    Ok(Tally {
         answered: u64::from(answered),
         epochs,
     })

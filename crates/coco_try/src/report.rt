@@ -4,7 +4,7 @@ ghost use Rattle.std.specs.Prelude.{◌≡◌, ◌<◌, length, IfOk};
 ghost use Rattle.coco_load.specs.RowMaps.{joined, lent_map, map_with};
 ghost use Rattle.coco_try.specs.Report.{amount_in, report_text, sum_in};
 
-use crate::one_part::Worked;
+use crate::one_part::Tally;
 use coco_load::{LentMap, merged};
 use coco_types::{Key, MapRows, NoMemory, Value};
 use std::alloc::Global;
@@ -13,7 +13,7 @@ use std::alloc::Global;
 const MAIN: u16 = 0;
 
 /// The three lines of a workload that came to this, of the rows of all partitions.
-pub fn report_of(alloc: Global, worked: Worked, lists: &[MapRows]) -> Result<Vec<u8>, NoMemory>
+pub fn report_of(alloc: Global, worked: Tally, lists: &[MapRows]) -> Result<Vec<u8>, NoMemory>
     ensures { IfOk result (λ text. text.items ≡ report_text worked.answered worked.epochs (sum_in (map_with (joined lists.now)))) }
 {
     let rows = merged(alloc, lists)?;
@@ -22,10 +22,10 @@ pub fn report_of(alloc: Global, worked: Worked, lists: &[MapRows]) -> Result<Vec
 }
 
 // The three lines.
-fn text_of(alloc: Global, worked: Worked, sum: i128) -> Result<Vec<u8>, NoMemory>
+fn text_of(alloc: Global, worked: Tally, sum: i128) -> Result<Vec<u8>, NoMemory>
     ensures { IfOk result (λ text. text.items ≡ report_text worked.answered worked.epochs sum) }
 {
-    let Worked { answered, epochs } = worked;
+    let Tally { answered, epochs } = worked;
     let lines = format!(in alloc; "calls {answered}\nepochs {epochs}\nsum {sum}\n")?;
     Ok(lines.into_bytes())
 }

@@ -1,5 +1,5 @@
 -- Keys of rows, and their order.
-use Rattle.std.specs.Prelude.{ℕ}
+use Rattle.std.specs.Prelude.{ℕ, ◌%◌}
 use Rattle.std.specs.declared.cmp.Ordering.{Ordering}
 use Rattle.std.specs.Ordering.{nat_cmp, ordering_then}
 
@@ -7,6 +7,10 @@ use Rattle.std.specs.Ordering.{nat_cmp, ordering_then}
 pub record RowKey : Type 0 where
   pub table : ℕ
   pub row : ℕ
+
+-- the partition of a row, of so many
+abbrev pub partition_of : ℕ → RowKey → ℕ
+partition_of count k = k.row % count
 
 -- by table, and then by row
 abbrev pub key_cmp : RowKey → RowKey → Ordering

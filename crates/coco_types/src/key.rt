@@ -1,6 +1,6 @@
 //! Keys of rows.
-ghost use Rattle.std.specs.Prelude.{◌≡◌};
-ghost use Rattle.coco_types.specs.RowKey.{key_cmp};
+ghost use Rattle.std.specs.Prelude.{◌≡◌, ◌<◌};
+ghost use Rattle.coco_types.specs.RowKey.{key_cmp, partition_of};
 
 use std::cmp::Ordering;
 use std::marker::Model;
@@ -31,5 +31,14 @@ impl Key {
         ensures { result ≡ key_cmp self.now other.now }
     {
         self.cmp(other)
+    }
+
+    /// The partition of the row, of so many.
+    pub fn partition(&self, count: usize) -> usize
+        requires { 0 < count }
+        ensures is { result ≡ partition_of count self.now }
+        ensures within { result < count }
+    {
+        (self.row % count as u64) as usize
     }
 }

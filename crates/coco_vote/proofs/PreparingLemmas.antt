@@ -15,7 +15,7 @@ use Rattle.coco_log.proofs.OnlyRead.{sees_then, sees_weaker}
 use Rattle.coco_store.specs.Contents.{Contents, IsGoodStore, file_of}
 use Rattle.coco_store.specs.Laws.{MayPrepare, with_prepared}
 use Rattle.coco_store.specs.Rules.{IsNextPrepared, Setting}
-use Rattle.coco_prepared.specs.LastWrites.{AreLastWrites}
+use Rattle.coco_append.specs.LastWrites.{AreLastWrites}
 use Rattle.coco_append.specs.Gaining.{Gains, IsNodeLog, RestsOn, ShowsEither}
 use Rattle.coco_append.proofs.GainLemmas.{on_ok}
 use Rattle.coco_world.specs.World.{put}

@@ -13,7 +13,7 @@ use Rattle.coco_log.specs.LogState.{LogState, with_entry}
 use Rattle.coco_node.specs.Node.{Node}
 use Rattle.coco_store.specs.Contents.{Contents, IsGoodStore}
 use Rattle.coco_store.specs.Laws.{MayPrepare}
-use Rattle.coco_prepared.specs.LastWrites.{AreLastWrites}
+use Rattle.coco_append.specs.LastWrites.{AreLastWrites}
 use Rattle.coco_append.specs.Gaining.{RestsOn}
 
 -- what nodes vote on: an epoch, what it wrote, and the partitions that each node holds

@@ -21,14 +21,13 @@ ghost use Rattle.coco_vote.specs.Steps.{is_early, EndsVote, HasNewest, Marks, St
 ghost use Rattle.coco_vote.specs.Voting.{PreparesOnly};
 
 use crate::Step;
-use coco_append::add_prepared;
+use coco_append::{add_prepared, prepared_rows};
 use coco_host::Host;
 use coco_letters::{Voter, node_asks, node_forced, restart};
 use coco_log::{Log, LogFault};
 use coco_net::Net;
 use coco_node::NodeCore;
 use coco_power::Power;
-use coco_prepared::prepared_rows;
 use coco_types::{NoMemory, Piece};
 use std::alloc::Global;
 

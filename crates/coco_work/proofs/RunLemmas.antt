@@ -9,8 +9,8 @@ use Rattle.coco_ast.specs.Tree.{Procedures}
 use Rattle.coco_copy.specs.CopyState.{CopyState}
 use Rattle.coco_early.specs.Laws.{EarlyRowsAreOfPieces, OfEachRun, PiecesAreShippable}
 use Rattle.coco_early.specs.Runs.{HasCopied, HasRun, IsRingOf}
-use Rattle.coco_epoch.specs.SerialEpoch.{IsSerialEpoch}
-use Rattle.coco_epoch.specs.Shards.{HoldMap}
+use Rattle.coco_tail.specs.SerialEpoch.{IsSerialEpoch}
+use Rattle.coco_tail.specs.Shards.{HoldMap}
 use Rattle.coco_parallel.specs.Ending.{Start}
 use Rattle.coco_parallel.specs.Epochs.{beginning_with}
 use Rattle.coco_parallel.specs.Traces.{IsTraceOf, traced}

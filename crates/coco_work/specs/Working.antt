@@ -9,9 +9,9 @@ use Rattle.coco_ast.specs.Keyed.{Rows}
 use Rattle.coco_ast.specs.Tree.{Procedures}
 use Rattle.coco_copy.specs.CopyState.{CopyState}
 use Rattle.coco_early.specs.Runs.{HasCopied}
-use Rattle.coco_epoch.specs.Running.{FitAll}
-use Rattle.coco_epoch.specs.SerialEpoch.{IsSerialEpoch}
-use Rattle.coco_epoch.specs.Shards.{HoldMap}
+use Rattle.coco_tail.specs.Running.{FitAll}
+use Rattle.coco_tail.specs.SerialEpoch.{IsSerialEpoch}
+use Rattle.coco_tail.specs.Shards.{HoldMap}
 use Rattle.coco_order.specs.Execution.{Beginning}
 use Rattle.coco_parallel.specs.Ending.{Start}
 use Rattle.coco_parallel.specs.Epochs.{beginning_with}

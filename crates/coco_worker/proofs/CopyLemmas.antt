@@ -13,7 +13,7 @@ use Rattle.coco_copy.specs.declared.ops.CopyAnswer.{CopyAnswer}
 use Rattle.coco_desks.specs.Gains.{AreSame, Gain}
 use Rattle.coco_desks.proofs.GainLemmas.{gain_as, gain_none, gain_set, gain_then, stepped_calls}
 use Rattle.coco_journaled.specs.Passes.{Passing, Steps}
-use Rattle.coco_worker.specs.Copying.{asked, node_of, partition_of, put, put_at, puts_at}
+use Rattle.coco_worker.specs.Copying.{asked, node_of, partition_of_table, put, put_at, puts_at}
 use Rattle.coco_pieces.specs.Pieces.{writes_on}
 use Rattle.coco_worker.specs.declared.copies.WorkerCommit.{WorkerCommit}
 
@@ -29,12 +29,12 @@ pub puts_append : (carries : Carries) (c : WorkerCommit) (table : ℕ) (xs ys : 
 puts_append carries c table xs ys = by_net (carries c.config.epoch c.worker c.place (node_of c.config table))
   where
     on : List Write → List CopyAsk
-    on ws = map (put c) (writes_on c.partitions (partition_of c.config table) ws)
+    on ws = map (put c) (writes_on c.partitions (partition_of_table c.config table) ws)
 
-    by_net : (b : Bool) → cond b (map (put c) (writes_on c.partitions (partition_of c.config table) (xs ++ ys))) [] ≡ cond b (map (put c) (writes_on c.partitions (partition_of c.config table) xs)) [] ++ cond b (map (put c) (writes_on c.partitions (partition_of c.config table) ys)) []
+    by_net : (b : Bool) → cond b (map (put c) (writes_on c.partitions (partition_of_table c.config table) (xs ++ ys))) [] ≡ cond b (map (put c) (writes_on c.partitions (partition_of_table c.config table) xs)) [] ++ cond b (map (put c) (writes_on c.partitions (partition_of_table c.config table) ys)) []
     by_net true =
-        ap (map (put c)) (filter-append (λ (w : Write). nat_eq (w.key.row % c.partitions) (partition_of c.config table)) xs ys)
-        ∙ map-append (put c) (writes_on c.partitions (partition_of c.config table) xs) (writes_on c.partitions (partition_of c.config table) ys)
+        ap (map (put c)) (filter-append (λ (w : Write). nat_eq (w.key.row % c.partitions) (partition_of_table c.config table)) xs ys)
+        ∙ map-append (put c) (writes_on c.partitions (partition_of_table c.config table) xs) (writes_on c.partitions (partition_of_table c.config table) ys)
     by_net false = refl
 
 -- ---- one write, from one copy to the next
@@ -47,20 +47,20 @@ pub below_none : (carries : Carries) (c : WorkerCommit) (table : ℕ) (ws : List
 below_none carries c table ws = ap (λ b. cond b (puts_at carries c table ws) []) (le-ltb (table % c.config.copies) 0 (omega arith))
 
 -- a write elsewhere isn't put there
-elsewhere : (carries : Carries) (c : WorkerCommit) (table : ℕ) (w : Write) → (w.key.row % c.partitions ≡ partition_of c.config table → ⊥) → puts_at carries c table (w ∷ []) ≡ []
+elsewhere : (carries : Carries) (c : WorkerCommit) (table : ℕ) (w : Write) → (w.key.row % c.partitions ≡ partition_of_table c.config table → ⊥) → puts_at carries c table (w ∷ []) ≡ []
 elsewhere carries c table w away =
-    elim (nat_eq (w.key.row % c.partitions) (partition_of c.config table)) as (λ b. nat_eq (w.key.row % c.partitions) (partition_of c.config table) ≡ b → cond (carries c.config.epoch c.worker c.place (node_of c.config table)) (map (put c) (cond {A = List Write} b (w ∷ []) [])) [] ≡ []) [
-      | true ↦ λ is. absurd (away (eqb-true (w.key.row % c.partitions) (partition_of c.config table) is))
+    elim (nat_eq (w.key.row % c.partitions) (partition_of_table c.config table)) as (λ b. nat_eq (w.key.row % c.partitions) (partition_of_table c.config table) ≡ b → cond (carries c.config.epoch c.worker c.place (node_of c.config table)) (map (put c) (cond {A = List Write} b (w ∷ []) [])) [] ≡ []) [
+      | true ↦ λ is. absurd (away (eqb-true (w.key.row % c.partitions) (partition_of_table c.config table) is))
       | false ↦ λ _. elim (carries c.config.epoch c.worker c.place (node_of c.config table)) as (λ b. cond {A = List CopyAsk} b [] [] ≡ []) [ true ↦ refl | false ↦ refl ]
     ] refl
 
 -- a write is put where the net carries it
-here : (carries : Carries) (c : WorkerCommit) (table : ℕ) (w : Write) → w.key.row % c.partitions ≡ partition_of c.config table → puts_at carries c table (w ∷ []) ≡ cond {A = List CopyAsk} (carries c.config.epoch c.worker c.place (node_of c.config table)) (put c w ∷ []) []
+here : (carries : Carries) (c : WorkerCommit) (table : ℕ) (w : Write) → w.key.row % c.partitions ≡ partition_of_table c.config table → puts_at carries c table (w ∷ []) ≡ cond {A = List CopyAsk} (carries c.config.epoch c.worker c.place (node_of c.config table)) (put c w ∷ []) []
 here carries c table w is =
-    ap (λ b. cond (carries c.config.epoch c.worker c.place (node_of c.config table)) (map (put c) (cond {A = List Write} b (w ∷ []) [])) []) (eq-eqb (w.key.row % c.partitions) (partition_of c.config table) is)
+    ap (λ b. cond (carries c.config.epoch c.worker c.place (node_of c.config table)) (map (put c) (cond {A = List Write} b (w ∷ []) [])) []) (eq-eqb (w.key.row % c.partitions) (partition_of_table c.config table) is)
 
 -- the table of a copy, and what stands at it
-pub at_table : (c : WorkerCommit) (p k : ℕ) → k < c.config.copies → partition_of c.config (p * c.config.copies + k) ≡ p
+pub at_table : (c : WorkerCommit) (p k : ℕ) → k < c.config.copies → partition_of_table c.config (p * c.config.copies + k) ≡ p
 at_table c p k lt = div-mul-add p c.config.copies k lt
 
 pub at_copy : (c : WorkerCommit) (p k : ℕ) → k < c.config.copies → (p * c.config.copies + k) % c.config.copies ≡ k
@@ -69,7 +69,7 @@ at_copy c p k lt = mod-mul-add p c.config.copies k lt
 pub at_node : (c : WorkerCommit) (p k : ℕ) → k < c.config.copies → node_of c.config (p * c.config.copies + k) ≡ (p + k + 1) % c.config.nodes
 at_node c p k lt = ap (λ q. (q + (p * c.config.copies + k) % c.config.copies + 1) % c.config.nodes) (at_table c p k lt) ∙ ap (λ q. (p + q + 1) % c.config.nodes) (at_copy c p k lt)
 
-is_table : (c : WorkerCommit) (table p k : ℕ) → partition_of c.config table ≡ p → table % c.config.copies ≡ k → table ≡ p * c.config.copies + k
+is_table : (c : WorkerCommit) (table p k : ℕ) → partition_of_table c.config table ≡ p → table % c.config.copies ≡ k → table ≡ p * c.config.copies + k
 is_table c table p k is at = sym (div-add-mod' table c.config.copies) ∙ ap (λ q. q * c.config.copies + table % c.config.copies) is ∙ ap (λ q. p * c.config.copies + q) at
 
 -- what the next copy of the write's partition is asked
@@ -90,7 +90,7 @@ below_step carries c w k table lt = by_table (nat_eq at table) refl
     one = cond (carries c.config.epoch c.worker c.place ((w.key.row % c.partitions + k + 1) % c.config.nodes)) (put c w ∷ []) []
 
     at_it : at ≡ table → all ≡ one
-    at_it e = here carries c table w (sym (at_table c p k lt) ∙ ap (partition_of c.config) e)
+    at_it e = here carries c table w (sym (at_table c p k lt) ∙ ap (partition_of_table c.config) e)
         ∙ ap (λ node. cond {A = List CopyAsk} (carries c.config.epoch c.worker c.place node) (put c w ∷ []) []) (ap (node_of c.config) (sym e) ∙ at_node c p k lt)
 
     away : (at ≡ table → ⊥) → table % c.config.copies ≡ k → all ≡ []

@@ -13,7 +13,7 @@ use Rattle.coco_shard.specs.declared.ops.Answer.{Answer}
 use Rattle.coco_shard.specs.Table.{after_ask, answer_in, key_of}
 use Rattle.coco_shard.specs.Law.{Entry}
 use Rattle.coco_occ.proofs.OneTurn.{asks_partition}
-use Rattle.coco_occ.specs.Exchange.{shard_of}
+use Rattle.coco_types.specs.RowKey.{partition_of}
 use Rattle.coco_occ.specs.Script.{IsScript}
 use Rattle.coco_occ.specs.Steps.{at_shard, taken}
 use Rattle.coco_occ.specs.Trying.{Trying, Ready, Waits, Ended, IsSound, IsSoundAt}
@@ -42,9 +42,9 @@ by_ok (Err e) a then = tt
 -- an attempt asks one of the shards
 pub below_shards : (a b : Trying) (count shard : ℕ) (ask : Ask) → a.partitions ≡ count → 0 < count → b ≡ record a { standing = b.standing } → IsSound b → b.standing ≡ Waits shard ask → shard < count
 below_shards a b count shard ask many some others sound waits =
-    let is : shard ≡ shard_of b.partitions (key_of ask.op) = asks_partition b shard ask sound waits in
+    let is : shard ≡ partition_of b.partitions (key_of ask.op) = asks_partition b shard ask sound waits in
     let same : b.partitions ≡ count = ap (λ (t : Trying). t.partitions) others ∙ many in
-    let at : shard ≡ shard_of count (key_of ask.op) = is ∙ ap (λ (n : ℕ). shard_of n (key_of ask.op)) same in
+    let at : shard ≡ partition_of count (key_of ask.op) = is ∙ ap (λ (n : ℕ). partition_of n (key_of ask.op)) same in
     omega arith
 
 at_own : (step : Step) (place : ℕ) → step.shard ≡ place → at_shard place (step ∷ []) ≡ taken step ∷ []

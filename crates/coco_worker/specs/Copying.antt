@@ -22,19 +22,19 @@ pub record MayDeliver (c : WorkerCommit) (tables : ℕ) : Type 0 where
   pub tables_are : tables ≡ c.partitions * c.config.copies
 
 -- Of so many copies of each partition, copy j of partition p stands behind the j - 1 before it and those of the partitions before.
-abbrev pub partition_of : EpochConfig → ℕ → ℕ
-partition_of config table = table / config.copies
+abbrev pub partition_of_table : EpochConfig → ℕ → ℕ
+partition_of_table config table = table / config.copies
 
 -- it is on the j-th node behind node p of the ring
 abbrev pub node_of : EpochConfig → ℕ → ℕ
-node_of config table = (partition_of config table + table % config.copies + 1) % config.nodes
+node_of config table = (partition_of_table config table + table % config.copies + 1) % config.nodes
 
 abbrev pub put : WorkerCommit → Write → CopyAsk
 put c w = Put c.config.epoch c.time w
 
 -- those of the commit's writes that are on the table's partition, where the net carries them to the table's node
 abbrev pub puts_at : (ℕ → ℕ → ℕ → ℕ → Bool) → WorkerCommit → ℕ → List Write → List CopyAsk
-puts_at carries c table writes = if carries c.config.epoch c.worker c.place (node_of c.config table) then map (put c) (writes_on c.partitions (partition_of c.config table) writes) else []
+puts_at carries c table writes = if carries c.config.epoch c.worker c.place (node_of c.config table) then map (put c) (writes_on c.partitions (partition_of_table c.config table) writes) else []
 
 -- what a write asks of a table as the partition's copy at a place, where the net carries it to the copy's node
 abbrev pub put_at : (ℕ → ℕ → ℕ → ℕ → Bool) → WorkerCommit → ℕ → ℕ → Write → ℕ → List CopyAsk

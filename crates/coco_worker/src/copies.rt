@@ -8,7 +8,6 @@ use crate::slot::EpochConfig;
 use coco_copy::{CopyAsk, CopyTable};
 use coco_journaled::{Journaled, Pass};
 use coco_net::Net;
-use coco_pieces::partition_of;
 use coco_types::{NoMemory, Write};
 use std::sync::Wait;
 
@@ -56,7 +55,7 @@ fn put_write<N: Net>(
     ensures same { AreSame passes.old passes.new }
     ensures copied { OnOk result (Gain asked passes.old passes.new (λ table. puts_at (N.carries net.now) commit table (write.now ∷ []))) }
 {
-    let partition = partition_of(write.key, usize::from(commit.partitions));
+    let partition = write.key.partition(usize::from(commit.partitions));
     for copy in 0..usize::from(commit.config.copies) {
         put_copy(rt, net, copies, passes, commit, partition, copy, write)?;
     }

@@ -1,5 +1,4 @@
-use Rattle.std.proofs.Common.{◌%◌, get_or, length, sym, subst, ◌≡◌, ◌∙◌}
-use Rattle.coco_types.specs.RowKey.{RowKey}
+use Rattle.std.proofs.Common.{ℕ, get_or, sym, subst, ◌≡◌, ◌∙◌}
 use Rattle.coco_audit.proofs.DumpLemmas.{none_found, one_found}
 use Rattle.coco_audit.proofs.pieces.stable_in.Goals as goal
 
@@ -9,6 +8,6 @@ returns-then-is_empty c = none_found c.args.shards.now c.args.key (sym c.is_empt
 pub returns : goal.returns
 returns c =
     let shards = c.args.shards.now in
-    let shard = c.index-shards-key.result in
-    let at = subst (λ (k : RowKey). shard ≡ get_or shards (k.row % length shards) shard) c.key.view_is c.index-shards-key.is in
+    let shard = c.index-shards-partition.result in
+    let at = subst (λ (n : ℕ). shard ≡ get_or shards n shard) c.partition.ensures.is c.index-shards-partition.is in
     c.stable.ensures ∙ one_found shards c.args.key shard (sym c.is_empty.ensures ∙ c.if-is_empty.false) at

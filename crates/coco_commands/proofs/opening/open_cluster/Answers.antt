@@ -1,6 +1,6 @@
 use Rattle.std.proofs.Common.{sym, subst}
 use Rattle.coco_load.specs.Epochs.{IsNextOf}
-use Rattle.coco_commands.proofs.Holding.{all_stand}
+use Rattle.coco_cluster.proofs.OpenLemmas.{all_stand}
 use Rattle.coco_commands.proofs.opening.open_cluster.Goals as goal
 
 pub returns-in-Ok-cluster_of-clause-stands : goal.returns-in-Ok-cluster_of-clause-stands

@@ -29,7 +29,7 @@ returns-in-Ok g c =
       next = c.in-Ok.cluster.next_epoch;
       is_next = c.in-Ok.ensures.next;
       served = c.answer_lines.result;
-      ends = c.ending_of_run.ensures;
+      ends = c.ending_of.ensures;
       later = runs.later;
       cause = cause_from c.in-Ok.cluster.next_epoch runs.bytes (source_moment g.S.Source c.args.input.now) (g.S.Source.faults c.args.input.now)
           (g.H.Host.say_faults c.args.host.now) (g.H.Host.disk_faults c.args.host.now) (g.H.Host.say_faults c.open_cluster.new.host) (g.H.Host.disk_faults c.open_cluster.new.host) since after c.answer_lines.result c.in-Ok.ensures.read.stream c.in-Ok.ensures.disk runs.cause;

@@ -24,7 +24,7 @@ returns-in-Ok g c =
       next = c.in-Ok.cluster.next_epoch;
       is_next = c.in-Ok.ensures.next;
       result = c.try_calls.result;
-      ends = c.ending_of_trying.ensures;
+      ends = c.ending_of.ensures;
       later = tries.later;
       cause = subst (λ (n : Counts). HasCause c.in-Ok.cluster.next_epoch (length (workload_of c.args.load.calls c.args.load.seed)) was now n after c.try_calls.result) (λ i. record { say = stream i; disk = disk i }) tries.cause;
       tries = λ files d are good. (let both = c.in-Ok.ensures.stands files d are good in tries.tries d both.0 both.1);

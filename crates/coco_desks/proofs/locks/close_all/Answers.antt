@@ -1,6 +1,6 @@
 use Rattle.std.proofs.Common.{length, refl, sym, ap, subst, arith}
 use Rattle.coco_desks.specs.Locking.{AreBack, AreEnded}
-use Rattle.coco_desks.proofs.ClosingLemmas.{as_many_back, ended_first, ended_none, first_back}
+use Rattle.coco_desks.proofs.ClosingLemmas.{as_many_back, ended_first, ended_none, first_back, one_longer}
 use Rattle.coco_desks.proofs.locks.close_all.Goals as goal
 
 pub loop-lock-init : goal.loop-lock-init
@@ -24,50 +24,36 @@ unreachable-requires g c =
     let ok = c.loop-lock.trays.rest.ok in
     omega (arith, many, n, none.0, ok.0)
 
-pub close-machine-requires-clause-lock : goal.close-machine-requires-clause-lock
-close-machine-requires-clause-lock g c = (first_back c.in-Some.lock c.in-Some-next.tray c.next.new.self.rest.items c.loop-lock.lock-iterator.rest.items c.next-in-loop-lock.new.self.rest.items c.loop-lock.trays.rest.items c.in-Some.ensures.steps.0 c.in-Some-next.ensures.items c.loop-lock.invariant.back).0.locks
+pub close-requires-clause-lock : goal.close-requires-clause-lock
+close-requires-clause-lock g c = (first_back c.in-Some.lock c.in-Some-next.tray c.next.new.self.rest.items c.loop-lock.lock-iterator.rest.items c.next-in-loop-lock.new.self.rest.items c.loop-lock.trays.rest.items c.in-Some.ensures.steps.0 c.in-Some-next.ensures.items c.loop-lock.invariant.back).0.locks
 
-pub close-machine-requires-clause-all : goal.close-machine-requires-clause-all
-close-machine-requires-clause-all g c = (first_back c.in-Some.lock c.in-Some-next.tray c.next.new.self.rest.items c.loop-lock.lock-iterator.rest.items c.next-in-loop-lock.new.self.rest.items c.loop-lock.trays.rest.items c.in-Some.ensures.steps.0 c.in-Some-next.ensures.items c.loop-lock.invariant.back).0.all
+pub close-requires-clause-all : goal.close-requires-clause-all
+close-requires-clause-all g c = (first_back c.in-Some.lock c.in-Some-next.tray c.next.new.self.rest.items c.loop-lock.lock-iterator.rest.items c.next-in-loop-lock.new.self.rest.items c.loop-lock.trays.rest.items c.in-Some.ensures.steps.0 c.in-Some-next.ensures.items c.loop-lock.invariant.back).0.all
 
-pub push_reserved-requires : goal.push_reserved-requires
-push_reserved-requires g c = let n = ap length c.in-Some.ensures.steps.0 in let room = c.loop-lock.invariant.machines in omega (arith, n, room)
+pub keep_closed-requires-clause-machines : goal.keep_closed-requires-clause-machines
+keep_closed-requires-clause-machines g c = let n = ap length c.in-Some.ensures.steps.0 in let room = c.loop-lock.invariant.machines in omega (arith, n, room)
 
-pub push_reserved-requires-in-loop-lock : goal.push_reserved-requires-in-loop-lock
-push_reserved-requires-in-loop-lock g c = let n = ap length c.in-Some.ensures.steps.0 in let room = c.loop-lock.invariant.journals in omega (arith, n, room)
-
-pub loop-lock-preserved-in-Some-next : goal.loop-lock-preserved-in-Some-next
-loop-lock-preserved-in-Some-next g c =
-    let n = ap length c.in-Some.ensures.steps.0 in
-    let room = c.loop-lock.invariant.machines in
-    let other = c.loop-lock.invariant.journals in
-    record {
-      back = (first_back c.in-Some.lock c.in-Some-next.tray c.next.new.self.rest.items c.loop-lock.lock-iterator.rest.items c.next-in-loop-lock.new.self.rest.items c.loop-lock.trays.rest.items c.in-Some.ensures.steps.0 c.in-Some-next.ensures.items c.loop-lock.invariant.back).1;
-      machines = omega (arith, n, room, c.push_reserved.ensures.len, c.push_reserved.ensures.capacity);
-      journals = omega (arith, n, other, c.push_reserved-in-loop-lock.ensures.len, c.push_reserved-in-loop-lock.ensures.capacity);
-      room = let kept = c.loop-lock.invariant.room in omega (arith, kept, c.push_reserved.ensures.capacity);
-      count = let count = c.loop-lock.invariant.count in omega (arith, n, count, c.push_reserved.ensures.len);
-      ended = λ ms js are. c.loop-lock.invariant.ended ms js
-          (ended_first g.M.Machine.answer_to g.M.Machine.state_after c.in-Some-next.tray c.next-in-loop-lock.new.self.rest.items c.loop-lock.trays.rest.items c.close-machine.result.machine c.close-machine.result.journal
-          c.loop-lock.ended.machines.items c.push_reserved.new.self.items ms c.loop-lock.ended.journals.items c.push_reserved-in-loop-lock.new.self.items js c.in-Some-next.ensures.items
-          (record { replays = c.close-machine.ensures.machine; passes = c.close-machine.ensures.passes; sized = c.close-machine.ensures.sized }) c.push_reserved.ensures.items c.push_reserved-in-loop-lock.ensures.items are);
-    }
+pub keep_closed-requires-clause-journals : goal.keep_closed-requires-clause-journals
+keep_closed-requires-clause-journals g c = let n = ap length c.in-Some.ensures.steps.0 in let room = c.loop-lock.invariant.journals in omega (arith, n, room)
 
 pub loop-lock-preserved : goal.loop-lock-preserved
 loop-lock-preserved g c =
     let n = ap length c.in-Some.ensures.steps.0 in
-    let room = c.loop-lock.invariant.machines in
-    let other = c.loop-lock.invariant.journals in
+    let inv = c.loop-lock.invariant in
+    let gain = c.keep_closed.ensures in
+    let new = c.keep_closed.new.ended in
+    let machines = one_longer c.close.result.machine c.loop-lock.ended.machines new.machines gain.machines in
+    let journals = one_longer c.close.result.journal c.loop-lock.ended.journals new.journals gain.journals in
     record {
       back = (first_back c.in-Some.lock c.in-Some-next.tray c.next.new.self.rest.items c.loop-lock.lock-iterator.rest.items c.next-in-loop-lock.new.self.rest.items c.loop-lock.trays.rest.items c.in-Some.ensures.steps.0 c.in-Some-next.ensures.items c.loop-lock.invariant.back).1;
-      machines = omega (arith, n, room, c.push_reserved.ensures.len, c.push_reserved.ensures.capacity);
-      journals = omega (arith, n, other, c.push_reserved-in-loop-lock.ensures.len, c.push_reserved-in-loop-lock.ensures.capacity);
-      room = let kept = c.loop-lock.invariant.room in omega (arith, kept, c.push_reserved.ensures.capacity);
-      count = let count = c.loop-lock.invariant.count in omega (arith, n, count, c.push_reserved.ensures.len);
-      ended = λ ms js are. c.loop-lock.invariant.ended ms js
-          (ended_first g.M.Machine.answer_to g.M.Machine.state_after c.in-Some-next.tray c.next-in-loop-lock.new.self.rest.items c.loop-lock.trays.rest.items c.close-machine.result.machine c.close-machine.result.journal
-          c.loop-lock.ended.machines.items c.push_reserved.new.self.items ms c.loop-lock.ended.journals.items c.push_reserved-in-loop-lock.new.self.items js c.in-Some-next.ensures.items
-          (record { replays = c.close-machine.ensures.machine; passes = c.close-machine.ensures.passes; sized = c.close-machine.ensures.sized }) c.push_reserved.ensures.items c.push_reserved-in-loop-lock.ensures.items are);
+      machines = omega (arith, n, inv.machines, machines.0, machines.1);
+      journals = omega (arith, n, inv.journals, journals.0, journals.1);
+      room = omega (arith, inv.room, machines.1);
+      count = omega (arith, n, inv.count, machines.0);
+      ended = λ ms js are. inv.ended ms js
+          (ended_first g.M.Machine.answer_to g.M.Machine.state_after c.in-Some-next.tray c.next-in-loop-lock.new.self.rest.items c.loop-lock.trays.rest.items c.close.result.machine c.close.result.journal
+          c.loop-lock.ended.machines.items new.machines.items ms c.loop-lock.ended.journals.items new.journals.items js c.in-Some-next.ensures.items
+          (record { replays = c.close.ensures.machine; passes = c.close.ensures.passes; sized = c.close.ensures.sized }) gain.machines.items gain.journals.items are);
     }
 
 pub returns-clause-room : goal.returns-clause-room

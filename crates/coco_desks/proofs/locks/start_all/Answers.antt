@@ -1,5 +1,5 @@
 use Rattle.std.proofs.Common.{length, ap, arith}
-use Rattle.coco_desks.proofs.ClosingLemmas.{one_fewer}
+use Rattle.coco_desks.proofs.ClosingLemmas.{none_yet, one_fewer}
 use Rattle.coco_desks.proofs.StartingLemmas.{all_again, started_all, started_more, started_none}
 use Rattle.coco_desks.proofs.locks.start_all.Goals as goal
 
@@ -11,12 +11,14 @@ loop-machine-init g c =
     let len = c.len.ensures in
     let locks = c.in-Ok.ensures.locks in
     let trays = c.in-Ok.ensures.trays in
+    let no_locks = none_yet c.len.result c.in-Ok.started.locks locks in
+    let no_trays = none_yet c.len.result c.in-Ok.started.trays trays in
     record {
       has = started_none c.args.workers c.args.machines.items c.into_iter-rest.result.rest.items c.in-Ok.started.locks.items c.in-Ok.started.trays.items rest locks.0 trays.0;
-      count = omega (arith, locks.1, count, ok.0);
-      room = omega (arith, locks.2, len);
-      trays = omega (arith, locks.1, trays.1);
-      tray_room = omega (arith, trays.2, len);
+      count = omega (arith, no_locks, count, ok.0);
+      room = omega (arith, locks.1, len);
+      trays = omega (arith, no_locks, no_trays);
+      tray_room = omega (arith, trays.1, len);
     }
 
 pub push_reserved-requires : goal.push_reserved-requires
@@ -52,15 +54,17 @@ take_back-requires-clause-room g c =
     let n = one_fewer c.loop-machine.rest.rest.items c.next.new.self.rest.items c.in-Some.machine c.in-Some.ensures.items in
     let ok = c.next.new.self.rest.ok in
     let room = c.in-Ok.ensures.machines in
+    let none = none_yet c.len.result c.in-Ok.ended.machines room in
     let len = c.len.ensures in
-    omega (arith, n, ok.0, room.1, room.2, inv.count, len)
+    omega (arith, n, ok.0, none, room.1, inv.count, len)
 
 pub take_back-requires-clause-journals : goal.take_back-requires-clause-journals
 take_back-requires-clause-journals g c =
     let inv = c.loop-machine.invariant in
     let room = c.in-Ok.ensures.journals in
+    let none = none_yet c.len.result c.in-Ok.ended.journals room in
     let len = c.len.ensures in
-    omega (arith, room.1, room.2, inv.count, len)
+    omega (arith, none, room.1, inv.count, len)
 
 pub returns-in-Err-clause-back : goal.returns-in-Err-clause-back
 returns-in-Err-clause-back g c =

@@ -1,5 +1,5 @@
 use Rattle.std.proofs.Common.{◌≡◌, ◌++◌, map, drop}
-use Rattle.coco_epoch.specs.Running.{FitAll}
+use Rattle.coco_tail.specs.Running.{FitAll}
 use Rattle.coco_epoch_tests.proofs.made.requests_of.Given as goal
 
 abbrev pub invariant-loop-line : goal.invariant-loop-line

@@ -2,7 +2,7 @@ use Rattle.std.proofs.Common.{◌≡◌, ℕ, zero, suc, List, [], ◌∷◌, �
 use Rattle.std.specs.FinMap.{empty}
 use Rattle.coco_shard.proofs.Partitions.{none_of}
 use Rattle.coco_shard.specs.RowState.{IsOfPartition, ShardState}
-use Rattle.coco_epoch.specs.Shards.{AreOfPartitions, shard_at}
+use Rattle.coco_tail.specs.Shards.{AreOfPartitions, shard_at}
 use Rattle.coco_epoch_tests.proofs.made.three_shards.Goals as goal
 
 abbrev three_empty : List ShardState

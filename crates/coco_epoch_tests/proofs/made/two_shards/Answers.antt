@@ -4,7 +4,7 @@ use Rattle.std.specs.Option.{unwrap_or}
 use Rattle.coco_types.specs.RowKey.{RowKey, key_cmp}
 use Rattle.coco_shard.specs.RowState.{IsOfPartition, RowState, ShardState, resting, row_at}
 use Rattle.coco_shard.proofs.Partitions.{none_of}
-use Rattle.coco_epoch.specs.Shards.{AreOfPartitions, AreQuietAfter, row_in, shard_at}
+use Rattle.coco_tail.specs.Shards.{AreOfPartitions, AreQuietAfter, row_in, shard_at}
 use Rattle.coco_epoch_tests.proofs.made.two_shards.Goals as goal
 
 abbrev two_empty : List ShardState

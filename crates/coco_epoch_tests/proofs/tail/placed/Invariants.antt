@@ -1,6 +1,6 @@
 use Rattle.std.proofs.Common.{◌≡◌, ◌++◌, map}
 use Rattle.std.specs.Vec.Iter.{into_iter_items}
-use Rattle.coco_epoch.specs.Running.{requests_of}
+use Rattle.coco_tail.specs.Running.{requests_of}
 use Rattle.coco_epoch_tests.proofs.tail.placed.Given as goal
 
 abbrev pub invariant-loop-request : goal.invariant-loop-request

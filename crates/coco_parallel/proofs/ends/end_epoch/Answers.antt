@@ -5,10 +5,10 @@ use Rattle.coco_types.specs.declared.call.Done.{Done}
 use Rattle.coco_types.specs.declared.call.Piece.{Piece}
 use Rattle.coco_types.specs.declared.call.Request.{Request}
 use Rattle.coco_ast.specs.Fitting.{Fits}
-use Rattle.coco_epoch.specs.Pieces.{pieces_of}
-use Rattle.coco_epoch.specs.Running.{FitAll, requests_of}
-use Rattle.coco_epoch.specs.Shards.{HaveNewest}
-use Rattle.coco_epoch.specs.declared.placed.PlacedRequest.{PlacedRequest}
+use Rattle.coco_tail.specs.Pieces.{pieces_of}
+use Rattle.coco_tail.specs.Running.{FitAll, requests_of}
+use Rattle.coco_tail.specs.Shards.{HaveNewest}
+use Rattle.coco_tail.specs.declared.placed.PlacedRequest.{PlacedRequest}
 use Rattle.coco_order.specs.Execution.{Beginning, Execution}
 use Rattle.coco_order.specs.Outcome.{tail_dones, tail_requests, tail_rows}
 use Rattle.coco_parallel.specs.Ends.{IsEnd}

@@ -1,6 +1,6 @@
 use Rattle.std.proofs.Common.{◌≡◌, ◌⊎◌, ◌<◌, ◌≤◌, ℕ, length}
 use Rattle.coco_types.specs.RowKey.{RowKey}
-use Rattle.coco_epoch.specs.Shards.{shard_at}
+use Rattle.coco_tail.specs.Shards.{shard_at}
 use Rattle.coco_shard.specs.RowState.{row_at}
 use Rattle.coco_parallel.proofs.ends.greatest_read.Given as goal
 

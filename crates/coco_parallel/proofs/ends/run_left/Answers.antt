@@ -1,7 +1,7 @@
 use Rattle.std.proofs.Common.{List, sym, ◌∙◌, subst}
 use Rattle.std.proofs.lemmas.Bool.{eqb-true}
 use Rattle.std.proofs.lemmas.List.{append-nil, nil_from_length}
-use Rattle.coco_epoch.specs.declared.placed.PlacedRequest.{PlacedRequest}
+use Rattle.coco_tail.specs.declared.placed.PlacedRequest.{PlacedRequest}
 use Rattle.coco_parallel.specs.Ends.{RanTail}
 use Rattle.coco_parallel.proofs.TakenLemmas.{some_greatest}
 use Rattle.coco_parallel.proofs.ends.run_left.Goals as goal

@@ -6,8 +6,8 @@ use Rattle.coco_copy.specs.CopyState.{CopyState, begun}
 use Rattle.coco_desks.proofs.DeskLemmas.{written_back}
 use Rattle.coco_order.specs.Execution.{Journal, Transcript, concat}
 use Rattle.coco_order.specs.Outcome.{AreOnce}
-use Rattle.coco_epoch.specs.SerialEpoch.{IsSerialEpoch}
-use Rattle.coco_epoch.specs.Shards.{HoldMap, KeepStable, SettleOn}
+use Rattle.coco_tail.specs.SerialEpoch.{IsSerialEpoch}
+use Rattle.coco_tail.specs.Shards.{HoldMap, KeepStable, SettleOn}
 use Rattle.coco_shard.specs.RowState.{ShardState, stable_at}
 use Rattle.coco_parallel.specs.Ends.{IsEnd, MayBeginTail, MayRunTail}
 use Rattle.coco_parallel.specs.Epochs.{IsWorkedEpoch, execution_with, started_with}

@@ -9,10 +9,10 @@ use Rattle.coco_shard.specs.RowState.{ShardState}
 use Rattle.coco_shard.specs.Table.{after_ask, answer_in}
 use Rattle.coco_parallel.specs.Closing.{AreStill}
 use Rattle.coco_parallel.specs.Worked.{HaveWorked, KeepValues, emptied, start_of}
-use Rattle.coco_parallel.specs.declared.side_by_side.Worked.{Worked}
+use Rattle.coco_parallel.specs.declared.side_by_side.WorkersEnd.{WorkersEnd}
 use Rattle.coco_parallel.specs.declared.workers.Station.{Station}
 use Rattle.coco_parallel.proofs.CrewEndLemmas.{have_worked}
-use Rattle.coco_parallel.proofs.CrewLemmas.{Ran, all_seats, ended_seat, rows_still, tables_still}
+use Rattle.coco_parallel.proofs.CrewLemmas.{CrewRan, all_seats, ended_seat, rows_still, tables_still}
 use Rattle.coco_parallel.proofs.KeepingLemmas.{all_back, by_machines, keep_maps, keep_values}
 use Rattle.coco_parallel.proofs.RanLemmas.{begun_count, begun_manned, have_run, room_for_all, shift_of}
 use Rattle.coco_parallel.proofs.side_by_side.run_crew.Given as given
@@ -103,7 +103,7 @@ stations g c = take c.man-stations.result.len (c.run_all.new.stations ++ drop (l
 
 -- all have run, whichever machines and tables were dealt to them
 ran : (g : given.Over) (c : After-dismiss g) {machines : List ShardState} {tables : List CopyState} (dealt : AreDealt c.args.config.started machines c.args.desks.shards.locks.items c.args.desks.rows.items) (copy_dealt : AreDealt c.args.config.started tables c.args.desks.copies.locks.items c.args.desks.copy_rows.items)
-    → Ran (shift_of c.args.procs.now c.args.requests.now c.args.config (g.N.Net.carries c.args.net.now) c.args.desks c.args.crew dealt copy_dealt c.requires.crew.count) (stations g c)
+    → CrewRan (shift_of c.args.procs.now c.args.requests.now c.args.config (g.N.Net.carries c.args.net.now) c.args.desks c.args.crew dealt copy_dealt c.requires.crew.count) (stations g c)
 ran g c dealt copy_dealt =
     have_run (shift_of c.args.procs.now c.args.requests.now c.args.config (g.N.Net.carries c.args.net.now) c.args.desks c.args.crew dealt copy_dealt c.requires.crew.count) c.args.crew.seats.items c.as_mut_slice.result.now c.requires.crew.seats_are (c.as_mut_slice.ensures.value ∙ c.man-stations.ensures)
     c.run_all.new.stations (stations g c) c.deref.result.now c.run_all.ensures.count c.deref.ensures.value c.run_all.ensures.each
@@ -133,7 +133,7 @@ closed-requires-2 g c = all_back c.requires.copies.1 c.dismiss.new.copy_rows (co
 
 pub returns-clause-worked : goal.returns-clause-worked
 returns-clause-worked g c = λ machines tables dealt copy_dealt done opening.
-    subst (λ (w : Worked). HaveWorked (start_of c.args.procs.now opening c.args.requests.now machines c.args.config (g.N.Net.carries c.args.net.now)) tables w.shards.items w.journals.items w.copies.items w.copy_journals.items w.transcripts.items w.pieces.items) (sym c.worked_of.ensures)
+    subst (λ (w : WorkersEnd). HaveWorked (start_of c.args.procs.now opening c.args.requests.now machines c.args.config (g.N.Net.carries c.args.net.now)) tables w.shards.items w.journals.items w.copies.items w.copy_journals.items w.transcripts.items w.pieces.items) (sym c.worked_of.ensures)
     (elim c.if-done.branch [
       | then-done w ↦
           have_worked (ran g (goal.at.returns-clause-worked g c).After-dismiss dealt copy_dealt) c.requires.workers (by_machines answer_in after_ask c.args.desks.shards.locks dealt c.dismiss.ensures.rows c.closed.ensures)
@@ -146,10 +146,10 @@ returns-clause-worked g c = λ machines tables dealt copy_dealt done opening.
 
 pub returns-clause-shards : goal.returns-clause-shards
 returns-clause-shards g c = λ machines dealt settled.
-    subst (λ (w : Worked). KeepValues machines w.shards.items) (sym c.worked_of.ensures)
+    subst (λ (w : WorkersEnd). KeepValues machines w.shards.items) (sym c.worked_of.ensures)
     (keep_values c.closed_journals_are_lawful.ensures.lawful dealt (shards_still g (goal.at.returns-clause-shards g c).After-dismiss) c.requires.workers settled (by_machines answer_in after_ask c.args.desks.shards.locks dealt refl c.closed.ensures))
 
 pub returns-clause-copies : goal.returns-clause-copies
 returns-clause-copies g c = λ tables copy_dealt.
-    ap (λ (w : Worked). emptied w.copies.items) c.worked_of.ensures
+    ap (λ (w : WorkersEnd). emptied w.copies.items) c.worked_of.ensures
     ∙ keep_maps copy_dealt (copies_still g (goal.at.returns-clause-copies g c).After-dismiss) c.requires.workers (by_machines puts.answer_in puts.after_ask c.args.desks.copies.locks copy_dealt refl c.closed-2.ensures)

@@ -1,5 +1,5 @@
 use Rattle.std.proofs.Common.{sym, ap, ◌∙◌, subst, arith}
-use Rattle.coco_epoch.specs.Running.{AreAtTheirPlaces, requests_of}
+use Rattle.coco_tail.specs.Running.{AreAtTheirPlaces, requests_of}
 use Rattle.coco_parallel.proofs.TailLemmas.{added, placed_more, skipped}
 use Rattle.coco_parallel.proofs.tail.tail_of.Goals as goal
 use Rattle.coco_parallel.proofs.tail.tail_of.Goals.{then-not-committed-place+in_ok-placed+in_ok-push, else-not-committed-place}

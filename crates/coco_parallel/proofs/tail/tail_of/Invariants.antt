@@ -1,5 +1,5 @@
 use Rattle.std.proofs.Common.{◌≡◌, take}
-use Rattle.coco_epoch.specs.Running.{AreAtTheirPlaces, requests_of}
+use Rattle.coco_tail.specs.Running.{AreAtTheirPlaces, requests_of}
 use Rattle.coco_order.specs.Execution.{Execution}
 use Rattle.coco_order.specs.Outcome.{uncommitted}
 use Rattle.coco_parallel.specs.Ends.{AreCommitted}

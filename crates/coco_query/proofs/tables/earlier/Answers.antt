@@ -5,7 +5,7 @@ use Rattle.coco_types.specs.declared.call.Done.{Done}
 use Rattle.coco_ast.specs.History.{rows_after}
 use Rattle.coco_ast.specs.Keyed.{Rows}
 use Rattle.coco_entry.specs.declared.layout.Layout.{Layout}
-use Rattle.coco_load.proofs.Adding.{no_more}
+use Rattle.coco_kept.proofs.Adding.{no_more}
 use Rattle.coco_query.specs.Frozen.{HoldsFrozen}
 use Rattle.coco_query.specs.Tables.{between}
 use Rattle.coco_query.proofs.FrozenLemmas.{shards_count, shards_hold}

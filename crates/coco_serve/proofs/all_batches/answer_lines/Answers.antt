@@ -1,4 +1,5 @@
 use Rattle.std.proofs.Common.{◌≤◌, ◌<◌, Err, length, refl, ap, sym, subst, ◌∙◌, arith, inl, inr, lit≤, true≢false}
+use Rattle.std.proofs.lemmas.Result.{err_from_is_err_and}
 use Rattle.coco_types.specs.Limits.{most_input_bytes}
 use Rattle.coco_types.specs.declared.call.Request.{Request}
 use Rattle.coco_cluster.specs.Around.{Around, around, spare}
@@ -74,8 +75,8 @@ turn_and_say-requires-clause-few g c =
     let counted = classes_length _ _ r.taking.lines r.taking.classes r.taking.are in
     omega (arith, few, fresh, counted, r.taking.as_many, r.few, c.requires.few)
 
-pub returns-in-Err : goal.returns-in-Err
-returns-in-Err g c =
+pub returns-in_err-turn_and_say : goal.returns-in_err-turn_and_say
+returns-in_err-turn_and_say g c =
     let m0 : SourceMoment = source_moment g.S.Source c.args.input.now in
     let m1 : SourceMoment = source_moment g.S.Source c.batches.input in
     let m2 : SourceMoment = source_moment g.S.Source c.read_batch.new.source in
@@ -87,17 +88,18 @@ returns-in-Err g c =
     let n1 : Counts = (record { say = g.H.Host.say_faults c.batches.host; disk = g.H.Host.disk_faults c.batches.host }) in
     let n2 : Counts = (record { say = g.H.Host.say_faults c.turn_and_say.new.host; disk = g.H.Host.disk_faults c.turn_and_say.new.host }) in
     let r = c.in-Ok.ensures.batch in
+    let p = err_from_is_err_and c.from_residual.result c.from_residual.ensures.1 in
     let w = batch_broke g.H.Host c.args.cluster.now.next_epoch _ c.args.bounds c.batches.reader c.read_batch.new.reader m0 m1 m2 c.args.cluster.now c.batches.cluster c.args.host.now c.batches.host c.batches.invariant.running g.met.H.Host.seen_now
-    c.in-Ok.batch r (spare a1 a2) (spare a0 a2) c.turn_and_say.result c.in-Err.fault c.turn_and_say.new.cluster c.turn_and_say.new.host adds c.in-Err.is c.turn_and_say.ensures.answers
-    (reason_of c.in-Err.fault c.batches.cluster.next_epoch (length c.in-Ok.batch.fresh) a1 a2 n1 n2 c.in-Err.ensures.counts) (omega (arith, c.len-count.ensures, c.if-count-eq0.false)) in
+    c.in-Ok.batch r (spare a1 a2) (spare a0 a2) c.turn_and_say.result c.in_err-turn_and_say.field-0.0 c.turn_and_say.new.cluster c.turn_and_say.new.host adds c.in_err-turn_and_say.was c.turn_and_say.ensures.answers
+    (reason_of c.in_err-turn_and_say.field-0.0 c.batches.cluster.next_epoch (length c.in-Ok.batch.fresh) a1 a2 n1 n2 c.in_err-turn_and_say.ensures.counts) (omega (arith, c.len-count.ensures, c.if-count-eq0.false)) in
     let before : Outside = (record { source = source_moment g.S.Source c.args.input.now; source_faults = g.S.Source.faults c.args.input.now; say_faults = g.H.Host.say_faults c.args.host.now; disk_faults = g.H.Host.disk_faults c.args.host.now; around = a0 }) in
     let after : Outside = (record { source = source_moment g.S.Source c.read_batch.new.source; source_faults = g.S.Source.faults c.read_batch.new.source; say_faults = g.H.Host.say_faults c.turn_and_say.new.host; disk_faults = g.H.Host.disk_faults c.turn_and_say.new.host; around = a2 }) in
-    subst (λ e. Runs g.H.Host c.args.cluster.now c.args.bounds before after e c.args.host.now c.turn_and_say.new.host) (sym c.from.ensures) (record {
+    subst (λ e. Runs g.H.Host c.args.cluster.now c.args.bounds before after e c.args.host.now c.turn_and_say.new.host) (sym (p.1 ∙ ap Err p.2)) (record {
       bytes = w.bytes;
       gives = w.gives;
       later = later_then a0 a1 a2 c.batches.invariant.later later;
-      cause = cause_of c.in-Err.fault c.args.cluster.now.next_epoch c.batches.cluster.next_epoch (length c.in-Ok.batch.fresh) w.bytes before after a1 n1 c.batches.invariant.says c.batches.invariant.disks w.low c.batches.invariant.later later
-          c.in-Err.ensures.counts;
+      cause = cause_of c.in_err-turn_and_say.field-0.0 c.args.cluster.now.next_epoch c.batches.cluster.next_epoch (length c.in-Ok.batch.fresh) w.bytes before after a1 n1 c.batches.invariant.says c.batches.invariant.disks w.low c.batches.invariant.later later
+          c.in_err-turn_and_say.ensures.counts;
       serves = w.serves;
     })
 
@@ -114,7 +116,7 @@ returns-then-count-bounds g c =
     let adds = spare_then a0 a1 a2 c.batches.invariant.later later in
     let short : length c.in-Ok.batch.answers.items < c.args.bounds.size = omega (arith, c.len-count.ensures, c.if-count-bounds.true) in
     let w = finished_last g.H.Host c.args.cluster.now.next_epoch _ c.args.bounds c.batches.reader c.read_batch.new.reader m0 m1 m2 c.args.cluster.now c.batches.cluster c.args.host.now c.batches.host c.batches.invariant.running g.met.H.Host.seen_now
-    c.in-Ok.batch r (spare a1 a2) (spare a0 a2) c.turn_and_say.result c.turn_and_say.new.cluster c.turn_and_say.new.host adds c.in-Ok-turn_and_say.is c.turn_and_say.ensures.answers short (omega (arith, c.len-count.ensures, c.if-count-eq0.false)) in
+    c.in-Ok.batch r (spare a1 a2) (spare a0 a2) c.turn_and_say.result c.turn_and_say.new.cluster c.turn_and_say.new.host adds c.in_ok-turn_and_say.was c.turn_and_say.ensures.answers short (omega (arith, c.len-count.ensures, c.if-count-eq0.false)) in
     record { bytes = w.bytes; gives = w.gives; later = later_then a0 a1 a2 c.batches.invariant.later later; cause = c.in-Ok.ensures.end c.batches.invariant.end (r.ends short).0; serves = w.serves }
 
 pub batches-preserved : goal.batches-preserved
@@ -129,17 +131,17 @@ batches-preserved g c =
     let later = c.turn_and_say.ensures.later in
     let adds = spare_then a0 a1 a2 c.batches.invariant.later later in
     let full : c.args.bounds.size ≤ length c.in-Ok.batch.answers.items = omega (arith, c.len-count.ensures, c.if-count-bounds.false) in
-    let counts = c.in-Ok-turn_and_say.ensures.counts in
+    let counts = c.in_ok-turn_and_say.ensures.counts in
     record {
       running = running_more g.H.Host c.args.cluster.now.next_epoch _ c.args.bounds c.batches.reader c.read_batch.new.reader m0 m1 m2 c.args.cluster.now c.batches.cluster c.args.host.now c.batches.host c.batches.invariant.running g.met.H.Host.seen_now
-          c.in-Ok.batch r (spare a1 a2) (spare a0 a2) c.turn_and_say.result c.turn_and_say.new.cluster c.turn_and_say.new.host adds c.in-Ok-turn_and_say.is c.turn_and_say.ensures.answers full (omega (arith, c.len-count.ensures, c.if-count-eq0.false))
-          c.in-Ok.ensures.given c.in-Ok-turn_and_say.ensures.next;
+          c.in-Ok.batch r (spare a1 a2) (spare a0 a2) c.turn_and_say.result c.turn_and_say.new.cluster c.turn_and_say.new.host adds c.in_ok-turn_and_say.was c.turn_and_say.ensures.answers full (omega (arith, c.len-count.ensures, c.if-count-eq0.false))
+          c.in-Ok.ensures.given c.in_ok-turn_and_say.ensures.next;
       later = later_then a0 a1 a2 c.batches.invariant.later later;
       within = c.in-Ok.ensures.within;
       end = c.in-Ok.ensures.end c.batches.invariant.end;
-      sound = c.in-Ok-turn_and_say.ensures.sound;
-      room = c.in-Ok-turn_and_say.ensures.few;
-      stand = c.in-Ok-turn_and_say.ensures.stand;
+      sound = c.in_ok-turn_and_say.ensures.sound;
+      room = c.in_ok-turn_and_say.ensures.few;
+      stand = c.in_ok-turn_and_say.ensures.stand;
       reads = c.in-Ok.ensures.counts ∙ c.batches.invariant.reads;
       says = (λ i. (counts i).say) ∙ c.batches.invariant.says;
       disks = (λ i. (counts i).disk) ∙ c.batches.invariant.disks;

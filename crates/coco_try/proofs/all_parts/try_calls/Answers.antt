@@ -8,7 +8,7 @@ use Rattle.coco_cluster.proofs.AroundLemmas.{later_same}
 use Rattle.coco_gen.specs.Workload.{workload_of}
 use Rattle.coco_load.specs.RowMaps.{joined, map_with}
 use Rattle.coco_serve.specs.Faults.{Counts}
-use Rattle.coco_serve.specs.declared.fault.BatchFault.TheVariants as fault
+use Rattle.coco_cluster.specs.declared.stop.Stop.TheVariants as stop
 use Rattle.coco_serve.proofs.BatchLemmas.{says_part}
 use Rattle.coco_try.specs.Trying.{HasCause}
 use Rattle.coco_try.specs.Work.{done_of}
@@ -29,12 +29,12 @@ returns-in_err-requests g c =
     let requests : List Request = workload_of c.args.load.calls c.args.load.seed in
     let n0 : Counts = record { say = g.H.Host.say_faults c.args.host.now; disk = g.H.Host.disk_faults c.args.host.now } in
     let p = err_from_is_err_and c.from_residual.result c.from_residual.ensures.1 in
-    let is : c.from_residual.result ≡ Err fault.NoMemory = p.1 ∙ ap Err p.2 in
+    let is : c.from_residual.result ≡ Err stop.NoMemory = p.1 ∙ ap Err p.2 in
     record {
       later = later_same _;
       cause = subst (HasCause c.args.cluster.now.next_epoch (length requests) a0 a0 n0 n0) (sym is) tt;
-      tries = λ k rests stands. tries_failed g.H.Host g.met.H.Host.seen_now k c.args.cluster.now.next_epoch (spare a0 a0) c.args.bounds requests (Err fault.NoMemory) c.args.cluster.now c.args.host.now c.args.host.now
-          (works_none g.H.Host g.met.H.Host.only_now k (spare a0 a0) c.args.bounds requests c.args.cluster.now c.args.host.now rests stands) refl fault.NoMemory c.from_residual.result refl is;
+      tries = λ k rests stands. tries_failed g.H.Host g.met.H.Host.seen_now k c.args.cluster.now.next_epoch (spare a0 a0) c.args.bounds requests (Err stop.NoMemory) c.args.cluster.now c.args.host.now c.args.host.now
+          (works_none g.H.Host g.met.H.Host.only_now k (spare a0 a0) c.args.bounds requests c.args.cluster.now c.args.host.now rests stands) refl stop.NoMemory c.from_residual.result refl is;
     }
 
 pub returns-in_err-worked : goal.returns-in_err-worked
@@ -66,7 +66,7 @@ returns-in_err-rows g c =
     let n1 : Counts = record { say = g.H.Host.say_faults c.work_off.new.host; disk = g.H.Host.disk_faults c.work_off.new.host } in
     let all : c.as_slice-all.result.now ≡ requests = c.as_slice-all.ensures.value ∙ c.in_ok-requests.ensures in
     let p = err_from_is_err_and c.from_residual-in_err-rows.result c.from_residual-in_err-rows.ensures.1 in
-    let is : c.from_residual-in_err-rows.result ≡ Err fault.NoMemory = p.1 ∙ ap Err p.2 in
+    let is : c.from_residual-in_err-rows.result ≡ Err stop.NoMemory = p.1 ∙ ap Err p.2 in
     record {
       later = c.work_off.ensures.later;
       cause = subst (HasCause c.args.cluster.now.next_epoch (length requests) a0 a1 n0 n1) (sym is) tt;
@@ -85,7 +85,7 @@ returns-in_err-text g c =
     let n1 : Counts = record { say = g.H.Host.say_faults c.work_off.new.host; disk = g.H.Host.disk_faults c.work_off.new.host } in
     let all : c.as_slice-all.result.now ≡ requests = c.as_slice-all.ensures.value ∙ c.in_ok-requests.ensures in
     let p = err_from_is_err_and c.from_residual-in_err-text.result c.from_residual-in_err-text.ensures.1 in
-    let is : c.from_residual-in_err-text.result ≡ Err fault.NoMemory = p.1 ∙ ap Err p.2 in
+    let is : c.from_residual-in_err-text.result ≡ Err stop.NoMemory = p.1 ∙ ap Err p.2 in
     record {
       later = c.work_off.ensures.later;
       cause = subst (HasCause c.args.cluster.now.next_epoch (length requests) a0 a1 n0 n1) (sym is) tt;

@@ -2,7 +2,7 @@ use Rattle.std.proofs.Common.{◌≡◌, Bool, true, List, refl, subst, sym}
 use Rattle.std.proofs.lemmas.Result.{err_from_is_err_and}
 use Rattle.coco_entry.specs.Rows.{prepared_bytes}
 use Rattle.coco_entry.specs.declared.prepared.Row.{Row}
-use Rattle.coco_prepared.specs.LastWrites.{AreLastWrites}
+use Rattle.coco_append.specs.LastWrites.{AreLastWrites}
 use Rattle.coco_world.specs.World.{put}
 use Rattle.coco_vote.specs.Preparing.{prepared_of, Ballot}
 use Rattle.coco_vote.proofs.PreparingLemmas.{log_still, may_still, stays_in_file, votes_failed, votes_gained, votes_none, votes_succeeded}

@@ -5,7 +5,7 @@ use Rattle.coco_worker.proofs.CopyLemmas.{below_none, copied_more, puts_below}
 use Rattle.coco_worker.proofs.copies.put_write.Goals as goal
 
 pub put_copy-requires-clause-partition : goal.put_copy-requires-clause-partition
-put_copy-requires-clause-partition g c = omega (arith, c.partition_of-partition.ensures.within, c.from.ensures)
+put_copy-requires-clause-partition g c = omega (arith, c.partition-partition.ensures.within, c.from.ensures)
 
 pub put_copy-requires-clause-locks : goal.put_copy-requires-clause-locks
 put_copy-requires-clause-locks g c = still_of c.args.copies.now c.args.passes.now c.loop-copy.passes c.requires.locks c.loop-copy.invariant.same
@@ -22,6 +22,6 @@ loop-copy-preserved g c =
     let before = c.loop-copy.invariant in
     record {
       same = c.put_copy.ensures.same ∙ before.same;
-      copied = copied_more (g.N.Net.carries c.args.net.now) c.args.commit c.args.write.now c.loop-copy.copy c.partition_of-partition.result c.from.result c.args.passes.now c.loop-copy.passes c.put_copy.new.passes
-          (omega (arith, c.loop-copy-test.true, c.from-copy-end.ensures)) c.partition_of-partition.ensures.is c.from.ensures before.same before.copied c.in_ok-put_copy.ensures.copied;
+      copied = copied_more (g.N.Net.carries c.args.net.now) c.args.commit c.args.write.now c.loop-copy.copy c.partition-partition.result c.from.result c.args.passes.now c.loop-copy.passes c.put_copy.new.passes
+          (omega (arith, c.loop-copy-test.true, c.from-copy-end.ensures)) c.partition-partition.ensures.is c.from.ensures before.same before.copied c.in_ok-put_copy.ensures.copied;
     }

@@ -24,8 +24,8 @@ use Rattle.coco_cluster.specs.Standing.{IsSound, Rests}
 use Rattle.coco_cluster.specs.Stepping.{HaveCommitted, IsVotedFor, MayHaveBegun, OnEnd, StepsTo, VotedForBy}
 use Rattle.coco_cluster.specs.Trying.{ComesOf, ComesOn, HasGivenUp, HasVoted, IsGivenUpIf, LoseIfTold, MayCommitOn, MayGoOn, StaysInPlace, commit_of}
 use Rattle.coco_cluster.specs.declared.cluster.Cluster.{Cluster}
-use Rattle.coco_cluster.specs.declared.fault.TurnFault.{TurnFault}
-use Rattle.coco_cluster.specs.declared.fault.TurnFault.TheVariants.{NoMemory, NotAStore}
+use Rattle.coco_cluster.specs.declared.stop.Stop.{Stop}
+use Rattle.coco_cluster.specs.declared.stop.Stop.TheVariants.{NoMemory, NotAStore}
 use Rattle.coco_cluster.specs.declared.trying.Tried.{Tried}
 use Rattle.coco_cluster.proofs.AskLemmas.{begins_one, begins_same, voted_whole}
 use Rattle.coco_cluster.proofs.AroundLemmas.{gives_from, later_then, later_used}
@@ -55,7 +55,7 @@ returns-in_err-remind-clause-never g c file at d on stands room is =
 pub returns-in_err-remind-clause-disk : goal.returns-in_err-remind-clause-disk
 returns-in_err-remind-clause-disk g c =
     let p = err_from_is_err_and c.from_residual.result c.from_residual.ensures.1 in
-    subst (λ (r : Result (Option (Vec Request)) TurnFault). CountsAttempt r (g.H.Host.disk_faults c.args.host.now) (g.H.Host.disk_faults c.args.host.now)) (sym (p.1 ∙ ap Err p.2)) refl
+    subst (λ (r : Result (Option (Vec Request)) Stop). CountsAttempt r (g.H.Host.disk_faults c.args.host.now) (g.H.Host.disk_faults c.args.host.now)) (sym (p.1 ∙ ap Err p.2)) refl
 
 pub returns-in_err-remind-clause-later : goal.returns-in_err-remind-clause-later
 returns-in_err-remind-clause-later g c =
@@ -64,12 +64,12 @@ returns-in_err-remind-clause-later g c =
 pub returns-in_err-remind-clause-world : goal.returns-in_err-remind-clause-world
 returns-in_err-remind-clause-world g c =
     let p = err_from_is_err_and c.from_residual.result c.from_residual.ensures.1 in
-    subst (λ (r : Result (Option (Vec Request)) TurnFault). OnEnd r ((commits : List ℕ) × HaveCommitted r c.args.self.now.next_epoch commits × StepsTo (g.P.Power.stopped c.args.power.now) (g.P.Power.stopped c.args.power.now) c.args.self.now.next_epoch c.args.self.now.next_epoch commits (scene_of c.args.self.now.members (g.N.Net.sent c.args.net.now)) (scene_of c.remind.new.members (g.N.Net.sent c.remind.new.net)))) (sym (p.1 ∙ ap Err p.2)) tt
+    subst (λ (r : Result (Option (Vec Request)) Stop). OnEnd r ((commits : List ℕ) × HaveCommitted r c.args.self.now.next_epoch commits × StepsTo (g.P.Power.stopped c.args.power.now) (g.P.Power.stopped c.args.power.now) c.args.self.now.next_epoch c.args.self.now.next_epoch commits (scene_of c.args.self.now.members (g.N.Net.sent c.args.net.now)) (scene_of c.remind.new.members (g.N.Net.sent c.remind.new.net)))) (sym (p.1 ∙ ap Err p.2)) tt
 
 pub returns-in_err-remind-clause-entries : goal.returns-in_err-remind-clause-entries
 returns-in_err-remind-clause-entries g c d e on stands room behind =
     let p = err_from_is_err_and c.from_residual.result c.from_residual.ensures.1 in
-    subst (λ (r : Result (Option (Vec Request)) TurnFault). OnEnd r ((commits : List ℕ) × HaveCommitted r c.args.self.now.next_epoch commits × StepsOn d e (g.P.Power.stopped c.args.power.now) (g.P.Power.stopped c.args.power.now) c.args.self.now.next_epoch c.args.self.now.next_epoch commits (scene_of c.args.self.now.members (g.N.Net.sent c.args.net.now)) (scene_of c.remind.new.members (g.N.Net.sent c.remind.new.net)))) (sym (p.1 ∙ ap Err p.2)) tt
+    subst (λ (r : Result (Option (Vec Request)) Stop). OnEnd r ((commits : List ℕ) × HaveCommitted r c.args.self.now.next_epoch commits × StepsOn d e (g.P.Power.stopped c.args.power.now) (g.P.Power.stopped c.args.power.now) c.args.self.now.next_epoch c.args.self.now.next_epoch commits (scene_of c.args.self.now.members (g.N.Net.sent c.args.net.now)) (scene_of c.remind.new.members (g.N.Net.sent c.remind.new.net)))) (sym (p.1 ∙ ap Err p.2)) tt
 
 pub returns-in_err-remind-clause-begins : goal.returns-in_err-remind-clause-begins
 returns-in_err-remind-clause-begins g c = omega arith
@@ -183,7 +183,7 @@ returns-in_err-dones-clause-files g c d on stands room =
 pub returns-in_err-dones-clause-never : goal.returns-in_err-dones-clause-never
 returns-in_err-dones-clause-never g c file at d on stands room is =
     let p = err_from_is_err_and c.from_residual-in_err-dones.result c.from_residual-in_err-dones.ensures.1 in
-    let named : c.in_err-dones.field-0.0 ≡ NotAStore file at = cc (p.1, p.2, is) in subst (λ (f : TurnFault). CountsPart {T = Unit {0}} (Err f) (g.H.Host.disk_faults c.args.host.now) (g.H.Host.disk_faults c.try_epoch.new.host)) named c.in_err-dones.ensures.disk
+    let named : c.in_err-dones.field-0.0 ≡ NotAStore file at = cc (p.1, p.2, is) in subst (λ (f : Stop). CountsPart {T = Unit {0}} (Err f) (g.H.Host.disk_faults c.args.host.now) (g.H.Host.disk_faults c.try_epoch.new.host)) named c.in_err-dones.ensures.disk
 
 pub returns-in_err-dones-clause-disk : goal.returns-in_err-dones-clause-disk
 returns-in_err-dones-clause-disk g c =
@@ -210,7 +210,7 @@ returns-in_err-dones-clause-begins g c = one_begun (g.P.Power.begun c.args.power
 pub returns-in_err-dones-clause-refused : goal.returns-in_err-dones-clause-refused
 returns-in_err-dones-clause-refused g c file at is =
     let p = err_from_is_err_and c.from_residual-in_err-dones.result c.from_residual-in_err-dones.ensures.1 in
-    let named : c.in_err-dones.field-0.0 ≡ NotAStore file at = cc (p.1, p.2, is) in absurd (subst (λ (f : TurnFault). CountsPart {T = Unit {0}} (Err f) (g.H.Host.disk_faults c.args.host.now) (g.H.Host.disk_faults c.try_epoch.new.host)) named c.in_err-dones.ensures.disk)
+    let named : c.in_err-dones.field-0.0 ≡ NotAStore file at = cc (p.1, p.2, is) in absurd (subst (λ (f : Stop). CountsPart {T = Unit {0}} (Err f) (g.H.Host.disk_faults c.args.host.now) (g.H.Host.disk_faults c.try_epoch.new.host)) named c.in_err-dones.ensures.disk)
 
 -- ---- all voted: the epoch is committed
 
@@ -248,7 +248,7 @@ returns-in_err-commit_epoch-in-Voted-clause-files g c d on stands room =
     let may : MayCommitOn d c.args.requests.items c.args.workers c.args.attempts k.next_epoch c.in-Voted.dones (traced c.in-Voted.trace) c.try_epoch.new.self.members.tables (g.H.Host.reads c.try_epoch.new.host) (g.H.Host.may_leave c.try_epoch.new.host) =
     subst (λ (tried : Tried). ComesOn tried d c.args.requests.items c.args.workers c.args.attempts k.next_epoch c.try_epoch.new.self.members.tables (g.H.Host.reads c.try_epoch.new.host) (g.H.Host.may_leave c.try_epoch.new.host)) c.in-Voted.is files.1 in
     let stays : StaysInPlace now c.try_epoch.new.self = c.in_ok-dones.ensures.tried.stays in
-    let commits : Commits {T = Unit {0}} {E = TurnFault} g.H.Host (Err c.in_err-commit_epoch-in-Voted.field-0.0) may.d (commit_of k.next_epoch c.in-Voted.dones) c.try_epoch.new.host c.commit_epoch.new.host =
+    let commits : Commits {T = Unit {0}} {E = Stop} g.H.Host (Err c.in_err-commit_epoch-in-Voted.field-0.0) may.d (commit_of k.next_epoch c.in-Voted.dones) c.try_epoch.new.host c.commit_epoch.new.host =
     commits_so g.H.Host (Err c.in_err-commit_epoch-in-Voted.field-0.0) c.args.requests.items c.args.workers c.args.attempts d now c.try_epoch.new.self c.in-Voted.dones (traced c.in-Voted.trace) c.try_epoch.new.self.members.tables c.try_epoch.new.host c.commit_epoch.new.host stays may at.belongs c.in_err-commit_epoch-in-Voted.ensures.files in
     let p = err_from_is_err_and c.from_residual-in_err-commit_epoch-in-Voted.result c.from_residual-in_err-commit_epoch-in-Voted.ensures.1 in
     inr (commit_failed g.H.Host d c.args.requests.items c.args.workers c.args.attempts k.next_epoch c.in-Voted.dones (traced c.in-Voted.trace) c.try_epoch.new.self.members.tables c.args.host.now c.try_epoch.new.host files.0 may (Err c.in_err-commit_epoch-in-Voted.field-0.0) c.commit_epoch.new.host commits
@@ -257,7 +257,7 @@ returns-in_err-commit_epoch-in-Voted-clause-files g c d on stands room =
 pub returns-in_err-commit_epoch-in-Voted-clause-never : goal.returns-in_err-commit_epoch-in-Voted-clause-never
 returns-in_err-commit_epoch-in-Voted-clause-never g c file at d on stands room is =
     let p = err_from_is_err_and c.from_residual-in_err-commit_epoch-in-Voted.result c.from_residual-in_err-commit_epoch-in-Voted.ensures.1 in
-    let named : c.in_err-commit_epoch-in-Voted.field-0.0 ≡ NotAStore file at = cc (p.1, p.2, is) in subst (λ (f : TurnFault). CountsPart {T = Unit {0}} (Err f) (g.H.Host.disk_faults c.try_epoch.new.host) (g.H.Host.disk_faults c.commit_epoch.new.host)) named c.in_err-commit_epoch-in-Voted.ensures.disk
+    let named : c.in_err-commit_epoch-in-Voted.field-0.0 ≡ NotAStore file at = cc (p.1, p.2, is) in subst (λ (f : Stop). CountsPart {T = Unit {0}} (Err f) (g.H.Host.disk_faults c.try_epoch.new.host) (g.H.Host.disk_faults c.commit_epoch.new.host)) named c.in_err-commit_epoch-in-Voted.ensures.disk
 
 pub returns-in_err-commit_epoch-in-Voted-clause-disk : goal.returns-in_err-commit_epoch-in-Voted-clause-disk
 returns-in_err-commit_epoch-in-Voted-clause-disk g c =
@@ -274,7 +274,7 @@ returns-in_err-commit_epoch-in-Voted-clause-procs g c = c.commit_epoch.ensures.p
 pub returns-in_err-commit_epoch-in-Voted-clause-trace : goal.returns-in_err-commit_epoch-in-Voted-clause-trace
 returns-in_err-commit_epoch-in-Voted-clause-trace g c =
     let p = err_from_is_err_and c.from_residual-in_err-commit_epoch-in-Voted.result c.from_residual-in_err-commit_epoch-in-Voted.ensures.1 in
-    subst (λ (r : Result (Option (Vec Request)) TurnFault). OnErr r (c.args.self.now.trace ≡ None → c.commit_epoch.new.self.trace ≡ None)) (sym p.1) (λ was. c.in_err-commit_epoch-in-Voted.ensures.trace ∙ c.try_epoch.ensures.rest.trace ∙ was)
+    subst (λ (r : Result (Option (Vec Request)) Stop). OnErr r (c.args.self.now.trace ≡ None → c.commit_epoch.new.self.trace ≡ None)) (sym p.1) (λ was. c.in_err-commit_epoch-in-Voted.ensures.trace ∙ c.try_epoch.ensures.rest.trace ∙ was)
 
 pub returns-in_err-commit_epoch-in-Voted-clause-world : goal.returns-in_err-commit_epoch-in-Voted-clause-world
 returns-in_err-commit_epoch-in-Voted-clause-world g c =
@@ -292,7 +292,7 @@ returns-in_err-commit_epoch-in-Voted-clause-begins g c = one_begun (g.P.Power.be
 pub returns-in_err-commit_epoch-in-Voted-clause-refused : goal.returns-in_err-commit_epoch-in-Voted-clause-refused
 returns-in_err-commit_epoch-in-Voted-clause-refused g c file at is =
     let p = err_from_is_err_and c.from_residual-in_err-commit_epoch-in-Voted.result c.from_residual-in_err-commit_epoch-in-Voted.ensures.1 in
-    let named : c.in_err-commit_epoch-in-Voted.field-0.0 ≡ NotAStore file at = cc (p.1, p.2, is) in absurd (subst (λ (f : TurnFault). CountsPart {T = Unit {0}} (Err f) (g.H.Host.disk_faults c.try_epoch.new.host) (g.H.Host.disk_faults c.commit_epoch.new.host)) named c.in_err-commit_epoch-in-Voted.ensures.disk)
+    let named : c.in_err-commit_epoch-in-Voted.field-0.0 ≡ NotAStore file at = cc (p.1, p.2, is) in absurd (subst (λ (f : Stop). CountsPart {T = Unit {0}} (Err f) (g.H.Host.disk_faults c.try_epoch.new.host) (g.H.Host.disk_faults c.commit_epoch.new.host)) named c.in_err-commit_epoch-in-Voted.ensures.disk)
 
 pub read_stopped-requires : goal.read_stopped-requires
 read_stopped-requires g c =
@@ -319,7 +319,7 @@ returns-in_err-read_stopped-in-Voted-clause-files g c d on stands room =
     let may : MayCommitOn d c.args.requests.items c.args.workers c.args.attempts k.next_epoch c.in-Voted.dones (traced c.in-Voted.trace) c.try_epoch.new.self.members.tables (g.H.Host.reads c.try_epoch.new.host) (g.H.Host.may_leave c.try_epoch.new.host) =
     subst (λ (tried : Tried). ComesOn tried d c.args.requests.items c.args.workers c.args.attempts k.next_epoch c.try_epoch.new.self.members.tables (g.H.Host.reads c.try_epoch.new.host) (g.H.Host.may_leave c.try_epoch.new.host)) c.in-Voted.is files.1 in
     let stays : StaysInPlace now c.try_epoch.new.self = c.in_ok-dones.ensures.tried.stays in
-    let commits : Commits {T = Unit {0}} {E = TurnFault} g.H.Host (Ok tt) may.d (commit_of k.next_epoch c.in-Voted.dones) c.try_epoch.new.host c.commit_epoch.new.host =
+    let commits : Commits {T = Unit {0}} {E = Stop} g.H.Host (Ok tt) may.d (commit_of k.next_epoch c.in-Voted.dones) c.try_epoch.new.host c.commit_epoch.new.host =
     commits_so g.H.Host (Ok tt) c.args.requests.items c.args.workers c.args.attempts d now c.try_epoch.new.self c.in-Voted.dones (traced c.in-Voted.trace) c.try_epoch.new.self.members.tables c.try_epoch.new.host c.commit_epoch.new.host stays may at.belongs c.in_ok-commit_epoch-in-Voted.ensures.files in
     let p = err_from_is_err_and c.from_residual-in_err-read_stopped-in-Voted.result c.from_residual-in_err-read_stopped-in-Voted.ensures.1 in
     inr (committed_then g.H.Host d c.args.requests.items c.args.workers c.args.attempts k.next_epoch c.in-Voted.dones (traced c.in-Voted.trace) c.try_epoch.new.self.members.tables c.args.host.now c.try_epoch.new.host files.0 may (Ok tt) c.commit_epoch.new.host commits commits.ok c.commit_epoch.ensures.said c.read_stopped.new.host c.read_stopped.ensures.read c.from_residual-in_err-read_stopped-in-Voted.result k c.read_stopped.new.self refl
@@ -341,7 +341,7 @@ returns-in_err-read_stopped-in-Voted-clause-never g c file place d on stands roo
     let files = c.in_ok-dones.ensures.files d on at room in
     let may : MayCommitOn d c.args.requests.items c.args.workers c.args.attempts k.next_epoch c.in-Voted.dones (traced c.in-Voted.trace) c.try_epoch.new.self.members.tables (g.H.Host.reads c.try_epoch.new.host) (g.H.Host.may_leave c.try_epoch.new.host) =
     subst (λ (tried : Tried). ComesOn tried d c.args.requests.items c.args.workers c.args.attempts k.next_epoch c.try_epoch.new.self.members.tables (g.H.Host.reads c.try_epoch.new.host) (g.H.Host.may_leave c.try_epoch.new.host)) c.in-Voted.is files.1 in
-    let commits : Commits {T = Unit {0}} {E = TurnFault} g.H.Host (Ok tt) may.d (commit_of k.next_epoch c.in-Voted.dones) c.try_epoch.new.host c.commit_epoch.new.host =
+    let commits : Commits {T = Unit {0}} {E = Stop} g.H.Host (Ok tt) may.d (commit_of k.next_epoch c.in-Voted.dones) c.try_epoch.new.host c.commit_epoch.new.host =
     commits_so g.H.Host (Ok tt) c.args.requests.items c.args.workers c.args.attempts d now c.try_epoch.new.self c.in-Voted.dones (traced c.in-Voted.trace) c.try_epoch.new.self.members.tables c.try_epoch.new.host c.commit_epoch.new.host stays may at.belongs c.in_ok-commit_epoch-in-Voted.ensures.files in
     let p = err_from_is_err_and c.from_residual-in_err-read_stopped-in-Voted.result c.from_residual-in_err-read_stopped-in-Voted.ensures.1 in
     let named : c.in_err-read_stopped-in-Voted.field-0.0 ≡ NotAStore file place = cc (p.1, p.2, is) in
@@ -359,7 +359,7 @@ returns-in_err-read_stopped-in-Voted-clause-later g c =
 pub returns-in_err-read_stopped-in-Voted-clause-trace : goal.returns-in_err-read_stopped-in-Voted-clause-trace
 returns-in_err-read_stopped-in-Voted-clause-trace g c =
     let p = err_from_is_err_and c.from_residual-in_err-read_stopped-in-Voted.result c.from_residual-in_err-read_stopped-in-Voted.ensures.1 in
-    subst (λ (r : Result (Option (Vec Request)) TurnFault). OnErr r (c.args.self.now.trace ≡ None → c.read_stopped.new.self.trace ≡ None)) (sym p.1) (λ was. c.in_err-read_stopped-in-Voted.ensures.untraced)
+    subst (λ (r : Result (Option (Vec Request)) Stop). OnErr r (c.args.self.now.trace ≡ None → c.read_stopped.new.self.trace ≡ None)) (sym p.1) (λ was. c.in_err-read_stopped-in-Voted.ensures.untraced)
 
 pub returns-in_err-read_stopped-in-Voted-clause-world : goal.returns-in_err-read_stopped-in-Voted-clause-world
 returns-in_err-read_stopped-in-Voted-clause-world g c =
@@ -379,7 +379,7 @@ returns-in_err-read_stopped-in-Voted-clause-world g c =
     stays.next first c.in_ok-dones.ensures.tried.steps (same_nodes c.try_epoch.new.self.members c.commit_epoch.new.self.members voted.voted.are c.in_ok-commit_epoch-in-Voted.ensures.rest.are ended.layout) c.in_ok-commit_epoch-in-Voted.ensures.world c.read_stopped.ensures.cores c.read_stopped.ensures.chief in
     let p = err_from_is_err_and c.from_residual-in_err-read_stopped-in-Voted.result c.from_residual-in_err-read_stopped-in-Voted.ensures.1 in
     on_end ((commits : List ℕ) × HaveCommitted c.from_residual-in_err-read_stopped-in-Voted.result c.read_stopped.new.self.next_epoch commits × StepsTo (g.P.Power.stopped c.args.power.now) (g.P.Power.stopped c.commit_epoch.new.power) c.args.self.now.next_epoch c.read_stopped.new.self.next_epoch commits (scene_of c.args.self.now.members (g.N.Net.sent c.args.net.now)) (scene_of c.read_stopped.new.self.members (g.N.Net.sent c.commit_epoch.new.net))) c.from_residual-in_err-read_stopped-in-Voted.result
-    (k.next_epoch ∷ [], subst (λ (r : Result (Option (Vec Request)) TurnFault). HaveCommitted r c.read_stopped.new.self.next_epoch (k.next_epoch ∷ [])) (sym p.1) (inr (k.next_epoch, number, refl)), steps_number _ _ _ _ _ _ _ _ (sym number) steps)
+    (k.next_epoch ∷ [], subst (λ (r : Result (Option (Vec Request)) Stop). HaveCommitted r c.read_stopped.new.self.next_epoch (k.next_epoch ∷ [])) (sym p.1) (inr (k.next_epoch, number, refl)), steps_number _ _ _ _ _ _ _ _ (sym number) steps)
 
 pub returns-in_err-read_stopped-in-Voted-clause-entries : goal.returns-in_err-read_stopped-in-Voted-clause-entries
 returns-in_err-read_stopped-in-Voted-clause-entries g c d e on stands room behind =
@@ -458,7 +458,7 @@ returns-in_ok-read_stopped-in-Voted g c =
           let files = c.in_ok-dones.ensures.files d on at room in
           let may : MayCommitOn d c.args.requests.items c.args.workers c.args.attempts k.next_epoch c.in-Voted.dones (traced c.in-Voted.trace) c.try_epoch.new.self.members.tables (g.H.Host.reads c.try_epoch.new.host) (g.H.Host.may_leave c.try_epoch.new.host) =
           subst (λ (tried : Tried). ComesOn tried d c.args.requests.items c.args.workers c.args.attempts k.next_epoch c.try_epoch.new.self.members.tables (g.H.Host.reads c.try_epoch.new.host) (g.H.Host.may_leave c.try_epoch.new.host)) c.in-Voted.is files.1 in
-          let commits : Commits {T = Unit {0}} {E = TurnFault} g.H.Host (Ok tt) may.d (commit_of k.next_epoch c.in-Voted.dones) c.try_epoch.new.host c.commit_epoch.new.host =
+          let commits : Commits {T = Unit {0}} {E = Stop} g.H.Host (Ok tt) may.d (commit_of k.next_epoch c.in-Voted.dones) c.try_epoch.new.host c.commit_epoch.new.host =
           commits_so g.H.Host (Ok tt) c.args.requests.items c.args.workers c.args.attempts d now c.try_epoch.new.self c.in-Voted.dones (traced c.in-Voted.trace) c.try_epoch.new.self.members.tables c.try_epoch.new.host c.commit_epoch.new.host stays may at.belongs c.in_ok-commit_epoch-in-Voted.ensures.files in
           let end = with_commit (commit_of k.next_epoch c.in-Voted.dones) may.d in
           let steps : StepsOn d end i l k.next_epoch (k.next_epoch + 1) (k.next_epoch ∷ []) x z = committed_on d may.d c.in-Voted.dones i j l c.try_epoch.new.self.next_epoch k.next_epoch k.members c.remind.new.members c.try_epoch.new.self.members c.commit_epoch.new.self.members c.read_stopped.new.self.members (g.N.Net.sent c.args.net.now) (g.N.Net.sent c.remind.new.net) (g.N.Net.sent c.try_epoch.new.net) (g.N.Net.sent c.commit_epoch.new.net)
@@ -477,7 +477,7 @@ returns-in_ok-read_stopped-in-Voted g c =
           let files = c.in_ok-dones.ensures.files d on at room in
           let may : MayCommitOn d c.args.requests.items c.args.workers c.args.attempts k.next_epoch c.in-Voted.dones (traced c.in-Voted.trace) c.try_epoch.new.self.members.tables (g.H.Host.reads c.try_epoch.new.host) (g.H.Host.may_leave c.try_epoch.new.host) =
           subst (λ (tried : Tried). ComesOn tried d c.args.requests.items c.args.workers c.args.attempts k.next_epoch c.try_epoch.new.self.members.tables (g.H.Host.reads c.try_epoch.new.host) (g.H.Host.may_leave c.try_epoch.new.host)) c.in-Voted.is files.1 in
-          let commits : Commits {T = Unit {0}} {E = TurnFault} g.H.Host (Ok tt) may.d (commit_of k.next_epoch c.in-Voted.dones) c.try_epoch.new.host c.commit_epoch.new.host =
+          let commits : Commits {T = Unit {0}} {E = Stop} g.H.Host (Ok tt) may.d (commit_of k.next_epoch c.in-Voted.dones) c.try_epoch.new.host c.commit_epoch.new.host =
           commits_so g.H.Host (Ok tt) c.args.requests.items c.args.workers c.args.attempts d now c.try_epoch.new.self c.in-Voted.dones (traced c.in-Voted.trace) c.try_epoch.new.self.members.tables c.try_epoch.new.host c.commit_epoch.new.host stays may at.belongs c.in_ok-commit_epoch-in-Voted.ensures.files in
           inr (committed_then g.H.Host d c.args.requests.items c.args.workers c.args.attempts k.next_epoch c.in-Voted.dones (traced c.in-Voted.trace) c.try_epoch.new.self.members.tables c.args.host.now c.try_epoch.new.host files.0 may (Ok tt) c.commit_epoch.new.host commits commits.ok c.commit_epoch.ensures.said c.read_stopped.new.host c.read_stopped.ensures.read (Ok None) k c.read_stopped.new.self refl
           (λ answer is. (
@@ -569,7 +569,7 @@ returns-in_err-read_stopped-in-GivenUp-clause-world g c =
     first c.in_ok-dones.ensures.tried.steps (c.read_stopped-in-GivenUp.ensures.cores ∙ ap (λ (x : Cluster). x.members.cores) gone.same) (c.read_stopped-in-GivenUp.ensures.chief ∙ ap (λ (x : Cluster). x.members.chief) gone.same) in
     let p = err_from_is_err_and c.from_residual-in_err-read_stopped-in-GivenUp.result c.from_residual-in_err-read_stopped-in-GivenUp.ensures.1 in
     on_end ((commits : List ℕ) × HaveCommitted c.from_residual-in_err-read_stopped-in-GivenUp.result c.read_stopped-in-GivenUp.new.self.next_epoch commits × StepsTo (g.P.Power.stopped c.args.power.now) (g.P.Power.stopped c.try_epoch.new.power) c.args.self.now.next_epoch c.read_stopped-in-GivenUp.new.self.next_epoch commits (scene_of c.args.self.now.members (g.N.Net.sent c.args.net.now)) (scene_of c.read_stopped-in-GivenUp.new.self.members (g.N.Net.sent c.try_epoch.new.net))) c.from_residual-in_err-read_stopped-in-GivenUp.result
-    ([], subst (λ (r : Result (Option (Vec Request)) TurnFault). HaveCommitted r c.read_stopped-in-GivenUp.new.self.next_epoch []) (sym p.1) (inl refl), steps_number _ _ _ _ _ _ _ _ (sym number) steps)
+    ([], subst (λ (r : Result (Option (Vec Request)) Stop). HaveCommitted r c.read_stopped-in-GivenUp.new.self.next_epoch []) (sym p.1) (inl refl), steps_number _ _ _ _ _ _ _ _ (sym number) steps)
 
 pub returns-in_err-read_stopped-in-GivenUp-clause-entries : goal.returns-in_err-read_stopped-in-GivenUp-clause-entries
 returns-in_err-read_stopped-in-GivenUp-clause-entries g c d e on stands room behind =

@@ -16,8 +16,8 @@ use Rattle.coco_cluster.specs.Stepping.{AsksBy, AsksForAll, HasCommittedBy}
 use Rattle.coco_cluster.specs.Trying.{GivesUp}
 use Rattle.coco_cluster.specs.Turning.{HasRoom}
 use Rattle.coco_cluster.specs.declared.cluster.Cluster.{Cluster}
-use Rattle.coco_cluster.specs.declared.fault.TurnFault.{TurnFault}
-use Rattle.coco_cluster.specs.declared.fault.TurnFault.TheVariants.{EpochsUsedUp, NotAStore, Unreachable}
+use Rattle.coco_cluster.specs.declared.stop.Stop.{Stop}
+use Rattle.coco_cluster.specs.declared.stop.Stop.TheVariants.{EpochsUsedUp, NotAStore, Unreachable}
 use Rattle.coco_cluster.proofs.AskLemmas.{asks_all, begins_same, begins_then}
 use Rattle.coco_cluster.proofs.AroundLemmas.{all_later, all_until, later_same, later_then}
 use Rattle.coco_cluster.proofs.EntryLemmas.{none_committed_on, on_after, on_none, on_rests, turn_committed_on, unrefused}
@@ -230,7 +230,7 @@ pub returns-in_err-attempt-clause-untraced : goal.returns-in_err-attempt-clause-
 returns-in_err-attempt-clause-untraced g c =
     let before = c.loop-attempt.invariant in
     let p = err_from_is_err_and c.from_residual.result c.from_residual.ensures.1 in
-    subst (λ (r : Result (Unit {0}) TurnFault). OnErr r (c.attempt.new.self.trace ≡ None)) (sym p.1) (c.in_err-attempt.ensures.trace before.untraced)
+    subst (λ (r : Result (Unit {0}) Stop). OnErr r (c.attempt.new.self.trace ≡ None)) (sym p.1) (c.in_err-attempt.ensures.trace before.untraced)
 
 pub returns-in_err-attempt-clause-counts : goal.returns-in_err-attempt-clause-counts
 returns-in_err-attempt-clause-counts g c =
@@ -437,7 +437,7 @@ pub returns-in_err-attempt-clause-ended : goal.returns-in_err-attempt-clause-end
 returns-in_err-attempt-clause-ended g c is =
     let p = err_from_is_err_and c.from_residual.result c.from_residual.ensures.1 in
     let named : c.in_err-attempt.field-0.0 ≡ EpochsUsedUp = cc (p.1, p.2, is) in
-    absurd (subst (λ (f : TurnFault). CountsAttempt {T = Unit {0}} (Err f) (g.H.Host.disk_faults c.loop-attempt.host) (g.H.Host.disk_faults c.attempt.new.host)) named c.in_err-attempt.ensures.disk)
+    absurd (subst (λ (f : Stop). CountsAttempt {T = Unit {0}} (Err f) (g.H.Host.disk_faults c.loop-attempt.host) (g.H.Host.disk_faults c.attempt.new.host)) named c.in_err-attempt.ensures.disk)
 
 pub returns-then-self-ge-EPOCHS_END-clause-ended : goal.returns-then-self-ge-EPOCHS_END-clause-ended
 returns-then-self-ge-EPOCHS_END-clause-ended g c is = (c.if-self-ge-EPOCHS_END.true, (c.loop-attempt._attempt, omega (arith, c.loop-attempt-test.true), c.loop-attempt.invariant.high, c.loop-attempt.invariant.given))

@@ -1,8 +1,8 @@
 use Rattle.std.proofs.Common.{◌≡◌, ℕ, ◌+◌, ◌%◌, ◌∷◌, ◌++◌, [], List, Option, take, sym, subst, ap, ◌∙◌}
 use Rattle.std.proofs.lemmas.List.{take_all, take_more}
+use Rattle.coco_types.specs.RowKey.{partition_of}
 use Rattle.coco_types.specs.declared.value.Value.{Value}
 use Rattle.coco_entry.specs.declared.prepared.Row.{Row}
-use Rattle.coco_store.specs.Placement.{partition_of}
 use Rattle.coco_load.specs.Reading.{with_row, with_rows}
 use Rattle.coco_load.specs.Tables.{HoldMaps}
 use Rattle.coco_load.proofs.Writes.{rows_begin, rows_more}
@@ -26,7 +26,7 @@ loop-row-preserved c = record {
       subst (λ (l : List Row). HoldMaps layout (with_rows s c.args.node l maps) shards copies) (sym all)
       (rows_more layout s is c.args.node maps before row behind shards copies c.nodes_behind-behind.ensures.around
       (ap (λ (p : ℕ). (p + behind) % layout.nodes) (sym c.partition.ensures.is) ∙ c.nodes_behind-behind.ensures.there)
-      (subst (λ (v : Option Value). HoldMaps layout (with_row (partition_of layout row.key) behind row.key v (with_rows s c.args.node before maps)) shards copies) c.get.ensures
+      (subst (λ (v : Option Value). HoldMaps layout (with_row (partition_of layout.partitions row.key) behind row.key v (with_rows s c.args.node before maps)) shards copies) c.get.ensures
       (c.in_ok-load_at.ensures.ok (with_rows s c.args.node before maps) (c.loop-row.invariant.hold s maps is held))));
 }
 

@@ -1,8 +1,8 @@
 use Rattle.std.proofs.Common.{Bool, ap, ◌∙◌}
+use Rattle.coco_types.specs.RowKey.{partition_of}
 use Rattle.coco_eval.specs.Standing as eval
 use Rattle.coco_shard.specs.Table.{key_of}
 use Rattle.coco_occ.specs.Course.{is_ended}
-use Rattle.coco_occ.specs.Exchange.{shard_of}
 use Rattle.coco_occ.specs.Keeping.{reply_in, standing_of}
 use Rattle.coco_occ.specs.Trying.{Trying}
 use Rattle.coco_occ.proofs.Attempts.{ready_free, ready_goes, attempt_sound, moves}
@@ -22,7 +22,7 @@ pub returns-clause-asks : goal.returns-clause-asks
 returns-clause-asks c is =
     let i = c.self.inside in
     let d = c.proceed-asks.new in
-    (shard_of i.partitions (key_of d.op), record { by = i.asked.by; op = d.op }, ap (λ (b : Bool). standing_of b i.asked.by i.partitions d.op d.course (reply_in d.run.standing) d.run.standing) is)
+    (partition_of i.partitions (key_of d.op), record { by = i.asked.by; op = d.op }, ap (λ (b : Bool). standing_of b i.asked.by i.partitions d.op d.course (reply_in d.run.standing) d.run.standing) is)
 
 pub returns-clause-ended : goal.returns-clause-ended
 returns-clause-ended c is =

@@ -1,8 +1,9 @@
 use Rattle.std.proofs.Common.{ℕ, false, ◌++◌, ◌∷◌, [], None, sym, ap, ◌∙◌, subst}
+use Rattle.coco_types.specs.RowKey.{partition_of}
 use Rattle.coco_shard.specs.declared.ops.Ask.{Ask}
 use Rattle.coco_occ.specs.Course.{exchange}
 use Rattle.coco_occ.specs.Keeping.{reply_in}
-use Rattle.coco_occ.specs.Exchange.{shard_of, MayAnswer}
+use Rattle.coco_occ.specs.Exchange.{MayAnswer}
 use Rattle.coco_occ.specs.declared.script.Step.{Step}
 use Rattle.coco_occ.specs.Steps.{AreBy}
 use Rattle.coco_occ.specs.Trying.{Trying}
@@ -28,7 +29,7 @@ invariant_of-self-2 c =
     let may = subst (λ (a : Ask). MayAnswer a c.args.answer.now) (sym w.2) q.3 in
     let step : ℕ → Step = λ n. record { shard = n; ask = record { by = i.asked.by; op = i.asked.op }; answer = c.args.answer.now } in
     took i.run c.accept.new.run i.script c.push.new.self i.asked.by i.partitions i.snapshot i.course c.accept.new.course (reply_in i.run.standing) (reply_in c.accept.new.run.standing) i.asked.op c.args.answer.now i.waits c.self.invariant
-    (c.in_ok-push.ensures.ok ∙ ap (λ (n : ℕ). i.script ++ step n ∷ []) (c.shard_of-shard.ensures ∙ ap (shard_of i.partitions) c.key.ensures))
+    (c.in_ok-push.ensures.ok ∙ ap (λ (n : ℕ). i.script ++ step n ∷ []) (c.shard_of-shard.ensures ∙ ap (partition_of i.partitions) c.key.ensures))
     may c.accept.ensures.call (goes_told i.snapshot c.accept.new.run (c.self.invariant.asked ++ exchange i.asked.op c.args.answer.now ∷ []) c.accept.new.course (reply_in i.run.standing) None
     (c.accept.ensures.goes i.snapshot c.self.invariant.asked (reply_in i.run.standing) i.asked.by (waiting_goes i.run i.script i.asked.by i.partitions i.snapshot i.course (reply_in i.run.standing) i.asked.op i.waits c.self.invariant w.0) may))
 
@@ -37,7 +38,7 @@ returns-clause-ok c shard ask standing =
     let i = c.self.inside in
     let step : ℕ → Step = λ n. record { shard = n; ask = record { by = i.asked.by; op = i.asked.op }; answer = c.args.answer.now } in
     took_one i.run c.accept.new.run i.script c.push.new.self i.asked.by i.partitions i.snapshot i.course c.accept.new.course (reply_in i.run.standing) (reply_in c.accept.new.run.standing) i.asked.op c.args.answer.now i.waits _ c.self.invariant c.self.view_is
-    (c.in_ok-push.ensures.ok ∙ ap (λ (n : ℕ). i.script ++ step n ∷ []) (c.shard_of-shard.ensures ∙ ap (shard_of i.partitions) c.key.ensures))
+    (c.in_ok-push.ensures.ok ∙ ap (λ (n : ℕ). i.script ++ step n ∷ []) (c.shard_of-shard.ensures ∙ ap (partition_of i.partitions) c.key.ensures))
     c.accept.ensures.procs c.accept.ensures.call c.accept.ensures.stage shard ask standing
 
 pub returns-clause-sound : goal.returns-clause-sound
@@ -49,6 +50,6 @@ returns-clause-sound c =
     let step : ℕ → Step = λ n. record { shard = n; ask = record { by = i.asked.by; op = i.asked.op }; answer = c.args.answer.now } in
     attempt_sound c.accept.new.run c.push.new.self i.asked.by i.partitions i.snapshot c.accept.new.course (reply_in c.accept.new.run.standing) i.asked.op false
     (took i.run c.accept.new.run i.script c.push.new.self i.asked.by i.partitions i.snapshot i.course c.accept.new.course (reply_in i.run.standing) (reply_in c.accept.new.run.standing) i.asked.op c.args.answer.now i.waits c.self.invariant
-    (c.in_ok-push.ensures.ok ∙ ap (λ (n : ℕ). i.script ++ step n ∷ []) (c.shard_of-shard.ensures ∙ ap (shard_of i.partitions) c.key.ensures))
+    (c.in_ok-push.ensures.ok ∙ ap (λ (n : ℕ). i.script ++ step n ∷ []) (c.shard_of-shard.ensures ∙ ap (partition_of i.partitions) c.key.ensures))
     may c.accept.ensures.call (goes_told i.snapshot c.accept.new.run (c.self.invariant.asked ++ exchange i.asked.op c.args.answer.now ∷ []) c.accept.new.course (reply_in i.run.standing) None
     (c.accept.ensures.goes i.snapshot c.self.invariant.asked (reply_in i.run.standing) i.asked.by (waiting_goes i.run i.script i.asked.by i.partitions i.snapshot i.course (reply_in i.run.standing) i.asked.op i.waits c.self.invariant w.0) may)))

@@ -1,3 +1,0 @@
-mod CommitEntries
-mod DeclaredTables
-mod PreparedEntries

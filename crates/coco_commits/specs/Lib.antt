@@ -1,2 +1,0 @@
-pub mod EpochEntries
-pub mod Tables

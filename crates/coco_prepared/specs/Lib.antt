@@ -1,2 +1,0 @@
-pub mod LastWrites
-pub mod Stamps
