@@ -1,11 +1,12 @@
 //! The parts of a line of JSON that several lines have.
 
-ghost use Rattle.std.specs.Prelude.{◌≡◌, ◌++◌, ◌∷◌, [], codes, decimal, take, Option, OnOk, OnErr, IsOk};
+ghost use Rattle.std.specs.Prelude.{◌≡◌, ◌++◌, ◌∷◌, [], decimal, take, Option, OnOk, OnErr, IsOk};
 ghost use Rattle.json.specs.Token.{key, string, number};
 ghost use Rattle.json.specs.Tree.{json_tokens};
 ghost use Rattle.serde_json.specs.Written.{outline};
 ghost use Rattle.coco_lines.specs.Texts.{value_json, cause_word, reply_key, reply_json};
 
+use coco_lines::cause_word;
 use coco_types::{Cause, NoMemory, Reply, Value};
 use json::Writer;
 use std::alloc::{AllocError, Global};
@@ -96,21 +97,6 @@ fn put_cause(alloc: Global, writer: &mut Writer, cause: Cause) -> Result<(), All
     ensures ok { OnOk result (writer.new.tokens ≡ writer.old.tokens ++ string (cause_word cause) ∷ []) }
     ensures before { writer.new.before ≡ writer.old.before }
 {
-    match cause {
-        Cause::User(number) => put_user(alloc, writer, number),
-        Cause::Overflow => writer.string("overflow"),
-        Cause::ZeroDivide => writer.string("zero divide"),
-        Cause::Kind => writer.string("kind"),
-        Cause::BadRow => writer.string("bad row"),
-    }
-}
-
-// The word of a refusal by a procedure's own number.
-fn put_user(alloc: Global, writer: &mut Writer, number: u16) -> Result<(), AllocError>
-    ensures ok { OnOk result (writer.new.tokens
-        ≡ writer.old.tokens ++ string (codes "user " ++ decimal number) ∷ []) }
-    ensures before { writer.new.before ≡ writer.old.before }
-{
-    let word = format!(in alloc; "user {number}")?;
+    let word = cause_word(alloc, cause)?;
     writer.string(word.as_str())
 }

@@ -2,6 +2,7 @@
 use Rattle.std.proofs.Common.{◌≡◌, ℕ, ◌+◌, ◌≤◌, ◌<◌, List, [], ◌∷◌, ◌++◌, length, map, true, Option, None, Some, Ok, Err, refl, sym, ap, subst, ◌∙◌, arith, append_assoc, append-nil, length-append, add-zero}
 use Rattle.std.specs.List.{IsDistinct}
 use Rattle.coco_types.specs.Limits.{most_kept}
+use Rattle.coco_types.specs.declared.call.Done.{Done}
 use Rattle.coco_types.specs.declared.call.Request.{Request}
 use Rattle.coco_ast.specs.History.{AreAbove, request_of}
 use Rattle.coco_ast.specs.Tree.{Procedures}
@@ -19,9 +20,8 @@ use Rattle.coco_lines.proofs.LinesLemmas.{first_both, none_first, one_first}
 use Rattle.coco_batches.specs.declared.answer.LineAnswer.{LineAnswer}
 use Rattle.coco_batches.specs.declared.batch.Batch.{Batch}
 use Rattle.coco_batches.specs.Answering.{answer_of, answers_from}
-use Rattle.coco_batches.specs.Asking.{MayCommit}
+use Rattle.coco_batches.specs.Asking.{MayCommit, known_of}
 use Rattle.coco_batches.specs.BatchReading.{BreaksOff, IsCutOff, TakesLines, Taking}
-use Rattle.coco_batches.specs.Asking.{known_of}
 
 none_above : (floor : Option ℕ) → AreAbove floor []
 none_above None = tt
@@ -29,7 +29,7 @@ none_above (Some n) = tt
 
 pub none_new : (procs : Procedures) (k : Keeping) → length k.dones ≤ most_kept → MayCommit procs k []
 unfolding IsDistinct
-none_new procs k few = record { fit = tt; distinct = tt; absent = tt; above = none_above k.floor; few = omega arith }
+none_new procs k few = record { fit = tt; new = record { distinct = tt; absent = tt; above = none_above k.floor; few = omega arith } }
 
 -- ---- what a reader takes
 
@@ -89,7 +89,7 @@ takes_then_ends old mid new a b c lines found is reads t =
 
 -- ---- what a batch takes in
 
-pub taking_start : (procs : Procedures) (k : Known) (s : ReaderState) (m : SourceMoment) (batch : Batch) → batch.answers.items ≡ [] → batch.fresh ≡ [] → Taking procs k s s m m batch
+pub taking_start : (procs : Procedures) (k : Keeping) (s : ReaderState) (m : SourceMoment) (batch : Batch) → batch.answers.items ≡ [] → batch.fresh ≡ [] → Taking procs k s s m m batch
 taking_start procs k s m batch answers fresh = record {
   lines = [];
   classes = [];
@@ -100,15 +100,15 @@ taking_start procs k s m batch answers fresh = record {
   fresh = fresh;
 }
 
-answers_from-length : (n : ℕ) (cs : List Class) → length (answers_from n cs) ≡ length cs
-answers_from-length n [] = refl
-answers_from-length n (c ∷ cs) = omega (arith, answers_from-length (n + 1) cs)
+answers_from-length : (dones : List Done) (n : ℕ) (cs : List Class) → length (answers_from dones n cs) ≡ length cs
+answers_from-length dones n [] = refl
+answers_from-length dones n (c ∷ cs) = omega (arith, answers_from-length dones (n + 1) cs)
 
-answers_from-more : (n : ℕ) (cs : List Class) (c : Class) → answers_from n (cs ++ c ∷ []) ≡ answers_from n cs ++ answer_of (n + length cs) c ∷ []
-answers_from-more n [] c = let e : n ≡ n + 0 = omega arith in ap (λ k. answer_of k c ∷ []) e
-answers_from-more n (x ∷ cs) c =
+answers_from-more : (dones : List Done) (n : ℕ) (cs : List Class) (c : Class) → answers_from dones n (cs ++ c ∷ []) ≡ answers_from dones n cs ++ answer_of dones (n + length cs) c ∷ []
+answers_from-more dones n [] c = let e : n ≡ n + 0 = omega arith in ap (λ k. answer_of dones k c ∷ []) e
+answers_from-more dones n (x ∷ cs) c =
     let e : n + 1 + length cs ≡ n + length (x ∷ cs) = omega arith in
-    ap (λ others. answer_of n x ∷ others) (answers_from-more (n + 1) cs c ∙ ap (λ k. answers_from (n + 1) cs ++ answer_of k c ∷ []) e)
+    ap (λ others. answer_of dones n x ∷ others) (answers_from-more dones (n + 1) cs c ∙ ap (λ k. answers_from dones (n + 1) cs ++ answer_of dones k c ∷ []) e)
 
 new_of-append : (xs ys : List Class) → new_of (xs ++ ys) ≡ new_of xs ++ new_of ys
 new_of-append [] ys = refl
@@ -138,33 +138,33 @@ known_again procs held fresh news line c same is =
 pub record TakesIn (procs : Procedures) (held : Keeping) (bytes : List ℕ) (number : ℕ) (old new : Batch) : Type 0 where
   pub class : Class
   pub is : IsClass procs (known_of held old.fresh) bytes class
-  pub answers : new.answers.items ≡ old.answers.items ++ answer_of number class ∷ []
+  pub answers : new.answers.items ≡ old.answers.items ++ answer_of held.dones number class ∷ []
   pub fresh : new.fresh ≡ old.fresh ++ new_in class
 
 pub taking_more : (procs : Procedures) (held : Keeping) (old mid new : ReaderState) (a b c : SourceMoment) (batch grown : Batch) (line : Given) (found : Option Given) → found ≡ Some line
     → mid.given ≡ old.given + length batch.answers.items → Reads mid new b c (Ok found) → ((bytes : List ℕ) → line.body ≡ body_of bytes → TakesIn procs held bytes line.number batch grown)
-    → Taking procs (known_of held []) old mid a b batch → Taking procs (known_of held []) old new a c grown
+    → Taking procs held old mid a b batch → Taking procs held old new a c grown
 taking_more procs held old mid new a b c batch grown line found is place reads takes t =
     let read = takes_line mid new b c line found is reads in
     let bytes = read.0 in
     let took = takes bytes (ap (λ (l : Given). l.body) read.2) in
-    let count = answers_from-length (old.given + 1) t.classes in
+    let count = answers_from-length held.dones (old.given + 1) t.classes in
     let many : length t.classes ≡ length batch.answers.items = sym count ∙ sym (ap (length {A = LineAnswer}) t.answers) in
     let number : line.number ≡ old.given + 1 + length t.classes = omega (arith, ap (λ (l : Given). l.number) read.2, place, many) in
     record {
       lines = t.lines ++ bytes ∷ [];
       classes = t.classes ++ took.class ∷ [];
       takes = takes_both old mid new a b c t.lines (bytes ∷ []) new.pending t.takes read.1;
-      as_many = omega (arith, t.as_many, length-append t.lines (bytes ∷ []), ap (length {A = LineAnswer}) took.answers, length-append batch.answers.items (answer_of line.number took.class ∷ []));
+      as_many = omega (arith, t.as_many, length-append t.lines (bytes ∷ []), ap (length {A = LineAnswer}) took.answers, length-append batch.answers.items (answer_of held.dones line.number took.class ∷ []));
       are = classes_more procs (known_of held []) t.lines t.classes bytes took.class t.are (known_again procs held batch.fresh (new_of t.classes) bytes took.class t.fresh took.is);
-      answers = took.answers ∙ ap (λ others. others ++ answer_of line.number took.class ∷ []) t.answers ∙ ap (λ k. answers_from (old.given + 1) t.classes ++ answer_of k took.class ∷ []) number
-          ∙ sym (answers_from-more (old.given + 1) t.classes took.class);
+      answers = took.answers ∙ ap (λ others. others ++ answer_of held.dones line.number took.class ∷ []) t.answers ∙ ap (λ k. answers_from held.dones (old.given + 1) t.classes ++ answer_of held.dones k took.class ∷ []) number
+          ∙ sym (answers_from-more held.dones (old.given + 1) t.classes took.class);
       fresh = took.fresh ∙ ap (λ rs. rs ++ new_in took.class) t.fresh ∙ sym (new_more t.classes took.class);
     }
 
 -- ---- the end of a batch
 
-pub batch_ends : (procs : Procedures) (k : Known) (old mid new : ReaderState) (a b c : SourceMoment) (batch : Batch) (found : Option Given) → found ≡ None → Reads mid new b c (Ok found)
+pub batch_ends : (procs : Procedures) (k : Keeping) (old mid new : ReaderState) (a b c : SourceMoment) (batch : Batch) (found : Option Given) → found ≡ None → Reads mid new b c (Ok found)
     → Taking procs k old mid a b batch → Taking procs k old new a c batch × (new.ended ≡ true) × (new.pending ≡ [])
 batch_ends procs k old mid new a b c batch found is reads t =
     let end = takes_then_ends old mid new a b c t.lines found is reads t.takes in

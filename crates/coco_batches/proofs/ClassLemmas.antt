@@ -14,14 +14,12 @@ use Rattle.coco_types.proofs.CallEquality.{call_Decides}
 use Rattle.coco_ast.specs.History.{done_of, ids_of, is_up_to, request_of}
 use Rattle.coco_ast.proofs.Lists.{all_swap, distinct_append}
 use Rattle.coco_ast.proofs.GrowthLemmas.{no_ids}
-use Rattle.coco_ast.specs.Tree.{Procedures}
 use Rattle.coco_kept.specs.Keeping.{Keeping}
 use Rattle.coco_lines.specs.Classes.{request_tests}
 use Rattle.coco_lines.specs.Reading.{first_that_fits}
 use Rattle.coco_lines.specs.declared.class.Class.TheVariants.{Refused, Same, New}
 use Rattle.coco_lines.specs.declared.error.LineError.TheVariants.{Reused, Old, Full}
-use Rattle.coco_batches.specs.Asking.{MayCommit, request_under}
-use Rattle.coco_batches.specs.Asking.{known_of}
+use Rattle.coco_batches.specs.Asking.{AreNew, known_of, request_under}
 use Rattle.std.proofs.lemmas.Bool.{or_left}
 
 abbrev ids : List Request → List ℕ
@@ -138,8 +136,8 @@ absent_apart : (ds : List Done) (before : List Request) → AllByRecursion (λ r
 absent_apart ds [] all = tt
 absent_apart ds (r ∷ before) all = (no_ids r.id ds all.0, absent_apart ds before all.1)
 
-pub known_once : (procs : Procedures) (k : Keeping) (before : List Request) → IsDistinct nat_eq (ids_of k.dones) → MayCommit procs k before → IsDistinct nat_eq (ids (map request_of k.dones ++ before))
-known_once procs k before once new =
+pub known_once : (k : Keeping) (before : List Request) → IsDistinct nat_eq (ids_of k.dones) → AreNew k before → IsDistinct nat_eq (ids (map request_of k.dones ++ before))
+known_once k before once new =
     let ds = k.dones in
     subst (IsDistinct nat_eq) (sym (ids_append (map request_of ds) before ∙ ap (λ l. l ++ ids before) (ids_map ds)))
     (distinct_append (ids_of ds) (ids before) once new.distinct (all_swap (λ (x y : ℕ). nat_eq x y ≡ false) (ids_of ds) (ids before) (absent_apart ds before new.absent)))

@@ -4,9 +4,8 @@ use Rattle.std.specs.List.{AllByRecursion, IsDistinct}
 use Rattle.std.proofs.lemmas.Cmp.{nat_eq_equiv}
 use Rattle.coco_types.specs.declared.call.Request.{Request}
 use Rattle.coco_ast.specs.History.{AreAbove}
-use Rattle.coco_ast.specs.Tree.{Procedures}
 use Rattle.coco_kept.specs.Keeping.{Keeping}
-use Rattle.coco_batches.specs.Asking.{MayCommit, MayJoin, request_under}
+use Rattle.coco_batches.specs.Asking.{AreNew, MayJoin, request_under}
 
 pub all_more : {X : Type 0} (P : X → Type 0) (xs : List X) (x : X) → AllByRecursion P xs → P x → AllByRecursion P (xs ++ x ∷ [])
 all_more P [] x all one = (one, tt)
@@ -36,9 +35,8 @@ above_more None before r all one = tt
 above_more (Some n) [] r all one = one
 above_more (Some n) (q ∷ before) r all one = (all.0, above_more (Some n) before r all.1 one)
 
-pub joined : (procs : Procedures) (held : Keeping) (before : List Request) (r : Request) → MayCommit procs held before → MayJoin procs held before r → MayCommit procs held (before ++ r ∷ [])
-joined procs held before r new may = record {
-  fit = all_more _ before r new.fit may.fits;
+pub joined : (held : Keeping) (before : List Request) (r : Request) → AreNew held before → MayJoin held before r → AreNew held (before ++ r ∷ [])
+joined held before r new may = record {
   distinct = distinct_more before r may.not_before new.distinct;
   absent = all_more _ before r new.absent may.not_kept;
   above = above_more held.floor before r new.above may.above;

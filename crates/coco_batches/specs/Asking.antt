@@ -23,23 +23,33 @@ request_under id rs = find (λ r. nat_eq id r.id) rs
 abbrev pub known_of : Keeping → List Request → Known
 known_of k before = record { requests = map request_of k.dones ++ before; floor = k.floor }
 
--- each can be run, has an id of its own that is neither kept nor forgotten, and there is room to keep them all
-pub record MayCommit (procs : Procedures) (k : Keeping) (requests : List Request) : Type 0 where
-  pub fit : AllByRecursion (λ r. Fits procs r.call) requests
+-- each has an id of its own that is neither kept nor forgotten, and there is room to keep them all
+pub record AreNew (k : Keeping) (requests : List Request) : Type 0 where
   pub distinct : IsDistinct nat_eq (map (λ r. r.id) requests)
   pub absent : AllByRecursion (λ r. done_of r.id k.dones ≡ None) requests
   pub above : AreAbove k.floor (map (λ r. r.id) requests)
   pub few : length k.dones + length requests ≤ most_kept
 
--- it can be run, its id is neither kept nor forgotten nor in its batch, and there is room to keep it
-pub record MayJoin (procs : Procedures) (k : Keeping) (before : List Request) (r : Request) : Type 0 where
-  pub fits : Fits procs r.call
+-- they are new, and each can be run
+pub record MayCommit (procs : Procedures) (k : Keeping) (requests : List Request) : Type 0 where
+  pub fit : AllByRecursion (λ r. Fits procs r.call) requests
+  pub new : AreNew k requests
+
+-- its id is neither kept nor forgotten nor in its batch, and there is room to keep it
+pub record MayJoin (k : Keeping) (before : List Request) (r : Request) : Type 0 where
   pub not_kept : done_of r.id k.dones ≡ None
   pub above : AreAbove k.floor (r.id ∷ [])
   pub not_before : request_under r.id before ≡ None
   pub room : length k.dones + length before < most_kept
 
-abbrev pub IsAllowed : Procedures → Keeping → List Request → Class → Type 0
-IsAllowed procs k before (Refused e) = ⊤
-IsAllowed procs k before (Same id) = ⊤
-IsAllowed procs k before (New r) = MayJoin procs k before r
+-- a new request of this class may join those of its batch
+abbrev pub IsNewTo : Keeping → List Request → Class → Type 0
+IsNewTo k before (Refused e) = ⊤
+IsNewTo k before (Same id) = ⊤
+IsNewTo k before (New r) = MayJoin k before r
+
+-- a new request of this class can be run
+abbrev pub CanRun : Procedures → Class → Type 0
+CanRun procs (Refused e) = ⊤
+CanRun procs (Same id) = ⊤
+CanRun procs (New r) = Fits procs r.call

@@ -1,7 +1,8 @@
 -- What reading a batch of lines gives, by the bytes that were pending and those that the source gave.
 use Rattle.std.specs.Prelude.{◌≡◌, ⊤, ℕ, ◌+◌, ◌<◌, ◌≤◌, List, [], ◌∷◌, ◌++◌, length, Bool, true, false}
 use Rattle.coco_ast.specs.Tree.{Procedures}
-use Rattle.coco_lines.specs.Classes.{AreClasses, Known, new_of}
+use Rattle.coco_kept.specs.Keeping.{Keeping}
+use Rattle.coco_lines.specs.Classes.{AreClasses, new_of}
 use Rattle.coco_lines.specs.Lines.{Line}
 use Rattle.coco_lines.specs.ReaderState.{ReaderState}
 use Rattle.coco_lines.specs.Reads.{AreFirstLines, Gives, HasNoFeed, SourceMoment, body_of}
@@ -11,6 +12,7 @@ use Rattle.coco_lines.specs.declared.error.LineFault.TheVariants as fault
 use Rattle.coco_lines.specs.declared.reader.Line.{Line as Given}
 use Rattle.coco_batches.specs.declared.batch.Batch.{Batch}
 use Rattle.coco_batches.specs.Answering.{answers_from}
+use Rattle.coco_batches.specs.Asking.{known_of}
 
 -- a reader took bytes that its source gave; these lines are the first of what was pending and they
 pub record TakesLines (old new : ReaderState) (before after : SourceMoment) (lines : List Line) (behind : List ℕ) : Type 0 where
@@ -21,18 +23,18 @@ pub record TakesLines (old new : ReaderState) (before after : SourceMoment) (lin
   pub text : AreFirstLines lines (old.pending ++ bytes) behind new.ended
 
 -- the lines so far are taken in by their classes
-pub record Taking (procs : Procedures) (known : Known) (old new : ReaderState) (before after : SourceMoment) (batch : Batch) : Type 0 where
+pub record Taking (procs : Procedures) (kept : Keeping) (old new : ReaderState) (before after : SourceMoment) (batch : Batch) : Type 0 where
   pub lines : List Line
   pub classes : List Class
   pub takes : TakesLines old new before after lines new.pending
   pub as_many : length lines ≡ length batch.answers.items
-  pub are : AreClasses procs known lines classes
-  pub answers : batch.answers.items ≡ answers_from (old.given + 1) classes
+  pub are : AreClasses procs (known_of kept []) lines classes
+  pub answers : batch.answers.items ≡ answers_from kept.dones (old.given + 1) classes
   pub fresh : batch.fresh ≡ new_of classes
 
 -- at most so many lines; fewer only where the input ends
-pub record ReadsBatch (procs : Procedures) (known : Known) (old new : ReaderState) (before after : SourceMoment) (size : ℕ) (batch : Batch) : Type 0 where
-  pub taking : Taking procs known old new before after batch
+pub record ReadsBatch (procs : Procedures) (kept : Keeping) (old new : ReaderState) (before after : SourceMoment) (size : ℕ) (batch : Batch) : Type 0 where
+  pub taking : Taking procs kept old new before after batch
   pub few : length batch.answers.items ≤ size
   pub ends : length batch.answers.items < size → (new.ended ≡ true) × (new.pending ≡ [])
 

@@ -6,11 +6,10 @@ ghost use Rattle.coco_lines.specs.Classes.{IsClass, new_in};
 ghost use Rattle.coco_lines.specs.Reads.{IsSpent, body_of, Counts, source_moment};
 ghost use Rattle.coco_lines.specs.declared.class.Class.{Class as LineClass};
 ghost use Rattle.coco_batches.specs.Answering.{answer_of};
-ghost use Rattle.coco_batches.specs.Asking.{MayCommit};
+ghost use Rattle.coco_batches.specs.Asking.{MayCommit, known_of};
 ghost use Rattle.coco_batches.specs.BatchReading.{BreaksOff, ReadsBatch};
-ghost use Rattle.coco_batches.specs.Asking.{known_of};
 
-use crate::answer::LineAnswer;
+use crate::answer::{LineAnswer, reply_to};
 use crate::classify::class_of;
 use crate::new_requests::NewRequests;
 use coco_ast::Checked;
@@ -51,7 +50,7 @@ impl Batch {
         requires new { MayCommit procs.now kept.now self.old.fresh }
         ensures line { (bytes : List ℕ) → line.body ≡ body_of bytes → OnOk result ((c : LineClass)
             × IsClass procs.now (known_of kept.now self.old.fresh) bytes c
-            × (self.new.answers.items ≡ self.old.answers.items ++ answer_of line.number c ∷ [])
+            × (self.new.answers.items ≡ self.old.answers.items ++ answer_of kept.now.dones line.number c ∷ [])
             × (self.new.fresh ≡ self.old.fresh ++ new_in c)) }
         ensures one { OnOk result (length self.new.answers.items ≡ length self.old.answers.items + 1) }
         ensures new { OnOk result (MayCommit procs.now kept.now self.new.fresh) }
@@ -61,11 +60,11 @@ impl Batch {
                 error,
                 number: line.number,
             },
-            Class::Same(id) => LineAnswer::Reply(id),
+            Class::Same(id) => reply_to(alloc, kept, id)?,
             Class::New(request) => {
                 let id = request.id;
                 self.fresh.push(request)?;
-                LineAnswer::Reply(id)
+                LineAnswer::New(id)
             }
         };
         self.answers.push(answer)?;
@@ -85,7 +84,7 @@ pub fn read_batch<S: Source>(
 ) -> Result<Batch, LineFault>
     requires few { length kept.now.dones ≤ most_kept }
     requires given { reader.old.given ≤ most_input_bytes }
-    ensures batch { IfOk result (ReadsBatch procs.now (known_of kept.now []) reader.old reader.new
+    ensures batch { IfOk result (ReadsBatch procs.now kept.now reader.old reader.new
         (source_moment S.Source source.old) (source_moment S.Source source.new) size) }
     ensures breaks { IfErr result (BreaksOff reader.old reader.new
         (source_moment S.Source source.old) (source_moment S.Source source.new) size) }

@@ -7,7 +7,7 @@ pub mod classify;
 pub mod lines;
 pub mod new_requests;
 
-pub use answer::{LineAnswer, write_answers};
+pub use answer::{LineAnswer, texts_of};
 pub use batch::{Batch, read_batch};
 pub use lines::read_lines;
 pub use new_requests::NewRequests;

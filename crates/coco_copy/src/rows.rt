@@ -17,17 +17,16 @@ use std::collections::btree_map::Entry;
 pub fn put(
     rows: &mut BTreeMap<Key, Kept>,
     listed: &mut Vec<Key>,
-    epoch: u64,
     time: u64,
     key: Key,
     value: Packed,
 ) -> Result<CopyAnswer, NoMemory>
     requires { IsWhole rows.old.entries listed.old.items (vec_capacity listed.old) }
     ensures whole { IsWhole rows.new.entries listed.new.items (vec_capacity listed.new) }
-    ensures answer { IfOk result (λ answer. answer ≡ answer_in (view_of epoch rows.old.entries) (put_at epoch time key value)) }
-    ensures state { OnOk result (view_of epoch rows.new.entries ≡ after_ask (view_of epoch rows.old.entries) (put_at epoch time key value)) }
+    ensures answer { IfOk result (λ answer. (epoch : ℕ) → answer ≡ answer_in (view_of epoch rows.old.entries) (put_at epoch time key value)) }
+    ensures state { OnOk result ((epoch : ℕ) → view_of epoch rows.new.entries ≡ after_ask (view_of epoch rows.old.entries) (put_at epoch time key value)) }
     ensures err { OnErr result (rows.new.entries ≡ rows.old.entries) }
-    ensures missing { OnErr result (HasNothing (view_of epoch rows.old.entries) key) }
+    ensures missing { OnErr result ((epoch : ℕ) → HasNothing (view_of epoch rows.old.entries) key) }
 {
     // Want of this room matters only where the key is new.
     let has_room = make_room(listed, rows.len()).is_ok();

@@ -102,7 +102,7 @@ impl CopyTable {
     {
         let (key, value) = write.into_parts();
         if epoch == self.epoch {
-            put(&mut self.rows, &mut self.listed, epoch, time, key, value)
+            put(&mut self.rows, &mut self.listed, time, key, value)
         } else {
             Ok(CopyAnswer::OtherEpoch {
                 current: self.epoch,
@@ -162,6 +162,6 @@ impl Machine for CopyTable {
         }
         let Write { key, value } = write;
         let packed = Packed::of(*self.listed.allocator(), &value)?;
-        put(&mut self.rows, &mut self.listed, epoch, time, key, packed)
+        put(&mut self.rows, &mut self.listed, time, key, packed)
     }
 }

@@ -1,6 +1,6 @@
 //! The locks of an epoch: machines behind them, and what they close with.
 
-ghost use Rattle.std.specs.Prelude.{◌≡◌, ◌+◌, ◌<◌, ◌≤◌, ◌++◌, ◌∷◌, [], List, vec_len, vec_capacity, IfOk, IfErr};
+ghost use Rattle.std.specs.Prelude.{◌≡◌, ◌+◌, ◌<◌, ◌≤◌, ◌++◌, ◌∷◌, [], ℕ, List, vec_len, vec_capacity, IfOk, IfErr};
 ghost use Rattle.std.specs.Vec.Iter.{into_iter_items};
 ghost use Rattle.coco_desks.specs.Desks.{HasRoom};
 ghost use Rattle.coco_desks.specs.Locking.{AreBack, AreEnded, AreStarted, IsStarted};
@@ -109,7 +109,7 @@ pub fn start_all<M: Packs + Drop>(
                 started.locks.push_reserved(lock);
                 started.trays.push_reserved(tray);
             }
-            Err(machine) => return Err(take_back(started, ended, workers, machine, rest)),
+            Err(machine) => return Err(take_back(started, ended, machine, rest)),
         }
     }
     Ok(started)
@@ -162,16 +162,14 @@ fn start_one<M: Packs + Drop>(
 fn take_back<M: Packs + Drop>(
     started: Started<M>,
     mut ended: EndedLocks<M>,
-    workers: u32,
     machine: M,
     rest: IntoIter<M>,
 ) -> Vec<M>
-    requires workers { 0 < workers }
-    requires started { (firsts : List M) × AreStarted workers firsts started.locks.items started.trays.items }
+    requires started { (workers : ℕ) × (0 < workers) × (firsts : List M) × AreStarted workers firsts started.locks.items started.trays.items }
     requires none { ended.machines.items ≡ [] }
     requires room { vec_len ended.machines + vec_len started.locks + 1 + rest.rest.len ≤ vec_capacity ended.machines }
     requires journals { vec_len ended.journals + vec_len started.locks ≤ vec_capacity ended.journals }
-    ensures { (firsts : List M) → AreStarted workers firsts started.locks.items started.trays.items → result.items ≡ firsts ++ machine ∷ into_iter_items rest }
+    ensures { (workers : ℕ) (firsts : List M) → 0 < workers → AreStarted workers firsts started.locks.items started.trays.items → result.items ≡ firsts ++ machine ∷ into_iter_items rest }
 {
     let Started { locks, trays } = started;
     close_all(locks, trays, &mut ended);

@@ -7,7 +7,7 @@ use Rattle.coco_ast.specs.Checks.{key_weight, statement_weight}
 use Rattle.coco_ast.specs.Keyed.{Rows, value_at}
 use Rattle.coco_ast.specs.Meaning.{value_of, key_of}
 use Rattle.coco_ast.specs.Tree.{Expression, RowPlace, Statement, Let, Get, Put, Delete, If, IfElse, Repeat, Refuse, Reply, Statements, End, Then}
-use Rattle.coco_ast.specs.Plans.{depth_one, depth}
+use Rattle.coco_ast.specs.Plans.{name_at, depth_one, depth}
 use Rattle.coco_ast.specs.declared.plan.Plan.{Plan}
 use Rattle.coco_ast.specs.declared.plan.PlanStep.{PlanStep}
 use Rattle.coco_eval.specs.Moves.{named, kept_of, Ahead, Moves, MovesBlock, MovesGet, MovesOne, MovesTurns, Settles, HasRoom, on_way}
@@ -264,6 +264,12 @@ pub record Counts (x : List ℕ) (i : ℕ) (old new : Machine) : Type 0 where
   pub kept : kept_of new ≡ with_variable (kept_of old) x (Some (Int (pos i)))
   pub names : named new ≡ named old
   pub others : new ≡ record old { variables = new.variables }
+
+-- a counter is set by its slot
+pub counted : (ns : List (List ℕ)) (slot i : ℕ) (start mid : Machine) → named start ≡ ns → kept_of mid ≡ with_variable (kept_of start) (name_at (named start) slot) (Some (Int (pos i))) → named mid ≡ named start
+    → mid ≡ record start { variables = mid.variables } → Counts (name_at ns slot) i start mid
+counted ns slot i start mid names kept same others =
+    record { kept = subst (λ xs. kept_of mid ≡ with_variable (kept_of start) (name_at xs slot) (Some (Int (pos i)))) names kept; names = same; others = others }
 
 weight_turn : (n i w : ℕ) → i < n → (n - i) * w ≡ w + (n - suc i) * w
 weight_turn n i w lt = let e : n - i ≡ suc (n - suc i) = omega arith in ap (λ (k : ℕ). k * w) e ∙ omega arith

@@ -238,7 +238,7 @@ impl Machine {
             ((bound - first) * key_weight (statements_by plan.now block.now)) self.old self.new }
     {
         for turn in first..bound {
-            self.count(plan, slot, turn);
+            self.count(slot, turn);
             match self.block(tables, plan, block, &[]) {
                 Stop::Goes => {}
                 stop => return on_way(stop, Way::Turn(turn as u8)),
@@ -248,10 +248,9 @@ impl Machine {
     }
 
     // Sets the counter of a `repeat`.
-    fn count(&mut self, plan: &Plan, slot: usize, turn: u64)
-        requires names { named self.old ≡ plan.now.names }
+    fn count(&mut self, slot: usize, turn: u64)
         requires turn { turn < 2 ^ 63 }
-        ensures kept { kept_of self.new ≡ with_variable (kept_of self.old) (name_at plan.now.names slot) (Some (Int (pos turn))) }
+        ensures kept { kept_of self.new ≡ with_variable (kept_of self.old) (name_at (named self.old) slot) (Some (Int (pos turn))) }
         ensures names { named self.new ≡ named self.old }
         ensures others { self.new ≡ record self.old { variables = self.new.variables } }
     {
@@ -265,18 +264,17 @@ impl Machine {
             0 self.old self.new }
     {
         let text = match crate::values::value(&plan.terms, value, &self.variables) {
-            Ok(Operand::None) => return self.set(plan, slot, &Operand::None),
-            Ok(Operand::Int(number)) => return self.set(plan, slot, &Operand::Int(number)),
+            Ok(Operand::None) => return self.set(slot, &Operand::None),
+            Ok(Operand::Int(number)) => return self.set(slot, &Operand::Int(number)),
             Ok(Operand::Text(text)) => *text,
             Ok(Operand::Literal(literal)) => literal.text(),
             Err(cause) => return self.refuse(cause),
         };
-        self.set(plan, slot, &Operand::Text(&text))
+        self.set(slot, &Operand::Text(&text))
     }
 
-    fn set(&mut self, plan: &Plan, slot: usize, value: &Operand<'_>) -> Stop
-        requires names { named self.old ≡ plan.now.names }
-        ensures { Settles result (Goes (with_variable (kept_of self.old) (name_at plan.now.names slot) (datum_of value.now))) 0 self.old self.new }
+    fn set(&mut self, slot: usize, value: &Operand<'_>) -> Stop
+        ensures { Settles result (Goes (with_variable (kept_of self.old) (name_at (named self.old) slot) (datum_of value.now))) 0 self.old self.new }
     {
         self.variables.set(slot, value);
         Stop::Goes
@@ -302,15 +300,14 @@ impl Machine {
         ensures { MovesGet result tables.now (name_at plan.now.names slot) (place_by plan.now spot.now) Way.Fresh self.old self.new }
     {
         match key(tables, &plan.terms, &self.variables, spot) {
-            Ok(key) => self.read(plan, slot, key),
+            Ok(key) => self.read(slot, key),
             Err(cause) => self.refuse(cause),
         }
     }
 
     // Sets a variable to what is known of a key, or asks for it.
-    fn read(&mut self, plan: &Plan, slot: usize, key: Key) -> Stop
-        requires names { named self.old ≡ plan.now.names }
-        ensures { ReadMoves result (name_at plan.now.names slot) key self.old self.new }
+    fn read(&mut self, slot: usize, key: Key) -> Stop
+        ensures { ReadMoves result (name_at (named self.old) slot) key self.old self.new }
     {
         if let Some(value) = written(&self.writes, key) {
             self.variables.set(slot, &lend(value));

@@ -1,6 +1,6 @@
 //! An exchange of two rounds in which nodes are told of a commit and say that they have finished.
 
-ghost use Rattle.std.specs.Prelude.{◌≡◌, ◌<◌, ◌≤◌, ℕ, true, List, Contains, length, OnOk};
+ghost use Rattle.std.specs.Prelude.{◌≡◌, ◌<◌, ◌≤◌, ◌^◌, ℕ, true, List, Contains, length, OnOk};
 ghost use Rattle.coco_chief.specs.Shown.{chief_of};
 ghost use Rattle.coco_chief.specs.Table.{has_finished};
 ghost use Rattle.coco_letters.specs.Turns.{AreSent};
@@ -21,16 +21,11 @@ use coco_types::NoMemory;
 use std::alloc::Global;
 
 // A round, and what the coordinator does with the letters that it gives it.
-fn answer_round<N: Net>(
-    alloc: Global,
-    net: &mut N,
-    chief: &mut ChiefCore,
-    epoch: u64,
-) -> Result<(), NoMemory>
+fn answer_round<N: Net>(alloc: Global, net: &mut N, chief: &mut ChiefCore) -> Result<(), NoMemory>
     requires few { (chief_of chief.old).nodes ≤ 8 }
-    requires last { (chief_of chief.old).last ≡ epoch }
-    ensures done { OnOk result ((cores : List NodeState) (tables : Tables) → AllCanFinish epoch cores → HasFinished N.Net epoch cores cores (chief_of chief.old) (chief_of chief.new) tables tables net.old net.new) }
-    ensures came { OnOk result (UnlessFault (N.faults net.old) (N.faults net.new) ((n : ℕ) → n < (chief_of chief.old).nodes → Contains (N.fresh net.old) (finished_of n epoch) → has_finished n (chief_of chief.new) ≡ true)) }
+    requires last { (chief_of chief.old).last < 2 ^ 64 }
+    ensures done { OnOk result ((epoch : ℕ) (cores : List NodeState) (tables : Tables) → (chief_of chief.old).last ≡ epoch → AllCanFinish epoch cores → HasFinished N.Net epoch cores cores (chief_of chief.old) (chief_of chief.new) tables tables net.old net.new) }
+    ensures came { OnOk result ((epoch : ℕ) → (chief_of chief.old).last ≡ epoch → UnlessFault (N.faults net.old) (N.faults net.new) ((n : ℕ) → n < (chief_of chief.old).nodes → Contains (N.fresh net.old) (finished_of n epoch) → has_finished n (chief_of chief.new) ≡ true)) }
     ensures letters { KeepsLetters N.Net net.old net.new }
     ensures sent { OnOk result (AreSent (N.sent net.new) (N.waiting net.new)) }
     ensures nodes { (chief_of chief.new).nodes ≡ (chief_of chief.old).nodes }
@@ -87,6 +82,6 @@ pub fn exchange<N: Net>(
     ensures nodes { (chief_of chief.new).nodes ≡ (chief_of chief.old).nodes }
 {
     tell_round(alloc, net, chief, cores, tables, epoch)?;
-    answer_round(alloc, net, chief, epoch)?;
+    answer_round(alloc, net, chief)?;
     Ok(())
 }

@@ -75,14 +75,13 @@ pub fn place_for(
 pub fn take(
     files: &mut [MemoryFile],
     place: usize,
-    number: u32,
     at: usize,
     bytes: &[u8],
 ) -> Result<(), AllocError>
-    requires place { place ≡ position_or_len (λ f. nat_eq f.number number) files.old }
     requires within { place < length files.old }
-    requires at { at ≤ length (bytes_in number files.old) }
-    ensures ok { OnOk result (Takes number (put at bytes.now (bytes_in number files.old)) files.old files.new) }
+    requires at { (number : ℕ) × (place ≡ position_or_len (λ f. nat_eq f.number number) files.old) × (at ≤ length (bytes_in number files.old)) }
+    ensures ok { OnOk result ((number : ℕ) → place ≡ position_or_len (λ f. nat_eq f.number number) files.old
+        → Takes number (put at bytes.now (bytes_in number files.old)) files.old files.new) }
     ensures err { OnErr result (Same files.old files.new) }
 {
     let file = &mut files[place];

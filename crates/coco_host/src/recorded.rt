@@ -85,7 +85,7 @@ impl Recorded {
         let place = held::place_for(&mut self.files, alloc, file)?;
         self.happened.reserve(self.files.len() + 1)?;
         let copy = bytes.to_vec(alloc)?;
-        held::take(&mut self.files, place, file, at, bytes)?;
+        held::take(&mut self.files, place, at, bytes)?;
         let _ = self.happened.push(Happening::Wrote {
             file,
             at,

@@ -15,4 +15,4 @@ pub use error::{LineError, LineFault, RequestFault};
 pub use json::Scratch;
 pub use reader::{Body, Line, Reader};
 pub use requests::{asked_request, request};
-pub use texts::{done_text, error_text, write_done, write_error};
+pub use texts::{cause_word, done_text, error_text, write_done, write_error};

@@ -1,6 +1,6 @@
 //! The texts of answers.
 
-ghost use Rattle.std.specs.Prelude.{◌≡◌, ◌++◌, ◌∷◌, [], codes, decimal, IfOk, OnOk, OnErr};
+ghost use Rattle.std.specs.Prelude.{◌≡◌, ◌++◌, ◌∷◌, [], decimal, string_bytes, IfOk, OnOk, OnErr};
 ghost use Rattle.std.specs.Fmt.{signed_decimal};
 ghost use Rattle.json.specs.Print.{quoted};
 ghost use Rattle.serde_json.specs.Written.{compact_text};
@@ -10,7 +10,7 @@ use crate::LineError;
 use coco_types::{Cause, Done, KeptReply, Lent, NoMemory, Packed};
 use itoa::Buffer;
 use json::Writer;
-use std::alloc::Global;
+use std::alloc::{AllocError, Global};
 
 /// The text that is said for a Done.
 pub fn done_text(alloc: Global, done: &Done) -> Result<Vec<u8>, NoMemory>
@@ -145,23 +145,21 @@ fn put_cause(out: &mut Vec<u8>, cause: Cause) -> Result<(), NoMemory>
     ensures ok { OnOk result (out.new.items ≡ out.old.items ++ quoted (cause_word cause)) }
     ensures err { OnErr result (out.new.items ≡ out.old.items) }
 {
-    match cause {
-        Cause::User(number) => put_user(out, number),
-        Cause::Overflow => put_string(out, "overflow"),
-        Cause::ZeroDivide => put_string(out, "zero divide"),
-        Cause::Kind => put_string(out, "kind"),
-        Cause::BadRow => put_string(out, "bad row"),
-    }
+    let word = cause_word(*out.allocator(), cause)?;
+    put_string(out, word.as_str())
 }
 
-// The word of a refusal by a procedure's own number.
-fn put_user(out: &mut Vec<u8>, number: u16) -> Result<(), NoMemory>
-    ensures ok { OnOk result (out.new.items ≡ out.old.items ++ quoted (codes "user " ++ decimal number)) }
-    ensures err { OnErr result (out.new.items ≡ out.old.items) }
+/// The word of a cause of refusal.
+pub fn cause_word(alloc: Global, cause: Cause) -> Result<String, AllocError>
+    ensures { IfOk result (λ word. string_bytes word ≡ cause_word cause) }
 {
-    let alloc = *out.allocator();
-    let word = format!(in alloc; "user {number}")?;
-    put_string(out, word.as_str())
+    match cause {
+        Cause::User(number) => format!(in alloc; "user {number}"),
+        Cause::Overflow => format!(in alloc; "overflow"),
+        Cause::ZeroDivide => format!(in alloc; "zero divide"),
+        Cause::Kind => format!(in alloc; "kind"),
+        Cause::BadRow => format!(in alloc; "bad row"),
+    }
 }
 
 fn word_of(error: LineError) -> &'static str

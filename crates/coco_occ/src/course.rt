@@ -1,5 +1,5 @@
 //! Where an attempt stands behind its reads: what it locks, extends, installs or releases next.
-ghost use Rattle.std.specs.Prelude.{◌≡◌, false, ◌+◌, ◌-◌, ◌^◌, ◌≤◌, ◌<◌, ◌++◌, ◌∷◌, [], ◌⊎◌, length, max, min, map, List, None, Some, vec_len, vec_capacity, IfNone, IfSome, IfOk, OnOk, MatchOption};
+ghost use Rattle.std.specs.Prelude.{◌≡◌, ℕ, false, ◌+◌, ◌-◌, ◌^◌, ◌≤◌, ◌<◌, ◌++◌, ◌∷◌, [], ◌⊎◌, length, max, min, map, List, None, Some, vec_len, vec_capacity, IfNone, IfSome, IfOk, OnOk, MatchOption};
 ghost use Rattle.std.specs.List.{list_any, slice_get, HoldsAt};
 ghost use Rattle.coco_ast.specs.Keyed.{Rows};
 ghost use Rattle.coco_ast.specs.Meaning.{Run, is_key};
@@ -259,7 +259,7 @@ impl Course {
     {
         match asked {
             Op::Lock(key) => self.take_lock(*key, answer),
-            Op::Extend { key, wts, time } => self.take_extension(*key, *wts, *time, answer),
+            Op::Extend { key, wts, .. } => self.take_extension(*key, *wts, answer),
             _ => self.pass(),
         }
     }
@@ -279,9 +279,9 @@ impl Course {
         }
     }
 
-    fn take_extension(&mut self, key: Key, wts: u64, time: u64, answer: &Answer)
+    fn take_extension(&mut self, key: Key, wts: u64, answer: &Answer)
         ensures stage { (self.new.stage ≡ self.old.stage) ⊎ (self.new.stage ≡ stage.Releasing) }
-        ensures stands { (r : Run) (m : Rows) (by : AttemptId) (before : List Exchange) → IsExtending r m before self.old (Some (Extend key wts time)) → self.old.stage ≡ stage.Extending →
+        ensures stands { (time : ℕ) (r : Run) (m : Rows) (by : AttemptId) (before : List Exchange) → IsExtending r m before self.old (Some (Extend key wts time)) → self.old.stage ≡ stage.Extending →
             MayAnswer (record { by = by; op = Extend key wts time }) answer.now → Stands r m (before ++ exchange (Extend key wts time) answer.now ∷ []) self.new None }
     {
         match answer {

@@ -1,5 +1,6 @@
 //! How an attempt goes on, and what an answer makes of it: its run while it reads, and its course behind its reads.
 ghost use Rattle.std.specs.Prelude.{◌≡◌, ◌⊎◌, ◌++◌, ◌∷◌, [], Bool, true, false, List, None, Some};
+ghost use Rattle.coco_types.specs.RowKey.{RowKey};
 ghost use Rattle.coco_types.specs.declared.call.Reply.{Reply as Replied};
 ghost use Rattle.coco_types.specs.declared.call.AttemptId.{AttemptId};
 ghost use Rattle.coco_shard.specs.declared.ops.Op.TheVariants.{Read, Past};
@@ -7,6 +8,7 @@ ghost use Rattle.coco_occ.specs.Course.{due_of, exchange};
 ghost use Rattle.coco_occ.specs.Exchange.{Exchange, MayAnswer};
 ghost use Rattle.coco_occ.specs.Keeping.{reading, reply_in, Goes, IsReading, rests_in};
 ghost use Rattle.coco_occ.specs.Trying.{Ready};
+ghost use Rattle.coco_occ.specs.declared.course.Course.{Course as Standing};
 ghost use Rattle.coco_occ.specs.declared.course.Stage.TheVariants as stage;
 
 use crate::course::{Course, Stage};
@@ -85,7 +87,7 @@ pub fn accept(run: &mut Run, course: &mut Course, asked: &Op, answer: &Answer)
 {
     match asked {
         Op::Read(key) => accept_read(run, course, *key, answer),
-        Op::Past(key) => accept_past(run, course, *key, answer),
+        Op::Past(_) => accept_past(run, answer),
         _ => course.take(asked, answer),
     }
 }
@@ -105,9 +107,9 @@ fn accept_read(run: &mut Run, course: &mut Course, key: Key, answer: &Answer)
 }
 
 // The course of a snapshot call stays.
-fn accept_past(run: &mut Run, course: &Course, key: Key, answer: &Answer)
-    requires { (before : List Exchange) × (by : AttemptId) × IsReading true run.old before course.now (Some (Past key)) × MayAnswer (record { by = by; op = Past key }) answer.now }
-    ensures goes { (before : List Exchange) → IsReading true run.old before course.now (Some (Past key)) → IsReading true run.new (before ++ exchange (Past key) answer.now ∷ []) course.now None }
+fn accept_past(run: &mut Run, answer: &Answer)
+    requires { (course : Standing) × (key : RowKey) × (before : List Exchange) × (by : AttemptId) × IsReading true run.old before course (Some (Past key)) × MayAnswer (record { by = by; op = Past key }) answer.now }
+    ensures goes { (course : Standing) (key : RowKey) (before : List Exchange) → IsReading true run.old before course (Some (Past key)) → IsReading true run.new (before ++ exchange (Past key) answer.now ∷ []) course None }
     ensures procs { run.new.procs ≡ run.old.procs }
     ensures call { run.new.call ≡ run.old.call }
 {

@@ -9,6 +9,7 @@ ghost use Rattle.coco_ast.specs.History.{map_of, rows_after, up_to};
 ghost use Rattle.coco_ast.specs.Keyed.{Rows, put_over};
 ghost use Rattle.coco_ast.specs.Meaning.{run};
 ghost use Rattle.coco_copy.specs.CopyState.{begun};
+ghost use Rattle.coco_entry.specs.declared.layout.Layout.{Layout as LayoutState};
 ghost use Rattle.coco_host.specs.Files.{Files};
 ghost use Rattle.coco_load.specs.Reading.{puts};
 ghost use Rattle.coco_load.specs.Tables.{AreTables, HoldMap, IsRing, shard_at};
@@ -217,13 +218,7 @@ impl Replay {
         ensures held { OnOk result (HoldsItsMap layout.now self.new.executor.rows self.new.shards.items) }
     {
         if layout.base_epoch < done.epoch && done.epoch <= epoch {
-            run_on(
-                &mut self.executor,
-                &mut self.shards,
-                layout,
-                procs,
-                &done.call,
-            )
+            run_on(&mut self.executor, &mut self.shards, procs, &done.call)
         } else {
             Ok(())
         }
@@ -259,25 +254,22 @@ fn load_rows(executor: &mut Executor, rows: &[PackedRow]) -> Result<(), NoMemory
 fn run_on(
     executor: &mut Executor,
     shards: &mut Vec<Shard>,
-    layout: &Layout,
     procs: &Checked,
     call: &Call,
 ) -> Result<(), NoMemory>
     requires fits { Fits procs.now call.now }
-    requires alone { layout.now.copies ≡ 0 }
-    requires held { HoldsItsMap layout.now executor.old.rows shards.old.items }
+    requires held { (layout : LayoutState) × (layout.copies ≡ 0) × HoldsItsMap layout executor.old.rows shards.old.items }
     ensures rows { OnOk result (executor.new.rows ≡ (run procs.now call.now executor.old.rows).rows) }
-    ensures held { OnOk result (HoldsItsMap layout.now executor.new.rows shards.new.items) }
+    ensures held { OnOk result ((layout : LayoutState) → layout.copies ≡ 0 → HoldsItsMap layout executor.old.rows shards.old.items → HoldsItsMap layout executor.new.rows shards.new.items) }
 {
     executor.apply(procs, call)?;
-    load_writes(shards, layout, executor.writes().as_slice())
+    load_writes(shards, executor.writes().as_slice())
 }
 
 // Loads writes into the shards of their partitions. There are no copies.
-fn load_writes(shards: &mut Vec<Shard>, layout: &Layout, writes: &[Write]) -> Result<(), NoMemory>
-    requires alone { layout.now.copies ≡ 0 }
-    requires held { (m : Rows) × HoldsItsMap layout.now m shards.old.items }
-    ensures { OnOk result ((m : Rows) → HoldsItsMap layout.now m shards.old.items → HoldsItsMap layout.now (put_over m writes.now) shards.new.items) }
+fn load_writes(shards: &mut Vec<Shard>, writes: &[Write]) -> Result<(), NoMemory>
+    requires held { (layout : LayoutState) × (m : Rows) × (layout.copies ≡ 0) × HoldsItsMap layout m shards.old.items }
+    ensures { OnOk result ((layout : LayoutState) (m : Rows) → layout.copies ≡ 0 → HoldsItsMap layout m shards.old.items → HoldsItsMap layout (put_over m writes.now) shards.new.items) }
 {
     for write in writes {
         load_write(shards, write)?;

@@ -137,7 +137,8 @@ impl<'a> NodeReading<'a> {
         requires node { node < layout.now.nodes }
         requires rises { RisesAbove layout.now.base_epoch epochs.now }
         requires tables { AreTables layout.now tables.shards.items tables.copies.items }
-        ensures { result ≡ record { under = node_basis layout.now procs.now epochs.now node tables.shards.items tables.copies.items; taken = [] } }
+        ensures under { result.under ≡ node_basis layout.now procs.now epochs.now node tables.shards.items tables.copies.items }
+        ensures taken { result.taken ≡ [] }
     {
         let mut shards = Told::new();
         let mut copies = Told::new();

@@ -13,6 +13,7 @@ use Rattle.coco_types.specs.declared.error.OutFault.TheVariants as out
 use Rattle.coco_append.specs.Gaining.{RestsOn}
 use Rattle.coco_ast.specs.History.{Epoch, History, all_dones, kept}
 use Rattle.coco_ast.proofs.KeptLemmas.{keeps_all}
+use Rattle.coco_batches.specs.Answering.{held_texts}
 use Rattle.coco_batches.specs.declared.answer.LineAnswer.{LineAnswer}
 use Rattle.coco_batches.specs.declared.batch.Batch.{Batch}
 use Rattle.coco_cluster.specs.Around.{IsTaken}
@@ -44,7 +45,6 @@ use Rattle.coco_store.specs.Rules.{Setting}
 use Rattle.coco_serve.specs.Growth.{AddsWithin, GrowsByExecution, HasExecution, Manner, manner_of}
 use Rattle.coco_serve.specs.OneBatch.{BatchEnds, IsRefused, RefusedEnds, SaysPart, WorksOffBatch, batch_texts}
 use Rattle.coco_serve.specs.Seen.{ShowsBatch}
-use Rattle.coco_serve.specs.Texts.{texts_over}
 use Rattle.coco_serve.specs.declared.bounds.RunBounds.{RunBounds}
 use Rattle.coco_serve.proofs.NumberLemmas.{added_by, adds_none}
 
@@ -272,10 +272,10 @@ module _ {H : Type 0} (frame : HostGhosts H) where
       grows : GrowsByExecution (manner_of c.setting bounds) (history_of c) batch.fresh (history_of t.d)
       grows = subst (λ rs. GrowsByExecution (manner_of c.setting bounds) (history_of c) rs (history_of t.d)) same (grows_by_execution requests bounds t.number t.trace c t.d t.grown)
 
-      moments : SeesOnly frame.moment frame.observed old new (ShowsBatch c.setting (history_of c) (history_of t.d) (t.number + 1) (frame.said old) (batch_texts c t.d batch))
+      moments : SeesOnly frame.moment frame.observed old new (ShowsBatch c.setting (history_of c) (history_of t.d) (t.number + 1) (frame.said old) (batch_texts t.d batch))
       moments = sees_weaker frame.moment frame.observed old new (ShowsStore c.setting (history_of c) (history_of t.d) (t.number + 1) (frame.said old))
-          (ShowsBatch c.setting (history_of c) (history_of t.d) (t.number + 1) (frame.said old) (batch_texts c t.d batch))
-          (turn_shows c.setting (history_of c) (history_of t.d) (t.number + 1) (frame.said old) (batch_texts c t.d batch)) t.moments
+          (ShowsBatch c.setting (history_of c) (history_of t.d) (t.number + 1) (frame.said old) (batch_texts t.d batch))
+          (turn_shows c.setting (history_of c) (history_of t.d) (t.number + 1) (frame.said old) (batch_texts t.d batch)) t.moments
 
       by : (f : Stop) → RefusesNone f → MayHaveCommitted {T = Unit {0}} (Err f) → WorksOffBatch frame (Err f) batch bounds c before.next_epoch spare after old new
       by stop.Read none may = absurd may
@@ -300,7 +300,7 @@ module _ {H : Type 0} (frame : HostGhosts H) where
   module _ (batch : Batch) (requests : List Request) (bounds : RunBounds) (c : Contents) (next spare : ℕ) (after : Cluster) (old mid : H) (same : requests ≡ batch.fresh) (quiet : frame.said mid ≡ frame.said old)
       (done : Committed c requests bounds next spare after old mid) where
     abbrev texts : List ℕ
-    texts = batch_texts c done.d batch
+    texts = batch_texts done.d batch
 
     abbrev Shows : Observation → Type 0
     Shows = ShowsBatch c.setting (history_of c) (history_of done.d) (done.number + 1) (frame.said old) texts
@@ -388,8 +388,6 @@ module _ {H : Type 0} (frame : HostGhosts H) where
 
 -- ---- texts
 
--- the early texts, and those of after, are those of the two stores
-pub texts_are : (c d : Contents) (k after : Cluster) (batch : Batch) (was now : List Done) (answers : List LineAnswer) (piece : List ℕ) → StandsAt c k → StandsAt d after
-    → was ≡ k.kept.dones → now ≡ after.kept.dones → answers ≡ batch.answers.items → piece ≡ texts_over was now answers → piece ≡ batch_texts c d batch
-texts_are c d k after batch was now answers piece stands then_stands before behind same is =
-    is ∙ ap (λ ds. texts_over ds now answers) (before ∙ stands.belongs.dones) ∙ ap (λ ds. texts_over (kept (history_of c)) ds answers) (behind ∙ then_stands.belongs.dones) ∙ ap (texts_over (kept (history_of c)) (kept (history_of d))) same
+-- the texts by what is kept after the batch are those of its answers in the store
+pub texts_are : (d : Contents) (after : Cluster) (batch : Batch) (answers : List LineAnswer) (piece : List ℕ) → StandsAt d after → answers ≡ batch.answers.items → piece ≡ held_texts after.kept.dones answers → piece ≡ batch_texts d batch
+texts_are d after batch answers piece stands same is = is ∙ ap (λ ds. held_texts ds answers) stands.belongs.dones ∙ ap (held_texts (kept (history_of d))) same

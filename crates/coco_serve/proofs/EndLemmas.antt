@@ -1,9 +1,8 @@
 -- A run from batch to batch, for each store that its cluster may stand at, and how it ends.
-use Rattle.std.proofs.Common.{◌≡◌, false, ℕ, ◌+◌, ◌<◌, ◌≤◌, ◌⊎◌, ⊎_elim, Ok, Err, List, [], ◌∷◌, ◌++◌, length, Option, refl, sym, ap, subst, ◌∙◌, arith, append_assoc, length-append}
+use Rattle.std.proofs.Common.{◌≡◌, false, ℕ, ◌+◌, ◌<◌, ◌≤◌, ◌⊎◌, ⊎_elim, Ok, Err, List, [], ◌∷◌, ◌++◌, length, refl, sym, ap, subst, ◌∙◌, arith, append_assoc, length-append}
 use Rattle.std.specs.Prelude.{Result}
 use Rattle.coco_types.specs.Limits.{epochs_end}
 use Rattle.coco_append.specs.Gaining.{RestsOn}
-use Rattle.coco_batches.specs.Asking.{known_of}
 use Rattle.coco_batches.specs.BatchReading.{BreaksOff, IsCutOff, ReadsBatch, TakesLines}
 use Rattle.coco_batches.specs.declared.batch.Batch.{Batch}
 use Rattle.coco_batches.proofs.BatchLemmas.{takes_both, takes_none}
@@ -12,8 +11,6 @@ use Rattle.coco_cluster.specs.Standing.{StandsAt}
 use Rattle.coco_cluster.specs.declared.cluster.Cluster.{Cluster}
 use Rattle.coco_cluster.specs.Turning.{epochs_of}
 use Rattle.coco_cluster.proofs.AroundLemmas.{spare_then}
-use Rattle.coco_host.specs.Files.{Files}
-use Rattle.coco_host.specs.Moments.{Observation}
 use Rattle.coco_host.specs.declared.host.Host.{Ghosts as HostGhosts}
 use Rattle.coco_io.specs.Counts.{Rose}
 use Rattle.coco_lines.specs.Lines.{Line, lines_of}
@@ -131,7 +128,7 @@ module _ {H : Type 0} (frame : HostGhosts H) where
 
       -- ---- a batch that is read
 
-      module _ (batch : Batch) (r : ReadsBatch k.procs (known_of k.kept []) reader reader' m n bounds.size batch) where
+      module _ (batch : Batch) (r : ReadsBatch k.procs k.kept reader reader' m n bounds.size batch) where
         abbrev more : List Line
         more = r.taking.lines
 

@@ -11,4 +11,3 @@ pub mod ReplyLemmas
 pub mod ReturnLemmas
 pub mod RunLemmas
 pub mod SpentLemmas
-pub mod TextLemmas

@@ -9,7 +9,7 @@ use Rattle.coco_ast.specs.GrowthLaws.{Keeps}
 use Rattle.coco_ast.specs.History.{History, all_dones, kept}
 use Rattle.coco_ast.specs.Tree.{Procedures}
 use Rattle.coco_ast.proofs.GrowthLemmas.{growth_keeps}
-use Rattle.coco_batches.specs.Asking.{known_of}
+use Rattle.coco_batches.specs.Answering.{answers_from, held_texts}
 use Rattle.coco_batches.specs.BatchReading.{ReadsBatch}
 use Rattle.coco_batches.specs.declared.batch.Batch.{Batch}
 use Rattle.coco_cluster.specs.Standing.{StandsAt}
@@ -18,7 +18,6 @@ use Rattle.coco_cluster.specs.Turning.{epochs_of}
 use Rattle.coco_cluster.specs.Writing.{WritesLogs}
 use Rattle.coco_cluster.proofs.BehindLemmas.{behind_later}
 use Rattle.coco_cluster.proofs.WriteLemmas.{writes_then}
-use Rattle.coco_host.specs.Files.{Files}
 use Rattle.coco_host.specs.Moments.{Observation, SeesOnly}
 use Rattle.coco_host.specs.declared.host.Host.{Ghosts as HostGhosts}
 use Rattle.coco_io.proofs.KnownLemmas.{append_known-append}
@@ -36,7 +35,6 @@ use Rattle.coco_store.specs.Contents.{Contents, history_of}
 use Rattle.coco_lines.proofs.ClassLemmas.{classes_length}
 use Rattle.coco_serve.specs.Growth.{AddsWithin, AreFirstBatches, GrowsByExecution, IsGrown, Manner, answers_of, manner_of}
 use Rattle.coco_serve.specs.OneBatch.{BatchEnds, SaysPart, WorksOffBatch, batch_texts}
-use Rattle.coco_serve.specs.Texts.{texts_over}
 use Rattle.coco_serve.specs.Seen.{IsServed, LeavesEither, ShowsBatch}
 use Rattle.coco_serve.specs.Serving.{LeavesLast, ServedSoFar, RestsAt, RunEnds, SaysAll, SaysUpTo, Serves}
 use Rattle.coco_cluster.specs.declared.stop.Stop.{Stop}
@@ -50,14 +48,14 @@ use Rattle.coco_serve.proofs.RunLemmas.{AreServed, SeenNow, all_served, answers-
 module _ {H : Type 0} (frame : HostGhosts H) where
   -- a batch that was read is the next one
   module _ (c : Contents) (next spare : ℕ) (bounds : RunBounds) (lines : List Line) (k : Cluster) (first mid : H) (reader reader' : ReaderState) (m n : SourceMoment) (batch : Batch)
-      (a : AreServed frame c next spare bounds lines k first mid) (r : ReadsBatch k.procs (known_of k.kept []) reader reader' m n bounds.size batch) (bytes : List ℕ)
+      (a : AreServed frame c next spare bounds lines k first mid) (r : ReadsBatch k.procs k.kept reader reader' m n bounds.size batch) (bytes : List ℕ)
       (all : lines_of bytes ≡ (lines ++ r.taking.lines) ++ lines_of reader'.pending) (some : 0 < length batch.answers.items) where
     pub read_next : AreFirstBatches bounds.size bytes (a.batches ++ r.taking.lines ∷ [])
     read_next = first_more bounds.size bytes lines r.taking.lines (lines_of reader'.pending) a.batches a.lines_are a.whole (omega (arith, r.taking.as_many, some)) (omega (arith, r.taking.as_many, r.few))
         (λ short. ap lines_of (r.ends (omega (arith, r.taking.as_many, short))).1 ∙ lines_of-nil) all
 
   module _ (c : Contents) (next spare more_spare : ℕ) (bounds : RunBounds) (lines : List Line) (k k' : Cluster) (first mid host : H) (reader reader' : ReaderState) (m n : SourceMoment) (batch : Batch) (result : Result (Unit {0}) Stop)
-      (a : AreServed frame c next spare bounds lines k first mid) (given : reader.given ≡ length lines) (r : ReadsBatch k.procs (known_of k.kept []) reader reader' m n bounds.size batch)
+      (a : AreServed frame c next spare bounds lines k first mid) (given : reader.given ≡ length lines) (r : ReadsBatch k.procs k.kept reader reader' m n bounds.size batch)
       (x : WorksOffBatch frame result batch bounds a.d k.next_epoch more_spare k' mid host) where
     abbrev tree : Procedures
     tree = c.setting.tree
@@ -87,7 +85,7 @@ module _ {H : Type 0} (frame : HostGhosts H) where
     classes' = a.classes ++ cs ∷ []
 
     abbrev texts : List ℕ
-    texts = batch_texts a.d x.d batch
+    texts = batch_texts x.d batch
 
     are : AreClasses tree (known_in h) more cs
     are = classes_at c a.d k more cs a.stands a.setting r.taking.are
@@ -125,7 +123,7 @@ module _ {H : Type 0} (frame : HostGhosts H) where
 
     texts_are : texts ≡ answers_by (all_dones g) (reader.given + 1) cs
     texts_are =
-        ap (texts_over (kept h) (kept g)) r.taking.answers
+        ap (held_texts (kept g)) (r.taking.answers ∙ ap (λ ds. answers_from ds (reader.given + 1) cs) a.stands.belongs.dones)
         ∙ texts_are_answers tree h g more cs (reader.given + 1) are grows.0 a.rests.good.ordered (keeps.ordered a.rests.good.ordered (are_new tree h more cs are))
         (no_later_done a.rests.files a.d a.rests.good) (keeps_some a.rests.files a.d a.rests.good)
 

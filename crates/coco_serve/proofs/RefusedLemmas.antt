@@ -1,5 +1,5 @@
 -- A batch that isn't committed: how a run ends with it.
-use Rattle.std.proofs.Common.{◌≡◌, ℕ, ◌+◌, ◌-◌, ◌<◌, inl, Ok, Err, List, [], ◌++◌, length, length-append, map, take, Option, refl, sym, ap, subst, ◌∙◌, arith, append_assoc}
+use Rattle.std.proofs.Common.{◌≡◌, ℕ, ◌+◌, ◌-◌, ◌<◌, inl, Err, List, [], ◌++◌, length, length-append, take, refl, sym, ap, subst, ◌∙◌, arith, append_assoc}
 use Rattle.std.specs.Prelude.{⊤, Result}
 use Rattle.std.proofs.Math.Seq.{take-length, take_all}
 use Rattle.std.specs.Io.KnownBytes.{append_known}
@@ -7,15 +7,13 @@ use Rattle.coco_cluster.proofs.SeeingLemmas.{same_history}
 use Rattle.coco_types.specs.Limits.{epochs_end}
 use Rattle.coco_types.specs.declared.call.Request.{Request}
 use Rattle.coco_ast.specs.History.{History}
-use Rattle.coco_batches.specs.Asking.{known_of}
 use Rattle.coco_batches.specs.BatchReading.{ReadsBatch}
 use Rattle.coco_batches.specs.declared.batch.Batch.{Batch}
 use Rattle.coco_cluster.specs.Around.{SkipsFew}
 use Rattle.coco_cluster.specs.declared.cluster.Cluster.{Cluster}
-use Rattle.coco_cluster.specs.Turning.{AddsOnlyPrepared, RestsWithout, ShowsHistory}
+use Rattle.coco_cluster.specs.Turning.{RestsWithout, ShowsHistory}
 use Rattle.coco_cluster.specs.Writing.{WritesLogs}
 use Rattle.coco_cluster.proofs.WriteLemmas.{writes_then}
-use Rattle.coco_host.specs.Files.{Files}
 use Rattle.coco_host.specs.Moments.{Observation, SeesOnly}
 use Rattle.coco_host.specs.declared.host.Host.{Ghosts as HostGhosts}
 use Rattle.coco_lines.specs.Lines.{Line, lines_of}
@@ -23,8 +21,7 @@ use Rattle.coco_lines.specs.ReaderState.{ReaderState}
 use Rattle.coco_lines.specs.Reads.{SourceMoment}
 use Rattle.coco_lines.specs.declared.class.Class.{Class}
 use Rattle.coco_log.proofs.OnlyRead.{sees_then, sees_weaker}
-use Rattle.coco_store.specs.Contents.{Contents, epoch_of, history_of}
-use Rattle.coco_store.specs.Rules.{base_of}
+use Rattle.coco_store.specs.Contents.{Contents, history_of}
 use Rattle.coco_serve.specs.Growth.{AddsWithin, IsGrown, Manner, answers_of, manner_of}
 use Rattle.coco_serve.specs.OneBatch.{IsRefused, RefusedEnds}
 use Rattle.coco_serve.specs.Seen.{IsServed}
@@ -48,7 +45,7 @@ HasReason next spare requests stop.NoMemory = ⊤
 
 module _ {H : Type 0} (frame : HostGhosts H) where
   module _ (c : Contents) (next spare more_spare : ℕ) (bounds : RunBounds) (lines : List Line) (k : Cluster) (first mid host : H) (reader reader' : ReaderState) (m n : SourceMoment) (batch : Batch) (result : Result (Unit {0}) Stop)
-      (a : AreServed frame c next spare bounds lines k first mid) (r : ReadsBatch k.procs (known_of k.kept []) reader reader' m n bounds.size batch) (bytes : List ℕ)
+      (a : AreServed frame c next spare bounds lines k first mid) (r : ReadsBatch k.procs k.kept reader reader' m n bounds.size batch) (bytes : List ℕ)
       (lines_are : lines_of bytes ≡ (lines ++ r.taking.lines) ++ lines_of reader'.pending) (some : 0 < length batch.answers.items)
       (x : IsRefused frame result a.d k.next_epoch more_spare mid host) (seen_now : SeenNow frame) where
     abbrev manner : Manner

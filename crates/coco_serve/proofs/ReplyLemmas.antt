@@ -2,7 +2,7 @@
 use Rattle.std.proofs.Common.{◌≡◌, ℕ, ◌+◌, ◌<◌, ◌≤◌, Bool, true, false, cond, nat_eq, nat_lt, List, [], ◌∷◌, ◌++◌, filter, map, Option, None, Some, refl, sym, ap, subst, ◌∙◌, arith, append-nil}
 use Rattle.std.specs.Cmp.{nat_eq_equiv}
 use Rattle.std.specs.List.{AllByRecursion, IsDistinct}
-use Rattle.std.specs.Option.{option_map, option_or, unwrap_or}
+use Rattle.std.specs.Option.{option_or}
 use Rattle.std.specs.Prelude.{⊤, MatchOption}
 use Rattle.std.specs.Set.{distinct_count}
 use Rattle.std.proofs.lemmas.Bool.Decides.{nat_tests}
@@ -17,13 +17,11 @@ use Rattle.coco_ast.proofs.GrowthLemmas.{done_of-append, dones_behind}
 use Rattle.coco_ast.proofs.Growths.{kept_are_dones}
 use Rattle.coco_ast.proofs.KeptLemmas.{follows, keeps_all}
 use Rattle.coco_ast.proofs.Lists.{all_append, all_weaker}
-use Rattle.coco_batches.specs.Answering.{answer_of, answers_from}
-use Rattle.coco_batches.specs.declared.answer.LineAnswer.TheVariants.{Reply}
+use Rattle.coco_batches.specs.Answering.{answer_of, answers_from, held_text, held_texts, reply_to}
 use Rattle.coco_lines.specs.Answers.{answer_by, answers_by, replied_id, text_of}
 use Rattle.coco_lines.specs.Classes.{AreClasses, known_in, new_of}
 use Rattle.coco_lines.specs.Lines.{Line}
 use Rattle.coco_lines.specs.Replies.{HasNoLaterDone, HasReply, HaveReplies}
-use Rattle.coco_lines.specs.Texts.{done_text}
 use Rattle.coco_lines.specs.declared.class.Class.{Class}
 use Rattle.coco_lines.specs.declared.class.Class.TheVariants.{Refused, Same, New}
 use Rattle.coco_lines.proofs.ReplyLemmas.{all_replies}
@@ -31,7 +29,6 @@ use Rattle.coco_store.specs.Contents.{Contents, HoldsBase, IsGoodStore, history_
 use Rattle.coco_host.specs.Files.{Files}
 use Rattle.coco_store.specs.Entries.{BaseEntry}
 use Rattle.coco_store.specs.Rules.{EachBehind, IsKeep, IsKeptDone, IsNextBase, Setting, dones_of, kept_dones}
-use Rattle.coco_serve.specs.Texts.{text_over, texts_over}
 
 -- ---- lists of Dones
 
@@ -153,15 +150,15 @@ known_or_new id xs ys d o is found = ap (λ x. option_or x (done_of id ys)) (sym
 -- the answer with this reply
 abbrev pub IsReplied : List Done → List Done → List Done → List Done → Type 0
 IsReplied before after dones known =
-    (id : ℕ) (d : Done) → done_of id known ≡ Some d → text_over before after (Reply id) ≡ text_of (done_of id dones)
+    (id : ℕ) (d : Done) → done_of id known ≡ Some d → held_text after (reply_to id (done_of id before)) ≡ text_of (done_of id dones)
 
 -- a kept Done gives its text, before the batch
-early_reply : (before after dones : List Done) (id : ℕ) (d : Done) → done_of id before ≡ Some d → done_of id dones ≡ Some d → text_over before after (Reply id) ≡ text_of (done_of id dones)
-early_reply before after dones id d kept_so found = ap (λ o. unwrap_or (option_map done_text o) (text_of (done_of id after))) kept_so ∙ ap text_of (sym found)
+early_reply : (before after dones : List Done) (id : ℕ) (d : Done) → done_of id before ≡ Some d → done_of id dones ≡ Some d → held_text after (reply_to id (done_of id before)) ≡ text_of (done_of id dones)
+early_reply before after dones id d kept_so found = ap (λ o. held_text after (reply_to id o)) kept_so ∙ ap text_of (sym found)
 
-late_reply : (before after dones : List Done) (id : ℕ) (d : Done) → done_of id before ≡ None → done_of id after ≡ Some d → done_of id dones ≡ Some d → text_over before after (Reply id) ≡ text_of (done_of id dones)
+late_reply : (before after dones : List Done) (id : ℕ) (d : Done) → done_of id before ≡ None → done_of id after ≡ Some d → done_of id dones ≡ Some d → held_text after (reply_to id (done_of id before)) ≡ text_of (done_of id dones)
 late_reply before after dones id d unkept kept_so found =
-    ap (λ o. unwrap_or (option_map done_text o) (text_of (done_of id after))) unkept ∙ ap text_of (kept_so ∙ sym found)
+    ap (λ o. held_text after (reply_to id o)) unkept ∙ ap text_of (kept_so ∙ sym found)
 
 -- where nothing is new
 pub replied_still : (h : History) → IsOrdered h → IsReplied (kept h) (kept h) (all_dones h) (kept h)
@@ -195,7 +192,7 @@ module _ (procs : Procedures) (h : History) (e : Epoch) (ordered : IsOrdered h) 
   stays : (id : ℕ) (d : Done) → done_of id (all_dones h) ≡ Some d → done_of id (all_dones g) ≡ Some d
   stays id d found = ap (done_of id) (dones_behind h e) ∙ done_of-append id (all_dones h) e.dones ∙ ap (λ o. option_or o (done_of id e.dones)) found
 
-  reply_by : (id : ℕ) (d : Done) (o : Option Done) → done_of id (kept h) ≡ o → option_or o (done_of id e.dones) ≡ Some d → text_over (kept h) (kept g) (Reply id) ≡ text_of (done_of id (all_dones g))
+  reply_by : (id : ℕ) (d : Done) (o : Option Done) → done_of id (kept h) ≡ o → option_or o (done_of id e.dones) ≡ Some d → held_text (kept g) (reply_to id (done_of id (kept h))) ≡ text_of (done_of id (all_dones g))
   reply_by id d (Some x) was found = early_reply (kept h) (kept g) (all_dones g) id x was (stays id x (kept_are_dones h ordered id x was))
   reply_by id d None was found = late_reply (kept h) (kept g) (all_dones g) id d was
       (ap (done_of id) kept_then ∙ done_of-append id (filter (is_held h.keep candidates) (kept h)) e.dones
@@ -246,22 +243,22 @@ reply_of procs h g lines cs (r ∷ rs) are_new are grows ordered ordered_then lo
     }
 
 text_of_class : (procs : Procedures) (before after dones among : List Done) (n : ℕ) (line : Line) (c : Class) → IsReplied before after dones among → MatchOption (replied_id c) ⊤ (HasReply procs among line)
-    → text_over before after (answer_of n c) ≡ answer_by dones n c
+    → held_text after (answer_of before n c) ≡ answer_by dones n c
 text_of_class procs before after dones among n line (Refused e) each r = refl
 text_of_class procs before after dones among n line (Same id) each r = each id r.done r.found
 text_of_class procs before after dones among n line (New q) each r = each q.id r.done r.found
 
 texts_of_classes : (procs : Procedures) (before after dones among : List Done) (n : ℕ) (lines : List Line) (cs : List Class) → IsReplied before after dones among → HaveReplies procs among lines cs
-    → texts_over before after (answers_from n cs) ≡ answers_by dones n cs
-texts_of_classes procs before after dones among n [] cs each have = ap (λ l. texts_over before after (answers_from n l)) have ∙ sym (ap (answers_by dones n) have)
+    → held_texts after (answers_from before n cs) ≡ answers_by dones n cs
+texts_of_classes procs before after dones among n [] cs each have = ap (λ l. held_texts after (answers_from before n l)) have ∙ sym (ap (answers_by dones n) have)
 texts_of_classes procs before after dones among n (line ∷ lines) [] each have = absurd have
 texts_of_classes procs before after dones among n (line ∷ lines) (c ∷ cs) each have =
-    ap (λ t. t ++ texts_over before after (answers_from (n + 1) cs)) (text_of_class procs before after dones among n line c each have.0)
+    ap (λ t. t ++ held_texts after (answers_from before (n + 1) cs)) (text_of_class procs before after dones among n line c each have.0)
     ∙ ap (λ t. answer_by dones n c ++ t) (texts_of_classes procs before after dones among (n + 1) lines cs each have.1)
 
 -- the texts of a batch are the answers of its lines in the history that it made
 pub texts_are_answers : (procs : Procedures) (h g : History) (lines : List Line) (cs : List Class) (n : ℕ) → AreClasses procs (known_in h) lines cs → GrowsBy h (new_of cs) g
-    → IsOrdered h → IsOrdered g → HasNoLaterDone h → KeepsSome h.keep → texts_over (kept h) (kept g) (answers_from n cs) ≡ answers_by (all_dones g) n cs
+    → IsOrdered h → IsOrdered g → HasNoLaterDone h → KeepsSome h.keep → held_texts (kept g) (answers_from (kept h) n cs) ≡ answers_by (all_dones g) n cs
 texts_are_answers procs h g lines cs n are grows ordered ordered_then low some =
     let r = reply_of procs h g lines cs (new_of cs) refl are grows ordered ordered_then low some in
     texts_of_classes procs (kept h) (kept g) (all_dones g) r.among n lines cs r.replied r.have

@@ -4,4 +4,3 @@ pub mod Growth
 pub mod OneBatch
 pub mod Seen
 pub mod Serving
-pub mod Texts

@@ -3,6 +3,7 @@ use Rattle.std.specs.Prelude.{◌≡◌, ◌⊎◌, ⊤, ℕ, ◌+◌, List, tak
 use Rattle.std.specs.Io.KnownBytes.{append_known}
 use Rattle.coco_append.specs.Gaining.{RestsOn}
 use Rattle.coco_ast.specs.History.{kept}
+use Rattle.coco_batches.specs.Answering.{held_texts}
 use Rattle.coco_batches.specs.declared.batch.Batch.{Batch}
 use Rattle.coco_cluster.specs.Around.{IsTaken}
 use Rattle.coco_cluster.specs.Standing.{IsBehindAll, StandsAt}
@@ -10,19 +11,18 @@ use Rattle.coco_cluster.specs.Turning.{IsStoreOf, RestsWithout, ShowsHistory, ep
 use Rattle.coco_cluster.specs.Writing.{WritesLogs}
 use Rattle.coco_cluster.specs.declared.cluster.Cluster.{Cluster}
 use Rattle.coco_host.specs.Files.{Files}
-use Rattle.coco_host.specs.Moments.{Observation, SeesOnly}
+use Rattle.coco_host.specs.Moments.{SeesOnly}
 use Rattle.coco_host.specs.declared.host.Host.{Ghosts as HostGhosts}
 use Rattle.coco_store.specs.Contents.{Contents, history_of}
 use Rattle.coco_serve.specs.Growth.{AddsWithin, GrowsByExecution, manner_of}
 use Rattle.coco_serve.specs.Seen.{LeavesEither, ShowsBatch}
-use Rattle.coco_serve.specs.Texts.{texts_over}
 use Rattle.coco_cluster.specs.declared.stop.Stop.{Stop}
 use Rattle.coco_cluster.specs.declared.stop.Stop.TheVariants as stop
 use Rattle.coco_serve.specs.declared.bounds.RunBounds.{RunBounds}
 
--- the answers of a batch that made one store out of another
-abbrev pub batch_texts : Contents → Contents → Batch → List ℕ
-batch_texts c d batch = texts_over (kept (history_of c)) (kept (history_of d)) batch.answers.items
+-- the answers of a batch behind which the store has these contents
+abbrev pub batch_texts : Contents → Batch → List ℕ
+batch_texts d batch = held_texts (kept (history_of d)) batch.answers.items
 
 -- a front of these texts is said
 abbrev pub SaysPart : List ℕ → Option (List ℕ) → Option (List ℕ) → Type 0
@@ -53,9 +53,9 @@ pub record WorksOffBatch {H : Type 0} (frame : HostGhosts H)
   pub numbers : AddsWithin next (number + epochs_of batch.fresh) spare (history_of c) (history_of d)
   pub below : IsBehindAll d (number + epochs_of batch.fresh)
   pub next_is : OnOk result (after.next_epoch ≡ number + epochs_of batch.fresh)
-  pub moments : SeesOnly frame.moment frame.observed old new (ShowsBatch c.setting (history_of c) (history_of d) (number + 1) (frame.said old) (batch_texts c d batch))
+  pub moments : SeesOnly frame.moment frame.observed old new (ShowsBatch c.setting (history_of c) (history_of d) (number + 1) (frame.said old) (batch_texts d batch))
   pub others : WritesLogs c.setting (frame.reads old) (frame.reads new) (frame.may_leave old) (frame.may_leave new)
-  pub ends : BatchEnds c d (number + 1) after (batch_texts c d batch) (frame.said old) (frame.said new) (frame.reads new) (frame.may_leave new) result
+  pub ends : BatchEnds c d (number + 1) after (batch_texts d batch) (frame.said old) (frame.said new) (frame.reads new) (frame.may_leave new) result
 
 -- how a batch ends that isn't committed: where its turn gave up, or found no number, the host rests on the store of before, but for prepared entries, and none is of this epoch or a later one.
 -- No file of such a store is refused

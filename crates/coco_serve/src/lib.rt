@@ -5,7 +5,6 @@ mod all_batches;
 mod bounds;
 pub mod laws;
 mod one_batch;
-mod texts;
 
 pub use all_batches::answer_lines;
 pub use bounds::RunBounds;

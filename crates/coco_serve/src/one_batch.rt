@@ -11,8 +11,7 @@ ghost use Rattle.coco_serve.specs.Faults.{CountsBatch};
 ghost use Rattle.coco_serve.specs.OneBatch.{IsRefused, WorksOffBatch};
 
 use crate::bounds::RunBounds;
-use crate::texts::{early_texts, late_texts};
-use coco_batches::Batch;
+use coco_batches::{Batch, texts_of};
 use coco_cluster::{Cluster, Stop};
 use coco_gate::Gate;
 use coco_host::{Host, say_all};
@@ -61,7 +60,6 @@ pub fn turn_and_say<
         (record { say = H.say_faults host.new; disk = H.disk_faults host.new }) }
 {
     let Batch { answers, fresh } = batch;
-    let early = early_texts(alloc, &cluster.kept, answers.as_slice())?;
     let requests = fresh.into_requests(alloc)?;
     cluster.turn(
         rt,
@@ -74,7 +72,7 @@ pub fn turn_and_say<
         bounds.attempts,
         gate,
     )?;
-    let texts = late_texts(alloc, &cluster.kept, answers.as_slice(), early)?;
+    let texts = texts_of(alloc, &cluster.kept, answers.as_slice())?;
     say_all(host, texts.as_slice())?;
     Ok(())
 }

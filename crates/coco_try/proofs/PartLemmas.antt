@@ -1,8 +1,10 @@
 -- The classes of the requests of a batch, one by one.
-use Rattle.std.proofs.Common.{◌≡◌, ℕ, suc, ◌+◌, ◌<◌, ◌≤◌, List, [], ◌∷◌, ◌++◌, get_or, length, map, take, refl, sym, ap, subst, ◌∙◌, arith, append-nil}
+use Rattle.std.proofs.Common.{◌≡◌, ℕ, zero, suc, ◌+◌, ◌<◌, ◌≤◌, List, [], ◌∷◌, ◌++◌, get_or, length, map, take, refl, sym, ap, subst, ◌∙◌, arith, append-nil}
 use Rattle.std.proofs.lemmas.List.{take_more}
 use Rattle.coco_types.specs.declared.call.Request.{Request}
+use Rattle.coco_ast.specs.Fitting.{Fits}
 use Rattle.coco_ast.specs.History.{request_of}
+use Rattle.coco_ast.specs.Tree.{Procedures}
 use Rattle.coco_kept.specs.Keeping.{Keeping}
 use Rattle.coco_batches.specs.Asking.{known_of}
 use Rattle.coco_lines.specs.Classes.{Known, and_known, new_in, new_of}
@@ -11,7 +13,13 @@ use Rattle.coco_lines.specs.declared.class.Class.TheVariants.{Refused, Same, New
 use Rattle.coco_serve.proofs.AgainLemmas.{both_added, new_append, none_added}
 use Rattle.coco_try.specs.Growth.{AreClassesOf, IsClassOf}
 use Rattle.coco_try.specs.Report.{answered_in}
-use Rattle.coco_try.specs.Work.{HasClasses}
+use Rattle.coco_try.specs.Work.{AllFit, HasClasses}
+
+-- one of the requests that can be run
+pub fit_at : (procs : Procedures) (rs : List Request) (i : ℕ) (d : Request) → i < length rs → AllFit procs rs → Fits procs (get_or rs i d).call
+fit_at procs [] i d lt fit = absurd (omega (arith, lt))
+fit_at procs (r ∷ rs) zero d lt fit = fit.0
+fit_at procs (r ∷ rs) (suc i) d lt fit = fit_at procs rs i d (omega (arith, lt)) fit.1
 
 -- ---- lists of classes
 

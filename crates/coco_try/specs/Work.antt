@@ -1,8 +1,11 @@
 -- What is committed of one batch of requests, and what is seen meanwhile.
 use Rattle.std.specs.Prelude.{◌≡◌, ◌⊎◌, ⊤, ℕ, ◌+◌, ◌<◌, ◌≤◌, List, length, Option, Result, Ok, Err, OnOk}
+use Rattle.std.specs.List.{AllByRecursion}
 use Rattle.coco_types.specs.Limits.{epochs_end}
 use Rattle.coco_types.specs.declared.call.Request.{Request}
 use Rattle.coco_append.specs.Gaining.{RestsOn}
+use Rattle.coco_ast.specs.Fitting.{Fits}
+use Rattle.coco_ast.specs.Tree.{Procedures}
 use Rattle.coco_cluster.specs.Around.{Around, IsTaken, SkipsFew, spare}
 use Rattle.coco_cluster.specs.GivingUp.{AreGivenUp}
 use Rattle.coco_cluster.specs.Standing.{IsBehindAll, StandsAt}
@@ -26,6 +29,10 @@ use Rattle.coco_store.specs.Contents.{Contents, history_of}
 use Rattle.coco_try.specs.Growth.{AreClassesOf}
 use Rattle.coco_try.specs.Report.{answered_in}
 use Rattle.coco_try.specs.declared.one_part.Tally.{Tally}
+
+-- each of these requests can be run
+abbrev pub AllFit : Procedures → List Request → Type 0
+AllFit procs = AllByRecursion (λ r. Fits procs r.call)
 
 -- the new requests of a batch, and how many of its requests are new or same
 pub record HasClasses (k : Known) (part : List Request) (fresh : List Request) (answered : ℕ) : Type 0 where

@@ -1,16 +1,13 @@
 //! A workload worked off batch by batch, and told of.
 ghost use Rattle.std.specs.Prelude.{◌≡◌, ◌≤◌, ◌<◌, ◌^◌, length, Ok, IfOk, IfErr, OnOk};
-ghost use Rattle.std.specs.List.{AllByRecursion};
 ghost use Rattle.coco_types.specs.Limits.{most_batch_lines, most_kept};
-ghost use Rattle.coco_types.specs.declared.call.Request.{Request as Asked};
 ghost use Rattle.coco_append.specs.Gaining.{RestsOn};
-ghost use Rattle.coco_ast.specs.Fitting.{Fits};
 ghost use Rattle.coco_cluster.specs.Around.{IsLater, around, spare};
 ghost use Rattle.coco_cluster.specs.Standing.{AllStand, IsSound, StandsAt};
 ghost use Rattle.coco_gen.specs.Workload.{workload_of};
 ghost use Rattle.coco_store.specs.Contents.{Contents};
 ghost use Rattle.coco_try.specs.Trying.{HasCause, TriesOut};
-ghost use Rattle.coco_try.specs.Work.{done_of};
+ghost use Rattle.coco_try.specs.Work.{AllFit, done_of};
 ghost use Rattle.coco_try.specs.Working.{Works};
 
 use crate::one_part::{Tally, work_part};
@@ -99,7 +96,7 @@ fn work_off<R: Threads + Wait + Clock + Sync, H: Host, N: Net + Sync, P: Power, 
     requires few { bounds.size ≤ most_batch_lines }
     requires workers { 0 < bounds.workers }
     requires attempts { 0 < bounds.attempts }
-    requires fit { AllByRecursion (λ (r : Asked). Fits cluster.old.procs r.call) requests.now }
+    requires fit { AllFit cluster.old.procs requests.now }
     requires sound { IsSound cluster.old (N.sent net.old) }
     requires room { length cluster.old.kept.dones ≤ most_kept }
     requires stand { AllStand cluster.old (H.reads host.old) (H.may_leave host.old) }

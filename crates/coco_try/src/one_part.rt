@@ -1,11 +1,10 @@
 //! One batch of requests: their classes, and the turn of the new ones.
 ghost use Rattle.std.specs.Prelude.{◌≡◌, ◌+◌, ◌≤◌, ◌<◌, ◌++◌, ◌∷◌, [], length, IfOk, OnOk};
-ghost use Rattle.std.specs.List.{AllByRecursion};
 ghost use Rattle.coco_types.specs.Limits.{most_batch_lines, most_kept};
-ghost use Rattle.coco_types.specs.declared.call.Request.{Request as Asked};
 ghost use Rattle.coco_append.specs.Gaining.{RestsOn};
 ghost use Rattle.coco_ast.specs.Fitting.{Fits};
-ghost use Rattle.coco_batches.specs.Asking.{MayCommit, known_of};
+ghost use Rattle.coco_ast.specs.Tree.{Procedures};
+ghost use Rattle.coco_batches.specs.Asking.{AreNew, known_of};
 ghost use Rattle.coco_cluster.specs.Around.{IsLater, SkipsFew, around, spare};
 ghost use Rattle.coco_cluster.specs.Standing.{AllStand, IsSound, StandsAt};
 ghost use Rattle.coco_cluster.specs.Turning.{epochs_of};
@@ -14,9 +13,8 @@ ghost use Rattle.coco_lines.specs.declared.class.Class.{Class as RequestClass};
 ghost use Rattle.coco_store.specs.Contents.{Contents};
 ghost use Rattle.coco_try.specs.Growth.{IsClassOf};
 ghost use Rattle.coco_try.specs.Report.{answered_in};
-ghost use Rattle.coco_try.specs.Work.{ComesOfPart, CountsPart, HasClasses, IsFew};
+ghost use Rattle.coco_try.specs.Work.{AllFit, ComesOfPart, CountsPart, HasClasses, IsFew};
 
-use coco_ast::Checked;
 use coco_batches::NewRequests;
 use coco_batches::classify::class_of_request;
 use coco_cluster::{Cluster, Stop};
@@ -49,19 +47,19 @@ struct Part {
 
 impl Part {
     // Takes a request in by its class.
-    fn take(&mut self, procs: &Checked, kept: &Kept, request: &Request) -> Result<(), NoMemory>
-        requires new { MayCommit procs.now kept.now self.old.fresh }
-        requires fits { Fits procs.now request.now.call }
+    fn take(&mut self, kept: &Kept, request: &Request) -> Result<(), NoMemory>
+        requires new { AreNew kept.now self.old.fresh }
         requires few { self.old.answered < most_batch_lines }
         ensures class { OnOk result ((c : RequestClass) × IsClassOf (known_of kept.now self.old.fresh) request.now c
             × (self.new.fresh ≡ self.old.fresh ++ new_in c) × (self.new.answered ≡ self.old.answered + answered_in (c ∷ []))) }
-        ensures new { OnOk result (MayCommit procs.now kept.now self.new.fresh) }
+        ensures new { OnOk result (AreNew kept.now self.new.fresh) }
+        ensures fit { OnOk result ((procs : Procedures) → AllFit procs self.old.fresh → Fits procs request.now.call → AllFit procs self.new.fresh) }
     {
         let request = Request {
             id: request.id,
             call: request.call.try_clone()?,
         };
-        match class_of_request(procs, kept, &self.fresh, request) {
+        match class_of_request(kept, &self.fresh, request) {
             Class::Refused(_) => return Ok(()),
             Class::Same(_) => {}
             Class::New(request) => self.fresh.push(request)?,
@@ -72,24 +70,19 @@ impl Part {
 }
 
 // The requests of a batch, each taken in by its class.
-fn part_of(
-    alloc: Global,
-    procs: &Checked,
-    kept: &Kept,
-    requests: &[Request],
-) -> Result<Part, NoMemory>
-    requires fit { AllByRecursion (λ (r : Asked). Fits procs.now r.call) requests.now }
+fn part_of(alloc: Global, kept: &Kept, requests: &[Request]) -> Result<Part, NoMemory>
     requires few { length requests.now ≤ most_batch_lines }
     requires room { length kept.now.dones ≤ most_kept }
     ensures classes { IfOk result (λ part. HasClasses (known_of kept.now []) requests.now part.fresh part.answered) }
-    ensures new { IfOk result (λ part. MayCommit procs.now kept.now part.fresh) }
+    ensures new { IfOk result (λ part. AreNew kept.now part.fresh) }
+    ensures fit { IfOk result (λ part. (procs : Procedures) → AllFit procs requests.now → AllFit procs part.fresh) }
 {
     let mut part = Part {
         fresh: NewRequests::with_room(alloc, requests.len())?,
         answered: 0,
     };
     for request in requests {
-        part.take(procs, kept, request)?;
+        part.take(kept, request)?;
     }
     Ok(part)
 }
@@ -116,7 +109,7 @@ pub fn work_part<
     requires sound { IsSound cluster.old (N.sent net.old) }
     requires workers { 0 < bounds.workers }
     requires attempts { 0 < bounds.attempts }
-    requires fit { AllByRecursion (λ (r : Asked). Fits cluster.old.procs r.call) part.now }
+    requires fit { AllFit cluster.old.procs part.now }
     requires few { length part.now ≤ most_batch_lines }
     requires room { length cluster.old.kept.dones ≤ most_kept }
     requires stand { AllStand cluster.old (H.reads host.old) (H.may_leave host.old) }
@@ -134,7 +127,7 @@ pub fn work_part<
         (record { say = H.say_faults host.old; disk = H.disk_faults host.old })
         (record { say = H.say_faults host.new; disk = H.disk_faults host.new }) }
 {
-    let Part { fresh, answered } = part_of(alloc, &cluster.procs, &cluster.kept, part)?;
+    let Part { fresh, answered } = part_of(alloc, &cluster.kept, part)?;
     let requests = fresh.into_requests(alloc)?;
     let epochs = epochs_for(requests.as_slice());
     cluster.turn(

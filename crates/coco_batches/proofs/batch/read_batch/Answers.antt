@@ -1,11 +1,10 @@
-use Rattle.std.proofs.Common.{◌+◌, ◌<◌, [], Option, length, refl, ap, sym, subst, ◌∙◌, arith}
+use Rattle.std.proofs.Common.{◌+◌, ◌<◌, Option, length, refl, ap, sym, subst, ◌∙◌, arith}
 use Rattle.std.specs.Prelude.{IfErr}
 use Rattle.std.proofs.lemmas.Result.{err_from_is_err_and}
 use Rattle.coco_lines.specs.Reads.{Numbers, SourceMoment, source_moment}
 use Rattle.coco_batches.specs.BatchReading.{BreaksOff}
 use Rattle.coco_lines.specs.declared.reader.Line.{Line}
 use Rattle.coco_batches.specs.Asking.{MayCommit}
-use Rattle.coco_batches.specs.Asking.{known_of}
 use Rattle.coco_batches.specs.declared.answer.LineAnswer.{LineAnswer}
 use Rattle.coco_batches.proofs.BatchLemmas.{batch_ends, breaks_at_line, breaks_at_read, breaks_at_start, none_new, taking_more, taking_start}
 use Rattle.coco_batches.proofs.batch.read_batch.Goals as goal
@@ -16,7 +15,7 @@ loop-place-init g c = record {
   count = ap (length {A = LineAnswer}) c.in_ok-batch.ensures.answers;
   given = omega (arith, ap (length {A = LineAnswer}) c.in_ok-batch.ensures.answers);
   within = c.requires.given;
-  taking = taking_start c.args.procs.now (known_of c.args.kept.now []) c.args.reader.now (source_moment g.S.Source c.args.source.now) c.in_ok-batch.batch c.in_ok-batch.ensures.answers c.in_ok-batch.ensures.fresh;
+  taking = taking_start c.args.procs.now c.args.kept.now c.args.reader.now (source_moment g.S.Source c.args.source.now) c.in_ok-batch.batch c.in_ok-batch.ensures.answers c.in_ok-batch.ensures.fresh;
   end = λ met. met;
   faults = refl;
 }
@@ -74,6 +73,6 @@ returns-in_err-take-in-Some-clause-end g c = λ met. c.in_ok-line.ensures.end (c
 pub returns-in-None-clause-batch : goal.returns-in-None-clause-batch
 returns-in-None-clause-batch g c =
     let old = c.loop-place.invariant in
-    let end = batch_ends c.args.procs.now (known_of c.args.kept.now []) c.args.reader.now c.loop-place.reader c.next.new.self (source_moment g.S.Source c.args.source.now) (source_moment g.S.Source c.loop-place.source) (source_moment g.S.Source c.next.new.source)
+    let end = batch_ends c.args.procs.now c.args.kept.now c.args.reader.now c.loop-place.reader c.next.new.self (source_moment g.S.Source c.args.source.now) (source_moment g.S.Source c.loop-place.source) (source_moment g.S.Source c.next.new.source)
     c.loop-place.batch _ c.in-None.is c.in_ok-line.ensures.reads old.taking in
     record { taking = end.0; few = omega (arith, old.count, c.loop-place-test.true); ends = λ _. (end.1, end.2) }

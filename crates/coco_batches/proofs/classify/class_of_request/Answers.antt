@@ -12,5 +12,5 @@ pub returns-in-Reused-clause-class : goal.returns-in-Reused-clause-class
 returns-in-Reused-clause-class c =
     let k = c.args.kept.now in
     let found = c.in-Reused.ensures in
-    reused_class k c.args.fresh.now c.args.request (request_of found.0) (known_once c.args.procs.now k c.args.fresh.now c.len-held.ensures.distinct c.requires.new)
+    reused_class k c.args.fresh.now c.args.request (request_of found.0) (known_once k c.args.fresh.now c.len-held.ensures.distinct c.requires)
     (kept_known c.args.request.id k.dones c.args.fresh.now found.0 found.1) found.2

@@ -17,7 +17,7 @@ pub returns-in-Some-2-clause-class : goal.returns-in-Some-2-clause-class
 returns-in-Some-2-clause-class c =
     let k = c.args.kept.now in
     let there = some_under (request_under c.args.request.id c.args.fresh.now) c.in-Some.call.now (sym c.call_of.ensures ∙ ap option_copied c.in-Some.is) in
-    reused_class k c.args.fresh.now c.args.request there.0 (known_once c.args.procs.now k c.args.fresh.now c.len-held.ensures.distinct c.requires.new)
+    reused_class k c.args.fresh.now c.args.request there.0 (known_once k c.args.fresh.now c.len-held.ensures.distinct c.requires.new)
     (fresh_known c.args.request.id k.dones c.args.fresh.now (Some there.0) c.requires.unkept there.1)
     (λ same. true≢false (sym ((call_Decides c.in-Some.call.now c.args.request.call).1 (sym there.2 ∙ same)) ∙ sym c.eq.ensures ∙ c.if-eq.false))
 

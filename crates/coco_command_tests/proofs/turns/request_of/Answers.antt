@@ -18,4 +18,4 @@ returns c =
     let fresh = ap (length {A = Request}) r.taking.fresh in
     let counted = classes_length _ _ r.taking.lines r.taking.classes r.taking.are in
     subst (MayTurn c.args.cluster.now) (sym c.in_ok-into_requests.ensures)
-    (record { fit = may.fit; distinct = may.distinct; unkept = may.absent; above = may.above; few = omega (arith, few, fresh, counted, r.taking.as_many, r.few) })
+    (record { fit = may.fit; distinct = may.new.distinct; unkept = may.new.absent; above = may.new.above; few = omega (arith, few, fresh, counted, r.taking.as_many, r.few) })

@@ -12,7 +12,7 @@ use Rattle.coco_copy.proofs.Whole.{on_ok_there}
 use Rattle.coco_copy.proofs.rows.put.Goals as goal
 
 pub returns-in_err-entry-clause-missing : goal.returns-in_err-entry-clause-missing
-returns-in_err-entry-clause-missing c = on_err_of c.from_residual.result (none_there c.args.rows.now.entries c.args.key c.requires.rising c.in_err-entry.ensures.absent c.args.epoch)
+returns-in_err-entry-clause-missing c = on_err_of c.from_residual.result (none_there c.args.rows.now.entries c.args.key c.requires.rising c.in_err-entry.ensures.absent)
 
 pub list_key-requires : goal.list_key-requires
 list_key-requires c = λ first.
@@ -21,9 +21,9 @@ list_key-requires c = λ first.
     omega (arith, left, c.make_room.ensures.capacity, ap length c.make_room.ensures.items)
 
 pub returns-then-not-has_room-clause-missing : goal.returns-then-not-has_room-clause-missing
-returns-then-not-has_room-clause-missing c =
+returns-then-not-has_room-clause-missing c epoch =
     let none : kept_at c.args.rows.now.entries c.args.key ≡ None = search rules in
-    none_there c.args.rows.now.entries c.args.key c.requires.rising none c.args.epoch
+    none_there c.args.rows.now.entries c.args.key c.requires.rising none epoch
 
 pub returns-in-Occupied-clause-whole : goal.returns-in-Occupied-clause-whole
 returns-in-Occupied-clause-whole c =
@@ -41,18 +41,18 @@ returns-in-Occupied-clause-whole c =
     refl (c.list_key.ensures.items ∙ ap (λ ks. with_key c.is_none-first.result ks key) c.make_room.ensures.items) (omega arith)
 
 pub returns-in-Occupied-clause-answer : goal.returns-in-Occupied-clause-answer
-returns-in-Occupied-clause-answer c =
+returns-in-Occupied-clause-answer c epoch =
     let was : kept_at c.args.rows.now.entries c.args.key ≡ Some c.into_mut-kept.result.now = search rules in
-    c.put-answer.ensures.answer ∙ ap (λ o. by_time (option_and_then pending_of o) c.args.time) (sym was) ∙ answer_view c.args.rows.now.entries c.args.epoch c.args.time (written c.args.key c.args.value) c.requires.rising
+    c.put-answer.ensures.answer ∙ ap (λ o. by_time (option_and_then pending_of o) c.args.time) (sym was) ∙ answer_view c.args.rows.now.entries epoch c.args.time (written c.args.key c.args.value) c.requires.rising
 
 pub returns-in-Occupied-clause-state : goal.returns-in-Occupied-clause-state
-returns-in-Occupied-clause-state c =
+returns-in-Occupied-clause-state c epoch =
     let was : kept_at c.args.rows.now.entries c.args.key ≡ Some c.into_mut-kept.result.now = search rules in
     let es = c.args.rows.now.entries in
     let after = c.put-answer.new.self in
     let put : c.rows-in-Occupied-2-1.given.0.entries ≡ insert_entry key_cmp es c.args.key after = search rules in
     let rises : IsRising c.rows-in-Occupied-2-1.given.0.entries = search rules in
-    put_view es c.rows-in-Occupied-2-1.given.0.entries c.requires.rising rises c.args.epoch c.args.time (written c.args.key c.args.value) after c.put-answer.result
+    put_view es c.rows-in-Occupied-2-1.given.0.entries c.requires.rising rises epoch c.args.time (written c.args.key c.args.value) after c.put-answer.result
     (λ q. ap (λ z. kept_at z q) (put ∙ sym (c.in_ok-entry.ensures.update.1 after)) ∙ (c.in_ok-entry.ensures.update.0 after).0 q)
     (c.put-answer.ensures.answer ∙ ap (λ o. by_time (option_and_then pending_of o) c.args.time) (sym was))
     (c.put-answer.ensures.stable ∙ ap (option_and_then stable_of) (sym was))
@@ -74,16 +74,16 @@ returns-else-not-has_room-clause-whole c =
     refl c.list_key-in-Vacant.ensures.items c.list_key-in-Vacant.ensures.capacity
 
 pub returns-else-not-has_room-clause-answer : goal.returns-else-not-has_room-clause-answer
-returns-else-not-has_room-clause-answer c =
+returns-else-not-has_room-clause-answer c epoch =
     let none : kept_at c.args.rows.now.entries c.args.key ≡ None = search rules in
-    made_answer c.args.rows.now.entries c.requires.rising c.args.epoch c.args.time (written c.args.key c.args.value) none
+    made_answer c.args.rows.now.entries c.requires.rising epoch c.args.time (written c.args.key c.args.value) none
 
 pub returns-else-not-has_room-clause-state : goal.returns-else-not-has_room-clause-state
-returns-else-not-has_room-clause-state c =
+returns-else-not-has_room-clause-state c epoch =
     let none : kept_at c.args.rows.now.entries c.args.key ≡ None = search rules in
     let es = c.args.rows.now.entries in
     let made : Kept = record { stable = None; pending = Some (c.args.time, c.args.value) } in
     let put : c.rows-in-Vacant-2-1.given.0.entries ≡ insert_entry key_cmp es c.args.key made = search rules in
     let rises : IsRising c.rows-in-Vacant-2-1.given.0.entries = search rules in
-    made_view es c.rows-in-Vacant-2-1.given.0.entries c.requires.rising rises c.args.epoch c.args.time (written c.args.key c.args.value) none
+    made_view es c.rows-in-Vacant-2-1.given.0.entries c.requires.rising rises epoch c.args.time (written c.args.key c.args.value) none
     (λ q. ap (λ z. kept_at z q) (put ∙ sym (c.in_ok-entry.ensures.update.1 made)) ∙ (c.in_ok-entry.ensures.update.0 made).0 q)

@@ -46,7 +46,7 @@ loop-machine-preserved g c =
     }
 
 pub take_back-requires-clause-started : goal.take_back-requires-clause-started
-take_back-requires-clause-started g c = (c.loop-machine.invariant.has.firsts, c.loop-machine.invariant.has.are)
+take_back-requires-clause-started g c = (c.args.workers, c.requires, c.loop-machine.invariant.has.firsts, c.loop-machine.invariant.has.are)
 
 pub take_back-requires-clause-room : goal.take_back-requires-clause-room
 take_back-requires-clause-room g c =
@@ -69,7 +69,7 @@ take_back-requires-clause-journals g c =
 pub returns-in-Err-clause-back : goal.returns-in-Err-clause-back
 returns-in-Err-clause-back g c =
     all_again c.args.workers c.args.machines.items c.loop-machine.rest.rest.items c.loop-machine.started.locks.items c.loop-machine.started.trays.items c.loop-machine.invariant.has c.in-Some.machine c.in-Err.machine c.next.new.self.rest.items
-    c.take_back.result.items c.in-Some.ensures.items c.in-Err.ensures.back (c.take_back.ensures c.loop-machine.invariant.has.firsts c.loop-machine.invariant.has.are)
+    c.take_back.result.items c.in-Some.ensures.items c.in-Err.ensures.back (c.take_back.ensures c.args.workers c.loop-machine.invariant.has.firsts c.requires c.loop-machine.invariant.has.are)
 
 pub returns-clause-started : goal.returns-clause-started
 returns-clause-started g c =

@@ -4,7 +4,7 @@ use Rattle.coco_desks.proofs.StartingLemmas.{all_back, machines_same}
 use Rattle.coco_desks.proofs.locks.take_back.Goals as goal
 
 pub close_all-requires-clause-back : goal.close_all-requires-clause-back
-close_all-requires-clause-back g c = all_back c.args.workers c.requires.started.0 c.args.started.locks.items c.args.started.trays.items c.requires.started.1
+close_all-requires-clause-back g c = let s = c.requires.started in all_back s.0 s.2 c.args.started.locks.items c.args.started.trays.items s.3
 
 pub push_reserved-requires : goal.push_reserved-requires
 push_reserved-requires g c = omega (arith, c.requires.room, c.close_all.ensures.room, c.close_all.ensures.count)
@@ -34,10 +34,10 @@ loop-machine-preserved g c =
     }
 
 pub returns : goal.returns
-returns g c = λ firsts are.
+returns g c = λ workers firsts some are.
     let none = c.in-None.ensures.steps.0 in
     let ok = c.loop-machine.machine-iterator.rest.ok in
     all_moved c.loop-machine.ended.machines.items c.loop-machine.machine-iterator.rest.items c.push_reserved.new.self.items c.close_all.new.ended.machines.items c.args.ended.machines.items firsts c.args.rest.rest.items c.args.machine
     (nothing c.loop-machine.machine-iterator.rest.items (omega (arith, none, ok.0))) c.loop-machine.invariant.items c.push_reserved.ensures.items
-    (machines_same g.M.Machine.answer_to g.M.Machine.state_after c.args.workers c.requires.workers firsts c.args.started.locks.items c.args.started.trays.items are
+    (machines_same g.M.Machine.answer_to g.M.Machine.state_after workers some firsts c.args.started.locks.items c.args.started.trays.items are
     c.args.ended.machines.items c.args.ended.journals.items c.close_all.new.ended.machines.items c.close_all.new.ended.journals.items c.close_all.ensures.ended) c.requires.none

@@ -18,8 +18,8 @@ accept_read-requires c =
 pub accept_past-requires : goal.accept_past-requires
 accept_past-requires c =
     let q = c.requires in
-    let h = asks_past c.args.course.now.stage q.0 c.args.run.now q.1 c.args.course.now q.2 c.in-Past.key (subst (λ (o : Op). Goes q.0 c.args.run.now q.1 c.args.course.now q.2 (Some o)) c.in-Past.is q.4) in
-    (q.1, q.3, h.reads, subst (λ (o : Op). MayAnswer (record { by = q.3; op = o }) c.args.answer.now) c.in-Past.is q.5)
+    let h = asks_past c.args.course.now.stage q.0 c.args.run.now q.1 c.args.course.now q.2 c.in-Past.field-0 (subst (λ (o : Op). Goes q.0 c.args.run.now q.1 c.args.course.now q.2 (Some o)) c.in-Past.is q.4) in
+    (c.args.course.now, c.in-Past.field-0, q.1, q.3, h.reads, subst (λ (o : Op). MayAnswer (record { by = q.3; op = o }) c.args.answer.now) c.in-Past.is q.5)
 
 pub returns-in-Read-clause-goes : goal.returns-in-Read-clause-goes
 returns-in-Read-clause-goes c snapshot before reply by goes may =
@@ -31,11 +31,11 @@ returns-in-Read-clause-goes c snapshot before reply by goes may =
 
 pub returns-in-Past-clause-goes : goal.returns-in-Past-clause-goes
 returns-in-Past-clause-goes c snapshot before reply by goes may =
-    let h = asks_past c.args.course.now.stage snapshot c.args.run.now before c.args.course.now reply c.in-Past.key (subst (λ (o : Op). Goes snapshot c.args.run.now before c.args.course.now reply (Some o)) c.in-Past.is goes) in
-    let L = before ++ exchange (Past c.in-Past.key) c.args.answer.now ∷ [] in
+    let h = asks_past c.args.course.now.stage snapshot c.args.run.now before c.args.course.now reply c.in-Past.field-0 (subst (λ (o : Op). Goes snapshot c.args.run.now before c.args.course.now reply (Some o)) c.in-Past.is goes) in
+    let L = before ++ exchange (Past c.in-Past.field-0) c.args.answer.now ∷ [] in
     subst (λ (o : Op). Goes snapshot c.accept_past.new.run (before ++ exchange o c.args.answer.now ∷ []) c.args.course.now reply None) (sym c.in-Past.is)
     (goes_at snapshot c.accept_past.new.run L c.args.course.now reply None stage.Reading h.stage_is
-    (subst (λ (b : Bool). IsReading b c.accept_past.new.run L c.args.course.now None) (sym h.snapshot_is) (c.accept_past.ensures.goes before h.reads)))
+    (subst (λ (b : Bool). IsReading b c.accept_past.new.run L c.args.course.now None) (sym h.snapshot_is) (c.accept_past.ensures.goes c.args.course.now c.in-Past.field-0 before h.reads)))
 
 pub returns-in_default : goal.returns-in_default
 returns-in_default c = record {

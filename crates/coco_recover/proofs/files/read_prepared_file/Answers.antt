@@ -25,9 +25,8 @@ returns-in_err-log-clause-refused g c file at files is told s commits layout tre
     let b = node_basis c.args.layout.now c.args.procs.now c.args.epochs.now c.args.node c.args.tables.shards.items c.args.tables.copies.items in
     let number = get_or c.as_slice.result.now c.from.result 0 in
     let same = handed_on c.from_residual.result _ _ c.from_residual.ensures.1 is in
-    let begun : c.new-reading.result.under ≡ b = ap (λ r. r.under) c.new-reading.ensures in
     let first : IsFirstIn (node_rules b) prepared_kind (files number) at =
-    subst (λ (b : NodeBasis). IsFirstIn (node_rules b) prepared_kind (files number) at) begun (c.in_err-log.ensures.refused file at files (ap Err same) told) in
+    subst (λ (b : NodeBasis). IsFirstIn (node_rules b) prepared_kind (files number) at) c.new-reading.ensures.under (c.in_err-log.ensures.refused file at files (ap Err same) told) in
     node_refused b s commits layout tree numbers (files file) at
     (subst (λ (f : ℕ). IsFirstIn (node_rules b) prepared_kind (files f) at) (sym (c.in_err-log.ensures.here file at (ap Err same))) first)
 
@@ -39,25 +38,20 @@ returns-in_err-log-clause-kept g c file at files s commits entries told layout t
     let same = handed_on c.from_residual.result _ _ c.from_residual.ensures.1 is in
     let good : IsFile (node_rules b) prepared_kind entries (files number) =
     subst (λ (f : ℕ). IsFile (node_rules b) prepared_kind entries (files f)) (sym stands) (node_file b s commits layout tree numbers entries (files (slice_index c.args.layout.now.node_files c.args.node)) held) in
-    let begun : c.new-reading.result.under ≡ b = ap (λ r. r.under) c.new-reading.ensures in
-    c.in_err-log.ensures.kept file at files entries told (subst (λ (b : NodeBasis). IsFile (node_rules b) prepared_kind entries (files number)) (sym begun) good) (ap Err same)
+    c.in_err-log.ensures.kept file at files entries told (subst (λ (b : NodeBasis). IsFile (node_rules b) prepared_kind entries (files number)) (sym c.new-reading.ensures.under) good) (ap Err same)
 
 -- ---- what was read
 
 pub returns-clause-ok : goal.returns-clause-ok
 returns-clause-ok g c =
-    let b = node_basis c.args.layout.now c.args.procs.now c.args.epochs.now c.args.node c.args.tables.shards.items c.args.tables.copies.items in
-    let begun : c.new-reading.result.under ≡ b = ap (λ r. r.under) c.new-reading.ensures in
-    subst (λ (b : NodeBasis). (s : Setting) → s.entry.layout ≡ b.layout → s.tree ≡ b.tree → IsNodeRead s b.epochs b.node b.shards b.copies c.in_ok-read.read) (c.in_ok-log.ensures.setting ∙ begun) c.in_ok-read.ensures.read
+    subst (λ (b : NodeBasis). (s : Setting) → s.entry.layout ≡ b.layout → s.tree ≡ b.tree → IsNodeRead s b.epochs b.node b.shards b.copies c.in_ok-read.read) (c.in_ok-log.ensures.setting ∙ c.new-reading.ensures.under) c.in_ok-read.ensures.read
 
 pub returns-clause-whole : goal.returns-clause-whole
 returns-clause-whole g c =
     let taken = c.read_file.new.rules.taken in
-    let b = node_basis c.args.layout.now c.args.procs.now c.args.epochs.now c.args.node c.args.tables.shards.items c.args.tables.copies.items in
-    let begun : c.new-reading.result.under ≡ b = ap (λ r. r.under) c.new-reading.ensures in
     subst (λ (es : List Prepared). AreAmong (prepared_epochs es) c.args.epochs.now) (sym c.in_ok-read.ensures.entries)
     (among_so (prepared_epochs taken) c.args.epochs.now
-    (subst (λ (b : NodeBasis). ¬ (¬ (AreAmong (prepared_epochs taken) b.epochs))) begun c.in_ok-log.ensures.whole))
+    (subst (λ (b : NodeBasis). ¬ (¬ (AreAmong (prepared_epochs taken) b.epochs))) c.new-reading.ensures.under c.in_ok-log.ensures.whole))
 
 pub returns-clause-opened : goal.returns-clause-opened
 returns-clause-opened g c files told =
@@ -72,9 +66,8 @@ returns-clause-held g c files told s commits layout tree numbers =
     let number = get_or c.as_slice.result.now c.from.result 0 in
     let stands : number ≡ slice_index c.args.layout.now.node_files node = cc (c.as_slice.ensures, c.from.ensures) in
     let own = slice_index c.args.layout.now.node_files node in
-    let begun : c.new-reading.result.under ≡ b = ap (λ r. r.under) c.new-reading.ensures in
     let file : IsFile (node_rules b) prepared_kind taken (files own) = subst (λ (f : ℕ). IsFile (node_rules b) prepared_kind taken (files f)) stands
-    (subst (λ (b : NodeBasis). IsFile (node_rules b) prepared_kind taken (files number)) begun
+    (subst (λ (b : NodeBasis). IsFile (node_rules b) prepared_kind taken (files number)) c.new-reading.ensures.under
     (file_is (node_rules c.new-reading.result.under) taken c.in_ok-log.log files (g.H.Host.may_leave c.read_file.new.host) number prepared_kind c.in_ok-log.ensures.log (c.in_ok-log.ensures.ok files told))) in
     let each : EachBehind (IsNextPrepared s node) [] taken = subst (EachBehind (IsNextPrepared s node) []) c.in_ok-read.ensures.entries (returns-clause-ok g c s layout tree).each in
     subst (λ (es : List Prepared). HoldsNode s commits node es (files own)) (sym c.in_ok-read.ensures.entries) (node_held b s commits layout tree numbers taken (files own) each file)

@@ -15,7 +15,7 @@ turn-requires-clause-may g c κs within =
     let has = c.in_ok-fresh.ensures.classes in
     let few = few_fresh (known_of c.args.cluster.now.kept []) c.args.part.now c.in_ok-fresh.field-0.fresh c.in_ok-fresh.field-0.answered has in
     subst (MayTurn c.args.cluster.now) (sym c.in_ok-requests.ensures)
-    (record { fit = may.fit; distinct = may.distinct; unkept = may.absent; above = may.above; few = omega (arith, few, c.requires.few) })
+    (record { fit = c.in_ok-fresh.ensures.fit c.args.cluster.now.procs c.requires.fit; distinct = may.distinct; unkept = may.absent; above = may.above; few = omega (arith, few, c.requires.few) })
 
 pub returns-in_err-fresh-clause-comes : goal.returns-in_err-fresh-clause-comes
 returns-in_err-fresh-clause-comes g c k rests stands =

@@ -9,7 +9,7 @@ use Rattle.coco_eval.specs.Places.{goes_on, goes_on_repeat, weight_repeat, turns
 use Rattle.coco_eval.specs.declared.machine.Stop.{Stop}
 use Rattle.coco_eval.specs.declared.machine.Stop.TheVariants as stop
 use Rattle.coco_eval.specs.declared.machine.Way.TheVariants as way
-use Rattle.coco_eval.proofs.RunLemmas.{is_at, room_at, room_behind, gone, ended, asked, since, led_on, fresh_led, through, through_first, settled_put, got, is_plain, plain, repeated, room_turn, turned, turn_stops}
+use Rattle.coco_eval.proofs.RunLemmas.{is_at, room_at, room_behind, gone, ended, asked, since, led_on, fresh_led, through, through_first, settled_put, got, is_plain, plain, repeated, room_turn, counted, turned, turn_stops}
 use Rattle.coco_eval.proofs.machine.Machine.+run.Goals as goal
 
 pub fresh-returns-in-Put : goal.fresh-returns-in-Put
@@ -166,7 +166,7 @@ turns-block-requires t c =
         c.requires.tables,
         (
           c.requires.bounded,
-          room_turn c.args.plan.now.names (key_weight b) (depth b) (name_at c.args.plan.now.names c.args.slot) c.args.bound c.loop-turn.turn c.loop-turn.self c.count.new.self c.loop-turn-test.true (record { kept = c.count.ensures.kept; names = c.count.ensures.names; others = c.count.ensures.others })
+          room_turn c.args.plan.now.names (key_weight b) (depth b) (name_at c.args.plan.now.names c.args.slot) c.args.bound c.loop-turn.turn c.loop-turn.self c.count.new.self c.loop-turn-test.true (counted c.args.plan.now.names c.args.slot c.loop-turn.turn c.loop-turn.self c.count.new.self (c.loop-turn.invariant.led.names ∙ c.requires.room.names) c.count.ensures.kept c.count.ensures.names c.count.ensures.others)
               (room_behind c.args.plan.now.names _ _ _ _ (depth b) c.args.self.now c.loop-turn.self c.loop-turn.invariant.led c.loop-turn.invariant.path c.requires.room),
         ),
       ),
@@ -177,7 +177,7 @@ turns-returns-in_default t c =
     let b = statements_by c.args.plan.now c.args.block.now in let ts = c.args.tables.now in let x = (name_at c.args.plan.now.names c.args.slot) in let n = c.args.bound in let i = c.loop-turn.turn in
     subst (λ (s : Stop). MovesTurns s ts n x b (λ m. turns (runs m ts b) x (n - c.args.first) c.args.first (kept_of c.args.self.now)) ((n - c.args.first) * key_weight b) c.args.self.now c.block.new.self) (sym c.on_way.ensures)
     (since (on_way c.block.result (way.Turn i)) _ _ (λ w fs m. goes_on_repeat w (goes_on m ts fs) (runs m ts) n x b) _ _ (λ w fs. weight_repeat w (weight_on fs) n b) (depth b) c.args.self.now c.loop-turn.self c.block.new.self c.loop-turn.invariant.led
-    (turn_stops c.block.result c.in_default.not-Goes ts b x n i c.loop-turn.self c.count.new.self c.block.new.self c.loop-turn-test.true (record { kept = c.count.ensures.kept; names = c.count.ensures.names; others = c.count.ensures.others }) c.block.ensures))
+    (turn_stops c.block.result c.in_default.not-Goes ts b x n i c.loop-turn.self c.count.new.self c.block.new.self c.loop-turn-test.true (counted c.args.plan.now.names c.args.slot c.loop-turn.turn c.loop-turn.self c.count.new.self (c.loop-turn.invariant.led.names ∙ c.requires.room.names) c.count.ensures.kept c.count.ensures.names c.count.ensures.others) c.block.ensures))
 
 pub turns-loop-turn-preserved : goal.turns-loop-turn-preserved
 turns-loop-turn-preserved t c =
@@ -185,5 +185,5 @@ turns-loop-turn-preserved t c =
     record {
       path = c.in-Goes.ensures.reaches.1;
       led = led_on _ _ _ _ _ _ c.args.self.now c.loop-turn.self c.block.new.self c.loop-turn.invariant.led
-          (turned ts b (name_at c.args.plan.now.names c.args.slot) c.args.bound c.loop-turn.turn c.loop-turn.self c.count.new.self c.block.new.self c.loop-turn-test.true (record { kept = c.count.ensures.kept; names = c.count.ensures.names; others = c.count.ensures.others }) c.in-Goes.ensures);
+          (turned ts b (name_at c.args.plan.now.names c.args.slot) c.args.bound c.loop-turn.turn c.loop-turn.self c.count.new.self c.block.new.self c.loop-turn-test.true (counted c.args.plan.now.names c.args.slot c.loop-turn.turn c.loop-turn.self c.count.new.self (c.loop-turn.invariant.led.names ∙ c.requires.room.names) c.count.ensures.kept c.count.ensures.names c.count.ensures.others) c.in-Goes.ensures);
     }

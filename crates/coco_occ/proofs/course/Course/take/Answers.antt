@@ -16,7 +16,7 @@ pub returns-in-Extend-clause-stands : goal.returns-in-Extend-clause-stands
 returns-in-Extend-clause-stands c r m by before s may =
     let h = extension_stage c.args.self.now.stage r m before c.args.self.now c.in-Extend.key c.in-Extend.wts c.in-Extend.time (subst (λ (o : Op). Stands r m before c.args.self.now (Some o)) c.in-Extend.is s) in
     subst (λ (o : Op). Stands r m (before ++ exchange o c.args.answer.now ∷ []) c.take_extension.new.self None) (sym c.in-Extend.is)
-    (c.take_extension.ensures.stands r m by before h.1 h.0 (subst (λ (o : Op). MayAnswer (record { by = by; op = o }) c.args.answer.now) c.in-Extend.is may))
+    (c.take_extension.ensures.stands c.in-Extend.time r m by before h.1 h.0 (subst (λ (o : Op). MayAnswer (record { by = by; op = o }) c.args.answer.now) c.in-Extend.is may))
 
 pub returns-in_default : goal.returns-in_default
 returns-in_default c = record {

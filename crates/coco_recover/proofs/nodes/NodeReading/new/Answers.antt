@@ -27,4 +27,4 @@ returns c =
     let tables = c.args.tables in
     let shards : c.add.new.self.items ≡ tables.shards.items = c.add.ensures ∙ ap (λ (l : List ShardState). l ++ c.as_slice.result.now) c.new-shards.ensures ∙ c.as_slice.ensures.value in
     let copies : c.add-2.new.self.items ≡ tables.copies.items = c.add-2.ensures ∙ ap (λ (l : List CopyState). l ++ c.as_slice-2.result.now) c.new-copies.ensures ∙ c.as_slice-2.ensures.value in
-    λ i. record { under = node_basis c.args.layout.now c.args.procs.now c.args.epochs.now c.args.node (shards i) (copies i); taken = c.new-2.ensures i }
+    record { under = λ i. node_basis c.args.layout.now c.args.procs.now c.args.epochs.now c.args.node (shards i) (copies i); taken = c.new-2.ensures }

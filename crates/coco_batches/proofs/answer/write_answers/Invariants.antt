@@ -1,6 +1,0 @@
-use Rattle.std.proofs.Common.{◌≡◌, ◌++◌, take}
-use Rattle.coco_batches.specs.Answering.{held_texts}
-use Rattle.coco_batches.proofs.answer.write_answers.Given as goal
-
-abbrev pub invariant-loop-answer : goal.invariant-loop-answer
-invariant-loop-answer l = l.out.items ≡ l.fn.out.items ++ held_texts l.kept.dones (take l.answer-index l.answers)
